@@ -1,0 +1,9 @@
+-- Lemmas on the definitions.
+pub mod Reading
+pub mod Spelling
+pub mod TableLemmas
+pub mod NameLemmas
+pub mod InternedLemmas
+pub mod Line
+pub mod Lift
+pub mod Naming

@@ -1,0 +1,88 @@
+-- The 34 command words of the article format.
+use Rattle.std.specs.Prelude.{ℕ, Bool, true, false, List, [], ◌∷◌, codes, Option, find}
+use Rattle.std.specs.Str.{bytes_eq}
+use Rattle.ot_plain.specs.declared.command.Cmd.{Cmd}
+use Rattle.ot_plain.specs.declared.command.Cmd.TheVariants.{Version, Nil, Cons, HdTl, Def, Ref, Remove, Pop, Pragma, TypeOp, OpType, VarType, Var, VarTerm, Const, ConstTerm, AppTerm, AbsTerm, Refl, Assume, EqMp, AbsThm, AppThm, DeductAntisym, BetaConv, Subst, Sym, Trans, ProveHyp, Axiom, Thm, DefineConst, DefineConstList, DefineTypeOp}
+
+-- how a command is written
+abbrev pub spelling : Cmd → List ℕ
+spelling Version = codes "version"
+spelling Nil = codes "nil"
+spelling Cons = codes "cons"
+spelling HdTl = codes "hdTl"
+spelling Def = codes "def"
+spelling Ref = codes "ref"
+spelling Remove = codes "remove"
+spelling Pop = codes "pop"
+spelling Pragma = codes "pragma"
+spelling TypeOp = codes "typeOp"
+spelling OpType = codes "opType"
+spelling VarType = codes "varType"
+spelling Var = codes "var"
+spelling VarTerm = codes "varTerm"
+spelling Const = codes "const"
+spelling ConstTerm = codes "constTerm"
+spelling AppTerm = codes "appTerm"
+spelling AbsTerm = codes "absTerm"
+spelling Refl = codes "refl"
+spelling Assume = codes "assume"
+spelling EqMp = codes "eqMp"
+spelling AbsThm = codes "absThm"
+spelling AppThm = codes "appThm"
+spelling DeductAntisym = codes "deductAntisym"
+spelling BetaConv = codes "betaConv"
+spelling Subst = codes "subst"
+spelling Sym = codes "sym"
+spelling Trans = codes "trans"
+spelling ProveHyp = codes "proveHyp"
+spelling Axiom = codes "axiom"
+spelling Thm = codes "thm"
+spelling DefineConst = codes "defineConst"
+spelling DefineConstList = codes "defineConstList"
+spelling DefineTypeOp = codes "defineTypeOp"
+
+-- all of them
+abbrev pub commands : List Cmd
+commands =
+    Version ∷ Nil ∷ Cons ∷ HdTl ∷ Def ∷ Ref ∷ Remove ∷ Pop ∷ Pragma ∷ TypeOp ∷ OpType ∷ VarType ∷ Var ∷ VarTerm ∷ Const ∷ ConstTerm ∷ AppTerm ∷ AbsTerm ∷ Refl ∷ Assume ∷ EqMp ∷ AbsThm ∷ AppThm ∷ DeductAntisym ∷ BetaConv ∷ Subst ∷ Sym ∷ Trans ∷ ProveHyp ∷ Axiom ∷ Thm ∷ DefineConst ∷ DefineConstList ∷ DefineTypeOp ∷ []
+
+-- the command that is written so
+abbrev pub command_of : List ℕ → Option Cmd
+command_of text = find (λ c. bytes_eq (spelling c) text) commands
+
+-- the machine does these commands; it refuses the others as not built yet
+abbrev pub is_built : Cmd → Bool
+is_built Version = true
+is_built Nil = true
+is_built Cons = true
+is_built HdTl = false
+is_built Def = true
+is_built Ref = true
+is_built Remove = false
+is_built Pop = true
+is_built Pragma = false
+is_built TypeOp = true
+is_built OpType = true
+is_built VarType = true
+is_built Var = true
+is_built VarTerm = true
+is_built Const = true
+is_built ConstTerm = true
+is_built AppTerm = true
+is_built AbsTerm = false
+is_built Refl = false
+is_built Assume = true
+is_built EqMp = false
+is_built AbsThm = false
+is_built AppThm = false
+is_built DeductAntisym = false
+is_built BetaConv = false
+is_built Subst = false
+is_built Sym = false
+is_built Trans = false
+is_built ProveHyp = false
+is_built Axiom = false
+is_built Thm = true
+is_built DefineConst = false
+is_built DefineConstList = false
+is_built DefineTypeOp = false

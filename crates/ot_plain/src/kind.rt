@@ -1,0 +1,13 @@
+/// What an object of the machine is.
+#[derive(Clone, Copy, Debug, PartialEq, Eq)]
+pub enum Kind {
+    Num,
+    Name,
+    List,
+    TyOp,
+    Ty,
+    Con,
+    Var,
+    Tm,
+    Thm,
+}
