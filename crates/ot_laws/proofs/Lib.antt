@@ -1,0 +1,22 @@
+-- Lemmas on the definitions of the logic, over any alphabet whose test of names is equality.
+pub mod Tests
+pub mod Terms
+pub mod Named
+pub mod Apply
+pub mod Opened
+pub mod Typing
+pub mod Sets
+pub mod Hypotheses
+pub mod Equations
+pub mod Derived
+pub mod Grown
+pub mod Typed
+pub mod Definitions
+pub mod Symbols
+pub mod Size
+pub mod Limits
+pub mod New
+pub mod Theorems
+pub mod Steps
+pub mod Sound
+pub mod Laws

@@ -1,0 +1,87 @@
+-- Lists as sets: members, and lists without repetition.
+use Rattle.std.specs.Prelude.{◌≢◌}
+use Rattle.std.specs.List.{AllByRecursion}
+use Rattle.std.proofs.Common.{◌≡◌, suc, ◌≤◌, List, [], ◌∷◌, ◌++◌, length, map, refl, sym, ap, ◌∙◌, subst, inl, inr, ◌⊎◌, arith}
+use Rattle.ot_plain.specs.Lists.{IsMember, IsPart, IsSameSet, AreDistinct}
+
+module _ {X : Type 0} where
+  pub IsMember-left : (x : X) (xs ys : List X) → IsMember x xs → IsMember x (xs ++ ys)
+  IsMember-left x (y ∷ xs) ys (inl h) = inl h
+  IsMember-left x (y ∷ xs) ys (inr h) = inr (IsMember-left x xs ys h)
+  IsMember-left x [] ys h = absurd h
+
+  pub IsMember-right : (x : X) (xs ys : List X) → IsMember x ys → IsMember x (xs ++ ys)
+  IsMember-right x [] ys h = h
+  IsMember-right x (y ∷ xs) ys h = inr (IsMember-right x xs ys h)
+
+  pub IsMember-cases : (x : X) (xs ys : List X) → IsMember x (xs ++ ys) → IsMember x xs ⊎ IsMember x ys
+  IsMember-cases x [] ys h = inr h
+  IsMember-cases x (y ∷ xs) ys (inl h) = inl (inl h)
+  IsMember-cases x (y ∷ xs) ys (inr h) = elim (IsMember-cases x xs ys h) [ inl p ↦ inl (inr p) | inr p ↦ inr p ]
+
+  pub part-append : (xs ys zs : List X) → IsPart xs zs → IsPart ys zs → IsPart (xs ++ ys) zs
+  part-append xs ys zs p q x h = elim (IsMember-cases x xs ys h) [ inl a ↦ p x a | inr b ↦ q x b ]
+
+  pub same_set-self : (xs : List X) → IsSameSet xs xs
+  same_set-self xs = record { to = λ x h. h; back = λ x h. h }
+
+  pub same_set-both_ways : {xs ys : List X} → IsSameSet xs ys → IsSameSet ys xs
+  same_set-both_ways s = record { to = s.back; back = s.to }
+
+  pub same_set-then : {xs ys zs : List X} → IsSameSet xs ys → IsSameSet ys zs → IsSameSet xs zs
+  same_set-then s t = record { to = λ x h. t.to x (s.to x h); back = λ x h. s.back x (t.back x h) }
+
+  pub same_set-append : {xs ys us vs : List X} → IsSameSet xs us → IsSameSet ys vs → IsSameSet (xs ++ ys) (us ++ vs)
+  same_set-append {xs} {ys} {us} {vs} s t = record {
+    to = part-append xs ys (us ++ vs) (λ x i. IsMember-left x us vs (s.to x i)) (λ x i. IsMember-right x us vs (t.to x i));
+    back = part-append us vs (xs ++ ys) (λ x i. IsMember-left x xs ys (s.back x i)) (λ x i. IsMember-right x xs ys (t.back x i));
+  }
+
+  pub same_set-swap : (xs ys : List X) → IsSameSet (ys ++ xs) (xs ++ ys)
+  same_set-swap xs ys = record {
+    to = part-append ys xs (xs ++ ys) (λ x i. IsMember-right x xs ys i) (λ x i. IsMember-left x xs ys i);
+    back = part-append xs ys (ys ++ xs) (λ x i. IsMember-right x ys xs i) (λ x i. IsMember-left x ys xs i);
+  }
+
+  -- what holds of each element holds of each member
+  pub all-member : (P : X → Type 0) (xs : List X) → AllByRecursion P xs → (x : X) → IsMember x xs → P x
+  all-member P [] h x i = absurd i
+  all-member P (y ∷ xs) h x (inl e) = subst P e h.0
+  all-member P (y ∷ xs) h x (inr i) = all-member P xs h.1 x i
+
+  pub all-from_members : (P : X → Type 0) (xs : List X) → ((x : X) → IsMember x xs → P x) → AllByRecursion P xs
+  all-from_members P [] h = tt
+  all-from_members P (y ∷ xs) h = (h y (inl refl), all-from_members P xs (λ x i. h x (inr i)))
+
+  pub distinct-append : (xs ys : List X) → AreDistinct xs → AreDistinct ys → ((x : X) → IsMember x xs → ¬ (IsMember x ys)) → AreDistinct (xs ++ ys)
+  distinct-append [] ys d e apart = e
+  distinct-append (x ∷ xs) ys d e apart =
+      (λ i. elim (IsMember-cases x xs ys i) [ inl j ↦ d.0 j | inr j ↦ apart x (inl refl) j ], distinct-append xs ys d.1 e (λ y i. apart y (inr i)))
+
+  -- a list without one of its elements
+  taken_out : (k : X) (ys : List X) → IsMember k ys → (zs : List X) × (length ys ≡ suc (length zs)) × ((x : X) → IsMember x ys → x ≢ k → IsMember x zs)
+  taken_out k [] m = absurd m
+  taken_out k (y ∷ ys) (inl e) = (ys, refl, λ x i n. elim i [ inl d ↦ absurd (n (sym d ∙ e)) | inr j ↦ j ])
+  taken_out k (y ∷ ys) (inr m) =
+      let (zs, l, f) = taken_out k ys m in
+      (y ∷ zs, ap suc l, λ x i n. elim i [ inl d ↦ inl d | inr j ↦ inr (f x j n) ])
+
+  -- a list without repetition is no longer than one that has its members
+  pub distinct-length : (ks ys : List X) → AreDistinct ks → IsPart ks ys → length ks ≤ length ys
+  distinct-length [] ys d h = omega arith
+  distinct-length (k ∷ ks) ys d h =
+      let (zs, l, f) = taken_out k ys (h k (inl refl)) in
+      let inside = λ (x : X) (i : IsMember x ks). f x (h x (inr i)) (λ e. d.0 (subst (λ z. IsMember z ks) e i)) in
+      let p = distinct-length ks zs d.1 inside in
+      omega arith
+
+module _ {X Y : Type 0} (f : X → Y) where
+  pub IsMember-map : (x : X) (xs : List X) → IsMember x xs → IsMember (f x) (map f xs)
+  IsMember-map x (y ∷ xs) (inl e) = inl (ap f e)
+  IsMember-map x (y ∷ xs) (inr i) = inr (IsMember-map x xs i)
+  IsMember-map x [] i = i
+
+  pub IsMember-map_back : (y : Y) (xs : List X) → IsMember y (map f xs) → (x : X) × IsMember x xs × (f x ≡ y)
+  IsMember-map_back y (x ∷ xs) (inl e) = (x, inl refl, e)
+  IsMember-map_back y (x ∷ xs) (inr i) = let (z, j, e) = IsMember-map_back y xs i in (z, inr j, e)
+  IsMember-map_back y [] i = absurd i

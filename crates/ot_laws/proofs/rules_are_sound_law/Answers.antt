@@ -1,0 +1,10 @@
+use Rattle.ot_plain.specs.Naming.{names, numbers}
+use Rattle.ot_laws.proofs.Tests.{tells_names, tells_numbers}
+use Rattle.ot_laws.proofs.Laws.{rules_are_sound}
+use Rattle.ot_laws.proofs.rules_are_sound_law.Goals as goal
+
+pub returns-clause-of_names : goal.returns-clause-of_names
+returns-clause-of_names c = rules_are_sound names tells_names
+
+pub returns-clause-of_numbers : goal.returns-clause-of_numbers
+returns-clause-of_numbers c = rules_are_sound numbers tells_numbers

@@ -1,0 +1,5 @@
+-- Definitions and statements of the laws.
+pub mod Walk
+pub mod Theorem
+pub mod Limits
+pub mod Laws
