@@ -1,0 +1,6 @@
+-- Lemmas on the table of types.
+pub mod TypeTableLemmas
+pub mod NamesIn
+pub mod InstLemmas
+pub mod SubtypeLemmas
+pub mod VarLemmas

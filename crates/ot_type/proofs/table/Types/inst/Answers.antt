@@ -1,0 +1,30 @@
+use Rattle.std.proofs.Common.{Err, ap, subst, arith}
+use Rattle.ot_plain.specs.Table.{IsInjective}
+use Rattle.ot_type.proofs.InstLemmas.{walk_memo, next_within, next_args, next_nesting, walk_step, walk_end, walk_result, same_error}
+use Rattle.ot_type.proofs.table.Types.inst.Goals as goal
+
+pub instance_of-requires-clause-id : goal.instance_of-requires-clause-id
+instance_of-requires-clause-id c = next_within _ _ _ _ _ _ _ _ c.requires.pairs (subst IsInjective c.self.view_is c.self.invariant.table.injective) c.in-Some.ensures.items c.loop-part.invariant
+
+pub instance_of-requires-clause-memo : goal.instance_of-requires-clause-memo
+instance_of-requires-clause-memo c = walk_memo _ _ _ _ _ _ _ _ c.requires.pairs (subst IsInjective c.self.view_is c.self.invariant.table.injective) c.in-Some.ensures.items c.loop-part.invariant
+
+pub instance_of-requires-clause-args : goal.instance_of-requires-clause-args
+instance_of-requires-clause-args c = next_args _ _ _ _ _ _ _ _ c.requires.pairs (subst IsInjective c.self.view_is c.self.invariant.table.injective) c.in-Some.ensures.items c.loop-part.invariant
+
+pub returns-in_err-instance-clause-nesting : goal.returns-in_err-instance-clause-nesting
+returns-in_err-instance-clause-nesting c p =
+    next_nesting _ _ _ _ _ _ _ _ c.requires.pairs (subst IsInjective c.self.view_is c.self.invariant.table.injective) c.in-Some.ensures.items c.loop-part.invariant
+    (c.in_err-instance.ensures.nesting (ap Err (same_error c.from_residual-in_err-instance.result _ _ c.from_residual-in_err-instance.ensures.1 p)))
+
+pub loop-part-preserved : goal.loop-part-preserved
+loop-part-preserved c =
+    walk_step _ _ _ _ _ _ _ _ c.requires.pairs (subst IsInjective c.self.view_is c.self.invariant.table.injective) c.in-Some.ensures.items c.loop-part.invariant
+    _ _ c.in_ok-instance.instance c.in_ok-instance.ensures.extends c.in_ok-instance.ensures.table c.in_ok-instance.ensures.names c.in_ok-instance.ensures.ok c.in_ok-insert.ensures.updates.0
+
+pub result_of-requires : goal.result_of-requires
+result_of-requires c =
+    walk_end _ _ _ _ _ _ c.requires.id c.loop-part.invariant (subst IsInjective c.self.view_is c.self.invariant.table.injective) (omega (arith, c.in_default.ensures.cases, c.loop-part.left.ok.0))
+
+pub returns-clause-ok : goal.returns-clause-ok
+returns-clause-ok c = walk_result _ _ _ _ _ _ c.requires.id c.loop-part.invariant c.result_of.result c.result_of.ensures

@@ -1,0 +1,4 @@
+-- The table of types.
+pub mod TypeTable
+pub mod Instance
+pub mod Subtypes
