@@ -1,0 +1,229 @@
+-- Lemmas on the table of terms.
+use Rattle.std.proofs.Common.{◌≡◌, ℕ, suc, ◌<◌, ◌≤◌, Bool, true, false, ◌&&◌, nat_eq, eqb-true, eq-eqb, true≢false, position, None, List, [], ◌∷◌, ◌++◌, length, slice_get, Some, refl, sym, ap, subst, ◌∙◌, arith}
+use Rattle.std.proofs.lemmas.Option.{get_or_from_slice_get, same_Some}
+use Rattle.std.specs.Cmp.Derive.{both_true}
+use Rattle.ot_plain.specs.Trees.{Ty, TyVar, Named, NVar, NConst, NApp, NAbs}
+use Rattle.ot_plain.specs.Hol.{depth_limit}
+use Rattle.ot_plain.specs.Table.{Extends, IsInjective}
+use Rattle.ot_plain.specs.Interned.{NodeLaws, grow}
+use Rattle.ot_plain.proofs.TableLemmas.{Extends-refl, get_or-Extends, get_or-IsInjective}
+use Rattle.ot_plain.proofs.InternedLemmas.{entry_at, found, pushed}
+use Rattle.indexmap.specs.IndexMap.{IndexMap, keys, insert_entry}
+use Rattle.ot_type.specs.TypeTable.{type_at, IsTypeTable}
+use Rattle.ot_type.proofs.TypeTableLemmas.{type_at-Extends}
+use Rattle.ot_term.specs.Term.{TermTable}
+use Rattle.ot_term.proofs.Limit.{limit_parts}
+use Rattle.ot_term.specs.TermTable.{variable_of, term_at, term_of, terms_of, AreBelow, Suits, IsBeside, AreTermNodes, IsTermTable, IsTermSound, Grows}
+use Rattle.ot_term.specs.declared.table.Beside.{Beside}
+use Rattle.ot_term.specs.declared.term.VarKey.{VarKey}
+use Rattle.ot_term.specs.declared.term.TermNode.{TermNode}
+use Rattle.ot_term.specs.declared.term.TermNode.TheVariants.{Var, Const, App, Abs}
+use Rattle.ot_term.specs.contracts.term.TermNodePartialEq.TheImpl as derived
+
+abbrev pub node_eq : TermNode → TermNode → Bool
+node_eq = derived.ghosts.eq
+
+both : (a b : Bool) → (a && b) ≡ true → (a ≡ true) × (b ≡ true)
+both true true p = (refl, refl)
+both true false p = absurd (true≢false (sym p))
+both false b p = absurd (true≢false (sym p))
+
+-- ---- the laws, over one table of types
+module _ (tys : List (Ty ℕ)) where
+  more_below : (j k : ℕ) → j ≤ k → (n : TermNode) → AreBelow (length tys) j n → AreBelow (length tys) k n
+  more_below j k le (Var v) h = h
+  more_below j k le (Const n t) h = h
+  more_below j k le (App f x) h = (omega (arith, h.0), omega (arith, h.1))
+  more_below j k le (Abs v b) h = (h.0, omega (arith, h.1))
+
+  tree_stays : (ts us : List (Named ℕ)) → Extends ts us → (n : TermNode) → AreBelow (length tys) (length ts) n → term_of tys us n ≡ term_of tys ts n
+  tree_stays ts us e (Var v) h = refl
+  tree_stays ts us e (Const n t) h = refl
+  tree_stays ts us e (App f x) h =
+      let left = get_or-Extends ts us e f (NConst 0 (TyVar 0)) h.0 in
+      let right = get_or-Extends ts us e x (NConst 0 (TyVar 0)) h.1 in
+      λ j. NApp (left j) (right j)
+  tree_stays ts us e (Abs v b) h =
+      let body = get_or-Extends ts us e b (NConst 0 (TyVar 0)) h.1 in
+      λ j. NAbs (variable_of tys v) (body j)
+
+  variable_same : (v w : VarKey) → (nat_eq v.name w.name && nat_eq v.ty w.ty) ≡ true → variable_of tys v ≡ variable_of tys w
+  variable_same v w p =
+      let parts = both (nat_eq v.name w.name) (nat_eq v.ty w.ty) p in
+      let name = eqb-true v.name w.name parts.0 in
+      let ty = eqb-true v.ty w.ty parts.1 in
+      λ j. record { name = name j; ty = type_at tys (ty j) }
+
+  tree_same : (ts : List (Named ℕ)) (m n : TermNode) → node_eq m n ≡ true → term_of tys ts m ≡ term_of tys ts n
+  tree_same ts (Var v) (Var w) p = ap NVar (variable_same v w p)
+  tree_same ts (Const n t) (Const m u) p =
+      let parts = both (nat_eq n m) (nat_eq t u) p in
+      let name = eqb-true n m parts.0 in
+      let ty = eqb-true t u parts.1 in
+      λ j. NConst (name j) (type_at tys (ty j))
+  tree_same ts (App f x) (App g y) p =
+      let parts = both (nat_eq f g) (nat_eq x y) p in
+      let left = eqb-true f g parts.0 in
+      let right = eqb-true x y parts.1 in
+      λ j. NApp (term_at ts (left j)) (term_at ts (right j))
+  tree_same ts (Abs v b) (Abs w c) p =
+      let parts = both (nat_eq v.name w.name && nat_eq v.ty w.ty) (nat_eq b c) p in
+      let body = eqb-true b c parts.1 in
+      λ j. NAbs (variable_same v w parts.0 j) (term_at ts (body j))
+  tree_same ts (Var v) (Const m u) p = absurd (true≢false (sym p))
+  tree_same ts (Var v) (App g y) p = absurd (true≢false (sym p))
+  tree_same ts (Var v) (Abs w c) p = absurd (true≢false (sym p))
+  tree_same ts (Const n t) (Var w) p = absurd (true≢false (sym p))
+  tree_same ts (Const n t) (App g y) p = absurd (true≢false (sym p))
+  tree_same ts (Const n t) (Abs w c) p = absurd (true≢false (sym p))
+  tree_same ts (App f x) (Var w) p = absurd (true≢false (sym p))
+  tree_same ts (App f x) (Const m u) p = absurd (true≢false (sym p))
+  tree_same ts (App f x) (Abs w c) p = absurd (true≢false (sym p))
+  tree_same ts (Abs v b) (Var w) p = absurd (true≢false (sym p))
+  tree_same ts (Abs v b) (Const m u) p = absurd (true≢false (sym p))
+  tree_same ts (Abs v b) (App g y) p = absurd (true≢false (sym p))
+
+  same_variable : IsInjective tys → (v w : VarKey) → v.ty < length tys → w.ty < length tys → variable_of tys v ≡ variable_of tys w → (nat_eq v.name w.name && nat_eq v.ty w.ty) ≡ true
+  same_variable types v w g h p =
+      let name : v.name ≡ w.name = ap (λ v. v.name) p in
+      let trees : type_at tys v.ty ≡ type_at tys w.ty = ap (λ v. v.ty) p in
+      both_true (eq-eqb v.name w.name name) (eq-eqb v.ty w.ty (get_or-IsInjective tys types v.ty w.ty (TyVar 0) g h trees))
+
+  same_tree : IsInjective tys → (ts : List (Named ℕ)) → IsInjective ts → (m n : TermNode) → AreBelow (length tys) (length ts) m → AreBelow (length tys) (length ts) n → term_of tys ts m ≡ term_of tys ts n → node_eq m n ≡ true
+  same_tree types ts terms (Var v) (Var w) g h p =
+      let same : variable_of tys v ≡ variable_of tys w = cc in
+      same_variable types v w g h same
+  same_tree types ts terms (Const n t) (Const m u) g h p =
+      let name : n ≡ m = cc in
+      let trees : type_at tys t ≡ type_at tys u = cc in
+      both_true (eq-eqb n m name) (eq-eqb t u (get_or-IsInjective tys types t u (TyVar 0) g h trees))
+  same_tree types ts terms (App f x) (App g y) a b p =
+      let left : term_at ts f ≡ term_at ts g = cc in
+      let right : term_at ts x ≡ term_at ts y = cc in
+      both_true (eq-eqb f g (get_or-IsInjective ts terms f g (NConst 0 (TyVar 0)) a.0 b.0 left)) (eq-eqb x y (get_or-IsInjective ts terms x y (NConst 0 (TyVar 0)) a.1 b.1 right))
+  same_tree types ts terms (Abs v x) (Abs w y) a b p =
+      let same : variable_of tys v ≡ variable_of tys w = cc in
+      let body : term_at ts x ≡ term_at ts y = cc in
+      both_true (same_variable types v w a.0 b.0 same) (eq-eqb x y (get_or-IsInjective ts terms x y (NConst 0 (TyVar 0)) a.1 b.1 body))
+  same_tree types ts terms (Var v) (Const m u) a b p = cc
+  same_tree types ts terms (Var v) (App g y) a b p = cc
+  same_tree types ts terms (Var v) (Abs w c) a b p = cc
+  same_tree types ts terms (Const n t) (Var w) a b p = cc
+  same_tree types ts terms (Const n t) (App g y) a b p = cc
+  same_tree types ts terms (Const n t) (Abs w c) a b p = cc
+  same_tree types ts terms (App f x) (Var w) a b p = cc
+  same_tree types ts terms (App f x) (Const m u) a b p = cc
+  same_tree types ts terms (App f x) (Abs w c) a b p = cc
+  same_tree types ts terms (Abs v x) (Var w) a b p = cc
+  same_tree types ts terms (Abs v x) (Const m u) a b p = cc
+  same_tree types ts terms (Abs v x) (App g y) a b p = cc
+
+  pub laws : IsInjective tys → NodeLaws (term_of tys) (AreBelow (length tys)) (IsBeside tys) node_eq
+  laws types = record {
+    more_below = more_below;
+    tree_stays = tree_stays;
+    fits_stays = λ ts us e n b below h. subst (λ t. Suits tys t b) (sym (tree_stays ts us e n below)) h;
+    tree_same = tree_same;
+    same_tree = same_tree types;
+  }
+
+-- ---- the types grow, and the terms stay
+module _ (tys us : List (Ty ℕ)) (e : Extends tys us) where
+  term_of-types : (ts : List (Named ℕ)) (k : ℕ) (n : TermNode) → AreBelow (length tys) k n → term_of us ts n ≡ term_of tys ts n
+  term_of-types ts k (Var v) h = λ j. NVar (record { name = v.name; ty = type_at-Extends tys us e v.ty h j })
+  term_of-types ts k (Const n t) h = ap (NConst n) (type_at-Extends tys us e t h)
+  term_of-types ts k (App f x) h = refl
+  term_of-types ts k (Abs v b) h = λ j. NAbs (record { name = v.name; ty = type_at-Extends tys us e v.ty h.0 j }) (term_at ts b)
+
+  grow-types : (es : List (TermNode × Beside)) → ((i : ℕ) (n : TermNode) (b : Beside) → slice_get es i ≡ Some (n, b) → (k : ℕ) × AreBelow (length tys) k n) → (ts : List (Named ℕ)) → grow (term_of us) ts es ≡ grow (term_of tys) ts es
+  grow-types [] below ts = refl
+  grow-types (d ∷ es) below ts =
+      let h = below 0 d.0 d.1 refl in
+      ap (λ t. grow (term_of us) (ts ++ t ∷ []) es) (term_of-types ts h.0 d.0 h.1) ∙ grow-types es (λ i n b p. below (suc i) n b p) (ts ++ term_of tys ts d.0 ∷ [])
+
+  below-types : (k : ℕ) (n : TermNode) → AreBelow (length tys) k n → AreBelow (length us) k n
+  below-types k (Var v) h = omega (arith, e.longer)
+  below-types k (Const n t) h = omega (arith, e.longer)
+  below-types k (App f x) h = h
+  below-types k (Abs v b) h = (omega (arith, e.longer, h.0), h.1)
+
+  suits-types : (t : Named ℕ) (b : Beside) → Suits tys t b → Suits us t b
+  suits-types t b h = record {
+    below = omega (arith, e.longer, h.below);
+    typed = h.typed ∙ ap Some (sym (type_at-Extends tys us e b.ty h.below));
+    depth = h.depth;
+    limit = h.limit;
+  }
+
+  pub terms_of-types : (es : List (TermNode × Beside)) (ts : List (Named ℕ)) → AreTermNodes tys es ts → terms_of us es ≡ terms_of tys es
+  terms_of-types es ts nodes = grow-types es (λ i n b p. (i, (nodes.entries i n b p).below)) []
+
+  pub sound-types : (es : List (TermNode × Beside)) (ts : List (Named ℕ)) → IsTermSound tys es ts → IsTypeTable us → IsTermSound us es ts
+  sound-types es ts sound table = record {
+    nodes = record {
+      same_length = sound.nodes.same_length;
+      entries = λ i n b p.
+          let d = sound.nodes.entries i n b p in
+          let same = term_of-types ts i n d.below in
+          record {
+            tree = d.tree ∙ ap Some (sym same);
+            below = below-types i n d.below;
+            fits = subst (λ t. Suits us t b) (sym same) (suits-types (term_of tys ts n) b d.fits);
+          };
+      injective = sound.nodes.injective;
+    };
+    table = record { types = table; injective = sound.table.injective; typed = sound.table.typed; limit = sound.table.limit };
+  }
+
+module _ (tys : List (Ty ℕ)) (es : List (TermNode × Beside)) (ts : List (Named ℕ)) (nodes : AreTermNodes tys es ts) where
+  -- what stands beside a node suits the term at its number
+  pub suits_at : (i : ℕ) (n : TermNode) (b : Beside) → slice_get es i ≡ Some (n, b) → Suits tys (term_at ts i) b
+  suits_at i n b p =
+      let e = nodes.entries i n b p in
+      subst (λ t. Suits tys t b) (sym (get_or_from_slice_get ts i _ (NConst 0 (TyVar 0)) e.tree)) e.fits
+
+  -- what callers may know of the trees, from the facts of the nodes
+  table_from : IsInjective tys → IsTypeTable tys → IsTermTable (record { types = tys; terms = ts })
+  table_from one types = record {
+    types = types;
+    injective = nodes.injective;
+    typed = λ i u p. let s = suits i u p in (type_at tys s.0.ty, s.1.typed);
+    limit = λ i u p. (suits i u p).1.limit;
+  }
+    where
+      suits : (i : ℕ) (u : Named ℕ) → slice_get ts i ≡ Some u → (b : Beside) × Suits tys u b
+      suits i u p =
+          let e = entry_at (term_of tys) (AreBelow (length tys)) (IsBeside tys) node_eq (laws tys one) es ts nodes i u p in
+          let d = nodes.entries i e.0 e.1 e.2 in
+          let same : u ≡ term_of tys ts e.0 = same_Some _ _ (sym p ∙ d.tree) in
+          (e.1, subst (λ t. Suits tys t e.1) (sym same) d.fits)
+
+-- a depth beside a node is within the limit
+pub depth-limit : (tys : List (Ty ℕ)) (t : Named ℕ) (b : Beside) → Suits tys t b → b.depth ≤ depth_limit
+depth-limit tys t b s = omega (arith, s.depth, (limit_parts t s.limit).0)
+
+-- what an insert of a new node leaves, of the table t
+pub record PushedTerm (tys : List (Ty ℕ)) (es : List (TermNode × Beside)) (t : TermTable) (n : TermNode) (new : List (TermNode × Beside)) : Type 0 where
+  pub sound : IsTermSound tys new (terms_of tys new)
+  pub trees : terms_of tys new ≡ t.terms ++ term_of t.types t.terms n ∷ []
+  pub last : slice_get (terms_of tys new) (length es) ≡ Some (term_of t.types t.terms n)
+  pub grows : Grows t (record { types = tys; terms = terms_of tys new })
+
+module _ {S : Type 0} (tys : List (Ty ℕ)) (m : IndexMap TermNode Beside S) (sound : IsTermSound tys m.entries (terms_of tys m.entries)) (n : TermNode) where
+  pub found_term : (t : TermTable) → ◌≡◌ {A = TermTable} (record { types = tys; terms = terms_of tys m.entries }) t → (i : ℕ) → position (node_eq n) (keys m) ≡ Some i → slice_get t.terms i ≡ Some (term_of t.types t.terms n)
+  found_term t view i p =
+      subst (λ (t : TermTable). slice_get t.terms i ≡ Some (term_of t.types t.terms n)) view
+      (found (term_of tys) (AreBelow (length tys)) (IsBeside tys) node_eq (laws tys sound.table.types.injective) m.entries (terms_of tys m.entries) sound.nodes n i p)
+
+  pub pushed_term : (b : Beside) (new : List (TermNode × Beside)) → position (node_eq n) (keys m) ≡ None → new ≡ insert_entry node_eq m.entries n b
+      → (t : TermTable) → ◌≡◌ {A = TermTable} (record { types = tys; terms = terms_of tys m.entries }) t → AreBelow (length t.types) (length t.terms) n → Suits t.types (term_of t.types t.terms n) b → PushedTerm tys m.entries t n new
+  pushed_term b new absent inserted t view =
+      let P : TermTable → Type 0 = λ t. AreBelow (length t.types) (length t.terms) n → Suits t.types (term_of t.types t.terms n) b → PushedTerm tys m.entries t n new in
+      subst P view (λ below fits.
+      let p = pushed (term_of tys) (AreBelow (length tys)) (IsBeside tys) node_eq (laws tys sound.table.types.injective) m (terms_of tys m.entries) refl sound.nodes n b below fits absent new inserted in
+      record {
+        sound = record { nodes = p.sound; table = table_from tys new (terms_of tys new) p.sound sound.table.types.injective sound.table.types };
+        trees = p.trees;
+        last = p.last;
+        grows = record { types = Extends-refl tys; terms = p.extends };
+      })

@@ -1,0 +1,20 @@
+use Rattle.ot_term.proofs.TypesGrow.{TypesGrown, types_grown}
+use Rattle.ot_term.proofs.table.Terms.type_bool.Goals as goal
+
+grown : (c : goal.After-boolean) → TypesGrown c.self.inside.types c.self.inside.nodes.entries c.args.self.now c.boolean.new.self
+grown c = types_grown _ _ _ _ c.self.view_is c.self.invariant c.boolean.ensures.extends c.boolean.ensures.table
+
+pub invariant_of-self : goal.invariant_of-self
+invariant_of-self c = (grown c).sound
+
+pub returns-clause-terms : goal.returns-clause-terms
+returns-clause-terms c = (grown c).terms
+
+pub returns-clause-grows : goal.returns-clause-grows
+returns-clause-grows c = (grown c).grows
+
+pub returns-clause-table : goal.returns-clause-table
+returns-clause-table c = (grown c).table
+
+pub returns-clause-names : goal.returns-clause-names
+returns-clause-names c = (grown c).names 2 c.boolean.ensures.names

@@ -1,0 +1,10 @@
+use Rattle.std.proofs.lemmas.Result.{IfOk-weaker}
+use Rattle.ot_type.proofs.SubtypeLemmas.{All-from_member}
+use Rattle.ot_term.proofs.Gathering.{mentioned}
+use Rattle.ot_term.proofs.table.Terms.types_in.Goals as goal
+
+pub subtypes-requires : goal.subtypes-requires
+subtypes-requires c = All-from_member _ _ (λ k m. (c.in_ok-pending.ensures.each k m).0)
+
+pub returns : goal.returns
+returns c = IfOk-weaker c.subtypes.result _ _ (λ types found. mentioned c.args.self.now c.args.ids.now c.in_ok-pending.pending.keys types.items c.in_ok-pending.ensures found) c.subtypes.ensures

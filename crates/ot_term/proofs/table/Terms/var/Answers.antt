@@ -1,0 +1,15 @@
+use Rattle.std.proofs.Common.{arith, ap, subst}
+use Rattle.ot_plain.specs.Bounds.{names_in}
+use Rattle.ot_type.proofs.NamesIn.{bound_ty-type_at}
+use Rattle.ot_term.specs.TermTable.{IsTermTable}
+use Rattle.ot_term.proofs.Suiting.{suits-variable}
+use Rattle.ot_term.proofs.table.Terms.var.Goals as goal
+
+pub intern-requires-clause-beside : goal.intern-requires-clause-beside
+intern-requires-clause-beside c = suits-variable c.args.self.now (subst IsTermTable c.self.view_is c.self.invariant.table) c.args.v c.requires
+
+pub returns-clause-names : goal.returns-clause-names
+returns-clause-names c = record {
+  types = let e = ap names_in c.intern.ensures.types in omega (arith, e);
+  terms = omega (arith, c.intern.ensures.names, bound_ty-type_at _ _ c.requires);
+}

@@ -1,0 +1,80 @@
+-- The table of terms over the table of types.
+use Rattle.std.specs.Prelude.{◌≡◌, ℕ, ◌<◌, ◌≤◌, max, Bool, true, List, length, slice_get, slice_index_or, Some}
+use Rattle.ot_plain.specs.Trees.{Ty, TyVar, Variable, Named, NVar, NConst, NApp, NAbs}
+use Rattle.ot_plain.specs.Hol.{named_type, named_depth, nameless, is_shallow}
+use Rattle.ot_plain.specs.Naming.{numbers}
+use Rattle.ot_plain.specs.Bounds.{names_in, names_in_terms}
+use Rattle.ot_plain.specs.Table.{Extends, IsInjective}
+use Rattle.ot_plain.specs.Interned.{trees_of, IsSound}
+use Rattle.ot_type.specs.TypeTable.{type_at, IsTypeTable}
+use Rattle.ot_term.specs.Term.{TermTable}
+use Rattle.ot_term.specs.declared.term.VarKey.{VarKey}
+use Rattle.ot_term.specs.declared.term.TermNode.{TermNode}
+use Rattle.ot_term.specs.declared.term.TermNode.TheVariants.{Var, Const, App, Abs}
+use Rattle.ot_term.specs.declared.table.Beside.{Beside}
+
+-- the tree of a number of the table
+abbrev pub term_at : List (Named ℕ) → ℕ → Named ℕ
+term_at ts i = slice_index_or ts i (NConst 0 (TyVar 0))
+
+-- the variable of a key
+abbrev pub variable_of : List (Ty ℕ) → VarKey → Variable ℕ
+variable_of tys v = record { name = v.name; ty = type_at tys v.ty }
+
+-- the tree of a node
+abbrev pub term_of : List (Ty ℕ) → List (Named ℕ) → TermNode → Named ℕ
+term_of tys ts (Var v) = NVar (variable_of tys v)
+term_of tys ts (Const n t) = NConst n (type_at tys t)
+term_of tys ts (App f x) = NApp (term_at ts f) (term_at ts x)
+term_of tys ts (Abs v b) = NAbs (variable_of tys v) (term_at ts b)
+
+-- the node's numbers are of the tables
+abbrev pub AreBelow : ℕ → ℕ → TermNode → Type 0
+AreBelow types terms (Var v) = v.ty < types
+AreBelow types terms (Const n t) = t < types
+AreBelow types terms (App f x) = (f < terms) × (x < terms)
+AreBelow types terms (Abs v b) = (v.ty < types) × (b < terms)
+
+-- whether a named term is within the nesting limit, which is a matter of its nameless form alone
+abbrev pub is_within_limit : Named ℕ → Bool
+is_within_limit t = is_shallow numbers (nameless numbers t)
+
+-- beside a node stand the number of its tree's type and its tree's depth; the tree is within the nesting limit
+pub record Suits (tys : List (Ty ℕ)) (t : Named ℕ) (b : Beside) : Type 0 where
+  pub below : b.ty < length tys
+  pub typed : named_type numbers t ≡ Some (type_at tys b.ty)
+  pub depth : b.depth ≡ named_depth numbers t
+  pub limit : is_within_limit t ≡ true
+
+abbrev pub IsBeside : List (Ty ℕ) → List (Named ℕ) → TermNode → Beside → Type 0
+IsBeside tys ts n b = Suits tys (term_of tys ts n) b
+
+-- the trees of the entries
+abbrev pub terms_of : List (Ty ℕ) → List (TermNode × Beside) → List (Named ℕ)
+terms_of tys es = trees_of (term_of tys) es
+
+-- each number of a type and of a term keeps its tree
+pub record Grows (old new : TermTable) : Type 0 where
+  pub types : Extends old.types new.types
+  pub terms : Extends old.terms new.terms
+
+-- no name from the number k on is new
+pub record NamesUpTo (k : ℕ) (old new : TermTable) : Type 0 where
+  pub types : names_in new.types ≤ max (names_in old.types) k
+  pub terms : names_in_terms new.terms ≤ max (max (names_in old.types) (names_in_terms old.terms)) k
+
+-- what holds of each table: each type and each term once, each term well typed and within the nesting limit
+pub record IsTermTable (t : TermTable) : Type 0 where
+  pub types : IsTypeTable t.types
+  pub injective : IsInjective t.terms
+  pub typed : (i : ℕ) (u : Named ℕ) → slice_get t.terms i ≡ Some u → (ty : Ty ℕ) × (named_type numbers u ≡ Some ty)
+  pub limit : (i : ℕ) (u : Named ℕ) → slice_get t.terms i ≡ Some u → is_within_limit u ≡ true
+
+-- what the nodes keep, over the trees of the types
+abbrev pub AreTermNodes : List (Ty ℕ) → List (TermNode × Beside) → List (Named ℕ) → Type 0
+AreTermNodes tys es ts = IsSound (term_of tys) (AreBelow (length tys)) (IsBeside tys) es ts
+
+-- what the fields keep, with what callers may know of the trees
+pub record IsTermSound (tys : List (Ty ℕ)) (es : List (TermNode × Beside)) (ts : List (Named ℕ)) : Type 0 where
+  pub nodes : AreTermNodes tys es ts
+  pub table : IsTermTable (record { types = tys; terms = ts })

@@ -1,0 +1,151 @@
+//! Equations: how they are made, and how they are taken apart.
+ghost use Rattle.std.specs.Prelude.{◌≡◌, ◌≢◌, ◌↔◌, ℕ, ◌<◌, [], Some, Err, slice_get, length, IfOk, IfNone, IfSome, IsTrue, false};
+ghost use Rattle.ot_plain.specs.Trees.{Ty, Named, NConst};
+ghost use Rattle.ot_plain.specs.Hol.{bool_ty, named_type, depth_ty, depth_limit};
+ghost use Rattle.ot_plain.specs.Naming.{numbers};
+ghost use Rattle.ot_type.specs.TypeTable.{type_at};
+
+use crate::table::Terms;
+use crate::term::{TermFault, TermId, TermNode};
+use ot_plain::NameId;
+use ot_type::{TableFault, TypeId, TypeNode};
+
+// The constant `=` at a type, and the types of its application to one term and to two.
+#[derive(Clone, Copy)]
+struct Equality {
+    constant: TermId,
+    test: TypeId,
+    truth: TypeId,
+}
+
+impl Terms {
+    ghost use Rattle.ot_term.specs.TermTable.{term_at, is_within_limit, Grows, NamesUpTo, IsTermTable};
+    ghost use Rattle.ot_term.specs.Equality.{named_equation, equality_ty, IsEquality};
+
+    /// The equation of two terms of one type.
+    ///
+    /// `ArgumentType` exactly where their types differ, `Nesting` exactly where they are the same and the equation would
+    /// pass the nesting limit; never `NotFunction`. A refusal may leave more types and terms than there were.
+    pub fn eq(&mut self, a: TermId, b: TermId) -> Result<TermId, TermFault>
+        requires a { a < length self.old.terms }
+        requires b { b < length self.old.terms }
+        ensures ok { IfOk result (λ id. (ty : Ty ℕ) × (named_type numbers (term_at self.old.terms a) ≡ Some ty)
+            × (slice_get self.new.terms id ≡ Some (named_equation ty (term_at self.old.terms a) (term_at self.old.terms b)))) }
+        ensures not_function { result ≢ Err TermFault.NotFunction }
+        ensures argument_type { result ≡ Err TermFault.ArgumentType → named_type numbers (term_at self.old.terms a) ≢ named_type numbers (term_at self.old.terms b) }
+        ensures nesting { result ≡ Err TermFault.Nesting → (ty : Ty ℕ)
+            × (named_type numbers (term_at self.old.terms a) ≡ Some ty) × (named_type numbers (term_at self.old.terms b) ≡ Some ty)
+            × (is_within_limit (named_equation ty (term_at self.old.terms a) (term_at self.old.terms b)) ≡ false) }
+        ensures grows { Grows self.old self.new }
+        ensures names { NamesUpTo 3 self.old self.new }
+        ensures table { IsTermTable self.new }
+    {
+        let ty = self.type_of(a);
+        if ty != self.type_of(b) {
+            return Err(TermFault::ArgumentType);
+        }
+        Ok(self.equation(ty, a, b)?)
+    }
+
+    /// The two sides of an equation; None exactly where the term is none. The constant `=` counts only at a type
+    /// `a -> (a -> bool)`.
+    pub fn as_eq(&self, id: TermId) -> Option<(TermId, TermId)>
+        requires { id < length self.now.terms }
+        ensures none { IfNone result ((ty : Ty ℕ) (a b : Named ℕ) → term_at self.now.terms id ≢ named_equation ty a b) }
+        ensures sides { IfSome result (λ p. (ty : Ty ℕ) × (term_at self.now.terms id ≡ named_equation ty (term_at self.now.terms p.0) (term_at self.now.terms p.1))) }
+        ensures below { IfSome result (λ p. (p.0 < id) × (p.1 < id)) }
+    {
+        let TermNode::App(left, b) = *self.node(id) else {
+            return None;
+        };
+        let TermNode::App(equals, a) = *self.node(left) else {
+            return None;
+        };
+        if self.is_equality(equals) {
+            Some((a, b))
+        } else {
+            None
+        }
+    }
+
+    // Whether the term is the constant `=` at a type at which it is equality.
+    fn is_equality(&self, id: TermId) -> bool
+        requires { id < length self.now.terms }
+        ensures { IsTrue result ↔ (ty : Ty ℕ) × (term_at self.now.terms id ≡ NConst numbers.equals (equality_ty ty)) }
+    {
+        match *self.node(id) {
+            TermNode::Const(name, ty) => name == NameId::EQUALS && self.is_equality_type(ty),
+            _ => false,
+        }
+    }
+
+    // Whether the type is `a -> (a -> bool)` for some a.
+    fn is_equality_type(&self, ty: TypeId) -> bool
+        requires { ty < length self.now.types }
+        ensures { IsTrue result ↔ (a : Ty ℕ) × (type_at self.now.types ty ≡ equality_ty a) }
+    {
+        let Some(outer) = self.types.as_fun(ty) else {
+            return false;
+        };
+        let Some(inner) = self.types.as_fun(outer.1) else {
+            return false;
+        };
+        outer.0 == inner.0 && self.is_bool(inner.1)
+    }
+
+    // Whether the type is that of propositions.
+    fn is_bool(&self, ty: TypeId) -> bool
+        requires { ty < length self.now.types }
+        ensures { IsTrue result ↔ (type_at self.now.types ty ≡ bool_ty numbers) }
+    {
+        match self.types.node(ty) {
+            TypeNode::Op(name, args) => names_bool(*name, args.as_slice()),
+            TypeNode::Var(_) => false,
+        }
+    }
+
+    // The equation of two terms of this type.
+    fn equation(&mut self, ty: TypeId, a: TermId, b: TermId) -> Result<TermId, TableFault>
+        requires ty { ty < length self.old.types }
+        requires a { a < length self.old.terms }
+        requires b { b < length self.old.terms }
+        requires typed_a { named_type numbers (term_at self.old.terms a) ≡ Some (type_at self.old.types ty) }
+        requires typed_b { named_type numbers (term_at self.old.terms b) ≡ Some (type_at self.old.types ty) }
+        ensures ok { IfOk result (λ id. slice_get self.new.terms id ≡ Some (named_equation (type_at self.old.types ty) (term_at self.old.terms a) (term_at self.old.terms b))) }
+        ensures nesting { result ≡ Err TableFault.Nesting → is_within_limit (named_equation (type_at self.old.types ty) (term_at self.old.terms a) (term_at self.old.terms b)) ≡ false }
+        ensures grows { Grows self.old self.new }
+        ensures names { NamesUpTo 3 self.old self.new }
+        ensures table { IsTermTable self.new }
+    {
+        let equality = self.equality(ty)?;
+        let left = self.apply(equality.constant, a, equality.test)?;
+        self.apply(left, b, equality.truth)
+    }
+
+    // The constant `=` between terms of this type, with the types of its application to one term and to two.
+    fn equality(&mut self, ty: TypeId) -> Result<Equality, TableFault>
+        requires { ty < length self.old.types }
+        ensures ok { IfOk result (IsEquality self.new (type_at self.old.types ty)) }
+        ensures nesting { result ≡ Err TableFault.Nesting → depth_limit < depth_ty numbers (equality_ty (type_at self.old.types ty)) }
+        ensures grows { Grows self.old self.new }
+        ensures names { NamesUpTo 3 self.old self.new }
+        ensures table { IsTermTable self.new }
+    {
+        let truth = self.type_bool()?;
+        let test = self.type_fun(ty, truth)?;
+        let relation = self.type_fun(ty, test)?;
+        let constant = self.constant(NameId::EQUALS, relation)?;
+        Ok(Equality {
+            constant,
+            test,
+            truth,
+        })
+    }
+}
+
+// Whether the name and arguments are those of the type of propositions.
+fn names_bool(name: NameId, args: &[TypeId]) -> bool
+    ensures { IsTrue result ↔ (name ≡ 1) × (args.now ≡ []) }
+{
+    name == NameId::BOOL && args.is_empty()
+}

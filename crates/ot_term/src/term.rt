@@ -1,0 +1,92 @@
+//! Terms by number, the symbols in them, and why a table has no number for a term.
+use ot_plain::{Memory, NameId};
+use ot_type::{TableFault, TypeId};
+use std::marker::Model;
+
+/// The number of a term in its table.
+#[derive(Clone, Copy, Debug, PartialEq, Eq, PartialOrd, Ord, Hash)]
+pub struct TermId(pub(crate) usize);
+
+impl Model for TermId {
+    ghost use Rattle.std.specs.Prelude.{ℕ};
+
+    ghost Value = { ℕ };
+
+    ghost view = { λ n. n.0 };
+
+    ghost inverse = { λ n. record { 0 = n } };
+}
+
+/// A variable: a name with a type. Two variables with one name and two types are two variables.
+#[derive(Clone, Copy, Debug, PartialEq, Eq, Hash)]
+pub struct VarKey {
+    pub name: NameId,
+    pub ty: TypeId,
+}
+
+/// A term, its parts by number.
+#[derive(Clone, Copy, Debug, PartialEq, Eq, Hash)]
+pub enum TermNode {
+    /// A variable.
+    Var(VarKey),
+    /// A constant at a type.
+    Const(NameId, TypeId),
+    /// A function applied to an argument.
+    App(TermId, TermId),
+    /// The abstraction of a variable from a body.
+    Abs(VarKey, TermId),
+}
+
+/// What a symbol names.
+#[derive(Clone, Copy, Debug, PartialEq, Eq, Hash)]
+pub enum SymbolKind {
+    /// A constant.
+    Con,
+    /// A type operator.
+    TyOp,
+}
+
+/// A constant or a type operator. The two kinds are apart: a constant `bool` is not the type operator `bool`.
+#[derive(Clone, Copy, Debug, PartialEq, Eq, Hash)]
+pub struct Symbol {
+    pub kind: SymbolKind,
+    pub name: NameId,
+}
+
+/// Why a table has no number for a term.
+#[derive(Clone, Copy, Debug, PartialEq, Eq)]
+pub enum TermFault {
+    /// What is applied is of no function type.
+    NotFunction,
+    /// The argument's type is not the one that the function takes, or the two sides of an equation differ in type.
+    ArgumentType,
+    /// The term would pass the nesting limit: its depth, or the depth of the type of one of its subterms.
+    Nesting,
+    /// Memory ran out.
+    Memory,
+}
+
+impl From<Memory> for TermFault {
+    ghost use Rattle.std.specs.Prelude.{◌≡◌};
+    ghost use Rattle.ot_term.specs.declared.term.TermFault.TheVariants.{Memory};
+
+    ghost from_gives = { λ _ r. r ≡ Memory };
+
+    fn from(_refused: Memory) -> TermFault {
+        TermFault::Memory
+    }
+}
+
+impl From<TableFault> for TermFault {
+    ghost use Rattle.std.specs.Prelude.{◌≡◌};
+    ghost use Rattle.ot_term.specs.Fault.{term_fault};
+
+    ghost from_gives = { λ refused r. r ≡ term_fault refused };
+
+    fn from(refused: TableFault) -> TermFault {
+        match refused {
+            TableFault::Nesting => TermFault::Nesting,
+            TableFault::Memory => TermFault::Memory,
+        }
+    }
+}
