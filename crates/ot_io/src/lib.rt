@@ -1,0 +1,26 @@
+//! The outside: where bytes come from and go to, and the causes of its failures. Objects in memory
+//! stand in for it in tests, and thin adapters over std are the real one.
+#![tactic(auto)]
+
+mod adapters;
+mod calls;
+mod copying;
+mod dir_files;
+mod files;
+mod mem_files;
+mod mem_sink;
+mod mem_source;
+mod sink;
+mod source;
+
+pub use adapters::{StdSink, StdSource};
+pub use dir_files::DirFiles;
+pub use files::{Files, OpenFault};
+pub use mem_files::MemFiles;
+pub use mem_sink::MemSink;
+pub use mem_source::MemSource;
+pub use sink::{Sink, WriteFault, write_whole};
+pub use source::{Failed, Source};
+
+#[cfg(test)]
+mod tests;
