@@ -1,0 +1,105 @@
+-- Laws of cutting at newlines.
+use Rattle.std.proofs.Common.{◌≡◌, ◌≢◌, ◌<◌, ◌≤◌, ◌+◌, ◌-◌, inl, inr, ℕ, zero, suc, List, [], ◌∷◌, ◌++◌, length, take, drop, get_or, append_assoc, append-nil, sym, ap, ◌∙◌, refl, arith}
+use Rattle.std.specs.List.{concat}
+use Rattle.std.proofs.lemmas.Bool.Decides.{eqb_tells}
+use Rattle.std.proofs.lemmas.List.{take_all}
+use Rattle.std.proofs.Math.ListN.{drop_of_length-le}
+use Rattle.ot_plain.specs.Lists.{IsMember}
+use Rattle.ot_scan.specs.Lines.{onto_first, pieces, IsWhole, IsOpen, AreWhole, IsCut}
+
+-- ---- the pieces are one cut
+
+pub pieces-other : (b : ℕ) (bs : List ℕ) → b ≢ 10 → pieces (b ∷ bs) ≡ onto_first b (pieces bs)
+pieces-other b bs n = elim (eqb_tells b 10) [ inl q ↦ absurd (n q.1) | inr q ↦ rw q.0 refl ]
+
+pieces-front : (front rest : List ℕ) → ¬ (IsMember 10 front) → pieces (front ++ 10 ∷ rest) ≡ (front ++ 10 ∷ []) ∷ pieces rest
+pieces-front [] rest n = refl
+pieces-front (b ∷ bs) rest n =
+    pieces-other b (bs ++ 10 ∷ rest) (λ e. n (inl e)) ∙ ap (onto_first b) (pieces-front bs rest (λ m. n (inr m)))
+
+pieces-open : (piece : List ℕ) → 0 < length piece → ¬ (IsMember 10 piece) → pieces piece ≡ piece ∷ []
+pieces-open [] some n = absurd (omega (arith, some))
+pieces-open (b ∷ []) some n = pieces-other b [] (λ e. n (inl e))
+pieces-open (b ∷ c ∷ cs) some n =
+    pieces-other b (c ∷ cs) (λ e. n (inl e)) ∙ ap (onto_first b) (pieces-open (c ∷ cs) (omega arith) (λ m. n (inr m)))
+
+pieces-concat : (ps : List (List ℕ)) → AreWhole ps → pieces (concat ps) ≡ ps
+pieces-concat [] w = refl
+pieces-concat (p ∷ []) w = elim w [
+  | inl h ↦ ap pieces (append-nil p ∙ h.is) ∙ pieces-front h.front [] h.none ∙ ap (λ z. z ∷ []) (sym h.is)
+  | inr h ↦ ap pieces (append-nil p) ∙ pieces-open p h.some h.none
+]
+pieces-concat (p ∷ q ∷ qs) w =
+    ap (λ z. pieces (z ++ concat (q ∷ qs))) w.0.is
+    ∙ ap pieces (append_assoc w.0.front (10 ∷ []) (concat (q ∷ qs)))
+    ∙ pieces-front w.0.front (concat (q ∷ qs)) w.0.none
+    ∙ ap (λ z. z ∷ pieces (concat (q ∷ qs))) (sym w.0.is)
+    ∙ ap (λ z. p ∷ z) (pieces-concat (q ∷ qs) w.1)
+
+concat-onto_first : (b : ℕ) (ps : List (List ℕ)) → concat (onto_first b ps) ≡ b ∷ concat ps
+concat-onto_first b [] = refl
+concat-onto_first b (p ∷ ps) = refl
+
+concat-pieces : (bs : List ℕ) → concat (pieces bs) ≡ bs
+concat-pieces [] = refl
+concat-pieces (b ∷ bs) = elim (eqb_tells b 10) [
+  | inl q ↦ rw q.0 (ap (λ z. b ∷ z) (concat-pieces bs))
+  | inr q ↦ rw q.0 (concat-onto_first b (pieces bs) ∙ ap (λ z. b ∷ z) (concat-pieces bs))
+]
+
+-- another byte in front
+none-more : (b : ℕ) (bs : List ℕ) → b ≢ 10 → ¬ (IsMember 10 bs) → ¬ (IsMember 10 (b ∷ bs))
+none-more b bs n h m = elim m [ inl e ↦ n e | inr k ↦ h k ]
+
+whole-more : (b : ℕ) (p : List ℕ) → b ≢ 10 → IsWhole p → IsWhole (b ∷ p)
+whole-more b p n h = record { front = b ∷ h.front; is = ap (λ z. b ∷ z) h.is; none = none-more b h.front n h.none }
+
+open-more : (b : ℕ) (p : List ℕ) → b ≢ 10 → ¬ (IsMember 10 p) → IsOpen (b ∷ p)
+open-more b p n h = record { some = omega arith; none = none-more b p n h }
+
+whole-onto_first : (b : ℕ) (ps : List (List ℕ)) → b ≢ 10 → AreWhole ps → AreWhole (onto_first b ps)
+whole-onto_first b [] n w = inr (open-more b [] n (λ m. m))
+whole-onto_first b (p ∷ []) n w = elim w [ inl h ↦ inl (whole-more b p n h) | inr h ↦ inr (open-more b p n h.none) ]
+whole-onto_first b (p ∷ q ∷ qs) n w = (whole-more b p n w.0, w.1)
+
+whole-newline : (ps : List (List ℕ)) → AreWhole ps → AreWhole ((10 ∷ []) ∷ ps)
+whole-newline [] w = inl (record { front = []; is = refl; none = λ m. m })
+whole-newline (q ∷ qs) w = (record { front = []; is = refl; none = λ m. m }, w)
+
+whole-pieces : (bs : List ℕ) → AreWhole (pieces bs)
+whole-pieces [] = tt
+whole-pieces (b ∷ bs) = elim (eqb_tells b 10) [
+  | inl q ↦ rw q.1 (whole-newline (pieces bs) (whole-pieces bs))
+  | inr q ↦ rw q.0 (whole-onto_first b (pieces bs) q.1 (whole-pieces bs))
+]
+
+pub one_cut-to : (bytes : List ℕ) (ps : List (List ℕ)) → IsCut bytes ps → ps ≡ pieces bytes
+one_cut-to bytes ps c = sym (pieces-concat ps c.whole) ∙ ap pieces c.joined
+
+pub one_cut-from : (bytes : List ℕ) (ps : List (List ℕ)) → ps ≡ pieces bytes → IsCut bytes ps
+one_cut-from bytes ps e = rw e (record { joined = concat-pieces bytes; whole = whole-pieces bytes })
+
+-- ---- the first piece, by its length
+
+pieces_at : (xs : List ℕ) (n : ℕ) → n < length xs → get_or xs n 0 ≡ 10 → ((k : ℕ) → k < n → get_or xs k 0 ≢ 10) → pieces xs ≡ take (suc n) xs ∷ pieces (drop (suc n) xs)
+pieces_at [] n lt h none = absurd (omega (arith, lt))
+pieces_at (b ∷ bs) zero lt h none = rw h refl
+pieces_at (b ∷ bs) (suc n) lt h none =
+    pieces-other b bs (none 0 (omega arith)) ∙ ap (onto_first b) (pieces_at bs n (omega (arith, lt)) h (λ k l. none (suc k) (omega (arith, l))))
+
+pieces_none : (xs : List ℕ) → 0 < length xs → ((k : ℕ) → k < length xs → get_or xs k 0 ≢ 10) → pieces xs ≡ xs ∷ []
+pieces_none [] some none = absurd (omega (arith, some))
+pieces_none (b ∷ []) some none = pieces-other b [] (none 0 (omega arith))
+pieces_none (b ∷ c ∷ cs) some none =
+    pieces-other b (c ∷ cs) (none 0 (omega arith)) ∙ ap (onto_first b) (pieces_none (c ∷ cs) (omega arith) (λ k l. none (suc k) (omega (arith, l))))
+
+-- the same, in the code's indices
+pub cut_at : (xs : List ℕ) (n : ℕ) → n < length xs → get_or xs (n + 1 - 1) 0 ≡ 10 → ((k : ℕ) → k < n → get_or xs k 0 ≢ 10) → pieces xs ≡ take (n + 1) xs ∷ pieces (drop (n + 1) xs)
+cut_at xs n lt h none =
+    let one : suc n ≡ n + 1 = omega arith in
+    let at : get_or xs n 0 ≡ 10 = ap (λ i. get_or xs i 0) (omega arith) ∙ h in
+    pieces_at xs n lt at none ∙ ap (λ i. take i xs ∷ pieces (drop i xs)) one
+
+pub cut_none : (xs : List ℕ) (n : ℕ) → 0 < length xs → length xs ≤ n → ((k : ℕ) → k < n → get_or xs k 0 ≢ 10) → pieces xs ≡ take n xs ∷ pieces (drop n xs)
+cut_none xs n some le none =
+    pieces_none xs some (λ k l. none k (omega (arith, l, le))) ∙ ap (λ z. z ∷ []) (sym (take_all n xs le)) ∙ ap (λ z. take n xs ∷ pieces z) (sym (drop_of_length-le xs le))

@@ -1,0 +1,160 @@
+-- The lines of an article.
+use Rattle.std.specs.Prelude.{◌≡◌, ◌<◌, ◌≤◌, ◌+◌, ℕ, ◌==◌, ◌||◌, ◌⊎◌, if◌then◌else◌, nat_lt, nat_le, List, [], ◌∷◌, ◌++◌, length, take, drop, reverse, Bool, true, Option, Some, None, Result, Ok, Err}
+use Rattle.std.specs.List.{concat}
+use Rattle.ot_plain.specs.Faults.{Fault, LineTooLong, ArticleTooLong}
+use Rattle.ot_plain.specs.Lists.{IsMember}
+use Rattle.ot_plain.specs.Names.{Name}
+use Rattle.ot_scan.specs.declared.lines.Line.{Line}
+use Rattle.ot_scan.specs.declared.fault.ScanFault.{ScanFault}
+use Rattle.ot_scan.specs.declared.fault.ScanFault.TheVariants as code
+
+-- ---- cutting
+
+-- a byte before the first piece
+abbrev pub onto_first : ℕ → List (List ℕ) → List (List ℕ)
+onto_first b [] = (b ∷ []) ∷ []
+onto_first b (p ∷ ps) = (b ∷ p) ∷ ps
+
+-- the bytes, cut after each newline
+abbrev pub pieces : List ℕ → List (List ℕ)
+pieces [] = []
+pieces (b ∷ bs) = if b == 10 then (b ∷ []) ∷ pieces bs else onto_first b (pieces bs)
+
+-- a newline stands at the end, and nowhere else
+pub record IsWhole (piece : List ℕ) : Type 0 where
+  pub front : List ℕ
+  pub is : piece ≡ front ++ 10 ∷ []
+  pub none : ¬ (IsMember 10 front)
+
+-- bytes without a newline
+pub record IsOpen (piece : List ℕ) : Type 0 where
+  pub some : 0 < length piece
+  pub none : ¬ (IsMember 10 piece)
+
+-- whole pieces, the last of which may be open
+abbrev pub AreWhole : List (List ℕ) → Type 0
+AreWhole [] = Unit {0}
+AreWhole (p ∷ []) = IsWhole p ⊎ IsOpen p
+AreWhole (p ∷ q ∷ qs) = IsWhole p × AreWhole (q ∷ qs)
+
+-- the bytes are cut at their newlines
+pub record IsCut (bytes : List ℕ) (ps : List (List ℕ)) : Type 0 where
+  pub joined : concat ps ≡ bytes
+  pub whole : AreWhole ps
+
+-- ---- the text of a piece
+
+-- without the last byte, where it is this one
+abbrev pub without_last : ℕ → List ℕ → List ℕ
+without_last x [] = []
+without_last x (b ∷ []) = if b == x then [] else b ∷ []
+without_last x (b ∷ c ∷ bs) = b ∷ without_last x (c ∷ bs)
+
+-- a space or a tab
+abbrev pub is_blank : ℕ → Bool
+is_blank b = (b == 32) || (b == 9)
+
+-- without blanks at the front
+abbrev pub trim_front : List ℕ → List ℕ
+trim_front [] = []
+trim_front (b ∷ bs) = if is_blank b then trim_front bs else b ∷ bs
+
+-- without blanks at the end
+abbrev pub trim_back : List ℕ → List ℕ
+trim_back text = reverse (trim_front (reverse text))
+
+-- a piece without its newline, then without one CR at its end, then without blanks at both ends
+abbrev pub text_of : List ℕ → List ℕ
+text_of piece = trim_back (trim_front (without_last 13 (without_last 10 piece)))
+
+-- nothing, or a comment
+abbrev pub is_skipped : List ℕ → Bool
+is_skipped [] = true
+is_skipped (b ∷ bs) = b == 35
+
+-- ---- limits
+
+-- the place of the 65,536th byte of a line that begins after so many bytes; its newline doesn't count
+abbrev pub line_limit_at : ℕ → List ℕ → Option ℕ
+line_limit_at before piece = if nat_le 65536 (length (without_last 10 piece)) then Some (before + 65536) else None
+
+-- the place of the first byte past the article's limit, where it is in this piece
+abbrev pub article_limit_at : ℕ → ℕ → List ℕ → Option ℕ
+article_limit_at max before piece = if nat_lt max (before + length piece) then Some (max + 1) else None
+
+-- the fault of the earlier place; at one place it is the article's
+abbrev pub earlier_fault : Option ℕ → Option ℕ → Option (Fault Name)
+earlier_fault None None = None
+earlier_fault (Some line) None = Some LineTooLong
+earlier_fault None (Some article) = Some ArticleTooLong
+earlier_fault (Some line) (Some article) = if nat_lt line article then Some LineTooLong else Some ArticleTooLong
+
+-- the fault of a piece that stands after so many bytes of an article
+abbrev pub limit_fault : ℕ → ℕ → List ℕ → Option (Fault Name)
+limit_fault max before piece = earlier_fault (line_limit_at before piece) (article_limit_at max before piece)
+
+-- ---- lines
+
+-- the lines to come: the end, a line past a limit, or the text of a line that holds a command, with its number, and more
+pub data Lines : Type 0 where
+  Finished : Lines
+  Broken : ℕ → Fault Name → Lines
+  Next : ℕ → List ℕ → Lines → Lines
+
+-- what one piece adds before the lines after it
+abbrev pub with_piece : ℕ → List ℕ → Option (Fault Name) → Lines → Lines
+with_piece number text (Some fault) after = Broken number fault
+with_piece number text None after = if is_skipped text then after else Next number text after
+
+-- the lines of these pieces, which stand after so many bytes and so many lines
+abbrev pub lines_after : ℕ → ℕ → ℕ → List (List ℕ) → Lines
+lines_after max before number [] = Finished
+lines_after max before number (p ∷ ps) = with_piece (number + 1) (text_of p) (limit_fault max before p) (lines_after max (before + length p) (number + 1) ps)
+
+-- the lines of an article
+abbrev pub lines_of : ℕ → List ℕ → Lines
+lines_of max bytes = lines_after max 0 0 (pieces bytes)
+
+-- the lines of an article from a place on that has so many lines before it
+abbrev pub lines_at : ℕ → List ℕ → ℕ → ℕ → Lines
+lines_at max text at number = lines_after max at number (pieces (drop at text))
+
+-- ---- the answers of the code
+
+-- the next line was taken; at a fault and at the end there was none
+abbrev pub TakesLine : Result (Option Line) ScanFault → Lines → Lines → Type 0
+TakesLine (Ok None) old new = (old ≡ Finished) × (new ≡ Finished)
+TakesLine (Ok (Some line)) old new = old ≡ Next line.number line.text.now new
+TakesLine (Err (code.LineTooLong number)) old new = (old ≡ Broken number LineTooLong) × (new ≡ old)
+TakesLine (Err (code.ArticleTooLong number)) old new = (old ≡ Broken number ArticleTooLong) × (new ≡ old)
+TakesLine (Err code.ReadFault) old new = ⊥
+TakesLine (Err code.Memory) old new = ⊥
+
+-- a line with this number keeps the limits, or goes past one
+abbrev pub ChecksLimits : Result (Unit {0}) ScanFault → ℕ → Option (Fault Name) → Type 0
+ChecksLimits (Ok done) line fault = fault ≡ None
+ChecksLimits (Err (code.LineTooLong number)) line fault = (number ≡ line) × (fault ≡ Some LineTooLong)
+ChecksLimits (Err (code.ArticleTooLong number)) line fault = (number ≡ line) × (fault ≡ Some ArticleTooLong)
+ChecksLimits (Err code.ReadFault) line fault = ⊥
+ChecksLimits (Err code.Memory) line fault = ⊥
+
+-- ---- laws
+
+-- the pieces are the one way to cut the bytes at their newlines
+abbrev pub OneCut : Type 0
+OneCut = (bytes : List ℕ) (ps : List (List ℕ)) → (IsCut bytes ps → ps ≡ pieces bytes) × (ps ≡ pieces bytes → IsCut bytes ps)
+
+-- a line has a 65,536th byte, its newline not counted
+abbrev pub IsLong : List ℕ → Type 0
+IsLong piece = 65536 ≤ length (without_last 10 piece)
+
+-- a piece keeps both limits, or its line goes past its own, before the article does, or the article does, and its line not before it
+abbrev pub NamesLimit : ℕ → ℕ → List ℕ → Type 0
+NamesLimit max before piece =
+    ((limit_fault max before piece ≡ None) × ¬ (IsLong piece) × (before + length piece ≤ max))
+    ⊎ (((limit_fault max before piece ≡ Some LineTooLong) × IsLong piece × (before + 65536 < max + 1))
+    ⊎ ((limit_fault max before piece ≡ Some ArticleTooLong) × (max < before + length piece) × (IsLong piece → max + 1 ≤ before + 65536)))
+
+-- bytes after the first past the limit don't count
+abbrev pub OneByteMore : Type 0
+OneByteMore = (max : ℕ) (bytes : List ℕ) → lines_of max (take (max + 1) bytes) ≡ lines_of max bytes

@@ -1,0 +1,167 @@
+ghost use Rattle.std.specs.Prelude.{◌≡◌, ◌<◌, ℕ, pos, neg_ℤ, length, IsTrue, MatchOption, IsSomeAnd, Some, None};
+ghost use Rattle.std.specs.Str.Parse.{digits_value};
+ghost use Rattle.std.specs.List.{list_all};
+ghost use Rattle.std.specs.Char.{is_ascii_digit};
+ghost use Rattle.ot_scan.specs.Words.{word, answer, number, number_word, positive, IsCapped};
+
+use ot_plain::{Cmd, Name};
+
+/// What a line says.
+#[derive(Clone, Copy, Debug, PartialEq, Eq)]
+pub enum Word<'a> {
+    Number(i64),
+    /// A quoted text that spells a name, with its quotes.
+    Name(&'a [u8]),
+    Command(Cmd),
+}
+
+/// Why a text is no word.
+#[derive(Clone, Copy, Debug, PartialEq, Eq)]
+pub enum WordFault {
+    /// None of the command words.
+    UnknownCommand,
+    /// It begins with a quote and spells no name.
+    BadName,
+    /// It begins with a minus or a digit, and is neither `0` nor, perhaps behind a minus, digits that
+    /// don't begin with `0`.
+    BadNumber,
+    /// It writes a number that an `i64` doesn't hold.
+    NumberRange,
+}
+
+/// The word of a line's text, by the article format: a number, a name or a command. No memory is
+/// taken.
+pub fn command(text: &[u8]) -> Result<Word<'_>, WordFault>
+    requires { 0 < length text.now }
+    ensures { answer result ≡ word text.now }
+{
+    match text {
+        [b'"', ..] => {
+            if Name::is_name(text) {
+                Ok(Word::Name(text))
+            } else {
+                Err(WordFault::BadName)
+            }
+        }
+        [b'-' | b'0'..=b'9', ..] => number(text),
+        _ => match Cmd::find(text) {
+            Some(found) => Ok(Word::Command(found)),
+            None => Err(WordFault::UnknownCommand),
+        },
+    }
+}
+
+/// The number that a text writes.
+fn number(text: &[u8]) -> Result<Word<'_>, WordFault>
+    ensures { answer result ≡ number_word (number text.now) }
+{
+    match text {
+        [b'-', digits @ ..] => match positive(digits) {
+            Some(magnitude) => negative(magnitude),
+            None => Err(WordFault::BadNumber),
+        },
+        [b'0'] => Ok(Word::Number(0)),
+        _ => match positive(text) {
+            Some(magnitude) => unsigned(magnitude),
+            None => Err(WordFault::BadNumber),
+        },
+    }
+}
+
+/// The number of this size, which an `i64` may not hold.
+fn unsigned(magnitude: u64) -> Result<Word<'static>, WordFault>
+    ensures { (n : ℕ) → IsCapped n magnitude → answer result ≡ number_word (Some (pos n)) }
+{
+    if magnitude <= i64::MAX as u64 {
+        Ok(Word::Number(magnitude as i64))
+    } else {
+        Err(WordFault::NumberRange)
+    }
+}
+
+/// The negative number of this size.
+fn negative(magnitude: u64) -> Result<Word<'static>, WordFault>
+    ensures { (n : ℕ) → IsCapped n magnitude → answer result ≡ number_word (Some (neg_ℤ (pos n))) }
+{
+    if magnitude < 1 << 63 {
+        Ok(Word::Number(-(magnitude as i64)))
+    } else if magnitude == 1 << 63 {
+        Ok(Word::Number(i64::MIN))
+    } else {
+        Err(WordFault::NumberRange)
+    }
+}
+
+/// The value of digits that don't begin with 0, or the last `u64` where it is greater.
+fn positive(digits: &[u8]) -> Option<u64>
+    ensures { MatchOption result
+        (positive digits.now ≡ None)
+        (λ value. IsSomeAnd (positive digits.now) (λ n. IsCapped n value)) }
+{
+    match digits {
+        [b'1'..=b'9', ..] if are_digits(digits) => Some(magnitude(digits)),
+        _ => None,
+    }
+}
+
+fn are_digits(text: &[u8]) -> bool
+    ensures { result ≡ list_all is_ascii_digit text.now }
+{
+    text.iter().all(|byte| byte.is_ascii_digit())
+}
+
+/// The value of the digits, or the last `u64` where it is greater.
+fn magnitude(digits: &[u8]) -> u64
+    requires { IsTrue (list_all is_ascii_digit digits.now) }
+    ensures { IsCapped (digits_value 10 digits.now) result }
+{
+    let mut value: u64 = 0;
+    for digit in digits {
+        value = value
+            .saturating_mul(10)
+            .saturating_add(u64::from(*digit - b'0'));
+    }
+    value
+}
+
+#[cfg(test)]
+mod tests {
+    use super::*;
+
+    #[test]
+    fn words(rt: HostRuntime) {
+        let rows: [(&[u8], Result<Word<'_>, WordFault>); 27] = [
+            (b"0", Ok(Word::Number(0))),
+            (b"6", Ok(Word::Number(6))),
+            (b"10", Ok(Word::Number(10))),
+            (b"-7", Ok(Word::Number(-7))),
+            (b"9223372036854775807", Ok(Word::Number(i64::MAX))),
+            (b"9223372036854775808", Err(WordFault::NumberRange)),
+            (b"-9223372036854775808", Ok(Word::Number(i64::MIN))),
+            (b"-9223372036854775809", Err(WordFault::NumberRange)),
+            (b"18446744073709551616", Err(WordFault::NumberRange)),
+            (b"-18446744073709551617", Err(WordFault::NumberRange)),
+            (b"99999999999999999999999999", Err(WordFault::NumberRange)),
+            (b"-0", Err(WordFault::BadNumber)),
+            (b"007", Err(WordFault::BadNumber)),
+            (b"00", Err(WordFault::BadNumber)),
+            (b"-01", Err(WordFault::BadNumber)),
+            (b"-", Err(WordFault::BadNumber)),
+            (b"--1", Err(WordFault::BadNumber)),
+            (b"1a", Err(WordFault::BadNumber)),
+            (b"1\x80", Err(WordFault::BadNumber)),
+            (b"+1", Err(WordFault::UnknownCommand)),
+            (b"\"a.b\\.c\"", Ok(Word::Name(b"\"a.b\\.c\""))),
+            (b"\"\x80\"", Ok(Word::Name(b"\"\x80\""))),
+            (b"\"abc", Err(WordFault::BadName)),
+            (b"\"a\"b", Err(WordFault::BadName)),
+            (b"version", Ok(Word::Command(Cmd::Version))),
+            (b"th", Err(WordFault::UnknownCommand)),
+            (b"\x80", Err(WordFault::UnknownCommand)),
+        ];
+        for (text, wanted) in rows {
+            assert!(rt; !text.is_empty());
+            assert_eq!(rt; command(text), wanted);
+        }
+    }
+}
