@@ -1,0 +1,2 @@
+-- Lemmas on comparison.
+pub mod Comparison

@@ -1,0 +1,2 @@
+-- The binders on the two sides of a comparison.
+pub mod Binders
