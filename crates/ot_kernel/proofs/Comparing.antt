@@ -1,0 +1,39 @@
+-- Tests on terms by number, one term after another.
+use Rattle.std.specs.Prelude.{◌↔◌, ◌||◌, ◌&&◌, IsTrue, IfOk, Result, Ok, Err}
+use Rattle.std.proofs.Common.{◌≡◌, ℕ, ◌+◌, ◌<◌, Bool, true, false, List, ◌∷◌, length, get_or, drop, drop-cons, add-one, refl, sym, ap, ◌∙◌}
+use Rattle.std.proofs.lemmas.Bool.Decides.{same_from_decides}
+use Rattle.ot_plain.specs.Trees.{Tm, Named}
+use Rattle.ot_plain.specs.Hol.{same_tm, is_in, all_in}
+use Rattle.ot_plain.specs.Naming.{numbers}
+use Rattle.ot_laws.proofs.Tests.{tells_numbers, same_tm-is}
+use Rattle.ot_kernel.specs.Numbered.{tm_at, tms_at}
+
+-- what decides equality is the test of it
+pub tested : (b : Bool) (t u : Tm ℕ) → (IsTrue b ↔ (t ≡ u)) → b ≡ same_tm numbers t u
+tested b t u d = same_from_decides b (same_tm numbers t u) d (same_tm-is numbers tells_numbers t u)
+
+module _ (ts : List (Named ℕ)) where
+  -- the next term of a list
+  next : (is : List ℕ) (k i : ℕ) → k < length is → i ≡ get_or is k i → tms_at ts (drop k is) ≡ tm_at ts i ∷ tms_at ts (drop (k + 1) is)
+  next is k i h e = ap (tms_at ts) (drop-cons is k i h) ∙ (λ j. tm_at ts (sym e j) ∷ tms_at ts (drop (sym (add-one k) j) is))
+
+  pub in_next : (t : ℕ) (is : List ℕ) (k i : ℕ) (b : Bool) → k < length is → i ≡ get_or is k i → (IsTrue b ↔ (tm_at ts i ≡ tm_at ts t)) → is_in numbers (tm_at ts t) (tms_at ts (drop k is)) ≡ (b || is_in numbers (tm_at ts t) (tms_at ts (drop (k + 1) is)))
+  in_next t is k i b h e d =
+      ap (is_in numbers (tm_at ts t)) (next is k i h e) ∙ ap (λ c. c || is_in numbers (tm_at ts t) (tms_at ts (drop (k + 1) is))) (sym (tested b (tm_at ts i) (tm_at ts t) d))
+
+  pub all_next : (us : List (Tm ℕ)) (is : List ℕ) (k i : ℕ) (b : Bool) → k < length is → i ≡ get_or is k i → b ≡ is_in numbers (tm_at ts i) us → all_in numbers (tms_at ts (drop k is)) us ≡ (b && all_in numbers (tms_at ts (drop (k + 1) is)) us)
+  all_next us is k i b h e d = ap (λ l. all_in numbers l us) (next is k i h e) ∙ ap (λ c. c && all_in numbers (tms_at ts (drop (k + 1) is)) us) (sym d)
+
+-- two sequents with other conclusions
+pub other_conclusion : (a b : Bool) → b ≡ false → false ≡ (a && b)
+other_conclusion true b p = sym p
+other_conclusion false b p = refl
+
+-- with one conclusion, and the hypotheses of the first among those of the second
+pub other_inclusion : {E : Type 0} (r : Result Bool E) (a x c : Bool) → a ≡ true → c ≡ true → IfOk r (λ b. b ≡ x) → IfOk r (λ b. b ≡ ((a && x) && c))
+other_inclusion (Ok b) a x c p q h = h ∙ both x ∙ (λ i. (sym p i && x) && sym q i)
+  where
+    both : (y : Bool) → y ≡ ((true && y) && true)
+    both true = refl
+    both false = refl
+other_inclusion (Err e) a x c p q h = h

@@ -1,0 +1,55 @@
+-- The real state of a kernel's tables, and what the tables keep.
+use Rattle.std.specs.Prelude.{◌≡◌, ℕ, ◌<◌, ◌≤◌, List, [], map, length, slice_index_or}
+use Rattle.std.specs.List.{All}
+use Rattle.ot_plain.specs.Names.{Name}
+use Rattle.ot_plain.specs.Trees.{Named, Sequent, Bound}
+use Rattle.ot_plain.specs.Hol.{nameless}
+use Rattle.ot_plain.specs.Renamed.{map_ty, map_named}
+use Rattle.ot_plain.specs.Naming.{names, name_of, IsNameTable}
+use Rattle.ot_plain.specs.Bounds.{names_in, names_in_terms}
+use Rattle.ot_term.specs.Term.{TermTable}
+use Rattle.ot_term.specs.TermTable.{IsTermTable}
+use Rattle.ot_kernel.specs.declared.theorem.Theorem.{Theorem}
+use Rattle.ot_kernel.specs.State.{State, named_at, IsSoundState}
+
+-- the theorems that a kernel holds, and the numbers of those that are assumptions
+pub record Held : Type 0 where
+  pub theorems : List Theorem
+  pub assumptions : List ℕ
+
+-- the sequent of a theorem, over the real terms
+abbrev pub sequent_of : List (Named Name) → Theorem → Sequent Name
+sequent_of ts th = record { hyps = map (λ i. nameless names (named_at ts i)) th.hyps.items; concl = nameless names (named_at ts th.concl) }
+
+-- the sequents of numbers of theorems
+abbrev pub sequents_at : List (Sequent Name) → List ℕ → List (Sequent Name)
+sequents_at qs is = map (λ i. slice_index_or qs i (record { hyps = []; concl = Bound 0 })) is
+
+-- each number of a name becomes its name
+abbrev pub state_of : List Name → TermTable → Held → State
+state_of ns t held =
+    let ts = map (map_named (name_of ns)) t.terms in
+    let qs = map (sequent_of ts) held.theorems in
+    record { names = ns; types = map (map_ty (name_of ns)) t.types; terms = ts; theorems = qs; assumptions = sequents_at qs held.assumptions; definitions = [] }
+
+-- the real state of a table over numbers
+pub record IsSpelled (s : State) (t : TermTable) : Type 0 where
+  pub types : s.types ≡ map (map_ty (name_of s.names)) t.types
+  pub terms : s.terms ≡ map (map_named (name_of s.names)) t.terms
+  pub bound : (names_in t.types ≤ length s.names) × (names_in_terms t.terms ≤ length s.names)
+  pub table : IsTermTable t
+
+-- a theorem's numbers are of the table
+pub record IsInside (terms : ℕ) (th : Theorem) : Type 0 where
+  pub hyps : All (λ i. i < terms) th.hyps.items
+  pub concl : th.concl < terms
+
+-- what holds of a kernel's tables at all times
+pub record IsKernel (ns : List Name) (t : TermTable) (held : Held) : Type 0 where
+  pub names : IsNameTable ns
+  pub types : names_in t.types ≤ length ns
+  pub terms : names_in_terms t.terms ≤ length ns
+  pub table : IsTermTable t
+  pub inside : All (IsInside (length t.terms)) held.theorems
+  pub numbered : All (λ i. i < length held.theorems) held.assumptions
+  pub sound : IsSoundState (state_of ns t held)

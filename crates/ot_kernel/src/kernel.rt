@@ -1,0 +1,284 @@
+ghost use Rattle.std.specs.Prelude.{◌≡◌, ◌<◌, ◌++◌, [], ◌∷◌, Some, map, slice_get, length, IfOk, IfErr};
+ghost use Rattle.std.specs.List.{All};
+ghost use Rattle.ot_plain.specs.Trees.{TyVar, Free, Con};
+ghost use Rattle.ot_plain.specs.Naming.{names, first_names};
+ghost use Rattle.ot_plain.specs.Hol.{bool_ty, same_sequent};
+ghost use Rattle.ot_plain.specs.Rules.{has_type, op_rule, app_rule, abs_rule, assume_rule};
+ghost use Rattle.ot_laws.specs.Theorem.{IsTheorem};
+ghost use Rattle.ot_kernel.specs.Spelled.{sequent_of, IsInside, IsSpelled};
+ghost use Rattle.ot_kernel.specs.State.{State, name_at, type_at, types_at, variable_at, term_at, terms_at, theorem_at, Keeps, SameBasis, SameTheorems, IsSoundState};
+ghost use Rattle.ot_kernel.specs.Answers.{MakesType, MakesTerm, MakesAbstraction, Concludes};
+
+use crate::fault::RuleFault;
+use crate::theorem::{Theorem, ThmId};
+use ot_plain::{Memory, Name, NameId, Names};
+use ot_term::{TermFault, TermId, Terms, VarKey};
+use ot_type::{TableFault, TypeId};
+use std::alloc::Global;
+use std::marker::Model;
+
+/// Names, types, terms and theorems by number, each theorem derivable in higher-order logic.
+///
+/// Each number that a call takes is one of this kernel. After each call, refused or not, every number stands for what it
+/// stood for; a refused call leaves each theorem, assumption and definition as it was.
+#[derive(Drop)]
+pub struct Kernel {
+    alloc: Global,
+    names: Names,
+    terms: Terms,
+    theorems: Vec<Theorem>,
+    // The numbers of the assumptions, in their order.
+    assumptions: Vec<ThmId>,
+}
+
+impl Model for Kernel {
+    ghost use Rattle.ot_kernel.specs.State.{State, coded_state};
+
+    ghost Value = { State };
+
+    ghost coded = { coded_state };
+
+    ghost use Rattle.ot_kernel.specs.Spelled.{state_of, IsKernel};
+
+    ghost view = { λ k. state_of k.names k.terms (record { theorems = k.theorems.items; assumptions = k.assumptions.items }) };
+
+    ghost invariant = { λ k. IsKernel k.names k.terms (record { theorems = k.theorems.items; assumptions = k.assumptions.items }) };
+}
+
+impl Kernel {
+    /// A kernel with the first names, and with no type, term, theorem, assumption or definition.
+    pub fn new(alloc: Global) -> Result<Kernel, Memory>
+        ensures { IfOk result (λ k. k ≡ record { names = first_names; types = []; terms = []; theorems = []; assumptions = []; definitions = [] }) }
+    {
+        Ok(Kernel {
+            alloc,
+            names: Names::new(alloc)?,
+            terms: Terms::new(alloc),
+            theorems: Vec::new(alloc),
+            assumptions: Vec::new(alloc),
+        })
+    }
+
+    /// A law: each theorem is derivable from the assumptions under the definitions, which are accepted.
+    pub fn sound(&self)
+        ensures { IsSoundState self.now }
+    {
+        let _terms = &self.terms;
+    }
+
+    /// The names.
+    pub fn names(&self) -> &Names
+        ensures { result.now ≡ self.now.names }
+    {
+        &self.names
+    }
+
+    /// The terms and their types, over numbers of names.
+    pub fn terms(&self) -> &Terms
+        ensures { IsSpelled self.now result.now }
+    {
+        &self.terms
+    }
+
+    /// The number of a name.
+    pub fn intern(&mut self, name: Name) -> Result<NameId, Memory>
+        ensures ok { IfOk result (λ id. slice_get self.new.names id ≡ Some name) }
+        ensures keeps { Keeps self.old self.new }
+        ensures same { SameTheorems self.old self.new }
+    {
+        self.names.intern(name)
+    }
+
+    /// The type variable of a name.
+    pub fn type_var(&mut self, name: NameId) -> Result<TypeId, Memory>
+        requires { name < length self.old.names }
+        ensures ok { IfOk result (λ id. slice_get self.new.types id ≡ Some (TyVar (name_at self.old name))) }
+        ensures keeps { Keeps self.old self.new }
+        ensures same { SameTheorems self.old self.new }
+    {
+        self.terms.type_var(name)
+    }
+
+    /// The type of an operator and its arguments. `Nesting` where it would be deeper than the limit.
+    pub fn type_op(&mut self, name: NameId, args: &[TypeId]) -> Result<TypeId, TableFault>
+        requires name { name < length self.old.names }
+        requires args { All (λ i. i < length self.old.types) args.now }
+        ensures made { MakesType result (op_rule names (name_at self.old name) (types_at self.old args.now)) self.new }
+        ensures keeps { Keeps self.old self.new }
+        ensures same { SameTheorems self.old self.new }
+    {
+        self.terms.type_op(name, args)
+    }
+
+    /// A variable as a term.
+    pub fn var(&mut self, v: VarKey) -> Result<TermId, Memory>
+        requires name { v.name < length self.old.names }
+        requires ty { v.ty < length self.old.types }
+        ensures within { IfOk result (λ id. id < length self.new.terms) }
+        ensures ok { IfOk result (λ id. term_at self.new id ≡ Free (variable_at self.old v)) }
+        ensures keeps { Keeps self.old self.new }
+        ensures same { SameTheorems self.old self.new }
+    {
+        self.terms.var(v)
+    }
+
+    /// A constant at a type.
+    pub fn constant(&mut self, name: NameId, ty: TypeId) -> Result<TermId, Memory>
+        requires name { name < length self.old.names }
+        requires ty { ty < length self.old.types }
+        ensures within { IfOk result (λ id. id < length self.new.terms) }
+        ensures ok { IfOk result (λ id. term_at self.new id ≡ Con (name_at self.old name) (type_at self.old ty)) }
+        ensures keeps { Keeps self.old self.new }
+        ensures same { SameTheorems self.old self.new }
+    {
+        self.terms.constant(name, ty)
+    }
+
+    /// The application of a function to an argument. The first refusal counts: `NotFunction`, `ArgumentType`, `Nesting`.
+    pub fn app(&mut self, f: TermId, x: TermId) -> Result<TermId, TermFault>
+        requires f { f < length self.old.terms }
+        requires x { x < length self.old.terms }
+        ensures made { MakesTerm result (app_rule names (term_at self.old f) (term_at self.old x)) self.new }
+        ensures keeps { Keeps self.old self.new }
+        ensures same { SameTheorems self.old self.new }
+    {
+        self.terms.app(f, x)
+    }
+
+    /// The abstraction of a variable from a body. `Nesting` where it would pass the limit.
+    pub fn abs(&mut self, v: VarKey, body: TermId) -> Result<TermId, TableFault>
+        requires name { v.name < length self.old.names }
+        requires ty { v.ty < length self.old.types }
+        requires body { body < length self.old.terms }
+        ensures made { MakesAbstraction result (abs_rule names (variable_at self.old v) (term_at self.old body)) self.new }
+        ensures keeps { Keeps self.old self.new }
+        ensures same { SameTheorems self.old self.new }
+    {
+        self.terms.abs(v, body)
+    }
+
+    /// The theorem that a term follows from itself. `NotBool` where it isn't of the type of propositions.
+    pub fn assume(&mut self, t: TermId) -> Result<ThmId, RuleFault>
+        requires { t < length self.old.terms }
+        ensures concludes { Concludes result (assume_rule names (term_at self.old t)) self.old self.new }
+        ensures keeps { Keeps self.old self.new }
+        ensures same { SameBasis self.old self.new }
+    {
+        if !self.is_proposition(t)? {
+            return Err(RuleFault::NotBool);
+        }
+        let mut hyps = Vec::new(self.alloc);
+        hyps.push(t)?;
+        self.conclude(Theorem { hyps, concl: t })
+    }
+
+    // Whether a term is of the type of propositions.
+    fn is_proposition(&mut self, t: TermId) -> Result<bool, Memory>
+        requires { t < length self.old.terms }
+        ensures ok { IfOk result (λ b. b ≡ has_type names (term_at self.old t) (bool_ty names)) }
+        ensures keeps { Keeps self.old self.new }
+        ensures same { SameTheorems self.old self.new }
+    {
+        let boolean = self.terms.type_bool()?;
+        Ok(self.terms.type_of(t) == boolean)
+    }
+
+    // The number of a theorem that follows, which takes the next place. `Memory` is the only refusal.
+    fn conclude(&mut self, th: Theorem) -> Result<ThmId, RuleFault>
+        requires inside { IsInside (length self.old.terms) th }
+        requires follows { IsTheorem names self.old.assumptions self.old.definitions (sequent_of self.old.terms th) }
+        ensures ok { IfOk result (λ id. (self.new ≡ record self.old { theorems = self.old.theorems ++ sequent_of self.old.terms th ∷ [] })
+            × (id ≡ length self.old.theorems)) }
+        ensures err { IfErr result (λ e. (self.new ≡ self.old) × (e ≡ RuleFault.Memory)) }
+    {
+        let id = ThmId(self.theorems.len());
+        self.theorems.push(th)?;
+        Ok(id)
+    }
+
+    /// The hypotheses of a theorem.
+    pub fn hyps(&self, th: ThmId) -> &[TermId]
+        requires { th < length self.now.theorems }
+        ensures hyps { terms_at self.now result.now ≡ (theorem_at self.now th).hyps }
+        ensures inside { All (λ i. i < length self.now.terms) result.now }
+    {
+        &self.theorems[th.0].hyps
+    }
+
+    /// The conclusion of a theorem.
+    pub fn concl(&self, th: ThmId) -> TermId
+        requires { th < length self.now.theorems }
+        ensures concl { term_at self.now result ≡ (theorem_at self.now th).concl }
+        ensures inside { result < length self.now.terms }
+    {
+        self.theorems[th.0].concl
+    }
+
+    /// Whether a theorem is this sequent: whether the set of its hypotheses and its conclusion are these, up to the names
+    /// of binders.
+    pub fn same(
+        &self,
+        alloc: Global,
+        th: ThmId,
+        hyps: &[TermId],
+        concl: TermId,
+    ) -> Result<bool, Memory>
+        requires th { th < length self.now.theorems }
+        requires hyps { All (λ i. i < length self.now.terms) hyps.now }
+        requires concl { concl < length self.now.terms }
+        ensures { IfOk result (λ b. b ≡ same_sequent names (theorem_at self.now th) (record { hyps = terms_at self.now hyps.now; concl = term_at self.now concl })) }
+    {
+        self.theorems[th.0].states(alloc, &self.terms, hyps, concl)
+    }
+
+    /// The numbers of the assumptions, in their order.
+    pub fn assumptions(&self) -> &[ThmId]
+        ensures sequents { map (theorem_at self.now) result.now ≡ self.now.assumptions }
+        ensures numbered { All (λ i. i < length self.now.theorems) result.now }
+    {
+        &self.assumptions
+    }
+
+    /// How many definitions were accepted. No call makes one yet.
+    pub fn definition_count(&self) -> usize
+        ensures { result ≡ length self.now.definitions }
+    {
+        let _names = &self.names;
+        0
+    }
+}
+
+#[cfg(test)]
+mod tests {
+    use super::*;
+    use std::test::Fail;
+
+    // The identity on the individuals, applied to one.
+    #[test]
+    fn builds_a_redex(rt: HostRuntime) -> Result<(), Fail> {
+        let alloc = rt.alloc();
+        let mut kernel = Kernel::new(alloc)?;
+        let name = kernel.intern(Name::of_text(alloc, b"x")?)?;
+        let ty = kernel.type_var(name)?;
+        let x = kernel.var(VarKey { name, ty })?;
+        let identity = kernel.abs(VarKey { name, ty }, x)?;
+        assert_eq!(rt; kernel.app(x, x), Err(TermFault::NotFunction));
+        kernel.app(identity, x)?;
+        assert!(rt; kernel.assumptions().is_empty());
+        Ok(())
+    }
+
+    // A proposition follows from itself.
+    #[test]
+    fn assumes_a_constant(rt: HostRuntime) -> Result<(), Fail> {
+        let alloc = rt.alloc();
+        let mut kernel = Kernel::new(alloc)?;
+        let truth = kernel.type_op(NameId::BOOL, &[])?;
+        let p = kernel.constant(NameId::A, truth)?;
+        let th = kernel.assume(p)?;
+        assert!(rt; kernel.hyps(th) == [p].as_slice());
+        assert_eq!(rt; kernel.concl(th), p);
+        assert!(rt; kernel.same(alloc, th, &[p, p], p)?);
+        Ok(())
+    }
+}
