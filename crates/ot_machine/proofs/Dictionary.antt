@@ -1,0 +1,57 @@
+-- The dictionary, seen as the finite map of what its objects stand for.
+use Rattle.std.proofs.Common.{◌≡◌, ℤ, List, Bool, true, false, cond, sym, ap, ◌∙◌, refl, subst}
+use Rattle.std.specs.Prelude.{Option, Some, None, Ok, Err}
+use Rattle.std.specs.Option.{option_map}
+use Rattle.std.specs.Ordering.{int_cmp, is_eq, eq_by_cmp}
+use Rattle.std.specs.Cmp.{int_cmp_total, eq_by_cmp_equiv}
+use Rattle.std.specs.Map.{lookup}
+use Rattle.std.specs.BTreeMap.{is_at}
+use Rattle.std.specs.FinMap.{get, insert, get-insert, same_map, int_cmp-IsAntisymmetric}
+use Rattle.std.proofs.lemmas.Option.{same_Some}
+use Rattle.ot_plain.specs.Names.{Name}
+use Rattle.ot_plain.specs.Faults as faults
+use Rattle.ot_plain.specs.Answers.{some_or}
+use Rattle.ot_kernel.specs.State as kernel
+use Rattle.ot_machine.specs.Objects.{Objects}
+use Rattle.ot_machine.specs.declared.object.Object.{Object}
+use Rattle.ot_machine.specs.declared.fault.Fault.TheVariants as code
+use Rattle.ot_machine.specs.Meaning.{entry_of, dictionary_of}
+use Rattle.ot_machine.specs.Answers.{Refuses}
+use Rattle.ot_machine.proofs.Kept.{get-dictionary}
+
+module _ (k : kernel.State) (cs : List Objects) where
+  -- a key of the code, which went through its 64 bits, is the key
+  pub entry-some : (es : List (ℤ × Object)) (j key : ℤ) (o : Object) → j ≡ key → Some o ≡ lookup (is_at (int_cmp j)) es → some_or {E = faults.Fault Name} (faults.NoEntry key) (get (dictionary_of k cs es) key) ≡ Ok (entry_of k cs o)
+  entry-some es j key o same e =
+      ap (λ z. some_or (faults.NoEntry z) (get (dictionary_of k cs es) z)) (sym same)
+      ∙ ap (some_or (faults.NoEntry j)) (get-dictionary k cs es j ∙ ap (option_map (entry_of k cs)) (sym e))
+
+  pub entry-none : (es : List (ℤ × Object)) (j key : ℤ) → j ≡ key → None ≡ lookup (is_at (int_cmp j)) es → Refuses (code.NoEntry j) (some_or (faults.NoEntry key) (get (dictionary_of k cs es) key))
+  entry-none es j key same e f p =
+      let none : get (dictionary_of k cs es) key ≡ None = ap (get (dictionary_of k cs es)) (sym same) ∙ get-dictionary k cs es j ∙ ap (option_map (entry_of k cs)) (sym e) in
+      ap (some_or (faults.NoEntry key)) none ∙ ap (λ z. Err (faults.NoEntry z)) (sym same) ∙ ap Err (same_Some _ _ p)
+
+  map-cond : (b : Bool) (o : Object) (r : Option Object) → option_map (entry_of k cs) (cond b (Some o) r) ≡ cond b (Some (entry_of k cs o)) (option_map (entry_of k cs) r)
+  map-cond true o r = refl
+  map-cond false o r = refl
+
+  insert-at : (es fs : List (ℤ × Object)) (key : ℤ) (o : Object) → ((q : ℤ) → lookup (is_at (int_cmp q)) fs ≡ cond (is_at (int_cmp key) q) (Some o) (lookup (is_at (int_cmp q)) es)) → dictionary_of k cs fs ≡ insert (dictionary_of k cs es) key (entry_of k cs o)
+  insert-at es fs key o changed =
+      same_map int_cmp_total int_cmp-IsAntisymmetric _ _ (λ q.
+      get-dictionary k cs fs q
+      ∙ ap (option_map (entry_of k cs)) (changed q)
+      ∙ map-cond (is_eq (int_cmp key q)) o _
+      ∙ ap (λ b. cond b (Some (entry_of k cs o)) (option_map (entry_of k cs) (lookup (is_at (int_cmp q)) es))) ((eq_by_cmp_equiv int_cmp_total).symm key q)
+      ∙ ap (cond (eq_by_cmp int_cmp q key) (Some (entry_of k cs o))) (sym (get-dictionary k cs es q))
+      ∙ sym (get-insert int_cmp_total (dictionary_of k cs es) key (entry_of k cs o) q))
+
+  pub insert-dictionary : (es fs : List (ℤ × Object)) (j key : ℤ) (o : Object) → j ≡ key → ((q : ℤ) → lookup (is_at (int_cmp q)) fs ≡ cond (is_at (int_cmp j) q) (Some o) (lookup (is_at (int_cmp q)) es)) → dictionary_of k cs fs ≡ insert (dictionary_of k cs es) key (entry_of k cs o)
+  insert-dictionary es fs j key o same changed = insert-at es fs j o changed ∙ ap (λ z. insert (dictionary_of k cs es) z (entry_of k cs o)) same
+
+-- what held of each object that is stored, and holds of the new one, holds of each
+pub each-inserted : (P : Object → Type 0) (es fs : List (ℤ × Object)) (j : ℤ) (o : Object) → ((q : ℤ) → lookup (is_at (int_cmp q)) fs ≡ cond (is_at (int_cmp j) q) (Some o) (lookup (is_at (int_cmp q)) es)) → ((q : ℤ) (x : Object) → lookup (is_at (int_cmp q)) es ≡ Some x → P x) → P o → (q : ℤ) (x : Object) → lookup (is_at (int_cmp q)) fs ≡ Some x → P x
+each-inserted P es fs j o changed each new q x p = by (is_at (int_cmp j) q) (lookup (is_at (int_cmp q)) es) (sym (changed q) ∙ p) (each q x)
+  where
+    by : (b : Bool) (r : Option Object) → cond b (Some o) r ≡ Some x → (r ≡ Some x → P x) → P x
+    by true r e old = subst P (same_Some o x e) new
+    by false r e old = old e

@@ -1,0 +1,30 @@
+use Rattle.std.specs.Map.{lookup}
+use Rattle.std.specs.BTreeMap.{is_at}
+use Rattle.std.specs.Ordering.{int_cmp}
+use Rattle.std.proofs.lemmas.Int.{to_z-of_z}
+use Rattle.std.proofs.Common.{sym, ap, ◌∙◌, length}
+use Rattle.ot_machine.specs.Meaning.{lists_of, article_of, IsIn}
+use Rattle.ot_machine.proofs.Dictionary.{insert-dictionary, each-inserted}
+use Rattle.ot_machine.proofs.session.Session.store.Goals as goal
+
+pub returns-in_err-insert-clause-of : goal.returns-in_err-insert-clause-of
+returns-in_err-insert-clause-of c = record {
+  stack = c.requires.of.stack;
+  dictionary = λ q o p. c.requires.of.dictionary q o (ap (lookup (is_at (int_cmp q))) (sym c.in_err-insert.ensures.err) ∙ p);
+  exports = c.requires.of.exports;
+  cells = c.requires.of.cells;
+}
+
+pub returns-clause-ok : goal.returns-clause-ok
+returns-clause-ok c =
+    let k = c.args.self.now.kernel in
+    let same = insert-dictionary k (lists_of k c.args.machine.now) _ _ _ _ c.args.object (to_z-of_z _ _ c.ranges.key) c.in_ok-insert.ensures.updates.0 in
+    λ i. record (article_of k c.args.machine.now) { dictionary = same i }
+
+pub returns-clause-of : goal.returns-clause-of
+returns-clause-of c = record {
+  stack = c.requires.of.stack;
+  dictionary = each-inserted (IsIn c.args.self.now.kernel (length c.args.machine.now.cells.items)) _ _ _ c.args.object c.in_ok-insert.ensures.updates.0 c.requires.of.dictionary c.requires.inside;
+  exports = c.requires.of.exports;
+  cells = c.requires.of.cells;
+}

@@ -1,0 +1,17 @@
+use Rattle.std.proofs.Common.{◌≡◌, ◌<◌, length, map}
+use Rattle.std.specs.List.{All}
+use Rattle.ot_kernel.specs.State.{type_at}
+use Rattle.ot_machine.specs.Places.{as_type, as_each}
+use Rattle.ot_machine.specs.Meaning.{list_at, lists_of, IsListIn}
+use Rattle.ot_machine.proofs.Elements.{length_bound, joined}
+use Rattle.ot_machine.proofs.session.Session.types_of.Given as goal
+
+abbrev pub invariant-cells : goal.invariant-cells
+invariant-cells l = record {
+  inside : IsListIn (length l.machine.cells.items) l.rest;
+  numbers : All (λ i. i < length l.self.kernel.types) l.types.items;
+  so_far : joined as_type (map (type_at l.self.kernel) l.types.items) (as_each as_type (list_at (lists_of l.self.kernel l.machine) l.rest)) ≡ as_each as_type (list_at (lists_of l.self.kernel l.machine) l.fn.list);
+}
+
+abbrev pub decreases-cells : goal.decreases-cells
+decreases-cells l = length_bound l.rest

@@ -1,0 +1,39 @@
+-- The machine's faults for those of the calls below it.
+use Rattle.std.specs.Prelude.{ℕ}
+use Rattle.ot_type.specs.declared.fault.TableFault.{TableFault}
+use Rattle.ot_type.specs.declared.fault.TableFault.TheVariants as types
+use Rattle.ot_term.specs.declared.term.TermFault.{TermFault}
+use Rattle.ot_term.specs.declared.term.TermFault.TheVariants as terms
+use Rattle.ot_kernel.specs.declared.fault.RuleFault.{RuleFault}
+use Rattle.ot_kernel.specs.declared.fault.RuleFault.TheVariants as rules
+use Rattle.ot_scan.specs.declared.words.WordFault.{WordFault}
+use Rattle.ot_scan.specs.declared.words.WordFault.TheVariants as words
+use Rattle.ot_machine.specs.declared.fault.ArticleFault.{ArticleFault}
+use Rattle.ot_machine.specs.declared.fault.ArticleFault.TheVariants.{At, Memory}
+use Rattle.ot_machine.specs.declared.fault.Fault.{Fault}
+use Rattle.ot_machine.specs.declared.fault.Fault.TheVariants as code
+
+abbrev pub table_fault : TableFault → Fault
+table_fault types.Nesting = code.Nesting
+table_fault types.Memory = code.Memory
+
+abbrev pub term_fault : TermFault → Fault
+term_fault terms.NotFunction = code.NotFunction
+term_fault terms.ArgumentType = code.ArgumentType
+term_fault terms.Nesting = code.Nesting
+term_fault terms.Memory = code.Memory
+
+abbrev pub rule_fault : RuleFault → Fault
+rule_fault rules.NotBool = code.NotBool
+rule_fault rules.Memory = code.Memory
+
+abbrev pub word_fault : WordFault → Fault
+word_fault words.UnknownCommand = code.UnknownCommand
+word_fault words.BadName = code.BadName
+word_fault words.BadNumber = code.BadNumber
+word_fault words.NumberRange = code.NumberRange
+
+-- the fault of a line, where it was not for want of memory
+abbrev pub refusal : ℕ → Fault → ArticleFault
+refusal line code.Memory = Memory
+refusal line fault = At line fault

@@ -1,0 +1,68 @@
+-- The state of an article, and that of the whole run.
+use Rattle.std.specs.Prelude.{ℕ, List, [], ◌∷◌, cond}
+use Rattle.std.specs.Ordering.{int_cmp}
+use Rattle.std.specs.FinMap.{FinMap, empty}
+use Rattle.ot_plain.specs.Names.{Name, same_name}
+use Rattle.ot_plain.specs.Trees.{Sequent, Definition}
+use Rattle.ot_machine.specs.Objects.{Object}
+
+-- what stands on the stack and in the dictionary
+pub record Entry : Type 0 where
+  pub object : Object
+
+-- a sequent that an article exports
+pub record Export : Type 0 where
+  pub sequent : Sequent Name
+
+-- a sequent that may be used: an assumption, or a theorem of the context
+pub record Given : Type 0 where
+  pub sequent : Sequent Name
+
+-- a definition of the run
+pub record Made : Type 0 where
+  pub definition : Definition Name
+
+-- of one article: a stack, whose top is the end of the list, a dictionary, the exports, and a count of commands
+pub record ArticleState : Type 0 where
+  pub stack : List Entry
+  pub dictionary : FinMap int_cmp Entry
+  pub exports : List Export
+  pub count : ℕ
+
+-- of the whole run
+pub record RunState : Type 0 where
+  pub assumptions : List Given
+  pub definitions : List Made
+
+pub record State : Type 0 where
+  pub article : ArticleState
+  pub run : RunState
+
+-- before the first command of an article
+abbrev pub fresh_article : ArticleState
+fresh_article = record { stack = []; dictionary = empty; exports = []; count = 0 }
+
+-- before the first article of a run
+abbrev pub fresh_run : RunState
+fresh_run = record { assumptions = []; definitions = [] }
+
+-- ---- the context of an article
+
+-- two finite maps of names: one for constants, one for type operators
+pub record Interpretation : Type 0 where
+  pub constants : List (Name × Name)
+  pub type_ops : List (Name × Name)
+
+-- a name that isn't held stays
+abbrev pub renamed : List (Name × Name) → Name → Name
+renamed [] n = n
+renamed (p ∷ ps) n = cond (same_name n p.0) p.1 (renamed ps n)
+
+-- how names of symbols are read, and the theorems that come from other articles
+pub record Context : Type 0 where
+  pub interpretation : Interpretation
+  pub theorems : List Given
+
+-- the identity, and no theorem
+abbrev pub no_context : Context
+no_context = record { interpretation = record { constants = []; type_ops = [] }; theorems = [] }

@@ -1,0 +1,62 @@
+// The exports of a machine of this session.
+ghost use Rattle.std.specs.Prelude.{◌≡◌, ◌<◌, ◌≤◌, length, map, IfOk, OnOk, OnErr, vec_len};
+ghost use Rattle.std.specs.List.{All};
+ghost use Rattle.ot_plain.specs.Hol.{same_sequent};
+ghost use Rattle.ot_plain.specs.Naming.{names};
+ghost use Rattle.ot_kernel.specs.State.{theorem_at};
+ghost use Rattle.ot_machine.specs.Meaning.{export_of, article_of, IsOf};
+ghost use Rattle.ot_machine.specs.Rows.{exported, is_exported};
+
+use crate::machine::{Export, Machine};
+use crate::session::Session;
+use ot_kernel::ThmId;
+use ot_plain::Memory;
+use std::alloc::Global;
+
+impl Session {
+    /// Exports a theorem, where its sequent isn't exported already.
+    pub(crate) fn export(
+        &self,
+        alloc: Global,
+        machine: &mut Machine,
+        theorem: ThmId,
+    ) -> Result<(), Memory>
+        requires of { IsOf self.now.kernel machine.old }
+        requires inside { theorem < length self.now.kernel.theorems }
+        ensures ok { OnOk result (article_of self.now.kernel machine.new ≡ (let s = article_of self.now.kernel machine.old in record s { exports = exported (theorem_at self.now.kernel theorem) s.exports })) }
+        ensures err { OnErr result (article_of self.now.kernel machine.new ≡ article_of self.now.kernel machine.old) }
+        ensures of { IsOf self.now.kernel machine.new }
+        ensures stack { vec_len machine.new.stack ≡ vec_len machine.old.stack }
+    {
+        if self.is_exported(alloc, &machine.exports, theorem)? {
+            return Ok(());
+        }
+        machine.exports.push(Export { th: theorem })?;
+        Ok(())
+    }
+
+    /// Whether one of the exports is the theorem's sequent.
+    fn is_exported(&self, alloc: Global, exports: &[Export], theorem: ThmId) -> Result<bool, Memory>
+        requires exports { All (λ e. e.th < length self.now.kernel.theorems) exports.now }
+        requires inside { theorem < length self.now.kernel.theorems }
+        ensures { IfOk result (λ b. b ≡ is_exported (theorem_at self.now.kernel theorem) (map (export_of self.now.kernel) exports.now)) }
+    {
+        for export in exports {
+            if self.is_same(alloc, theorem, export.th)? {
+                return Ok(true);
+            }
+        }
+        Ok(false)
+    }
+
+    /// Whether two theorems are one sequent.
+    fn is_same(&self, alloc: Global, theorem: ThmId, other: ThmId) -> Result<bool, Memory>
+        requires theorem { theorem < length self.now.kernel.theorems }
+        requires other { other < length self.now.kernel.theorems }
+        ensures { IfOk result (λ b. b ≡ same_sequent names (theorem_at self.now.kernel theorem) (theorem_at self.now.kernel other)) }
+    {
+        let hyps = self.kernel.hyps(other);
+        let concl = self.kernel.concl(other);
+        self.kernel.same(alloc, theorem, hyps, concl)
+    }
+}

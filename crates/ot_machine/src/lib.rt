@@ -1,0 +1,17 @@
+//! The stack machine: it runs the commands of articles over a kernel.
+#![tactic(auto)]
+
+mod exports;
+mod fault;
+mod lists;
+mod machine;
+mod makers;
+mod object;
+mod places;
+mod rows;
+mod session;
+mod stores;
+
+pub use fault::{ArticleFault, Fault};
+pub use machine::{Export, Machine};
+pub use session::Session;

@@ -1,0 +1,148 @@
+// Lists of objects of a machine of this session.
+ghost use Rattle.std.specs.Prelude.{◌≡◌, ◌<◌, ◌≤◌, length, map, IfOk, OnErr};
+ghost use Rattle.std.specs.List.{All};
+ghost use Rattle.ot_kernel.specs.State.{type_at, term_at};
+ghost use Rattle.ot_plain.specs.Hol.{depth_limit};
+ghost use Rattle.ot_machine.specs.Objects.{list as a_list, nesting};
+ghost use Rattle.ot_machine.specs.Meaning.{object_of, list_at, lists_of, article_of, IsOf, IsIn, IsListIn};
+ghost use Rattle.ot_machine.specs.Places.{as_type, as_term, as_each, types_on, terms_on};
+ghost use Rattle.ot_machine.specs.Rows.{consed};
+ghost use Rattle.ot_machine.specs.Answers.{Makes};
+
+use crate::fault::Fault;
+use crate::machine::Machine;
+use crate::object::{Cell, List, Object};
+use crate::session::Session;
+use ot_plain::{DEPTH_LIMIT, Kind};
+use ot_term::TermId;
+use ot_type::TypeId;
+use std::alloc::Global;
+
+impl Session {
+    /// The list of a head and a tail.
+    pub(crate) fn cons(
+        &self,
+        machine: &mut Machine,
+        head: Object,
+        tail: List,
+    ) -> Result<List, Fault>
+        requires of { IsOf self.now.kernel machine.old }
+        requires head { IsIn self.now.kernel (length machine.old.cells.items) head }
+        requires tail { IsListIn (length machine.old.cells.items) tail }
+        ensures made { Makes (λ l. a_list (list_at (lists_of self.now.kernel machine.new) l)) result (consed (object_of self.now.kernel (lists_of self.now.kernel machine.old) head) (list_at (lists_of self.now.kernel machine.old) tail)) }
+        ensures inside { IfOk result (IsListIn (length machine.new.cells.items)) }
+        ensures kept { article_of self.now.kernel machine.new ≡ article_of self.now.kernel machine.old }
+        ensures of { IsOf self.now.kernel machine.new }
+        ensures stack { machine.new.stack ≡ machine.old.stack }
+    {
+        let nesting = self
+            .list_nesting(machine, &tail)
+            .max(1 + self.nesting(machine, &head));
+        if nesting > DEPTH_LIMIT {
+            return Err(Fault::Nesting);
+        }
+        let place = machine.cells.len();
+        machine.cells.push(Cell {
+            head,
+            tail,
+            nesting,
+        })?;
+        Ok(List::Cell(place))
+    }
+
+    /// How deep lists lie in each other in an object.
+    fn nesting(&self, machine: &Machine, object: &Object) -> u32
+        requires of { IsOf self.now.kernel machine.now }
+        requires inside { IsIn self.now.kernel (length machine.now.cells.items) object.now }
+        ensures nesting { result ≡ nesting (object_of self.now.kernel (lists_of self.now.kernel machine.now) object.now) }
+        ensures shallow { result ≤ depth_limit }
+    {
+        match object {
+            Object::List(list) => self.list_nesting(machine, list),
+            _ => 0,
+        }
+    }
+
+    /// How deep lists lie in each other in a list.
+    fn list_nesting(&self, machine: &Machine, list: &List) -> u32
+        requires of { IsOf self.now.kernel machine.now }
+        requires inside { IsListIn (length machine.now.cells.items) list.now }
+        ensures nesting { result ≡ nesting (a_list (list_at (lists_of self.now.kernel machine.now) list.now)) }
+        ensures shallow { result ≤ depth_limit }
+    {
+        match list {
+            List::Nil => 1,
+            List::Cell(cell) => machine.cells[*cell].nesting,
+        }
+    }
+
+    /// The types of the list at a place.
+    pub(crate) fn types_on(
+        &self,
+        alloc: Global,
+        machine: &Machine,
+        place: usize,
+    ) -> Result<Vec<TypeId>, Fault>
+        requires { IsOf self.now.kernel machine.now }
+        ensures found { Makes (λ v. map (type_at self.now.kernel) v.items) result (types_on place (article_of self.now.kernel machine.now).stack) }
+        ensures inside { IfOk result (λ v. All (λ i. i < length self.now.kernel.types) v.items) }
+    {
+        let list = self.list_on(machine, place)?;
+        self.types_of(alloc, machine, list)
+    }
+
+    /// The types of a list.
+    fn types_of(&self, alloc: Global, machine: &Machine, list: List) -> Result<Vec<TypeId>, Fault>
+        requires of { IsOf self.now.kernel machine.now }
+        requires inside { IsListIn (length machine.now.cells.items) list }
+        ensures found { Makes (λ v. map (type_at self.now.kernel) v.items) result (as_each as_type (list_at (lists_of self.now.kernel machine.now) list)) }
+        ensures inside { IfOk result (λ v. All (λ i. i < length self.now.kernel.types) v.items) }
+    {
+        let mut types = Vec::new(alloc);
+        let mut rest = list;
+        'cells: while let List::Cell(place) = rest {
+            let cell = &machine.cells[place];
+            let Object::Type(ty) = cell.head else {
+                return Err(Fault::WrongKind(Kind::Ty, cell.head.kind()));
+            };
+            types.push(ty)?;
+            rest = cell.tail;
+        }
+        Ok(types)
+    }
+
+    /// The terms of the list at a place.
+    pub(crate) fn terms_on(
+        &self,
+        alloc: Global,
+        machine: &Machine,
+        place: usize,
+    ) -> Result<Vec<TermId>, Fault>
+        requires { IsOf self.now.kernel machine.now }
+        ensures found { Makes (λ v. map (term_at self.now.kernel) v.items) result (terms_on place (article_of self.now.kernel machine.now).stack) }
+        ensures inside { IfOk result (λ v. All (λ i. i < length self.now.kernel.terms) v.items) }
+    {
+        let list = self.list_on(machine, place)?;
+        self.terms_of(alloc, machine, list)
+    }
+
+    /// The terms of a list.
+    fn terms_of(&self, alloc: Global, machine: &Machine, list: List) -> Result<Vec<TermId>, Fault>
+        requires of { IsOf self.now.kernel machine.now }
+        requires inside { IsListIn (length machine.now.cells.items) list }
+        ensures found { Makes (λ v. map (term_at self.now.kernel) v.items) result (as_each as_term (list_at (lists_of self.now.kernel machine.now) list)) }
+        ensures inside { IfOk result (λ v. All (λ i. i < length self.now.kernel.terms) v.items) }
+    {
+        let mut terms = Vec::new(alloc);
+        let mut rest = list;
+        'cells: while let List::Cell(place) = rest {
+            let cell = &machine.cells[place];
+            let Object::Term(term) = cell.head else {
+                return Err(Fault::WrongKind(Kind::Tm, cell.head.kind()));
+            };
+            terms.push(term)?;
+            rest = cell.tail;
+        }
+        Ok(terms)
+    }
+}

@@ -1,0 +1,239 @@
+ghost use Rattle.std.specs.Prelude.{◌≡◌, ◌<◌, length};
+ghost use Rattle.ot_kernel.specs.State.{State};
+ghost use Rattle.ot_scan.specs.Lines.{lines_of};
+ghost use Rattle.ot_scan.specs.Words.{word_value};
+ghost use Rattle.ot_machine.specs.States.{no_context, fresh_article};
+ghost use Rattle.ot_machine.specs.Meaning.{article_of, state_of, command_at, IsOf, IsCommandIn};
+ghost use Rattle.ot_machine.specs.Step.{step, row, word_row, version_rule, built_rule};
+ghost use Rattle.ot_machine.specs.Run.{line_step};
+ghost use Rattle.ot_machine.specs.Answers.{Makes, Moves, Turns, Runs};
+
+use crate::fault::{ArticleFault, Fault, refusal};
+use crate::object::{Cell, Command, Object};
+use crate::rows;
+use crate::session::Session;
+use ot_kernel::ThmId;
+use ot_plain::Cmd;
+use ot_scan::{ScanFault, Word, command as read_word, next_line};
+use std::alloc::Global;
+use std::collections::BTreeMap;
+
+/// A theorem that an article exports.
+#[derive(Clone, Copy, Debug, PartialEq, Eq)]
+pub struct Export {
+    pub th: ThmId,
+}
+
+/// The machine of one article.
+#[derive(Drop)]
+pub struct Machine {
+    pub(crate) alloc: Global,
+    pub(crate) stack: Vec<Object>,
+    pub(crate) dictionary: BTreeMap<i64, Object>,
+    pub(crate) exports: Vec<Export>,
+    pub(crate) cells: Vec<Cell>,
+    count: u64,
+}
+
+impl Machine {
+    /// A machine before the first command of an article, for any session.
+    pub fn new(alloc: Global) -> Machine
+        ensures fresh { (k : State) → article_of k result ≡ fresh_article }
+        ensures of { (k : State) → IsOf k result }
+    {
+        Machine {
+            alloc,
+            stack: Vec::new(alloc),
+            dictionary: BTreeMap::new(alloc),
+            exports: Vec::new(alloc),
+            cells: Vec::new(alloc),
+            count: 0,
+        }
+    }
+
+    /// What the article exports, in order, each sequent once.
+    pub fn exports(&self) -> &[Export]
+        ensures { result.now ≡ self.now.exports.items }
+    {
+        &self.exports
+    }
+
+    /// One command. The first fault of the stated machine counts; after it, and after want of memory, the state is as before.
+    /// The machine's numbers have to be of this session.
+    pub fn step(&mut self, session: &mut Session, word: Word<'_>) -> Result<(), Fault>
+        requires { IsOf session.old.kernel self.old }
+        ensures moves { Moves result (step no_context (state_of session.old.kernel self.old) (word_value word.entry)) (state_of session.old.kernel self.old) (state_of session.new.kernel self.new) }
+        ensures of { IsOf session.new.kernel self.new }
+    {
+        let command = session.command(self, word)?;
+        check_version(self.count, &command)?;
+        check_built(&command)?;
+        self.row(session, command)?;
+        self.count = self.count.saturating_add(1);
+        Ok(())
+    }
+
+    /// Runs the lines of an article, up to the first fault. It has the line at which it stands, and the state is as before that
+    /// line. After want of memory the state is that of some number of the first lines. The machine's numbers have to be of this
+    /// session.
+    pub fn run_article(
+        &mut self,
+        session: &mut Session,
+        text: &[u8],
+        max_bytes: u64,
+    ) -> Result<(), ArticleFault>
+        requires { IsOf session.old.kernel self.old }
+        ensures runs { Runs result no_context (lines_of max_bytes text.now) (state_of session.old.kernel self.old) (state_of session.new.kernel self.new) }
+        ensures of { IsOf session.new.kernel self.new }
+    {
+        let mut at = 0;
+        let mut number = 0;
+        'lines: loop {
+            match next_line(text, max_bytes, &mut at, &mut number) {
+                Ok(None) => return Ok(()),
+                Ok(Some(line)) => {
+                    if let Err(fault) = self.line(session, line.text) {
+                        return Err(refusal(line.number, fault));
+                    }
+                }
+                Err(ScanFault::LineTooLong(line)) => {
+                    return Err(ArticleFault::At {
+                        line,
+                        fault: Fault::LineTooLong,
+                    });
+                }
+                Err(ScanFault::ArticleTooLong(line)) => {
+                    return Err(ArticleFault::At {
+                        line,
+                        fault: Fault::ArticleTooLong,
+                    });
+                }
+                Err(ScanFault::ReadFault | ScanFault::Memory) => unreachable!(),
+            }
+        }
+    }
+
+    /// The text of a line that holds a command.
+    fn line(&mut self, session: &mut Session, text: &[u8]) -> Result<(), Fault>
+        requires of { IsOf session.old.kernel self.old }
+        requires some { 0 < length text.now }
+        ensures moves { Moves result (line_step no_context (state_of session.old.kernel self.old) text.now) (state_of session.old.kernel self.old) (state_of session.new.kernel self.new) }
+        ensures of { IsOf session.new.kernel self.new }
+    {
+        let word = read_word(text)?;
+        self.step(session, word)
+    }
+
+    /// The row of a command.
+    fn row(&mut self, session: &mut Session, command: Command) -> Result<(), Fault>
+        requires of { IsOf session.old.kernel self.old }
+        requires inside { IsCommandIn session.old.kernel command }
+        ensures { Turns result (row no_context (command_at session.old.kernel command)) session.old.kernel self.old session.new.kernel self.new }
+    {
+        match command {
+            Command::Numeral(number) => {
+                session.push(self, Object::Number(number))?;
+                Ok(())
+            }
+            Command::Named(name) => {
+                session.push(self, Object::Name(name))?;
+                Ok(())
+            }
+            Command::Order(order) => self.order(session, order),
+        }
+    }
+
+    /// The row of a word.
+    fn order(&mut self, session: &mut Session, order: Cmd) -> Result<(), Fault>
+        requires { IsOf session.old.kernel self.old }
+        ensures { Turns result (word_row no_context order) session.old.kernel self.old session.new.kernel self.new }
+    {
+        let alloc = self.alloc;
+        match order {
+            Cmd::Version => rows::version(session, self),
+            Cmd::Nil => rows::nil(session, self),
+            Cmd::Cons => rows::cons(session, self),
+            Cmd::Def => rows::def(session, self),
+            Cmd::Ref => rows::refer(session, self),
+            Cmd::Pop => rows::pop(session, self),
+            Cmd::TypeOp => rows::type_op(session, self),
+            Cmd::OpType => rows::op_type(alloc, session, self),
+            Cmd::VarType => rows::var_type(session, self),
+            Cmd::Var => rows::var(session, self),
+            Cmd::VarTerm => rows::var_term(session, self),
+            Cmd::Const => rows::constant(session, self),
+            Cmd::ConstTerm => rows::const_term(session, self),
+            Cmd::AppTerm => rows::app_term(session, self),
+            Cmd::Assume => rows::assume(session, self),
+            Cmd::Thm => rows::thm(alloc, session, self),
+            _ => Err(Fault::NotBuilt),
+        }
+    }
+}
+
+/// The rule on the first two commands, after so many.
+fn check_version(count: u64, command: &Command) -> Result<(), Fault>
+    ensures { (k : State) → Makes (λ u. u) result (version_rule count (command_at k command.now)) }
+{
+    let is_version = matches!(command, Command::Order(Cmd::Version));
+    match count {
+        0 if !matches!(command, Command::Numeral(_)) => Err(Fault::VersionMissing),
+        1 if !is_version => Err(Fault::VersionMissing),
+        0 | 1 => Ok(()),
+        _ if is_version => Err(Fault::VersionLate),
+        _ => Ok(()),
+    }
+}
+
+/// The refusal of words that no row is built for.
+fn check_built(command: &Command) -> Result<(), Fault>
+    ensures { (k : State) → Makes (λ u. u) result (built_rule (command_at k command.now)) }
+{
+    match command {
+        Command::Order(order) if !order.is_built() => Err(Fault::NotBuilt),
+        _ => Ok(()),
+    }
+}
+
+#[cfg(test)]
+mod tests {
+    use super::*;
+    use std::test::Fail;
+
+    const FIRST: &[u8] =
+        b"6\nversion\n\"p\"\n\"bool\"\ntypeOp\nnil\nopType\nvar\nvarTerm\n0\ndef\nassume\n0\nref\nnil\ncons\n0\nref\nthm\n";
+
+    // The theorem is exported, and once only; a refusal has its line, and the next article of the session is a fresh one.
+    #[test]
+    fn runs_articles(rt: HostRuntime) -> Result<(), Fail> {
+        let alloc = rt.alloc();
+        let mut session = Session::new(alloc)?;
+        let mut machine = Machine::new(alloc);
+        assert_eq!(rt; machine.run_article(&mut session, FIRST, 200), Ok(()));
+        assert_eq!(rt; machine.exports().len(), 1);
+        assert_eq!(rt;
+            machine.run_article(
+                &mut session,
+                b"0\nref\nassume\n0\nref\n0\nref\nnil\ncons\ncons\n0\nref\nthm",
+                100
+            ),
+            Ok(())
+        );
+        assert_eq!(rt; machine.exports().len(), 1);
+        assert_eq!(rt;
+            machine.step(&mut session, Word::Command(Cmd::Version)),
+            Err(Fault::VersionLate)
+        );
+        let mut other = Machine::new(alloc);
+        assert_eq!(rt; other.step(&mut session, Word::Number(6)), Ok(()));
+        assert_eq!(rt;
+            other.run_article(&mut session, b"version\nnil\n0\nref", 100),
+            Err(ArticleFault::At {
+                line: 4,
+                fault: Fault::NoEntry(0),
+            })
+        );
+        assert!(rt; other.exports().is_empty());
+        Ok(())
+    }
+}
