@@ -1,0 +1,2 @@
+-- Texts of what was run.
+pub mod TextLemmas

@@ -1,0 +1,4 @@
+-- What the program answers: the texts of faults, and the reply to words and input.
+pub mod Texts
+pub mod Reply
+pub mod Answer

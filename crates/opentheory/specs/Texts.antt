@@ -1,0 +1,83 @@
+-- The lines on standard error, with the text of each fault.
+use Rattle.std.specs.Prelude.{ℕ, List, [], ◌∷◌, ◌++◌, codes}
+use Rattle.std.specs.List.{concat}
+use Rattle.std.specs.Fmt.{decimal, signed_decimal}
+use Rattle.ot_plain.specs.Names.{Name, spelled}
+use Rattle.ot_plain.specs.Trees.{Symbol, ConSymbol, OpSymbol}
+use Rattle.ot_plain.specs.declared.kind.Kind.{Kind}
+use Rattle.ot_plain.specs.declared.kind.Kind.TheVariants as kinds
+use Rattle.ot_plain.specs.Faults.{Fault, LineTooLong, ArticleTooLong, UnknownCommand, BadName, BadNumber, NumberRange, VersionMissing, VersionUnsupported, VersionLate, StackEmpty, WrongKind, NoEntry, EmptyList, NotFunction, ArgumentType, NotBool, NotEquation, NotAlphaEqual, VarFreeInHyps, NotRedex, BadSubst, ExportMismatch, Primitive, AlreadyDefined, SymbolInUse, NotClosed, TypeVarEscapes, BadDefinitionList, HypothesesPresent, NotApplication, BadTypeVars, Nesting, NotBuilt}
+
+-- how a kind is called
+abbrev pub kind_text : Kind → List ℕ
+kind_text kinds.Num = codes "number"
+kind_text kinds.Name = codes "name"
+kind_text kinds.List = codes "list"
+kind_text kinds.TyOp = codes "type operator"
+kind_text kinds.Ty = codes "type"
+kind_text kinds.Con = codes "constant"
+kind_text kinds.Var = codes "variable"
+kind_text kinds.Tm = codes "term"
+kind_text kinds.Thm = codes "theorem"
+
+-- a symbol: which of the two it is, and how its name is spelled
+abbrev pub symbol_text : Symbol Name → List ℕ
+symbol_text (ConSymbol n) = codes "const " ++ spelled n
+symbol_text (OpSymbol n) = codes "type " ++ spelled n
+
+-- the text of a fault
+abbrev pub fault_text : Fault Name → List ℕ
+fault_text LineTooLong = codes "line longer than 65535 bytes"
+fault_text ArticleTooLong = codes "article longer than 1048576 bytes"
+fault_text UnknownCommand = codes "unknown command"
+fault_text BadName = codes "bad name"
+fault_text BadNumber = codes "bad number"
+fault_text NumberRange = codes "number out of range"
+fault_text VersionMissing = codes "version command missing"
+fault_text (VersionUnsupported k) = codes "version " ++ signed_decimal k ++ codes " unsupported"
+fault_text VersionLate = codes "version command in a wrong place"
+fault_text StackEmpty = codes "stack empty"
+fault_text (WrongKind wanted found) = codes "wanted " ++ kind_text wanted ++ codes ", found " ++ kind_text found
+fault_text (NoEntry k) = codes "no entry " ++ signed_decimal k
+fault_text EmptyList = codes "empty list"
+fault_text NotFunction = codes "not a function"
+fault_text ArgumentType = codes "argument of another type"
+fault_text NotBool = codes "not of type bool"
+fault_text NotEquation = codes "not an equation"
+fault_text NotAlphaEqual = codes "terms differ"
+fault_text VarFreeInHyps = codes "variable free in a hypothesis"
+fault_text NotRedex = codes "not a beta redex"
+fault_text BadSubst = codes "bad substitution list"
+fault_text ExportMismatch = codes "theorem differs from the stated sequent"
+fault_text (Primitive s) = codes "primitive symbol " ++ symbol_text s
+fault_text (AlreadyDefined s) = symbol_text s ++ codes " is defined already"
+fault_text (SymbolInUse s) = symbol_text s ++ codes " is in use"
+fault_text NotClosed = codes "free variable in a definition"
+fault_text TypeVarEscapes = codes "type variable not in the type of the constant"
+fault_text BadDefinitionList = codes "definition list and hypotheses disagree"
+fault_text HypothesesPresent = codes "theorem has hypotheses"
+fault_text NotApplication = codes "conclusion is not an application"
+fault_text BadTypeVars = codes "bad type variable list"
+fault_text Nesting = codes "nested deeper than 4096"
+fault_text NotBuilt = codes "command not built yet"
+
+-- the line for a text at a line of the article on standard input
+abbrev pub line_with : ℕ → List ℕ → List ℕ
+line_with number text = concat (codes "opentheory: -:" ∷ decimal number ∷ codes ": " ∷ text ∷ codes "\n" ∷ [])
+
+-- the line for a fault at a line of the article
+abbrev pub fault_line : ℕ → Fault Name → List ℕ
+fault_line number fault = line_with number (fault_text fault)
+
+-- the line for words that are no command
+abbrev pub usage_line : List ℕ
+usage_line = codes "usage: opentheory check|info|link|minimise [--packages DIR] INPUT; info also takes --assumptions --definitions --theorems; opentheory sample [--article] N\n"
+
+abbrev pub read_fault_line : List ℕ
+read_fault_line = codes "opentheory: -: read fault\n"
+
+abbrev pub write_fault_line : List ℕ
+write_fault_line = codes "opentheory: write fault\n"
+
+abbrev pub memory_line : List ℕ
+memory_line = codes "opentheory: out of memory\n"

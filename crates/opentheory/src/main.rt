@@ -1,0 +1,49 @@
+//! Reads an OpenTheory article from standard input and checks its proofs.
+#![tactic(auto)]
+
+mod program;
+mod texts;
+
+use ot_io::{StdSink, StdSource, write_whole};
+use ot_plain::Memory;
+use program::{Status, run};
+use std::process::ExitCode;
+use std::{env, io};
+use texts::OUT_OF_MEMORY;
+
+/// Runs the program on the command's words and the standard streams. Words that are no text are no
+/// command.
+fn main(rt: HostRuntime) -> ExitCode {
+    let mut input = StdSource::new(rt.stdin());
+    let mut out = StdSink::new(rt.stdout());
+    let mut err = StdSink::new(rt.stderr());
+    let status = match words_of(&rt) {
+        Ok(words) => run(rt.alloc(), &words, &mut input, &mut out, &mut err),
+        Err(_) => {
+            let _ = write_whole(&mut err, OUT_OF_MEMORY);
+            Status::Memory
+        }
+    };
+    ExitCode::from(status.code())
+}
+
+/// The command's words, without the program's name; none where one of them is no text.
+fn words_of(rt: &HostRuntime) -> Result<Vec<String>, Memory> {
+    let mut words = Vec::new(rt.alloc());
+    match env::args(rt) {
+        Ok(all) => {
+            for word in all.skip(1) {
+                words.push(word)?;
+            }
+        }
+        Err(error) => {
+            if error.kind() != io::ErrorKind::InvalidData {
+                return Err(Memory);
+            }
+        }
+    }
+    Ok(words)
+}
+
+#[cfg(test)]
+mod tests;
