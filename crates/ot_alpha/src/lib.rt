@@ -108,3 +108,6 @@ pub fn alpha_eq(_alloc: Global, terms: &Terms, a: TermId, b: TermId) -> Result<b
     }
     Ok(is_same_under(terms, &Binders::Outermost, a, b))
 }
+
+#[cfg(test)]
+mod tests;

@@ -126,28 +126,19 @@ impl Cmd {
     {
         COMMANDS.iter().copied().find(|c| c.text() == text)
     }
+
     /// Whether the machine does this command. It refuses the others as not built yet.
     pub fn is_built(self) -> bool
         ensures { result ≡ is_built self }
     {
-        matches!(
+        !matches!(
             self,
-            Cmd::Version
-                | Cmd::Nil
-                | Cmd::Cons
-                | Cmd::Def
-                | Cmd::Ref
-                | Cmd::Pop
-                | Cmd::TypeOp
-                | Cmd::OpType
-                | Cmd::VarType
-                | Cmd::Var
-                | Cmd::VarTerm
-                | Cmd::Const
-                | Cmd::ConstTerm
-                | Cmd::AppTerm
-                | Cmd::Assume
-                | Cmd::Thm
+            Cmd::HdTl
+                | Cmd::Remove
+                | Cmd::Pragma
+                | Cmd::DefineConst
+                | Cmd::DefineConstList
+                | Cmd::DefineTypeOp
         )
     }
 }
@@ -161,7 +152,7 @@ mod tests {
         let rows: [(&[u8], Option<(Cmd, bool)>); 8] = [
             (b"version", Some((Cmd::Version, true))),
             (b"typeOp", Some((Cmd::TypeOp, true))),
-            (b"pop", Some((Cmd::Pop, true))),
+            (b"axiom", Some((Cmd::Axiom, true))),
             (b"hdTl", Some((Cmd::HdTl, false))),
             (b"defineTypeOp", Some((Cmd::DefineTypeOp, false))),
             (b"typeop", None),

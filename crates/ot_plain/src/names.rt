@@ -1,4 +1,4 @@
-ghost use Rattle.std.specs.Prelude.{◌≡◌, ℕ, ◌<◌, Some, slice_get, length, IfOk, OnErr};
+ghost use Rattle.std.specs.Prelude.{◌≡◌, ℕ, ◌<◌, ◌≤◌, Some, slice_get, length, IfOk, OnErr};
 ghost use Rattle.ot_plain.specs.Names.{Name as NameValue};
 ghost use Rattle.ot_plain.specs.Naming.{first_names, IsNameTable};
 ghost use Rattle.ot_plain.specs.Table.{Extends};
@@ -84,6 +84,33 @@ impl Names {
         let _components = &name.components;
         let (index, _) = self.entries.insert_full(name)?;
         Ok(NameId(index))
+    }
+
+    /// The number of a name that the table did not have. Which name it is, is open. After want of memory the table may
+    /// hold more names.
+    pub fn add_new(&mut self) -> Result<NameId, Memory>
+        ensures ok { IfOk result (λ id. (length self.old ≤ id) × (id < length self.new)) }
+        ensures extends { Extends self.old self.new }
+        ensures table { IsNameTable self.new }
+    {
+        let alloc = *self.entries.allocator();
+        let count = self.count();
+        for number in count..usize::MAX {
+            let text = format!(in alloc; "x{number}")?;
+            let id = self.intern(Name::of_text(alloc, text.as_bytes())?)?;
+            if id.0 >= count {
+                return Ok(id);
+            }
+        }
+        Err(Memory)
+    }
+
+    /// How many names there are.
+    pub fn count(&self) -> usize
+        ensures count { result ≡ length self.now }
+        ensures table { IsNameTable self.now }
+    {
+        self.entries.len()
     }
 
     /// The name of a number.

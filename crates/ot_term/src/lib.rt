@@ -3,8 +3,12 @@
 #![tactic(auto)]
 
 mod collect;
+mod nodes;
+mod steps;
 mod table;
 mod term;
 
+pub use nodes::Nodes;
+pub use steps::Steps;
 pub use table::Terms;
 pub use term::{Symbol, SymbolKind, TermFault, TermId, TermNode, VarKey};

@@ -1,0 +1,128 @@
+//! When a binder has to be renamed.
+ghost use Rattle.std.specs.Prelude.{◌≡◌, ◌<◌, ◌↔◌, [], length, IfOk, IsTrue, MatchBool};
+ghost use Rattle.std.specs.List.{All};
+ghost use Rattle.ot_plain.specs.Lists.{IsMember};
+ghost use Rattle.ot_plain.specs.Hol.{inst_var};
+ghost use Rattle.ot_plain.specs.Naming.{numbers};
+ghost use Rattle.ot_term.specs.TermTable.{variable_of, Grows, NamesUpTo, IsTermTable};
+ghost use Rattle.ot_subst.specs.Substitution.{type_part, IsSubstOf};
+ghost use Rattle.ot_subst.specs.Renamed.{pairs_of};
+ghost use Rattle.ot_subst.specs.Walk.{AreReady};
+ghost use Rattle.ot_subst.specs.Clash.{AreFrees, Coincides, MayStay, IsUnclashing};
+
+use crate::renamed::{Renamed, meets};
+use crate::subst::Subst;
+use ot_plain::Memory;
+use ot_term::{Nodes, TermId, VarKey};
+use ot_type::TableFault;
+use std::alloc::Global;
+
+/// A substitution at work: with the variables that are free in its terms, and the binders that were renamed so far.
+#[derive(Clone, Copy)]
+pub(crate) struct Work<'a> {
+    pub(crate) subst: &'a Subst,
+    pub(crate) frees: &'a [VarKey],
+    pub(crate) renamed: &'a Renamed<'a>,
+}
+
+// Whether `x`, where it is not the binder `v`, becomes `w` by the type part.
+fn coincides<N: Nodes<L>, L>(
+    terms: &mut N,
+    subst: &Subst,
+    v: &VarKey,
+    w: &VarKey,
+    x: &VarKey,
+) -> Result<bool, Memory>
+    requires table { IsTermTable (N.table terms.old) }
+    requires pairs { All (λ p. p.1 < length (N.table terms.old).types) subst.now.types }
+    requires binder { w.now.ty < length (N.table terms.old).types }
+    requires variable { x.now.ty < length (N.table terms.old).types }
+    ensures ok { IfOk result (λ b. IsTrue b ↔ Coincides (N.table terms.old) subst.now v.now w.now x.now) }
+    ensures grows { Grows (N.table terms.old) (N.table terms.new) }
+    ensures names { NamesUpTo 0 (N.table terms.old) (N.table terms.new) }
+    ensures table { IsTermTable (N.table terms.new) }
+{
+    if *x == *v || x.name != w.name {
+        return Ok(false);
+    }
+    match terms.type_inst(subst.types(), x.ty) {
+        Ok(ty) => Ok(ty == w.ty),
+        Err(TableFault::Nesting) => Ok(false),
+        Err(TableFault::Memory) => Err(Memory),
+    }
+}
+
+// Whether one of the variables, other than the binder `v`, becomes `w` by the type part.
+fn any_coincides<N: Nodes<L>, L>(
+    terms: &mut N,
+    subst: &Subst,
+    v: &VarKey,
+    w: &VarKey,
+    xs: &[VarKey],
+) -> Result<bool, Memory>
+    requires table { IsTermTable (N.table terms.old) }
+    requires pairs { All (λ p. p.1 < length (N.table terms.old).types) subst.now.types }
+    requires binder { w.now.ty < length (N.table terms.old).types }
+    requires variables { All (λ x. x.ty < length (N.table terms.old).types) xs.now }
+    ensures ok { IfOk result (λ b. MatchBool b ((x : _) × IsMember x xs.now × Coincides (N.table terms.old) subst.now v.now w.now x)
+        ((x : _) → IsMember x xs.now → ¬ (Coincides (N.table terms.old) subst.now v.now w.now x))) }
+    ensures grows { Grows (N.table terms.old) (N.table terms.new) }
+    ensures names { NamesUpTo 0 (N.table terms.old) (N.table terms.new) }
+    ensures table { IsTermTable (N.table terms.new) }
+{
+    for x in xs {
+        if coincides(terms, subst, v, w, x)? {
+            return Ok(true);
+        }
+    }
+    Ok(false)
+}
+
+// Whether the binder `v` of a body, which is `w` after the type part, has to be renamed. Without renamed binders around, it
+// has to be only where it clashes.
+pub(crate) fn clashes<N: Nodes<L>, L>(
+    alloc: Global,
+    terms: &mut N,
+    work: &Work<'_>,
+    v: &VarKey,
+    w: &VarKey,
+    body: TermId,
+) -> Result<bool, Memory>
+    requires ready { AreReady (N.table terms.old) work.now.subst.now (pairs_of work.now.renamed.now) }
+    requires frees { AreFrees (N.table terms.old) work.now.subst.now work.now.frees.now }
+    requires binder { v.now.ty < length (N.table terms.old).types }
+    requires new { w.now.ty < length (N.table terms.old).types }
+    requires instance { variable_of (N.table terms.old).types w.now ≡ inst_var numbers (type_part (N.table terms.old) work.now.subst.now) (variable_of (N.table terms.old).types v.now) }
+    requires body { body < length (N.table terms.old).terms }
+    ensures ok { IfOk result (λ b. MatchBool b (pairs_of work.now.renamed.now ≡ [] → ¬ (IsUnclashing (N.table terms.old) work.now.subst.now v.now body))
+        (MayStay (N.table terms.old) work.now.subst.now (pairs_of work.now.renamed.now) v.now body)) }
+    ensures grows { Grows (N.table terms.old) (N.table terms.new) }
+    ensures names { NamesUpTo 0 (N.table terms.old) (N.table terms.new) }
+    ensures table { IsTermTable (N.table terms.new) }
+{
+    if meets(work.renamed, v, w) || work.subst.get(w).is_some() || work.frees.contains(w) {
+        return Ok(true);
+    }
+    let xs = terms.free_vars(alloc, body)?;
+    any_coincides(terms, work.subst, v, w, &xs)
+}
+
+// The variables that are free in the terms of a substitution.
+pub(crate) fn frees_of<N: Nodes<L>, L>(
+    alloc: Global,
+    terms: &N,
+    subst: &Subst,
+) -> Result<Vec<VarKey>, Memory>
+    requires { IsSubstOf (N.table terms.now) subst.now }
+    ensures { IfOk result (λ frees. AreFrees (N.table terms.now) subst.now frees.items) }
+{
+    let mut frees = Vec::new(alloc);
+    let pairs = subst.terms();
+    for index in 0..pairs.len() {
+        let Some((_, id)) = pairs.get_index(index) else {
+            unreachable!();
+        };
+        frees.extend_from_slice(&terms.free_vars(alloc, *id)?)?;
+    }
+    Ok(frees)
+}

@@ -1,0 +1,95 @@
+//! Substitutions: a type part and a variable part.
+ghost use Rattle.std.specs.Prelude.{◌≡◌, ◌<◌, [], Some, OnOk, OnErr, length};
+ghost use Rattle.std.specs.List.{All};
+ghost use Rattle.ot_plain.specs.Hol.{named_type};
+ghost use Rattle.ot_plain.specs.Naming.{numbers};
+ghost use Rattle.ot_type.specs.TypeTable.{type_at};
+ghost use Rattle.ot_term.specs.Term.{TermTable};
+ghost use Rattle.ot_term.specs.TermTable.{term_at};
+
+use indexmap::IndexMap;
+use ot_plain::Memory;
+use ot_term::{TermId, Terms, VarKey};
+use ot_type::TypeSubst;
+use std::alloc::Global;
+use std::marker::Model;
+
+/// A substitution: types for names, and terms for variables. The type part is put in first, then the variable part at
+/// once; a variable is matched by its name and by its type after the first part.
+#[derive(Drop)]
+pub struct Subst {
+    types: TypeSubst,
+    terms: IndexMap<VarKey, TermId>,
+}
+
+impl Model for Subst {
+    ghost use Rattle.ot_subst.specs.Substitution.{Substitution, coded_substitution};
+
+    ghost Value = { Substitution };
+
+    ghost coded = { coded_substitution };
+
+    ghost view = { λ s. record { types = s.types; terms = s.terms.entries } };
+}
+
+impl Subst {
+    ghost use Rattle.ot_subst.specs.Substitution.{term_for, with_pair, IsSubstOf};
+
+    /// The substitution with this type part and no variables.
+    pub fn new(alloc: Global, types: TypeSubst) -> Subst
+        ensures pairs { result ≡ record { types = types; terms = [] } }
+        ensures fits { (t : TermTable) → All (λ p. p.1 < length t.types) types → IsSubstOf t result }
+    {
+        Subst {
+            types,
+            terms: IndexMap::new(alloc),
+        }
+    }
+
+    /// Adds a variable and its term, a term of this table that has the variable's type. A variable that is there keeps its
+    /// term. After want of memory the substitution is as it was.
+    pub fn add(&mut self, terms: &Terms, v: VarKey, t: TermId) -> Result<(), Memory>
+        requires term { t < length terms.now.terms }
+        requires variable { v.ty < length terms.now.types }
+        requires typed { named_type numbers (term_at terms.now.terms t) ≡ Some (type_at terms.now.types v.ty) }
+        ensures ok { OnOk result (self.new ≡ with_pair self.old v t) }
+        ensures err { OnErr result (self.new ≡ self.old) }
+        ensures fits { IsSubstOf terms.now self.old → IsSubstOf terms.now self.new }
+    {
+        // The table is asked for by the contract alone.
+        let _ = terms;
+        self.insert(v, t)
+    }
+
+    // Adds a pair.
+    pub(crate) fn insert(&mut self, v: VarKey, t: TermId) -> Result<(), Memory>
+        ensures ok { OnOk result (self.new ≡ with_pair self.old v t) }
+        ensures err { OnErr result (self.new ≡ self.old) }
+    {
+        if !self.terms.contains_key(&v) {
+            self.terms.insert(v, t)?;
+        }
+        Ok(())
+    }
+
+    // The term of a variable.
+    pub(crate) fn get(&self, v: &VarKey) -> Option<TermId>
+        ensures { result ≡ term_for self.now v.now }
+    {
+        self.terms.get(v).copied()
+    }
+
+    // The type part.
+    pub(crate) fn types(&self) -> &TypeSubst
+        ensures { result.now ≡ self.now.types }
+    {
+        &self.types
+    }
+
+    // The variable part.
+    pub(crate) fn terms(&self) -> &IndexMap<VarKey, TermId>
+        ensures { result.now.entries ≡ self.now.terms }
+    {
+        &self.terms
+    }
+}
