@@ -25,7 +25,7 @@ module _ (ts us : List (Named Name)) (e : Extends ts us) where
   pub named_at-Extends : (i : ℕ) → i < length ts → named_at us i ≡ named_at ts i
   named_at-Extends i h = get_or_from_slice_get us i _ _ (e.keeps i _ (slice_get-get_or ts i (NConst [] (TyVar [])) h))
 
-  hyps-Extends : (is : List ℕ) → All (λ i. i < length ts) is → map (λ i. nameless names (named_at us i)) is ≡ map (λ i. nameless names (named_at ts i)) is
+  pub hyps-Extends : (is : List ℕ) → All (λ i. i < length ts) is → map (λ i. nameless names (named_at us i)) is ≡ map (λ i. nameless names (named_at ts i)) is
   hyps-Extends [] h = refl
   hyps-Extends (i ∷ is) h =
       let a = named_at-Extends i (All-head (λ i. i < length ts) i is h) in
@@ -104,7 +104,7 @@ grown_from ns ms t u held k more first g table a b = record {
     assumed = ap (λ qs. sequents_at qs held.assumptions) sequents
 
 -- the same from the state that contracts see
-grown : (ns ms : List Name) (t u : TermTable) (held : Held) (now : State) → state_of ns t held ≡ now → IsKernel ns t held → Extends ns ms → IsNameTable ms → Grows t u → IsTermTable u → names_in u.types ≤ length ms → names_in_terms u.terms ≤ length ms → Grown now ms u held
+pub grown : (ns ms : List Name) (t u : TermTable) (held : Held) (now : State) → state_of ns t held ≡ now → IsKernel ns t held → Extends ns ms → IsNameTable ms → Grows t u → IsTermTable u → names_in u.types ≤ length ms → names_in_terms u.terms ≤ length ms → Grown now ms u held
 grown ns ms t u held now view k more first g table a b = subst (λ s. Grown s ms u held) view (grown_from ns ms t u held k more first g table a b)
 
 -- a new name

@@ -8,3 +8,17 @@ pub mod Numbers
 pub mod Theorems
 pub mod Assume
 pub mod Comparing
+pub mod EquationLimits
+pub mod EquationRules
+pub mod Equating
+pub mod NewTerms
+pub mod BothSides
+pub mod Frees
+pub mod ByNumber
+pub mod Discharged
+pub mod Substituting
+pub mod Contracting
+pub mod Later
+pub mod Derived
+pub mod Supposed
+pub mod Adding

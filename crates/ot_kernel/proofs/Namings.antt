@@ -1,6 +1,6 @@
 -- Two namings that agree below a number, and lists under maps.
 use Rattle.std.specs.Prelude.{◌≡◌, ℕ, zero, suc, ◌<◌, ◌≤◌, max, List, [], ◌∷◌, ◌++◌, map, length, slice_get, slice_index_or, Some}
-use Rattle.std.proofs.Common.{inl, inr, refl, sym, ◌∙◌, ap, arith}
+use Rattle.std.proofs.Common.{◌+◌, get_or, drop, drop-cons, add-one, inl, inr, refl, sym, ◌∙◌, ap, arith}
 use Rattle.std.proofs.lemmas.Option.{none-some, same_Some, slice_get-get_or, get_or_from_slice_get}
 use Rattle.ot_plain.specs.Lists.{IsMember, AreDistinct}
 use Rattle.ot_plain.specs.Names.{Name}
@@ -53,6 +53,10 @@ module _ {X Y : Type 0} where
 
   pub index-map : (f : X → Y) (xs : List X) (i : ℕ) (d : X) (c : Y) → i < length xs → slice_index_or (map f xs) i c ≡ f (slice_index_or xs i d)
   index-map f xs i d c h = get_or_from_slice_get (map f xs) i _ c (slice_get-map f xs i _ (slice_get-get_or xs i d h))
+
+  -- the next element of a list, under a map
+  pub map-drop : (f : X → Y) (xs : List X) (k : ℕ) (x : X) → k < length xs → x ≡ get_or xs k x → map f (drop k xs) ≡ f x ∷ map f (drop (k + 1) xs)
+  map-drop f xs k x h e = ap (map f) (drop-cons xs k x h) ∙ (λ j. f (sym e j) ∷ map f (drop (sym (add-one k) j) xs))
 
   pub map-Extends : (f g : X → Y) (xs us : List X) → Extends xs us → ((i : ℕ) (x : X) → slice_get xs i ≡ Some x → f x ≡ g x) → Extends (map f xs) (map g us)
   map-Extends f g xs us e same = record {

@@ -5,8 +5,8 @@ use Rattle.std.proofs.Common.{◌≡◌, ℕ, ◌<◌, false, List, [], ◌∷�
 use Rattle.std.proofs.lemmas.List.Elements.{All-head, All-tail}
 use Rattle.std.proofs.lemmas.Option.{slice_get_within, get_or_from_slice_get}
 use Rattle.ot_plain.specs.Names.{Name}
-use Rattle.ot_plain.specs.Trees.{Alphabet, Ty, Tys, TyVar, TyOp, MoreTys, Variable, Free, Con, Named, NVar, NConst, NApp, NAbs}
-use Rattle.ot_plain.specs.Hol.{fun_ty, depth_ty, depth_limit, nameless, named_type}
+use Rattle.ot_plain.specs.Trees.{Alphabet, Ty, Tys, TyVar, TyOp, NoTys, MoreTys, Variable, Free, Con, Named, NVar, NConst, NApp, NAbs}
+use Rattle.ot_plain.specs.Hol.{fun_ty, bool_ty, depth_ty, depth_limit, nameless, named_type}
 use Rattle.ot_plain.specs.Renamed.{map_ty, map_tys, map_variable, map_named}
 use Rattle.ot_plain.specs.Naming.{names, numbers, name_of}
 use Rattle.ot_plain.specs.Faults.{NotFunction, ArgumentType, Nesting}
@@ -92,6 +92,10 @@ module _ (ns : List Name) (t : TermTable) (held : Held) (now : State) (view : st
   -- ---- calls that a rule may refuse
   abbrev letters : IsLettering (name_of ns) numbers names
   letters = lettering ns (table_names ns k.names)
+
+  pub boolean-ok : {E : Type 0} (u : TermTable) (r : Result ℕ E) → IfOk r (λ id. slice_get u.types id ≡ Some (bool_ty numbers)) → IfOk r (λ id. type_at (state_of ns u held) id ≡ bool_ty names)
+  boolean-ok u (Ok id) p = get_or_from_slice_get _ id _ (TyVar []) (new_type ns u held id (bool_ty numbers) p) ∙ ap (λ n. TyOp n NoTys) letters.bool_name
+  boolean-ok u (Err e) p = p
 
   -- what holds of trees over numbers holds of what the numbers stand for
   real_op : (P : (L : Type 0) → Alphabet L → L → Tys L → Type 0) → (n : ℕ) (is : List ℕ) → n < length now.names → All (λ i. i < length now.types) is → P ℕ numbers n (types.types_at t.types is) → P Name names (name_at now n) (types_at now is)

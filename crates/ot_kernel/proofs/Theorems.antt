@@ -40,7 +40,7 @@ real_theorem ns t held now view i th h p =
 
 -- ---- a sequent that is compared with a theorem's
 module _ (ns : List Name) (t : TermTable) (held : Held) (now : State) (view : state_of ns t held ≡ now) (k : IsKernel ns t held) where
-  real_tm : (i : ℕ) → i < length now.terms → map_tm (name_of ns) (tm_at t.terms i) ≡ term_at now i
+  pub real_tm : (i : ℕ) → i < length now.terms → map_tm (name_of ns) (tm_at t.terms i) ≡ term_at now i
   real_tm i h = map-nameless (naming ns) numbers names (lettering ns (table_names ns k.names)) (terms.term_at t.terms i) ∙ ap (nameless names) (real_term ns t held now view k i h)
 
   real_tms : (is : List ℕ) → All (λ i. i < length now.terms) is → map (map_tm (name_of ns)) (tms_at t.terms is) ≡ terms_at now is
@@ -71,7 +71,7 @@ module _ (ns : List Name) (t : TermTable) (held : Held) (now : State) (view : st
   same-real i th hyps concl (Err e) h p g l q = q
 
 -- ---- one theorem more
-sequents_at-push : (qs : List (Sequent Name)) (q : Sequent Name) (is : List ℕ) → All (λ i. i < length qs) is → sequents_at (qs ++ q ∷ []) is ≡ sequents_at qs is
+pub sequents_at-push : (qs : List (Sequent Name)) (q : Sequent Name) (is : List ℕ) → All (λ i. i < length qs) is → sequents_at (qs ++ q ∷ []) is ≡ sequents_at qs is
 sequents_at-push qs q [] h = refl
 sequents_at-push qs q (i ∷ is) h =
     let a = get_or_append_left qs (q ∷ []) (record { hyps = []; concl = Bound 0 }) i (All-head (λ i. i < length qs) i is h) in

@@ -2,12 +2,13 @@
 use Rattle.std.specs.Prelude.{◌≡◌, ◌<◌, ℕ, [], ◌∷◌, ◌++◌, length, Result, Ok, Err, Option, Some, None}
 use Rattle.ot_plain.specs.Names.{Name}
 use Rattle.ot_plain.specs.Trees.{Ty, Tm, Sequent}
-use Rattle.ot_plain.specs.Faults.{Fault, NotFunction, ArgumentType, NotBool, Nesting}
+use Rattle.ot_plain.specs.Faults.{Fault, NotFunction, ArgumentType, NotBool, NotEquation, NotAlphaEqual, VarFreeInHyps, NotRedex, Nesting}
 use Rattle.ot_type.specs.declared.fault.TableFault.{TableFault}
 use Rattle.ot_type.specs.declared.fault.TableFault.TheVariants as types
 use Rattle.ot_term.specs.declared.term.TermFault.{TermFault}
 use Rattle.ot_term.specs.declared.term.TermFault.TheVariants as terms
-use Rattle.ot_kernel.specs.State.{State, type_at, term_at}
+use Rattle.ot_kernel.specs.State.{State, type_at, term_at, theorem_at, SameTheorems}
+use Rattle.ot_kernel.specs.Axioms.{known, with_sequent, with_theorem}
 use Rattle.ot_kernel.specs.declared.fault.RuleFault.{RuleFault}
 use Rattle.ot_kernel.specs.declared.fault.RuleFault.TheVariants as rules
 
@@ -23,13 +24,25 @@ term_fault terms.ArgumentType = Some ArgumentType
 term_fault terms.Nesting = Some Nesting
 term_fault terms.Memory = None
 
-abbrev pub rule_fault : RuleFault → Option (Fault Name)
+-- over any names
+abbrev pub rule_fault : {N : Type 0} → RuleFault → Option (Fault N)
 rule_fault rules.NotBool = Some NotBool
+rule_fault rules.NotEquation = Some NotEquation
+rule_fault rules.NotAlphaEqual = Some NotAlphaEqual
+rule_fault rules.NotFunction = Some NotFunction
+rule_fault rules.ArgumentType = Some ArgumentType
+rule_fault rules.VarFreeInHyps = Some VarFreeInHyps
+rule_fault rules.NotRedex = Some NotRedex
+rule_fault rules.Nesting = Some Nesting
 rule_fault rules.Memory = None
 
 -- a refusal is the stated one
 abbrev pub Refuses : {X E : Type 0} → (E → Option (Fault Name)) → E → Result X (Fault Name) → Type 0
 Refuses fault_of e stated = (f : Fault Name) → fault_of e ≡ Some f → stated ≡ Err f
+
+-- a rule's refusal is the stated one, over any names
+abbrev pub RefusesRule : {X N : Type 0} → RuleFault → Result X (Fault N) → Type 0
+RefusesRule {X} {N} e stated = (f : Fault N) → rule_fault e ≡ Some f → stated ≡ Err f
 
 -- the number of a type that a rule makes
 abbrev pub MakesType : Result ℕ TableFault → Result (Ty Name) (Fault Name) → State → Type 0
@@ -49,4 +62,10 @@ MakesAbstraction (Err e) stated new = Refuses table_fault e stated
 -- the number of a theorem that a rule gives, which stands at the end; after a refusal the theorems are as before
 abbrev pub Concludes : Result ℕ RuleFault → Result (Sequent Name) (Fault Name) → State → State → Type 0
 Concludes (Ok id) stated old new = (q : Sequent Name) × (stated ≡ Ok q) × (new.theorems ≡ old.theorems ++ q ∷ []) × (id ≡ length old.theorems)
-Concludes (Err e) stated old new = (new.theorems ≡ old.theorems) × Refuses rule_fault e stated
+Concludes (Err e) stated old new = (new.theorems ≡ old.theorems) × RefusesRule e stated
+
+-- the number of the assumption that an axiom gives, which stands at the end of the assumptions and the theorems where it is new
+abbrev pub Assumes : Result ℕ RuleFault → Result (Sequent Name) (Fault Name) → State → State → Type 0
+Assumes (Ok id) stated old new = (q : Sequent Name) × (stated ≡ Ok q) × (id < length new.theorems) × (theorem_at new id ≡ known old.assumptions q)
+    × (new.assumptions ≡ with_sequent old.assumptions q) × (new.definitions ≡ old.definitions) × (new.theorems ≡ with_theorem old.theorems old.assumptions q)
+Assumes (Err e) stated old new = SameTheorems old new × RefusesRule e stated

@@ -7,8 +7,11 @@ ghost use Rattle.ot_plain.specs.Rules.{has_type, op_rule, app_rule, abs_rule, as
 ghost use Rattle.ot_laws.specs.Theorem.{IsTheorem};
 ghost use Rattle.ot_kernel.specs.Spelled.{sequent_of, IsInside, IsSpelled};
 ghost use Rattle.ot_kernel.specs.State.{State, name_at, type_at, types_at, variable_at, term_at, terms_at, theorem_at, Keeps, SameBasis, SameTheorems, IsSoundState};
+ghost use Rattle.ot_kernel.specs.Definitions.{definition_at};
 ghost use Rattle.ot_kernel.specs.Answers.{MakesType, MakesTerm, MakesAbstraction, Concludes};
+ghost use Rattle.ot_kernel.specs.Derived.{Follows, Adds};
 
+use crate::definition::Definition;
 use crate::fault::RuleFault;
 use crate::theorem::{Theorem, ThmId};
 use ot_plain::{Memory, Name, NameId, Names};
@@ -23,12 +26,12 @@ use std::marker::Model;
 /// stood for; a refused call leaves each theorem, assumption and definition as it was.
 #[derive(Drop)]
 pub struct Kernel {
-    alloc: Global,
-    names: Names,
-    terms: Terms,
-    theorems: Vec<Theorem>,
+    pub(crate) alloc: Global,
+    pub(crate) names: Names,
+    pub(crate) terms: Terms,
+    pub(crate) theorems: Vec<Theorem>,
     // The numbers of the assumptions, in their order.
-    assumptions: Vec<ThmId>,
+    pub(crate) assumptions: Vec<ThmId>,
 }
 
 impl Model for Kernel {
@@ -173,18 +176,37 @@ impl Kernel {
     }
 
     // Whether a term is of the type of propositions.
-    fn is_proposition(&mut self, t: TermId) -> Result<bool, Memory>
+    pub(crate) fn is_proposition(&mut self, t: TermId) -> Result<bool, Memory>
         requires { t < length self.old.terms }
         ensures ok { IfOk result (λ b. b ≡ has_type names (term_at self.old t) (bool_ty names)) }
         ensures keeps { Keeps self.old self.new }
         ensures same { SameTheorems self.old self.new }
     {
-        let boolean = self.terms.type_bool()?;
-        Ok(self.terms.type_of(t) == boolean)
+        let boolean = self.boolean()?;
+        Ok(self.has_type(t, boolean))
+    }
+
+    // The type of propositions.
+    pub(crate) fn boolean(&mut self) -> Result<TypeId, Memory>
+        ensures within { IfOk result (λ id. id < length self.new.types) }
+        ensures ok { IfOk result (λ id. type_at self.new id ≡ bool_ty names) }
+        ensures keeps { Keeps self.old self.new }
+        ensures same { SameTheorems self.old self.new }
+    {
+        self.terms.type_bool()
+    }
+
+    // Whether a term is of a type.
+    pub(crate) fn has_type(&self, t: TermId, ty: TypeId) -> bool
+        requires t { t < length self.now.terms }
+        requires ty { ty < length self.now.types }
+        ensures { result ≡ has_type names (term_at self.now t) (type_at self.now ty) }
+    {
+        self.terms.type_of(t) == ty
     }
 
     // The number of a theorem that follows, which takes the next place. `Memory` is the only refusal.
-    fn conclude(&mut self, th: Theorem) -> Result<ThmId, RuleFault>
+    pub(crate) fn conclude(&mut self, th: Theorem) -> Result<ThmId, RuleFault>
         requires inside { IsInside (length self.old.terms) th }
         requires follows { IsTheorem names self.old.assumptions self.old.definitions (sequent_of self.old.terms th) }
         ensures ok { IfOk result (λ id. (self.new ≡ record self.old { theorems = self.old.theorems ++ sequent_of self.old.terms th ∷ [] })
@@ -194,6 +216,17 @@ impl Kernel {
         let id = ThmId(self.theorems.len());
         self.theorems.push(th)?;
         Ok(id)
+    }
+
+    // The number of the theorem that a rule gives, which follows. A refusal stays.
+    pub(crate) fn derived(
+        &mut self,
+        theorem: Result<Theorem, RuleFault>,
+    ) -> Result<ThmId, RuleFault>
+        requires { IfOk theorem (Follows self.old) }
+        ensures { Adds result theorem self.old self.new }
+    {
+        self.conclude(theorem?)
     }
 
     /// The hypotheses of a theorem.
@@ -231,54 +264,11 @@ impl Kernel {
         self.theorems[th.0].states(alloc, &self.terms, hyps, concl)
     }
 
-    /// The numbers of the assumptions, in their order.
-    pub fn assumptions(&self) -> &[ThmId]
-        ensures sequents { map (theorem_at self.now) result.now ≡ self.now.assumptions }
-        ensures numbered { All (λ i. i < length self.now.theorems) result.now }
-    {
-        &self.assumptions
-    }
-
-    /// How many definitions were accepted. No call makes one yet.
-    pub fn definition_count(&self) -> usize
-        ensures { result ≡ length self.now.definitions }
+    /// The definitions, in the order in which they were accepted. No call makes one yet.
+    pub fn definitions(&self) -> &[Definition]
+        ensures { map (definition_at self.now) result.now ≡ self.now.definitions }
     {
         let _names = &self.names;
-        0
-    }
-}
-
-#[cfg(test)]
-mod tests {
-    use super::*;
-    use std::test::Fail;
-
-    // The identity on the individuals, applied to one.
-    #[test]
-    fn builds_a_redex(rt: HostRuntime) -> Result<(), Fail> {
-        let alloc = rt.alloc();
-        let mut kernel = Kernel::new(alloc)?;
-        let name = kernel.intern(Name::of_text(alloc, b"x")?)?;
-        let ty = kernel.type_var(name)?;
-        let x = kernel.var(VarKey { name, ty })?;
-        let identity = kernel.abs(VarKey { name, ty }, x)?;
-        assert_eq!(rt; kernel.app(x, x), Err(TermFault::NotFunction));
-        kernel.app(identity, x)?;
-        assert!(rt; kernel.assumptions().is_empty());
-        Ok(())
-    }
-
-    // A proposition follows from itself.
-    #[test]
-    fn assumes_a_constant(rt: HostRuntime) -> Result<(), Fail> {
-        let alloc = rt.alloc();
-        let mut kernel = Kernel::new(alloc)?;
-        let truth = kernel.type_op(NameId::BOOL, &[])?;
-        let p = kernel.constant(NameId::A, truth)?;
-        let th = kernel.assume(p)?;
-        assert!(rt; kernel.hyps(th) == [p].as_slice());
-        assert_eq!(rt; kernel.concl(th), p);
-        assert!(rt; kernel.same(alloc, th, &[p, p], p)?);
-        Ok(())
+        &[]
     }
 }

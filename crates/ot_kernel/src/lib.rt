@@ -1,11 +1,21 @@
 //! The kernel: it owns names, types and terms, and holds theorems of higher-order logic, each derivable.
 #![tactic(auto)]
 
+mod axioms;
+mod definition;
+mod discharge;
+mod equations;
 mod fault;
 mod hypotheses;
+mod instances;
 mod kernel;
+mod pairs;
+mod rules;
+#[cfg(test)]
+mod tests;
 mod theorem;
 
+pub use definition::Definition;
 pub use fault::RuleFault;
 pub use kernel::Kernel;
 pub use theorem::ThmId;

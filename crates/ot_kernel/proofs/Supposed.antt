@@ -1,0 +1,233 @@
+-- A sequent that becomes an assumption.
+use Rattle.std.specs.Prelude.{◌≡◌, ℕ, ◌<◌, Bool, true, false, cond, if◌then◌else◌, is_ok, is_err, find, List, [], ◌∷◌, ◌++◌, map, length, slice_index_or, Some, None, Result, Ok, Err, IfOk, IfErr}
+use Rattle.std.specs.List.{All, AllByRecursion, list_all}
+use Rattle.std.specs.Option.{option_map}
+use Rattle.std.proofs.Common.{◌+◌, get_or, drop, refl, sym, ap, ◌∙◌, subst, arith, length-append, ◌⊎◌, inl, inr}
+use Rattle.std.proofs.Math.Seq.{get_or-append_seam}
+use Rattle.std.proofs.lemmas.Option.{same_Some}
+use Rattle.std.proofs.lemmas.List.Elements.{All-push}
+use Rattle.ot_plain.specs.Lists.{AreDistinct}
+use Rattle.ot_plain.specs.Names.{Name}
+use Rattle.ot_plain.specs.Trees.{Ty, Tm, Bound, Sequent}
+use Rattle.ot_plain.specs.Faults.{Fault, NotBool}
+use Rattle.ot_plain.specs.Hol.{bool_ty, nameless, once_each, same_sequent, HasType, IsSequent}
+use Rattle.ot_plain.specs.Naming.{names, numbers, name_of}
+use Rattle.ot_plain.specs.Renamed.{map_named}
+use Rattle.ot_plain.specs.Rules.{has_type}
+use Rattle.ot_plain.proofs.InternedLemmas.{slice_get-last}
+use Rattle.ot_plain.proofs.TableLemmas.{Extends-refl, Extends-trans, Extends-append}
+use Rattle.ot_term.specs.Term.{TermTable}
+use Rattle.ot_laws.specs.Theorem.{IsTheorem}
+use Rattle.ot_laws.proofs.Grown.{grown-accepted}
+use Rattle.ot_laws.proofs.Hypotheses.{same_set-once_each, distinct-once_each}
+use Rattle.ot_laws.proofs.Tests.{tells_names, cases_of, has_type-is}
+use Rattle.ot_laws.proofs.Theorems.{grown-theorem, assumption-theorem}
+use Rattle.ot_laws.proofs.Typed.{part-typed}
+use Rattle.ot_kernel.specs.declared.theorem.Theorem.{Theorem}
+use Rattle.ot_kernel.specs.declared.fault.RuleFault.{RuleFault}
+use Rattle.ot_kernel.specs.declared.fault.RuleFault.TheVariants.{Memory}
+use Rattle.ot_kernel.specs.declared.fault.RuleFault.TheVariants as rules
+use Rattle.ot_kernel.specs.State.{State, type_at, term_at, terms_at, theorem_at, Keeps, SameTheorems, IsSoundState}
+use Rattle.ot_kernel.specs.Spelled.{Held, sequent_of, sequents_at, state_of, IsInside, IsKernel}
+use Rattle.ot_kernel.specs.Numbered.{tms_at}
+use Rattle.ot_kernel.specs.Axioms.{axiom_rule, known, with_sequent, with_theorem}
+use Rattle.ot_kernel.specs.Answers.{Assumes}
+use Rattle.ot_kernel.specs.Supposed.{IsProposed, IsSupposed, supposing}
+use Rattle.ot_kernel.proofs.Growth.{named_at-Extends, hyps-Extends}
+use Rattle.ot_kernel.proofs.Later.{Later, now_within, alphabet_at, over-terms}
+use Rattle.ot_kernel.proofs.Namings.{length-map, map-push, map-drop}
+use Rattle.ot_kernel.proofs.Theorems.{sequents_at-push}
+
+-- ---- growth
+pub Keeps-refl : (s : State) → Keeps s s
+Keeps-refl s = record { names = Extends-refl _; types = Extends-refl _; terms = Extends-refl _; theorems = Extends-refl _; assumptions = Extends-refl _; definitions = Extends-refl _ }
+
+pub Keeps-trans : {a b c : State} → Keeps a b → Keeps b c → Keeps a c
+Keeps-trans p q = record {
+  names = Extends-trans p.names q.names;
+  types = Extends-trans p.types q.types;
+  terms = Extends-trans p.terms q.terms;
+  theorems = Extends-trans p.theorems q.theorems;
+  assumptions = Extends-trans p.assumptions q.assumptions;
+  definitions = Extends-trans p.definitions q.definitions;
+}
+
+-- ---- a new assumption
+-- what the tables keep, and what they stand for
+pub record Assumed (now : State) (ns : List Name) (t : TermTable) (more : Held) (th : Theorem) : Type 0 where
+  pub kernel : IsKernel ns t more
+  pub state : state_of ns t more ≡ supposing now (sequent_of now.terms th)
+
+sequents_at-last : (qs : List (Sequent Name)) (q : Sequent Name) (is : List ℕ) → All (λ i. i < length qs) is → sequents_at (qs ++ q ∷ []) (is ++ length qs ∷ []) ≡ sequents_at qs is ++ q ∷ []
+sequents_at-last qs q is h =
+    let last = get_or-append_seam qs q [] (record { hyps = []; concl = Bound 0 }) in
+    let old = sequents_at-push qs q is h in
+    map-push (λ i. slice_index_or (qs ++ q ∷ []) i (record { hyps = []; concl = Bound 0 })) is (length qs) ∙ (λ j. old j ++ last j ∷ [])
+
+assumed_from : (ns : List Name) (t : TermTable) (held : Held) (th : Theorem) → IsKernel ns t held → IsProposed (state_of ns t held) th
+    → Assumed (state_of ns t held) ns t (record { theorems = held.theorems ++ th ∷ []; assumptions = held.assumptions ++ length held.theorems ∷ [] }) th
+assumed_from ns t held th k p = record { kernel = kernel; state = state }
+  where
+    f : Theorem → Sequent Name
+    f = sequent_of (state_of ns t held).terms
+
+    q : Sequent Name
+    q = f th
+
+    qs : List (Sequent Name)
+    qs = map f held.theorems
+
+    al : List (Sequent Name)
+    al = sequents_at qs held.assumptions
+
+    more : Held
+    more = record { theorems = held.theorems ++ th ∷ []; assumptions = held.assumptions ++ length held.theorems ∷ [] }
+
+    same_length : length qs ≡ length held.theorems
+    same_length = length-map f held.theorems
+
+    theorems : map f (held.theorems ++ th ∷ []) ≡ qs ++ q ∷ []
+    theorems = map-push f held.theorems th
+
+    assumptions : sequents_at (map f (held.theorems ++ th ∷ [])) (held.assumptions ++ length held.theorems ∷ []) ≡ al ++ q ∷ []
+    assumptions =
+        (λ j. sequents_at (theorems j) (held.assumptions ++ sym same_length j ∷ []))
+        ∙ sequents_at-last qs q held.assumptions (λ i d h. let l = k.numbered i d h in omega (arith, l, same_length))
+
+    state : state_of ns t more ≡ supposing (state_of ns t held) q
+    state = λ i. record (state_of ns t held) { theorems = theorems i; assumptions = assumptions i }
+
+    older : (r : Sequent Name) → IsTheorem names al [] r → IsTheorem names (al ++ q ∷ []) [] r
+    older r h = grown-theorem names (Extends-append al (q ∷ [])) (Extends-refl []) r h
+
+    sound : IsSoundState (supposing (state_of ns t held) q)
+    sound = record {
+      theorems = All-push (IsTheorem names (al ++ q ∷ []) []) qs q (λ i d h. older _ (k.sound.theorems i d h)) (assumption-theorem names (al ++ q ∷ []) [] (length al) q (slice_get-last al q) p.sequent p.distinct);
+      assumptions = All-push (IsSequent names) al q k.sound.assumptions p.sequent;
+      accepted = grown-accepted names al (al ++ q ∷ []) [] (Extends-append al (q ∷ [])) k.sound.accepted;
+      names = k.sound.names;
+    }
+
+    kernel : IsKernel ns t more
+    kernel = record {
+      names = k.names;
+      types = k.types;
+      terms = k.terms;
+      table = k.table;
+      inside = All-push (IsInside (length t.terms)) held.theorems th k.inside (subst (λ n. IsInside n th) (length-map (map_named (name_of ns)) t.terms) p.inside);
+      numbered = All-push (λ i. i < length (held.theorems ++ th ∷ [])) held.assumptions (length held.theorems) (λ i d h. let l = k.numbered i d h in omega (arith, l, length-append held.theorems (th ∷ []))) (omega (arith, length-append held.theorems (th ∷ [])));
+      sound = subst IsSoundState (sym state) sound;
+    }
+
+-- the same from the state that contracts see
+pub assumed : (ns : List Name) (t : TermTable) (held : Held) (now : State) (th : Theorem) (ths : List Theorem) (taken : List ℕ) (n : ℕ) → state_of ns t held ≡ now → IsKernel ns t held → ths ≡ held.theorems ++ th ∷ [] → n ≡ length held.theorems → taken ≡ held.assumptions ++ n ∷ []
+    → IsProposed now th → Assumed now ns t (record { theorems = ths; assumptions = taken }) th
+assumed ns t held now th ths taken n view k e len d p =
+    let after : taken ≡ held.assumptions ++ length held.theorems ∷ [] = d ∙ ap (λ m. held.assumptions ++ m ∷ []) len in
+    let start = subst (λ s. IsProposed s th → Assumed s ns t (record { theorems = held.theorems ++ th ∷ []; assumptions = held.assumptions ++ length held.theorems ∷ [] }) th) view (assumed_from ns t held th k) p in
+    subst (λ (z : List Theorem × List ℕ). Assumed now ns t (record { theorems = z.0; assumptions = z.1 }) th) (λ i. (sym e i, sym after i)) start
+
+-- what was pushed, where memory allowed
+pub pushed_items : {U E X : Type 0} (r : Result U E) (xs ys new : List X) → is_err r ≡ false → new ≡ (if is_ok r then xs else ys) → new ≡ xs
+pushed_items (Ok u) xs ys new h e = e
+pushed_items (Err f) xs ys new h e = cc
+
+-- ---- the assumption of a sequent
+-- the next one of a list
+pub find-next : {X Y : Type 0} (f : X → Y) (p : Y → Bool) (xs : List X) (k : ℕ) (x : X) (b : Bool) → k < length xs → x ≡ get_or xs k x → b ≡ p (f x) → find p (map f (drop k xs)) ≡ cond b (Some (f x)) (find p (map f (drop (k + 1) xs)))
+find-next f p xs k x b h e d = ap (find p) (map-drop f xs k x h e) ∙ ap (λ c. cond c (Some (f x)) (find p (map f (drop (k + 1) xs)))) (sym d)
+
+-- one that is there
+pub supposed-known : (id : ℕ) (q : Sequent Name) (s : State) → id < length s.theorems → option_map (theorem_at s) (Some id) ≡ find (λ r. same_sequent names r q) s.assumptions → IsSupposed id q s s
+supposed-known id q s within found = record { within = within; theorem = rw (← found) refl; assumptions = rw (← found) refl; definitions = refl; theorems = rw (← found) refl; keeps = Keeps-refl s }
+
+-- a new one
+pub supposed-new : (id : ℕ) (q : Sequent Name) (s new : State) → None ≡ find (λ r. same_sequent names r q) s.assumptions → id ≡ length s.theorems → new ≡ supposing s q → IsSupposed id q s new
+supposed-new id q s new none at is = subst (IsSupposed id q s) (sym is) (record {
+  within = omega (arith, at, length-append s.theorems (q ∷ []));
+  theorem = ap (theorem_at (supposing s q)) at ∙ get_or-append_seam s.theorems q [] (record { hyps = []; concl = Bound 0 }) ∙ first;
+  assumptions = rw (← none) refl;
+  definitions = refl;
+  theorems = rw (← none) refl;
+  keeps = record {
+    names = Extends-refl _;
+    types = Extends-refl _;
+    terms = Extends-refl _;
+    theorems = Extends-append s.theorems (q ∷ []);
+    assumptions = Extends-append s.assumptions (q ∷ []);
+    definitions = Extends-refl _;
+  };
+})
+  where
+    first : q ≡ known s.assumptions q
+    first = rw (← none) refl
+
+-- ---- the checks of an axiom
+-- p is no proposition, or one of the hypotheses is none
+not_axiom-conclusion : (hs : List (Tm Name)) (p : Tm Name) → has_type names p (bool_ty names) ≡ false → axiom_rule hs p ≡ Err NotBool
+not_axiom-conclusion hs p h = rw h refl
+
+not_axiom-hypothesis : (hs : List (Tm Name)) (p : Tm Name) → has_type names p (bool_ty names) ≡ true → list_all (λ h. has_type names h (bool_ty names)) hs ≡ false → axiom_rule hs p ≡ Err NotBool
+not_axiom-hypothesis hs p h g = rw (h, g) refl
+
+axiom-made : (hs : List (Tm Name)) (p : Tm Name) → has_type names p (bool_ty names) ≡ true → list_all (λ h. has_type names h (bool_ty names)) hs ≡ true → axiom_rule hs p ≡ Ok (record { hyps = once_each names hs; concl = p })
+axiom-made hs p h g = rw (h, g) refl
+
+-- the tests, at a type that is the type of propositions
+module _ (s : State) (ty : ℕ) (is_bool : type_at s ty ≡ bool_ty names) where
+  pub tests_conclusion : (p : ℕ) (b v : Bool) → b ≡ has_type names (term_at s p) (type_at s ty) → b ≡ v → has_type names (term_at s p) (bool_ty names) ≡ v
+  tests_conclusion p b v h r = sym (ap (has_type names (term_at s p)) is_bool) ∙ sym h ∙ r
+
+  pub tests_hypotheses : (hs : List ℕ) (b v : Bool) → b ≡ list_all (λ h. has_type names h (type_at s ty)) (terms_at s hs) → b ≡ v → list_all (λ h. has_type names h (bool_ty names)) (terms_at s hs) ≡ v
+  tests_hypotheses hs b v h r = sym (ap (λ (u : Ty Name). list_all (λ g. has_type names g u) (terms_at s hs)) is_bool) ∙ sym h ∙ r
+
+-- the terms as they were before new types
+pub kept_axiom : (now mid : State) → Keeps now mid → (hs : List ℕ) (p : ℕ) → All (λ i. i < length now.terms) hs → p < length now.terms → axiom_rule (terms_at now hs) (term_at now p) ≡ axiom_rule (terms_at mid hs) (term_at mid p)
+kept_axiom now mid keeps hs p h g =
+    let a = hyps-Extends now.terms mid.terms keeps.terms hs h in
+    let b = named_at-Extends now.terms mid.terms keeps.terms p g in
+    λ i. axiom_rule (sym a i) (nameless names (sym b i))
+
+pub refused_axiom : (now mid : State) → Keeps now mid → SameTheorems now mid → (hs : List ℕ) (p : ℕ) → All (λ i. i < length now.terms) hs → p < length now.terms
+    → (has_type names (term_at mid p) (bool_ty names) ≡ false) ⊎ ((has_type names (term_at mid p) (bool_ty names) ≡ true) × (list_all (λ h. has_type names h (bool_ty names)) (terms_at mid hs) ≡ false))
+    → Assumes (Err rules.NotBool) (axiom_rule (terms_at now hs) (term_at now p)) now mid
+refused_axiom now mid keeps same hs p h g (inl e) = (same, λ f q. kept_axiom now mid keeps hs p h g ∙ not_axiom-conclusion (terms_at mid hs) (term_at mid p) e ∙ ap Err (same_Some NotBool f q))
+refused_axiom now mid keeps same hs p h g (inr e) = (same, λ f q. kept_axiom now mid keeps hs p h g ∙ not_axiom-hypothesis (terms_at mid hs) (term_at mid p) e.0 e.1 ∙ ap Err (same_Some NotBool f q))
+
+-- propositions, by the test
+propositions : (hs : List (Tm Name)) → list_all (λ h. has_type names h (bool_ty names)) hs ≡ true → AllByRecursion (λ h. HasType names h (bool_ty names)) hs
+propositions [] e = tt
+propositions (h ∷ hs) e = elim (cases_of (has_type names h (bool_ty names)) (has_type-is names tells_names h (bool_ty names))) [
+  | inl p ↦ let rest : list_all (λ g. has_type names g (bool_ty names)) hs ≡ true = rw p.0 at e in (p.1, propositions hs rest)
+  | inr p ↦ let no : false ≡ true = rw p.0 at e in cc
+]
+
+module _ {ns : List Name} {t : TermTable} {held : Held} {mid : State} (l : Later ns ns t t held mid mid) where
+  -- the theorem whose hypotheses are a list's members, each once
+  module _ (hs : List ℕ) (th : Theorem) (within : All (λ i. i < length mid.terms) hs) (concl : th.concl < length mid.terms) (inside : All (λ i. i < length t.terms) th.hyps.items) (once : tms_at t.terms th.hyps.items ≡ once_each numbers (tms_at t.terms hs))
+      (p : has_type names (term_at mid th.concl) (bool_ty names) ≡ true) (each : list_all (λ h. has_type names h (bool_ty names)) (terms_at mid hs) ≡ true) where
+    inside_now : All (λ i. i < length mid.terms) th.hyps.items
+    inside_now j d m = now_within l _ (inside j d m)
+
+    once_now : terms_at mid th.hyps.items ≡ once_each names (terms_at mid hs)
+    once_now = coe 0 1 (j. over-terms l th.hyps.items inside_now j ≡ once_each (alphabet_at l j) (over-terms l hs within j)) once
+
+    pub axiom-sequent : axiom_rule (terms_at mid hs) (term_at mid th.concl) ≡ Ok (sequent_of mid.terms th)
+    axiom-sequent = axiom-made (terms_at mid hs) (term_at mid th.concl) p each ∙ (λ i. Ok (record { hyps = sym once_now i; concl = term_at mid th.concl }))
+
+    pub axiom-proposed : IsProposed mid th
+    axiom-proposed = record {
+      inside = record { hyps = inside_now; concl = concl };
+      sequent =
+          let g = terms_at mid hs in
+          let all : IsSequent names (record { hyps = g; concl = term_at mid th.concl }) = record { hyps = propositions g each; concl = (has_type-is names tells_names (term_at mid th.concl) (bool_ty names)).0 p } in
+          subst (λ k. IsSequent names (record { hyps = k; concl = term_at mid th.concl })) (sym once_now) (part-typed names g (once_each names g) (term_at mid th.concl) (same_set-once_each names tells_names g).back all);
+      distinct = subst AreDistinct (sym once_now) (distinct-once_each names tells_names (terms_at mid hs));
+    }
+
+-- what an axiom answers
+pub assumes : (result : Result ℕ RuleFault) (stated : Result (Sequent Name) (Fault Name)) (now mid new : State) (q : Sequent Name) → SameTheorems now mid → stated ≡ Ok q → IfOk result (λ id. IsSupposed id q mid new) → IfErr result (λ e. (new ≡ mid) × (e ≡ Memory)) → Assumes result stated now new
+assumes (Ok id) stated now mid new q same s ok err =
+    let e = same.basis.assumptions in
+    (q, s, ok.within, ok.theorem ∙ ap (λ al. known al q) e, ok.assumptions ∙ ap (λ al. with_sequent al q) e, ok.definitions ∙ same.basis.definitions, ok.theorems ∙ (λ i. with_theorem (same.theorems i) (e i) q))
+assumes (Err e) stated now mid new q same s ok err = (subst (SameTheorems now) (sym err.0) same, λ f p. cc)

@@ -1,0 +1,36 @@
+use Rattle.std.proofs.Common.{refl, sym, ◌∙◌}
+use Rattle.ot_plain.specs.Faults.{NotAlphaEqual}
+use Rattle.ot_plain.specs.Naming.{numbers}
+use Rattle.ot_kernel.specs.declared.fault.RuleFault.TheVariants as rules
+use Rattle.ot_kernel.specs.Numbered.{tm_at, numbered_sequent}
+use Rattle.ot_kernel.proofs.Comparing.{tested}
+use Rattle.ot_kernel.proofs.EquationRules.{refuses_rule, trans-refused}
+use Rattle.ot_kernel.proofs.Equating.{outer_inner, outer_ends}
+use Rattle.ot_kernel.proofs.equations.outer_sides.Goals as goal
+
+pub returns-then-branch : goal.returns-then-branch
+returns-then-branch c =
+    let ts = c.args.terms.now.terms in
+    let (ty, p) = c.in_ok-a.ensures.ok in
+    let (uy, q) = c.in_ok-c.ensures.ok in
+    let inner = sym (tested _ (tm_at ts c.in_ok-a.b) (tm_at ts c.in_ok-c.c) c.in_ok-alpha_eq.ensures) ∙ c.if-branch.true in
+    (ty, outer_inner ts c.args.lower.now c.args.top.now ty uy c.in_ok-a.a c.in_ok-a.b c.in_ok-c.c c.in_ok-c.d p q inner)
+
+pub returns-then-branch-2 : goal.returns-then-branch-2
+returns-then-branch-2 c =
+    let ts = c.args.terms.now.terms in
+    let (ty, p) = c.in_ok-a.ensures.ok in
+    let (uy, q) = c.in_ok-c.ensures.ok in
+    let inner = sym (tested _ (tm_at ts c.in_ok-a.b) (tm_at ts c.in_ok-c.c) c.in_ok-alpha_eq.ensures) ∙ c.if-branch.false in
+    let ends = sym (tested _ (tm_at ts c.in_ok-c.d) (tm_at ts c.in_ok-a.a) c.in_ok-alpha_eq-2.ensures) ∙ c.if-branch-2.true in
+    (ty, outer_ends ts c.args.lower.now c.args.top.now ty uy c.in_ok-a.a c.in_ok-a.b c.in_ok-c.c c.in_ok-c.d p q inner ends)
+
+pub returns : goal.returns
+returns c =
+    let ts = c.args.terms.now.terms in
+    let (ty, p) = c.in_ok-a.ensures.ok in
+    let (uy, q) = c.in_ok-c.ensures.ok in
+    let inner = sym (tested _ (tm_at ts c.in_ok-a.b) (tm_at ts c.in_ok-c.c) c.in_ok-alpha_eq.ensures) ∙ c.if-branch.false in
+    let ends = sym (tested _ (tm_at ts c.in_ok-c.d) (tm_at ts c.in_ok-a.a) c.in_ok-alpha_eq-2.ensures) ∙ c.if-branch-2.false in
+    refuses_rule rules.NotAlphaEqual NotAlphaEqual _ refl
+    (trans-refused numbers (numbered_sequent ts c.args.lower.now) (numbered_sequent ts c.args.top.now) ty uy (tm_at ts c.in_ok-a.a) (tm_at ts c.in_ok-a.b) (tm_at ts c.in_ok-c.c) (tm_at ts c.in_ok-c.d) p.sides q.sides inner ends)

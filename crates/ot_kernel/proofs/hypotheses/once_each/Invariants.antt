@@ -1,0 +1,12 @@
+use Rattle.std.specs.List.{All}
+use Rattle.std.proofs.Common.{◌≡◌, ◌<◌, ◌++◌, length, drop}
+use Rattle.ot_plain.specs.Hol.{once_each}
+use Rattle.ot_plain.specs.Naming.{numbers}
+use Rattle.ot_kernel.specs.Numbered.{tms_at}
+use Rattle.ot_kernel.proofs.hypotheses.once_each.Given as goal
+
+abbrev pub invariant-loop-i : goal.invariant-loop-i
+invariant-loop-i l = record {
+  made : tms_at l.terms.terms l.once.items ++ once_each numbers (tms_at l.terms.terms (drop l.i l.g)) ≡ once_each numbers (tms_at l.terms.terms l.g);
+  inside : All (λ i. i < length l.terms.terms) l.once.items;
+}

@@ -1,0 +1,12 @@
+use Rattle.std.specs.List.{All}
+use Rattle.std.proofs.Common.{◌≡◌, ◌<◌, ◌++◌, length, drop}
+use Rattle.ot_plain.specs.Hol.{lacking, union}
+use Rattle.ot_plain.specs.Naming.{numbers}
+use Rattle.ot_kernel.specs.Numbered.{tms_at}
+use Rattle.ot_kernel.proofs.hypotheses.union.Given as goal
+
+abbrev pub invariant-loop-t : goal.invariant-loop-t
+invariant-loop-t l = record {
+  made : tms_at l.terms.terms l.all.items ++ lacking numbers (tms_at l.terms.terms l.g) (tms_at l.terms.terms (drop l.t-index l.h)) ≡ union numbers (tms_at l.terms.terms l.g) (tms_at l.terms.terms l.h);
+  inside : All (λ i. i < length l.terms.terms) l.all.items;
+}

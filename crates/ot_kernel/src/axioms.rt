@@ -1,0 +1,101 @@
+//! Assumptions: sequents that are taken as they are.
+ghost use Rattle.std.specs.Prelude.{◌≡◌, ◌<◌, map, length, find, IfOk, IfErr, IfSome};
+ghost use Rattle.std.specs.List.{All, list_all};
+ghost use Rattle.std.specs.Option.{option_map};
+ghost use Rattle.ot_plain.specs.Hol.{same_sequent};
+ghost use Rattle.ot_plain.specs.Naming.{names};
+ghost use Rattle.ot_plain.specs.Rules.{has_type};
+ghost use Rattle.ot_kernel.specs.State.{type_at, term_at, terms_at, theorem_at, Keeps};
+ghost use Rattle.ot_kernel.specs.Spelled.{sequent_of, IsInside};
+ghost use Rattle.ot_kernel.specs.Axioms.{axiom_rule};
+ghost use Rattle.ot_kernel.specs.Answers.{Assumes};
+ghost use Rattle.ot_kernel.specs.Supposed.{IsProposed, IsSupposed, supposing};
+
+use crate::fault::RuleFault;
+use crate::hypotheses::once_each;
+use crate::kernel::Kernel;
+use crate::theorem::{Theorem, ThmId};
+use ot_plain::Memory;
+use ot_term::TermId;
+use ot_type::TypeId;
+
+impl Kernel {
+    /// The assumption of a sequent, which is added at the end of the assumptions where none of them is that sequent. The
+    /// hypotheses are a set. `NotBool` where the conclusion or a hypothesis isn't of the type of propositions.
+    pub fn axiom(&mut self, hyps: &[TermId], concl: TermId) -> Result<ThmId, RuleFault>
+        requires hyps { All (λ i. i < length self.old.terms) hyps.now }
+        requires concl { concl < length self.old.terms }
+        ensures assumes { Assumes result (axiom_rule (terms_at self.old hyps.now) (term_at self.old concl)) self.old self.new }
+        ensures keeps { Keeps self.old self.new }
+    {
+        let boolean = self.boolean()?;
+        if !self.has_type(concl, boolean) || !self.have_type(hyps, boolean) {
+            return Err(RuleFault::NotBool);
+        }
+        let hyps = once_each(self.alloc, &self.terms, hyps)?;
+        self.supposed(Theorem { hyps, concl })
+    }
+
+    // Whether terms are all of a type.
+    fn have_type(&self, ts: &[TermId], ty: TypeId) -> bool
+        requires ts { All (λ i. i < length self.now.terms) ts.now }
+        requires ty { ty < length self.now.types }
+        ensures { result ≡ list_all (λ t. has_type names t (type_at self.now ty)) (terms_at self.now ts.now) }
+    {
+        for t in ts {
+            if !self.has_type(*t, ty) {
+                return false;
+            }
+        }
+        true
+    }
+
+    // The assumption of a sequent of propositions, a new one where none is this sequent.
+    fn supposed(&mut self, theorem: Theorem) -> Result<ThmId, RuleFault>
+        requires { IsProposed self.old theorem }
+        ensures ok { IfOk result (λ id. IsSupposed id (sequent_of self.old.terms theorem) self.old self.new) }
+        ensures err { IfErr result (λ e. (self.new ≡ self.old) × (e ≡ RuleFault.Memory)) }
+    {
+        if let Some(known) = self.assumption_of(&theorem)? {
+            return Ok(known);
+        }
+        self.suppose(theorem)
+    }
+
+    // The first assumption that is this sequent.
+    fn assumption_of(&self, theorem: &Theorem) -> Result<Option<ThmId>, Memory>
+        requires { IsInside (length self.now.terms) theorem.now }
+        ensures within { IfOk result (λ found. IfSome found (λ id. id < length self.now.theorems)) }
+        ensures first { IfOk result (λ found. option_map (theorem_at self.now) found ≡ find (λ r. same_sequent names r (sequent_of self.now.terms theorem.now)) self.now.assumptions) }
+    {
+        for id in self.assumptions() {
+            if self.same(self.alloc, *id, &theorem.hyps, theorem.concl)? {
+                return Ok(Some(*id));
+            }
+        }
+        Ok(None)
+    }
+
+    // A sequent of propositions as a new assumption, whose theorem takes the next place.
+    fn suppose(&mut self, theorem: Theorem) -> Result<ThmId, RuleFault>
+        requires { IsProposed self.old theorem }
+        ensures ok { IfOk result (λ id. (id ≡ length self.old.theorems) × (self.new ≡ supposing self.old (sequent_of self.old.terms theorem))) }
+        ensures err { IfErr result (λ e. (self.new ≡ self.old) × (e ≡ RuleFault.Memory)) }
+    {
+        let id = ThmId(self.theorems.len());
+        self.theorems.push(theorem)?;
+        if self.assumptions.push(id).is_err() {
+            let _ = self.theorems.pop();
+            return Err(RuleFault::Memory);
+        }
+        Ok(id)
+    }
+
+    /// The numbers of the assumptions, in their order.
+    pub fn assumptions(&self) -> &[ThmId]
+        ensures sequents { map (theorem_at self.now) result.now ≡ self.now.assumptions }
+        ensures numbered { All (λ i. i < length self.now.theorems) result.now }
+    {
+        &self.assumptions
+    }
+}
