@@ -15,23 +15,13 @@ use Rattle.ot_machine.specs.declared.object.Object as object
 use Rattle.ot_machine.specs.declared.object.Object.TheVariants as objects
 use Rattle.ot_plain.specs.declared.kind.Kind.TheVariants as kinds
 use Rattle.ot_machine.specs.Places.{as_each, as_type, as_term, wrong_kind, arguments}
-use Rattle.ot_machine.specs.Meaning.{list_at, object_of, cells_of, IsListIn, IsIn, IsCell, AreCells}
+use Rattle.ot_machine.specs.Meaning.{length_bound, object_of, cells_of, IsListIn, IsCell, AreCells}
+use Rattle.ot_machine.specs.Answers.{IsFirstOf}
 use Rattle.ot_machine.proofs.Cells.{list-more, in-more}
 
--- how far a walk has to go at the most
-abbrev pub length_bound : items.List → ℕ
-length_bound lists.Nil = 0
-length_bound (lists.Cell i) = suc i
-
--- what a walk knows of a list that isn't empty, and of its cell
-pub record IsNextCell (k : kernel.State) (cells : List cell.Cell) (rest : items.List) (d : cell.Cell) : Type 0 where
-  pub list_is : list_at (cells_of k cells) rest ≡ more_objects (object_of k (cells_of k cells) d.head) (list_at (cells_of k cells) d.tail)
-  pub head : IsIn k (length cells) d.head
-  pub tail : IsListIn (length cells) d.tail
-  pub shorter : length_bound d.tail < length_bound rest
-
-pub next_cell : (k : kernel.State) (cells : List cell.Cell) → AreCells k cells → (rest : items.List) (i : ℕ) (d : cell.Cell) → rest ≡ lists.Cell i → IsListIn (length cells) rest → d ≡ slice_index_or cells i d → IsNextCell k cells rest d
-next_cell k cells are rest i d r inside e = subst (λ l. IsNextCell k cells l d) (sym r) (record {
+-- a list that isn't empty, and its cell
+pub next_cell : (k : kernel.State) (cells : List cell.Cell) → AreCells k cells → (rest : items.List) (i : ℕ) (d : cell.Cell) → rest ≡ lists.Cell i → IsListIn (length cells) rest → d ≡ slice_index_or cells i d → IsFirstOf k cells rest d.head d.tail
+next_cell k cells are rest i d r inside e = subst (λ l. IsFirstOf k cells l d.head d.tail) (sym r) (record {
   list_is = get_or_from_slice_get (cells_of k cells) i _ no_objects there.list_is;
   head = in-more k i (length cells) (omega (arith, within)) d.head there.head;
   tail = list-more i (length cells) (omega (arith, within)) d.tail there.tail;

@@ -21,7 +21,7 @@ use Rattle.ot_machine.specs.declared.object.Object.TheVariants as objects
 use Rattle.ot_machine.specs.declared.object.Cell as cell
 use Rattle.ot_machine.specs.declared.machine.Export as code
 use Rattle.ot_machine.specs.declared.machine.Machine.{Machine}
-use Rattle.ot_machine.specs.Meaning.{list_at, object_of, cell_of, cells_onto, cells_of, IsIn, IsCell, AreCells, entry_of, dictionary_of, export_of, lists_of, IsOf, Leaves}
+use Rattle.ot_machine.specs.Meaning.{list_at, object_of, cell_of, cells_onto, cells_of, IsIn, IsCell, AreCells, entry_of, dictionary_of, export_of, lists_of, IsOf, Carries, Leaves}
 
 -- ---- places of lists that grow
 module _ {X : Type 0} (xs ys : List X) (e : Extends xs ys) (d : X) where
@@ -113,8 +113,8 @@ dictionary-same k l cs ds es same = same_map int_cmp_total int_cmp-IsAntisymmetr
     at q (Some o) e = let s = same q o e in rw e (λ i. Some (record { object = s i }))
 
 -- ---- a machine over a kernel that grew
-pub leaves : (k l : kernel.State) (m : Machine) → IsOf k m → kernel.Keeps k l → kernel.SameBasis k l → Leaves k l m
-leaves k l m h kept same =
+pub carries : (k l : kernel.State) (m : Machine) → IsOf k m → kernel.Keeps k l → Carries k l m
+carries k l m h kept =
     let lists = lists-kept k l kept m.cells.items h.cells in
     let n = length m.cells.items in
     record {
@@ -125,7 +125,6 @@ leaves k l m h kept same =
         count = m.count;
       };
       lists = lists;
-      run = λ i. record { assumptions = map (λ q. record { sequent = q }) (same.assumptions i); definitions = map (λ d. record { definition = d }) (same.definitions i) };
       of = record {
         stack = λ i o p. in-kept k l kept n _ (h.stack i o p);
         dictionary = λ q o p. in-kept k l kept n o (h.dictionary q o p);
@@ -133,3 +132,9 @@ leaves k l m h kept same =
         cells = cells-of_kept k l kept m.cells.items h.cells;
       };
     }
+
+pub leaves : (k l : kernel.State) (m : Machine) → IsOf k m → kernel.Keeps k l → kernel.SameBasis k l → Leaves k l m
+leaves k l m h kept same = record {
+  machine = carries k l m h kept;
+  run = λ i. record { assumptions = map (λ q. record { sequent = q }) (same.assumptions i); definitions = map (λ d. record { definition = d }) (same.definitions i) };
+}

@@ -6,4 +6,5 @@ pub mod Dictionary
 pub mod Cells
 pub mod Elements
 pub mod Exported
+pub mod Taken
 pub mod Reached

@@ -1,5 +1,5 @@
 -- What the machine's calls answer, against the stated machine.
-use Rattle.std.specs.Prelude.{◌≡◌, Result, Ok, Err, Some}
+use Rattle.std.specs.Prelude.{◌≡◌, ◌<◌, List, length, Result, Ok, Err, Option, Some, None}
 use Rattle.ot_plain.specs.Names.{Name}
 use Rattle.ot_plain.specs.Faults as faults
 use Rattle.ot_scan.specs.Lines.{Lines}
@@ -9,8 +9,12 @@ use Rattle.ot_machine.specs.declared.fault.ArticleFault.TheVariants as article
 use Rattle.ot_machine.specs.Faults.{fault_of}
 use Rattle.ot_kernel.specs.State as kernel
 use Rattle.ot_machine.specs.declared.machine.Machine.{Machine}
-use Rattle.ot_machine.specs.Meaning.{article_of, run_of, IsOf}
-use Rattle.ot_machine.specs.States.{ArticleState, State, Context}
+use Rattle.ot_machine.specs.Objects.{no_objects, more_objects}
+use Rattle.ot_machine.specs.declared.object.Object as object
+use Rattle.ot_machine.specs.declared.object.List as items
+use Rattle.ot_machine.specs.declared.object.Cell as cell
+use Rattle.ot_machine.specs.Meaning.{state_of, object_of, list_at, cells_of, length_bound, IsOf, IsIn, IsListIn}
+use Rattle.ot_machine.specs.States.{State, Context}
 use Rattle.ot_machine.specs.Run.{Ended, Stopped, run, IsReached}
 
 -- a refusal is the stated one; want of memory is free
@@ -27,14 +31,24 @@ abbrev pub Moves : {X S : Type 0} → Result X Fault → Result S (faults.Fault 
 Moves (Ok x) stated old new = stated ≡ Ok new
 Moves (Err e) stated old new = (new ≡ old) × Refuses e stated
 
+-- the first object of a list and the rest, where there is one
+pub record IsFirstOf (k : kernel.State) (cells : List cell.Cell) (l : items.List) (o : object.Object) (rest : items.List) : Type 0 where
+  pub list_is : list_at (cells_of k cells) l ≡ more_objects (object_of k (cells_of k cells) o) (list_at (cells_of k cells) rest)
+  pub head : IsIn k (length cells) o
+  pub tail : IsListIn (length cells) rest
+  pub shorter : length_bound rest < length_bound l
+
+abbrev pub IsFirst : kernel.State → List cell.Cell → items.List → Option (object.Object × items.List) → Type 0
+IsFirst k cells l None = list_at (cells_of k cells) l ≡ no_objects
+IsFirst k cells l (Some p) = IsFirstOf k cells l p.0 p.1
+
 -- what running the lines answered, and the state that it left
 abbrev pub Runs : Result (Unit {0}) ArticleFault → Context → Lines → State → State → Type 0
 Runs (Ok u) c lines start now = run c lines start ≡ Ended now
 Runs (Err (article.At line fault)) c lines start now = (f : faults.Fault Name) × (fault_of fault ≡ Some f) × (run c lines start ≡ Stopped line f now)
 Runs (Err article.Memory) c lines start now = IsReached c lines start now
 
--- a row was taken: the article moved by it, the run is as before, and the machine is still of its session
-pub record Turns (result : Result (Unit {0}) Fault) (row : ArticleState → Result ArticleState (faults.Fault Name)) (k : kernel.State) (m : Machine) (l : kernel.State) (n : Machine) : Type 0 where
-  pub moves : Moves result (row (article_of k m)) (article_of k m) (article_of l n)
-  pub run : run_of l ≡ run_of k
+-- a row was taken: the state moved by it, and the machine is still of its session
+pub record Turns (result : Result (Unit {0}) Fault) (row : State → Result State (faults.Fault Name)) (k : kernel.State) (m : Machine) (l : kernel.State) (n : Machine) : Type 0 where
+  pub moves : Moves result (row (state_of k m)) (state_of k m) (state_of l n)
   pub of : IsOf l n

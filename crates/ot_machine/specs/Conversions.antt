@@ -25,6 +25,13 @@ term_fault terms.Memory = code.Memory
 
 abbrev pub rule_fault : RuleFault → Fault
 rule_fault rules.NotBool = code.NotBool
+rule_fault rules.NotEquation = code.NotEquation
+rule_fault rules.NotAlphaEqual = code.NotAlphaEqual
+rule_fault rules.NotFunction = code.NotFunction
+rule_fault rules.ArgumentType = code.ArgumentType
+rule_fault rules.VarFreeInHyps = code.VarFreeInHyps
+rule_fault rules.NotRedex = code.NotRedex
+rule_fault rules.Nesting = code.Nesting
 rule_fault rules.Memory = code.Memory
 
 abbrev pub word_fault : WordFault → Fault

@@ -2,6 +2,7 @@
 pub mod Objects
 pub mod States
 pub mod Places
+pub mod Substitutions
 pub mod Rows
 pub mod Step
 pub mod Run

@@ -1,5 +1,5 @@
 -- What a machine stands for, over the kernel of its session.
-use Rattle.std.specs.Prelude.{◌≡◌, ◌<◌, ◌≤◌, ℕ, ℤ, List, [], ◌∷◌, ◌++◌, length, map, slice_get, slice_index_or, Some}
+use Rattle.std.specs.Prelude.{◌≡◌, ◌<◌, ◌≤◌, ℕ, suc, ℤ, List, [], ◌∷◌, ◌++◌, length, map, slice_get, slice_index_or, Some}
 use Rattle.std.specs.List.{All}
 use Rattle.std.specs.Map.{lookup}
 use Rattle.std.specs.BTreeMap.{is_at}
@@ -76,6 +76,11 @@ pub record IsCell (k : kernel.State) (cs : List Objects) (i : ℕ) (c : cell.Cel
 abbrev pub AreCells : kernel.State → List cell.Cell → Type 0
 AreCells k cells = (i : ℕ) (c : cell.Cell) → slice_get cells i ≡ Some c → IsCell k (cells_of k cells) i c
 
+-- how far a walk over a list has to go at the most
+abbrev pub length_bound : items.List → ℕ
+length_bound lists.Nil = 0
+length_bound (lists.Cell i) = suc i
+
 -- ---- commands
 
 abbrev pub command_at : kernel.State → code_command.Command → Command
@@ -125,9 +130,13 @@ pub record IsOf (k : kernel.State) (m : Machine) : Type 0 where
   pub exports : All (λ e. e.th < length k.theorems) m.exports.items
   pub cells : AreCells k m.cells.items
 
--- a kernel that grew leaves what the machine and the run stand for
-pub record Leaves (old new : kernel.State) (m : Machine) : Type 0 where
+-- a kernel that grew leaves what the machine stands for
+pub record Carries (old new : kernel.State) (m : Machine) : Type 0 where
   pub article : article_of new m ≡ article_of old m
   pub lists : lists_of new m ≡ lists_of old m
-  pub run : run_of new ≡ run_of old
   pub of : IsOf new m
+
+-- and what the run stands for
+pub record Leaves (old new : kernel.State) (m : Machine) : Type 0 where
+  pub machine : Carries old new m
+  pub run : run_of new ≡ run_of old

@@ -1,17 +1,19 @@
 -- The commands of the article format: one row for each word.
-use Rattle.std.specs.Prelude.{pos, List, [], ◌∷◌, ◌++◌, Bool, false, ◌||◌, Result, Ok, Err, nat_le, if◌then◌else◌, cond}
+use Rattle.std.specs.Prelude.{pos, List, [], ◌∷◌, ◌++◌, map, find, is_some, Bool, false, ◌||◌, Result, Ok, Err, nat_le, if◌then◌else◌, cond}
 use Rattle.std.specs.Ordering.{int_eq}
 use Rattle.std.specs.FinMap as dictionaries
 use Rattle.ot_plain.specs.Names.{Name}
 use Rattle.ot_plain.specs.Naming.{names}
-use Rattle.ot_plain.specs.Trees.{TyVar, Free, Con, Sequent}
+use Rattle.ot_plain.specs.Trees.{TyVar, Tm, Free, Con, Sequent}
 use Rattle.ot_plain.specs.Hol.{depth_limit, same_sequent}
 use Rattle.ot_plain.specs.Faults.{Fault, VersionUnsupported, NoEntry, ExportMismatch, Nesting}
 use Rattle.ot_plain.specs.Answers.{◌>>=◌, unless, some_or}
-use Rattle.ot_plain.specs.Rules.{op_rule, app_rule, assume_rule}
+use Rattle.ot_plain.specs.Rules.{op_rule, app_rule, abs_rule, refl_rule, assume_rule, abs_thm_rule, beta_conv_rule, subst_rule}
 use Rattle.ot_machine.specs.Objects.{Object, Objects, list, type_op, a_type, constant, variable, term, theorem, no_objects, more_objects, nesting}
-use Rattle.ot_machine.specs.States.{Entry, Export, ArticleState, Context, renamed}
+use Rattle.ot_kernel.specs.Axioms.{axiom_rule, known}
+use Rattle.ot_machine.specs.States.{Entry, Export, Given, ArticleState, RunState, State, Context, renamed}
 use Rattle.ot_machine.specs.Places.{entry_at, object_at, pushed, dropped, replaced, number_on, name_on, list_on, type_op_on, type_on, constant_on, variable_on, term_on, theorem_on, types_on, terms_on, arguments}
+use Rattle.ot_machine.specs.Substitutions.{maps_of}
 
 -- ---- commands that change the stack alone
 
@@ -90,11 +92,86 @@ app_term_row stack = do
   t ← app_rule names f x
   Ok (replaced 2 (term t) stack)
 
+abbrev pub abs_term_row : List Entry → Row
+abs_term_row stack = do
+  t ← term_on 0 stack
+  v ← variable_on 1 stack
+  u ← abs_rule names v t
+  Ok (replaced 2 (term u) stack)
+
+-- ---- commands that make a theorem
+
+abbrev pub refl_row : List Entry → Row
+refl_row stack = do
+  t ← term_on 0 stack
+  q ← refl_rule names t
+  Ok (replaced 1 (theorem q) stack)
+
 abbrev pub assume_row : List Entry → Row
 assume_row stack = do
   p ← term_on 0 stack
   q ← assume_rule names p
   Ok (replaced 1 (theorem q) stack)
+
+-- a rule on the top theorem
+abbrev pub one_theorem_row : (Sequent Name → Result (Sequent Name) (Fault Name)) → List Entry → Row
+one_theorem_row rule stack = do
+  th ← theorem_on 0 stack
+  q ← rule th
+  Ok (replaced 1 (theorem q) stack)
+
+-- a rule on the theorem below the top and the top theorem
+abbrev pub two_theorems_row : (Sequent Name → Sequent Name → Result (Sequent Name) (Fault Name)) → List Entry → Row
+two_theorems_row rule stack = do
+  top ← theorem_on 0 stack
+  lower ← theorem_on 1 stack
+  q ← rule lower top
+  Ok (replaced 2 (theorem q) stack)
+
+abbrev pub abs_thm_row : List Entry → Row
+abs_thm_row stack = do
+  th ← theorem_on 0 stack
+  v ← variable_on 1 stack
+  q ← abs_thm_rule names v th
+  Ok (replaced 2 (theorem q) stack)
+
+abbrev pub beta_conv_row : List Entry → Row
+beta_conv_row stack = do
+  t ← term_on 0 stack
+  q ← beta_conv_rule names t
+  Ok (replaced 1 (theorem q) stack)
+
+-- the theorem is on the top, and the list with the maps below it
+abbrev pub subst_row : List Entry → Row
+subst_row stack = do
+  th ← theorem_on 0 stack
+  os ← list_on 1 stack
+  maps ← maps_of os
+  q ← subst_rule names maps.0 maps.1 th
+  Ok (replaced 2 (theorem q) stack)
+
+-- ---- the command that takes an assumption
+
+abbrev pub sequents_of : List Given → List (Sequent Name)
+sequents_of = map (λ g. g.sequent)
+
+-- the assumptions with a sequent more, where none of those that are there is it
+abbrev pub assuming : List (Sequent Name) → Sequent Name → List Given → List Given
+assuming there q assumptions = if is_some (find (λ r. same_sequent names r q) there) then assumptions else assumptions ++ record { sequent = q } ∷ []
+
+-- the first theorem of the context, then the first assumption, that is the sequent; else the sequent, a new assumption
+abbrev pub assumed : Context → List (Tm Name) → Tm Name → RunState → Result (Sequent Name × RunState) (Fault Name)
+assumed c hyps p run = do
+  q ← axiom_rule hyps p
+  let there = sequents_of c.theorems ++ sequents_of run.assumptions in
+      Ok (known there q, record run { assumptions = assuming there q run.assumptions })
+
+abbrev pub axiom_row : Context → State → Result State (Fault Name)
+axiom_row c s = do
+  p ← term_on 0 s.article.stack
+  hyps ← terms_on 1 s.article.stack
+  a ← assumed c hyps p s.run
+  Ok (record { article = record s.article { stack = replaced 2 (theorem a.0) s.article.stack }; run = a.1 })
 
 -- ---- commands that read or change the dictionary or the exports
 

@@ -1,17 +1,19 @@
 -- One command of the stated machine.
-use Rattle.std.specs.Prelude.{min, ◌^◌, ◌+◌, ◌-◌, ◌==◌, ℕ, ℤ, Bool, true, false, Result, Ok, Err, if◌then◌else◌}
+use Rattle.std.specs.Prelude.{List, min, ◌^◌, ◌+◌, ◌-◌, ◌==◌, ℕ, ℤ, Bool, true, false, Result, Ok, Err, if◌then◌else◌}
 use Rattle.ot_plain.specs.Names.{Name}
 use Rattle.ot_plain.specs.Reading.{name_read}
 use Rattle.ot_plain.specs.Commands.{is_built}
+use Rattle.ot_plain.specs.Naming.{names}
+use Rattle.ot_plain.specs.Rules.{eq_mp_rule, app_thm_rule, deduct_antisym_rule, sym_rule, trans_rule, prove_hyp_rule}
 use Rattle.ot_plain.specs.Faults.{Fault, BadName, VersionMissing, VersionLate, NotBuilt}
 use Rattle.ot_plain.specs.Answers.{◌>>=◌, unless, some_or}
 use Rattle.ot_plain.specs.declared.command.Cmd.{Cmd}
 use Rattle.ot_plain.specs.declared.command.Cmd.TheVariants as words
 use Rattle.ot_scan.specs.Words.{WordValue, Numeral, Quoted, Order}
 use Rattle.ot_machine.specs.Objects.{number, name}
-use Rattle.ot_machine.specs.States.{ArticleState, State, Context}
+use Rattle.ot_machine.specs.States.{Entry, ArticleState, State, Context}
 use Rattle.ot_machine.specs.Places.{pushed}
-use Rattle.ot_machine.specs.Rows.{Row, nil_row, cons_row, pop_row, version_row, type_op_row, op_type_row, var_type_row, var_row, var_term_row, const_row, const_term_row, app_term_row, assume_row, def_row, ref_row, thm_row}
+use Rattle.ot_machine.specs.Rows.{Row, nil_row, cons_row, pop_row, version_row, type_op_row, op_type_row, var_type_row, var_row, var_term_row, const_row, const_term_row, app_term_row, abs_term_row, refl_row, assume_row, one_theorem_row, two_theorems_row, abs_thm_row, beta_conv_row, subst_row, axiom_row, def_row, ref_row, thm_row}
 
 -- a command: a number, a name, or a word of the 34
 pub data Command : Type 0 where
@@ -47,33 +49,50 @@ built_rule (numeral k) = Ok tt
 built_rule (named n) = Ok tt
 built_rule (order c) = unless NotBuilt (is_built c)
 
-abbrev pub with_stack : ArticleState → Row → Result ArticleState (Fault Name)
-with_stack s r = r >>= λ stack. Ok (record s { stack = stack })
+-- the article alone changes
+abbrev pub on_article : (ArticleState → Result ArticleState (Fault Name)) → State → Result State (Fault Name)
+on_article change s = change s.article >>= λ article. Ok (record s { article = article })
+
+-- the stack alone changes
+abbrev pub on_stack : (List Entry → Row) → State → Result State (Fault Name)
+on_stack change = on_article (λ a. change a.stack >>= λ stack. Ok (record a { stack = stack }))
 
 -- the row of a word
-abbrev pub word_row : Context → Cmd → ArticleState → Result ArticleState (Fault Name)
-word_row c words.Version s = with_stack s (version_row s.stack)
-word_row c words.Nil s = with_stack s (nil_row s.stack)
-word_row c words.Cons s = with_stack s (cons_row s.stack)
-word_row c words.Def s = def_row s
-word_row c words.Ref s = ref_row s
-word_row c words.Pop s = with_stack s (pop_row s.stack)
-word_row c words.TypeOp s = with_stack s (type_op_row c s.stack)
-word_row c words.OpType s = with_stack s (op_type_row s.stack)
-word_row c words.VarType s = with_stack s (var_type_row s.stack)
-word_row c words.Var s = with_stack s (var_row s.stack)
-word_row c words.VarTerm s = with_stack s (var_term_row s.stack)
-word_row c words.Const s = with_stack s (const_row c s.stack)
-word_row c words.ConstTerm s = with_stack s (const_term_row s.stack)
-word_row c words.AppTerm s = with_stack s (app_term_row s.stack)
-word_row c words.Assume s = with_stack s (assume_row s.stack)
-word_row c words.Thm s = thm_row s
-word_row c _ s = Err NotBuilt
+abbrev pub word_row : Context → Cmd → State → Result State (Fault Name)
+word_row c words.Version = on_stack version_row
+word_row c words.Nil = on_stack nil_row
+word_row c words.Cons = on_stack cons_row
+word_row c words.Def = on_article def_row
+word_row c words.Ref = on_article ref_row
+word_row c words.Pop = on_stack pop_row
+word_row c words.TypeOp = on_stack (type_op_row c)
+word_row c words.OpType = on_stack op_type_row
+word_row c words.VarType = on_stack var_type_row
+word_row c words.Var = on_stack var_row
+word_row c words.VarTerm = on_stack var_term_row
+word_row c words.Const = on_stack (const_row c)
+word_row c words.ConstTerm = on_stack const_term_row
+word_row c words.AppTerm = on_stack app_term_row
+word_row c words.AbsTerm = on_stack abs_term_row
+word_row c words.Refl = on_stack refl_row
+word_row c words.Assume = on_stack assume_row
+word_row c words.EqMp = on_stack (two_theorems_row (eq_mp_rule names))
+word_row c words.AbsThm = on_stack abs_thm_row
+word_row c words.AppThm = on_stack (two_theorems_row (app_thm_rule names))
+word_row c words.DeductAntisym = on_stack (two_theorems_row (deduct_antisym_rule names))
+word_row c words.BetaConv = on_stack beta_conv_row
+word_row c words.Subst = on_stack subst_row
+word_row c words.Sym = on_stack (one_theorem_row (sym_rule names))
+word_row c words.Trans = on_stack (two_theorems_row (trans_rule names))
+word_row c words.ProveHyp = on_stack (two_theorems_row (prove_hyp_rule names))
+word_row c words.Axiom = axiom_row c
+word_row c words.Thm = on_article thm_row
+word_row c _ = λ _. Err NotBuilt
 
-abbrev pub row : Context → Command → ArticleState → Result ArticleState (Fault Name)
-row c (numeral k) s = Ok (record s { stack = pushed (number k) s.stack })
-row c (named n) s = Ok (record s { stack = pushed (name n) s.stack })
-row c (order w) s = word_row c w s
+abbrev pub row : Context → Command → State → Result State (Fault Name)
+row c (numeral k) = on_stack (λ stack. Ok (pushed (number k) stack))
+row c (named n) = on_stack (λ stack. Ok (pushed (name n) stack))
+row c (order w) = word_row c w
 
 -- one command more; the count stands still at the end of a u64
 abbrev pub counted : ArticleState → ArticleState
@@ -85,5 +104,5 @@ step c s w = do
   command ← command_of w
   _ ← version_rule s.article.count command
   _ ← built_rule command
-  article ← row c command s.article
-  Ok (record s { article = counted article })
+  next ← row c command s
+  Ok (record next { article = counted next.article })

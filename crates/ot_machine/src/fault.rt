@@ -28,6 +28,11 @@ pub enum Fault {
     NotFunction,
     ArgumentType,
     NotBool,
+    NotEquation,
+    NotAlphaEqual,
+    VarFreeInHyps,
+    NotRedex,
+    BadSubst,
     ExportMismatch,
     Nesting,
     /// The word has no row yet.
@@ -89,6 +94,13 @@ impl From<RuleFault> for Fault {
     fn from(fault: RuleFault) -> Fault {
         match fault {
             RuleFault::NotBool => Fault::NotBool,
+            RuleFault::NotEquation => Fault::NotEquation,
+            RuleFault::NotAlphaEqual => Fault::NotAlphaEqual,
+            RuleFault::NotFunction => Fault::NotFunction,
+            RuleFault::ArgumentType => Fault::ArgumentType,
+            RuleFault::VarFreeInHyps => Fault::VarFreeInHyps,
+            RuleFault::NotRedex => Fault::NotRedex,
+            RuleFault::Nesting => Fault::Nesting,
             RuleFault::Memory => Fault::Memory,
         }
     }

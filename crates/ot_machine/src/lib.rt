@@ -11,6 +11,7 @@ mod places;
 mod rows;
 mod session;
 mod stores;
+mod substitutions;
 
 pub use fault::{ArticleFault, Fault};
 pub use machine::{Export, Machine};

@@ -2,8 +2,8 @@ use Rattle.std.proofs.Common.{◌≡◌, ◌<◌, length, map}
 use Rattle.std.specs.List.{All}
 use Rattle.ot_kernel.specs.State.{type_at}
 use Rattle.ot_machine.specs.Places.{as_type, as_each}
-use Rattle.ot_machine.specs.Meaning.{list_at, lists_of, IsListIn}
-use Rattle.ot_machine.proofs.Elements.{length_bound, joined}
+use Rattle.ot_machine.specs.Meaning.{length_bound, list_at, lists_of, IsListIn}
+use Rattle.ot_machine.proofs.Elements.{joined}
 use Rattle.ot_machine.proofs.session.Session.types_of.Given as goal
 
 abbrev pub invariant-cells : goal.invariant-cells
