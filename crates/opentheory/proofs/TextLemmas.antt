@@ -5,7 +5,7 @@ use Rattle.std.specs.Prelude.{Option, Some, None, IfSome, Result, Ok, Err, IfOk,
 use Rattle.std.specs.Global.{Global}
 use Rattle.std.specs.String.{string_bytes}
 use Rattle.ot_plain.specs.Names.{Name}
-use Rattle.ot_plain.specs.Trees.{Sequent}
+use Rattle.ot_plain.specs.Trees.{Sequent, Definition}
 use Rattle.ot_plain.specs.Faults.{Fault}
 use Rattle.ot_kernel.specs.State as kernel
 use Rattle.ot_machine.specs.declared.machine.Export as code
@@ -22,11 +22,11 @@ line_of_fault (Some f) number text (Ok line) told is = is ∙ ap (line_with numb
 line_of_fault (Some f) number text (Err e) told is = tt
 
 -- the counts of a kernel and a machine
-pub counts_are : {A : Type 0} (k seen : kernel.State) (m : Machine) (es : List code.Export) (f : A → Sequent Name) (ns : List A) (n : ℕ) → es ≡ m.exports.items → seen ≡ k → map f ns ≡ seen.assumptions → n ≡ length seen.definitions → line_of_counts (length es) (length ns) n ≡ count_line (state_of k m)
-counts_are k seen m es f ns n exports same assumptions definitions =
+pub counts_are : {A B : Type 0} (k seen : kernel.State) (m : Machine) (es : List code.Export) (f : A → Sequent Name) (ns : List A) (g : B → Definition Name) (ds : List B) → es ≡ m.exports.items → seen ≡ k → map f ns ≡ seen.assumptions → map g ds ≡ seen.definitions → line_of_counts (length es) (length ns) (length ds) ≡ count_line (state_of k m)
+counts_are k seen m es f ns g ds exports same assumptions definitions =
     let theorems : length es ≡ length (state_of k m).article.exports = ap length exports ∙ sym (length-map m.exports.items _) in
     let assumed : length ns ≡ length (state_of k m).run.assumptions = sym (length-map ns f) ∙ ap length assumptions ∙ ap (λ s. length s.assumptions) same ∙ sym (length-map k.assumptions _) in
-    let defined : n ≡ length (state_of k m).run.definitions = definitions ∙ ap (λ s. length s.definitions) same ∙ sym (length-map k.definitions _) in
+    let defined : length ds ≡ length (state_of k m).run.definitions = sym (length-map ds g) ∙ ap length definitions ∙ ap (λ s. length s.definitions) same ∙ sym (length-map k.definitions _) in
     rw (theorems, assumed, defined) refl
 
 pub if_ok_is : {E : Type 0} (r : Result (String Global) E) (a b : List ℕ) → a ≡ b → IfOk r (λ line. string_bytes line ≡ a) → IfOk r (λ line. string_bytes line ≡ b)

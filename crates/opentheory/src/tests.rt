@@ -2,6 +2,7 @@ ghost use Rattle.std.specs.Prelude.{◌≤◌};
 
 use crate::program::{Status, run};
 use ot_io::{MemSink, MemSource};
+use ot_machine::{Machine, Session};
 use std::alloc::Global;
 use std::test::Fail;
 
@@ -93,14 +94,97 @@ const ARTICLES: [(&[u8], Status, &[u8]); 19] = [
         b"opentheory: -:3: bad name\n",
     ),
     (
-        b"6 version absTerm",
+        b"6 version nil hdTl",
         Status::Refused,
-        b"opentheory: -:3: command not built yet\n",
+        b"opentheory: -:4: command not built yet\n",
     ),
 ];
 
+/// It stores 0 `->`, 1 bool, 2 bool -> bool, 3 bool -> (bool -> bool), 4 the constant `=`, 5 the type variable A.
+const P: &[u8] =
+    b"6 version \"->\" typeOp 0 def pop \"bool\" typeOp nil opType 1 def pop 0 ref 1 ref 1 ref nil cons cons opType 2 def pop 0 ref 1 ref 2 ref nil cons cons opType 3 def pop \"=\" const 4 def pop \"A\" varType 5 def pop";
+
+/// `=` at bool -> bool, over P.
+const E: &[u8] =
+    b"4 ref 0 ref 2 ref 0 ref 2 ref 1 ref nil cons cons opType nil cons cons opType constTerm";
+
+/// `(\x. x) = (\x. x)` at bool, over P and E; it is stored as 8.
+const I: &[u8] = b"\"x\" 1 ref var 6 def 6 ref varTerm absTerm 7 def appTerm 7 ref appTerm 8 def";
+
+/// Over P, an assumption that proves a hypothesis of another theorem, and one that proves its own.
+const TAKEN: &[u8] =
+    b"\"p\" 1 ref var varTerm 6 def assume nil 6 ref axiom 7 def proveHyp nil 6 ref thm 7 ref 6 ref assume proveHyp nil 6 ref thm";
+
+/// Over P, a = b and b = c joined, in both orders.
+const JOINED: &[u8] =
+    b"\"a\" 1 ref var varTerm 6 def pop \"b\" 1 ref var varTerm 7 def pop \"c\" 1 ref var varTerm 8 def pop 4 ref 3 ref constTerm 9 def pop 9 ref 6 ref appTerm 7 ref appTerm 10 def pop 9 ref 7 ref appTerm 8 ref appTerm 11 def pop 9 ref 6 ref appTerm 8 ref appTerm 12 def pop 10 ref assume 11 ref assume trans 10 ref 11 ref nil cons cons 12 ref thm 11 ref assume 10 ref assume trans 11 ref 10 ref nil cons cons 12 ref thm";
+
+/// Whole articles in parts, a space for the end of a line.
+const PARTS: [(&[&[u8]], Status, &[u8]); 8] = [
+    (
+        &[
+            P,
+            b"0 ref 5 ref 5 ref nil cons cons opType 9 def pop \"x\" 5 ref var 6 def pop \"y\" 5 ref var 7 def pop 6 ref 7 ref 6 ref varTerm absTerm absTerm 7 ref varTerm appTerm 8 def betaConv nil 4 ref 0 ref 9 ref 0 ref 9 ref 1 ref nil cons cons opType nil cons cons opType constTerm 8 ref appTerm \"z\" 5 ref var 7 ref varTerm absTerm appTerm thm",
+        ],
+        Status::Accepted,
+        ONE,
+    ),
+    (
+        &[
+            P,
+            b"0 ref 5 ref 5 ref nil cons cons opType 9 def pop \"x\" 5 ref var 6 def pop \"y\" 5 ref var 7 def pop 6 ref 7 ref 6 ref varTerm absTerm absTerm 7 ref varTerm appTerm 8 def betaConv nil 4 ref 0 ref 9 ref 0 ref 9 ref 1 ref nil cons cons opType nil cons cons opType constTerm 8 ref appTerm \"y\" 5 ref var 7 ref varTerm absTerm appTerm thm",
+        ],
+        Status::Refused,
+        b"opentheory: -:128: theorem differs from the stated sequent\n",
+    ),
+    (
+        &[
+            P,
+            b"\"A\" 1 ref nil cons cons nil cons nil nil cons cons \"x\" 1 ref var \"x\" 5 ref var varTerm absTerm refl subst nil",
+            E,
+            b"\"y\" 1 ref var \"x\" 1 ref var varTerm absTerm 6 def appTerm 6 ref appTerm thm",
+        ],
+        Status::Accepted,
+        ONE,
+    ),
+    (
+        &[
+            P,
+            b"\"A\" 1 ref nil cons cons nil cons nil nil cons cons \"x\" 1 ref var \"x\" 5 ref var varTerm absTerm refl subst nil",
+            E,
+            b"\"x\" 1 ref var \"x\" 1 ref var varTerm absTerm 6 def appTerm 6 ref appTerm thm",
+        ],
+        Status::Refused,
+        b"opentheory: -:113: theorem differs from the stated sequent\n",
+    ),
+    (
+        &[
+            P,
+            E,
+            I,
+            b"refl \"y\" 1 ref var 9 def 9 ref varTerm absTerm refl eqMp nil 8 ref thm",
+        ],
+        Status::Accepted,
+        ONE,
+    ),
+    (
+        &[
+            P,
+            b"\"x\" 1 ref var 6 def 4 ref 3 ref constTerm 6 ref varTerm 7 def appTerm 7 ref appTerm assume absThm",
+        ],
+        Status::Refused,
+        b"opentheory: -:72: variable free in a hypothesis\n",
+    ),
+    (
+        &[P, TAKEN],
+        Status::Accepted,
+        b"accepted: 1 theorems, 1 assumptions, 0 definitions\n",
+    ),
+    (&[P, JOINED], Status::Accepted, ONE),
+];
+
 /// What follows `6 version`, a space for the end of a line, with the line and the text of the fault.
-const FAULTS: [(&[u8], &[u8]); 54] = [
+const FAULTS: [(&[u8], &[u8]); 77] = [
     (b"cons", b"3: stack empty"),
     (b"\"a\" \"b\" cons", b"5: wanted list, found name"),
     (b"nil cons", b"4: stack empty"),
@@ -199,6 +283,83 @@ const FAULTS: [(&[u8], &[u8]); 54] = [
     (
         b"5 nil \"c\" const \"A\" varType constTerm thm",
         b"10: wanted theorem, found number",
+    ),
+    (b"absTerm", b"3: stack empty"),
+    (b"\"a\" absTerm", b"4: wanted term, found name"),
+    (
+        b"nil \"c\" const \"A\" varType constTerm absTerm",
+        b"9: wanted variable, found list",
+    ),
+    (b"\"a\" refl", b"4: wanted term, found name"),
+    (b"nil eqMp", b"4: wanted theorem, found list"),
+    (
+        b"nil \"c\" const \"A\" varType constTerm refl eqMp",
+        b"10: wanted theorem, found list",
+    ),
+    (
+        b"\"p\" \"bool\" typeOp nil opType var varTerm assume 0 def 0 ref eqMp",
+        b"15: not an equation",
+    ),
+    (
+        b"\"p\" \"bool\" typeOp nil opType 0 def var varTerm refl \"q\" 0 ref var varTerm assume eqMp",
+        b"19: terms differ",
+    ),
+    (
+        b"nil \"c\" const \"A\" varType constTerm refl absThm",
+        b"10: wanted variable, found list",
+    ),
+    (
+        b"\"x\" \"A\" varType var \"p\" \"bool\" typeOp nil opType var varTerm assume absThm",
+        b"15: not an equation",
+    ),
+    (
+        b"\"c\" const \"A\" varType constTerm refl 0 def 0 ref appThm",
+        b"13: not a function",
+    ),
+    (
+        b"\"c\" const \"A\" varType constTerm betaConv",
+        b"8: not a beta redex",
+    ),
+    (b"nil subst", b"4: wanted theorem, found list"),
+    (
+        b"\"a\" \"c\" const \"A\" varType constTerm refl subst",
+        b"10: wanted list, found name",
+    ),
+    (
+        b"nil \"c\" const \"A\" varType constTerm refl subst",
+        b"10: bad substitution list",
+    ),
+    (
+        b"nil nil cons nil nil cons cons \"c\" const \"A\" varType constTerm refl subst",
+        b"16: bad substitution list",
+    ),
+    (
+        b"nil \"x\" \"A\" varType var \"c\" const \"B\" varType constTerm nil cons cons nil cons nil cons cons \"d\" const \"A\" varType constTerm refl subst",
+        b"27: bad substitution list",
+    ),
+    (
+        b"\"p\" \"bool\" typeOp nil opType var varTerm assume sym",
+        b"11: not an equation",
+    ),
+    (
+        b"\"c\" const \"A\" varType constTerm refl \"d\" const \"A\" varType constTerm refl trans",
+        b"15: terms differ",
+    ),
+    (
+        b"\"c\" const \"A\" varType constTerm refl proveHyp",
+        b"9: stack empty",
+    ),
+    (
+        b"\"c\" const \"A\" varType constTerm axiom",
+        b"8: stack empty",
+    ),
+    (
+        b"nil \"c\" const \"A\" varType constTerm axiom",
+        b"9: not of type bool",
+    ),
+    (
+        b"\"c\" const \"A\" varType constTerm nil cons \"p\" \"bool\" typeOp nil opType var varTerm axiom",
+        b"17: not of type bool",
     ),
 ];
 
@@ -324,6 +485,15 @@ fn add_lines(article: &mut Vec<u8>, text: &[u8]) -> Result<(), Fail> {
     Ok(())
 }
 
+/// The lines of all parts.
+fn joined(alloc: Global, parts: &[&[u8]]) -> Result<Vec<u8>, Fail> {
+    let mut article = Vec::new(alloc);
+    for part in parts {
+        add_lines(&mut article, part)?;
+    }
+    Ok(article)
+}
+
 #[test]
 fn articles(rt: HostRuntime) -> Result<(), Fail> {
     for (text, status, line) in ARTICLES {
@@ -333,6 +503,63 @@ fn articles(rt: HostRuntime) -> Result<(), Fail> {
         assert_eq!(rt; answer.status, status);
         assert_eq!(rt; answer.said(), line);
         assert_eq!(rt; answer.out.len() + answer.err.len(), line.len());
+    }
+    Ok(())
+}
+
+#[test]
+fn articles_in_parts(rt: HostRuntime) -> Result<(), Fail> {
+    for (parts, status, line) in PARTS {
+        let article = joined(rt.alloc(), parts)?;
+        let answer = answered(rt.alloc(), &["check", "-"], article, FINE)?;
+        assert_eq!(rt; answer.status, status);
+        assert_eq!(rt; answer.said(), line);
+    }
+    Ok(())
+}
+
+/// The assumption is the theorem that is exported.
+#[test]
+fn takes_an_assumption(rt: HostRuntime) -> Result<(), Fail> {
+    let article = joined(rt.alloc(), &[P, TAKEN])?;
+    let mut session = Session::new(rt.alloc())?;
+    let mut machine = Machine::new(rt.alloc());
+    assert_eq!(rt;
+        machine.run_article(&mut session, &article, 1048576),
+        Ok(())
+    );
+    let kernel = session.kernel();
+    assert_eq!(rt; kernel.assumptions().len(), 1);
+    assert_eq!(rt; machine.exports().len(), 1);
+    let exported = machine.exports()[0].th;
+    assert!(rt; kernel.hyps(exported).is_empty());
+    let concl = kernel.concl(exported);
+    for taken in kernel.assumptions() {
+        assert!(rt; kernel.hyps(*taken).is_empty());
+        assert_eq!(rt; kernel.concl(*taken), concl);
+    }
+    Ok(())
+}
+
+/// a = c under a = b and b = c.
+#[test]
+fn joins_equations(rt: HostRuntime) -> Result<(), Fail> {
+    let article = joined(rt.alloc(), &[P, JOINED])?;
+    let mut session = Session::new(rt.alloc())?;
+    let mut machine = Machine::new(rt.alloc());
+    assert_eq!(rt;
+        machine.run_article(&mut session, &article, 1048576),
+        Ok(())
+    );
+    let kernel = session.kernel();
+    assert_eq!(rt; machine.exports().len(), 1);
+    let theorem = machine.exports()[0].th;
+    let hyps = kernel.hyps(theorem);
+    assert_eq!(rt; hyps.len(), 2);
+    let terms = kernel.terms();
+    match (terms.as_eq(hyps[0]), terms.as_eq(kernel.concl(theorem))) {
+        (Some(first), Some(whole)) => assert_eq!(rt; first.0, whole.0),
+        _ => assert!(rt; false),
     }
     Ok(())
 }

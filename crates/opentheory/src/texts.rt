@@ -59,6 +59,11 @@ fn fault_text(alloc: Global, fault: Fault) -> Result<String, AllocError>
         Fault::NotFunction => String::from_str(alloc, "not a function"),
         Fault::ArgumentType => String::from_str(alloc, "argument of another type"),
         Fault::NotBool => String::from_str(alloc, "not of type bool"),
+        Fault::NotEquation => String::from_str(alloc, "not an equation"),
+        Fault::NotAlphaEqual => String::from_str(alloc, "terms differ"),
+        Fault::VarFreeInHyps => String::from_str(alloc, "variable free in a hypothesis"),
+        Fault::NotRedex => String::from_str(alloc, "not a beta redex"),
+        Fault::BadSubst => String::from_str(alloc, "bad substitution list"),
         Fault::ExportMismatch => {
             String::from_str(alloc, "theorem differs from the stated sequent")
         }
@@ -103,7 +108,7 @@ pub fn count_line(alloc: Global, session: &Session, machine: &Machine) -> Result
         alloc,
         theorems.len(),
         assumptions.len(),
-        kernel.definition_count(),
+        kernel.definitions().len(),
     )
 }
 
