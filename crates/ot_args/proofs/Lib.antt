@@ -1,0 +1,2 @@
+-- Arguments are read exactly as they are written.
+pub mod Written

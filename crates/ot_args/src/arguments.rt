@@ -1,0 +1,49 @@
+ghost use Rattle.std.specs.Prelude.{◌≡◌, []};
+ghost use Rattle.std.specs.Option.{option_copied};
+ghost use Rattle.ot_args.specs.Grammar.{texts_of};
+ghost use Rattle.ot_args.specs.Reading.{given_answer, names_folder, read_after};
+
+use crate::command::Usage;
+
+/// The name of the option for the folder of the packages.
+const PACKAGES: &str = "--packages";
+
+/// What is given behind a command's word.
+#[derive(Clone, Copy, Debug, PartialEq, Eq)]
+pub struct Given<'a> {
+    /// The folder of the packages, where the words name one.
+    pub packages: Option<&'a str>,
+    /// The last word.
+    pub operand: &'a str,
+}
+
+impl<'a> Given<'a> {
+    /// Reads the options, each at most once, and the operand behind them.
+    pub fn read(words: &'a [String]) -> Result<Given<'a>, Usage>
+        ensures { given_answer result ≡ read_after [] (texts_of words.now) }
+    {
+        let mut packages = None;
+        let mut rest = words;
+        while let [name, value, further @ ..] = rest {
+            if !names_folder(packages, name.as_str(), value.as_str()) {
+                return Err(Usage);
+            }
+            packages = Some(value.as_str());
+            rest = further;
+        }
+        match rest {
+            [operand] => Ok(Given {
+                packages,
+                operand: operand.as_str(),
+            }),
+            _ => Err(Usage),
+        }
+    }
+}
+
+/// Whether the words name the folder of the packages, for the first time.
+fn names_folder(named: Option<&str>, name: &str, value: &str) -> bool
+    ensures { result ≡ names_folder (option_copied named.entry) name.now value.now }
+{
+    name == PACKAGES && named.is_none() && !value.is_empty()
+}

@@ -1,0 +1,9 @@
+use Rattle.std.specs.List.{list_all}
+use Rattle.std.proofs.Common.{◌≡◌, true, take}
+use Rattle.ot_plain.specs.Naming.{numbers}
+use Rattle.ot_define.specs.Conditions.{is_closed}
+use Rattle.ot_define.specs.Answers.{tm_at}
+use Rattle.ot_define.proofs.lists.check_all_closed.Given as goal
+
+abbrev pub invariant-loop-t : goal.invariant-loop-t
+invariant-loop-t l = list_all (λ t. is_closed numbers (tm_at l.terms.terms t)) (take l.t-index l.ts) ≡ true

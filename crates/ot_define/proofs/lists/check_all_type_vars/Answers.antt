@@ -1,0 +1,24 @@
+use Rattle.std.specs.List.{list_all}
+use Rattle.std.proofs.Common.{ℕ, Err, map, subst, sym, ap, arith, rules, ◌∙◌}
+use Rattle.std.proofs.lemmas.List.{take_all}
+use Rattle.std.proofs.lemmas.List.Folds.{list_all-map}
+use Rattle.ot_plain.specs.Answers.{unless}
+use Rattle.ot_plain.specs.Faults.{TypeVarEscapes}
+use Rattle.ot_plain.specs.Naming.{numbers}
+use Rattle.ot_define.specs.Conditions.{keeps_type_vars}
+use Rattle.ot_define.specs.Answers.{Checks, tm_at}
+use Rattle.ot_define.proofs.Refusing.{checks-one}
+use Rattle.ot_define.proofs.lists.check_all_type_vars.Goals as goal
+
+pub returns-in_err-check_type_vars : goal.returns-in_err-check_type_vars
+returns-in_err-check_type_vars c =
+    let p = λ (t : ℕ). keeps_type_vars numbers (tm_at c.args.terms.now.terms t) in
+    let one = checks-one p c.args.ts.now c.loop-t.t-index c.t-item.result c.in_err-check_type_vars.field-0.0 TypeVarEscapes c.loop-t-test.true c.t-item.is c.in_err-check_type_vars.ensures in
+    let all : Checks (Err c.in_err-check_type_vars.field-0.0) (unless TypeVarEscapes (list_all (keeps_type_vars numbers) (map (tm_at c.args.terms.now.terms) c.args.ts.now))) =
+    subst (λ b. Checks (Err c.in_err-check_type_vars.field-0.0) (unless TypeVarEscapes b)) (sym (list_all-map (keeps_type_vars numbers) (tm_at c.args.terms.now.terms) c.args.ts.now)) one in
+    search (rules, all)
+
+pub returns : goal.returns
+returns c =
+    let p = λ (t : ℕ). keeps_type_vars numbers (tm_at c.args.terms.now.terms t) in
+    ap (unless TypeVarEscapes) (list_all-map (keeps_type_vars numbers) (tm_at c.args.terms.now.terms) c.args.ts.now ∙ ap (list_all p) (sym (take_all c.loop-t.t-index c.args.ts.now (omega arith))) ∙ c.loop-t.invariant)
