@@ -1,0 +1,111 @@
+-- One text after another.
+use Rattle.std.specs.Prelude.{◌≡◌, ℕ, suc, ◌+◌, ◌-◌, ◌<◌, ◌≤◌, Bool, true, false, cond, nat_le, List, [], ◌∷◌, ◌++◌, length, ◌⊎◌}
+use Rattle.std.proofs.Common.{refl, sym, ◌∙◌, ap, subst, inl, inr, arith, append_assoc, append-nil, length-append, drop, drop-cons, get_or}
+use Rattle.std.proofs.lemmas.Bool.Decides.{nat_tests}
+use Rattle.std.proofs.Math.ListN.{drop_of_length-le}
+use Rattle.ot_print.specs.Pages.{Printed, Bytes, Full, NoMemory, put, is_stopped, IsPut}
+
+le-true : (a b : ℕ) → nat_le a b ≡ true → a ≤ b
+le-true a b h = grind (arith, nat_tests)
+
+le-false : (a b : ℕ) → nat_le a b ≡ false → b < a
+le-false a b h = grind (arith, nat_tests)
+
+true-le : (a b : ℕ) → a ≤ b → nat_le a b ≡ true
+true-le a b h = grind (arith, nat_tests)
+
+false-le : (a b : ℕ) → b < a → nat_le a b ≡ false
+false-le a b h = grind (arith, nat_tests)
+
+pub put-put : (x y : List ℕ) (s : Printed) → put y (put x s) ≡ put (x ++ y) s
+put-put x y (Bytes bs room) = go (nat_le (length x) room) refl where
+  fits : (e : Bool) → nat_le (length x) room ≡ true → nat_le (length y) (room - length x) ≡ e
+      → cond e (Bytes ((bs ++ x) ++ y) (room - length x - length y)) Full ≡ put (x ++ y) (Bytes bs room)
+  fits true h k =
+      let a = le-true _ _ h in
+      let b = le-true _ _ k in
+      let n = length-append x y in
+      let t = true-le (length (x ++ y)) room (omega (arith, n, a, b)) in
+      let d : room - length x - length y ≡ room - length (x ++ y) = omega (arith, n, a, b) in
+      rw (t, append_assoc, d) refl
+  fits false h k =
+      let a = le-true _ _ h in
+      let b = le-false _ _ k in
+      let n = length-append x y in
+      let t = false-le (length (x ++ y)) room (omega (arith, n, a, b)) in
+      rw t refl
+
+  go : (e : Bool) → nat_le (length x) room ≡ e → put y (cond e (Bytes (bs ++ x) (room - length x)) Full) ≡ put (x ++ y) (Bytes bs room)
+  go true h = fits (nat_le (length y) (room - length x)) h refl
+  go false h =
+      let b = le-false _ _ h in
+      let n = length-append x y in
+      let t = false-le (length (x ++ y)) room (omega (arith, n, b)) in
+      rw t refl
+put-put x y Full = refl
+put-put x y NoMemory = refl
+
+pub then : {x y : List ℕ} {s t u : Printed} → IsPut x s t → IsPut y t u → IsPut (x ++ y) s u
+then {x} {y} {s} {t} {u} p q = record { state = go p.state q.state } where
+  go : (t ≡ NoMemory) ⊎ (t ≡ put x s) → (u ≡ NoMemory) ⊎ (u ≡ put y t) → (u ≡ NoMemory) ⊎ (u ≡ put (x ++ y) s)
+  go a (inl e) = inl e
+  go (inl d) (inr e) = inl (e ∙ ap (put y) d)
+  go (inr d) (inr e) = inr (e ∙ ap (put y) d ∙ put-put x y s)
+
+put-nil : (s : Printed) → s ≡ put [] s
+put-nil (Bytes bs room) =
+    let t : nat_le 0 room ≡ true = true-le 0 room (omega arith) in
+    let d : room - 0 ≡ room = omega arith in
+    rw (t, append-nil, d) refl
+put-nil Full = refl
+put-nil NoMemory = refl
+
+pub nothing : (s : Printed) → IsPut [] s s
+nothing s = record { state = inr (put-nil s) }
+
+-- a page that is stopped stays as it is
+pub stays : {x : List ℕ} (s : Printed) → is_stopped s ≡ true → IsPut x s s
+stays (Bytes bs room) h = cc
+stays Full h = record { state = inr refl }
+stays NoMemory h = record { state = inl refl }
+
+pub same-text : {x y : List ℕ} {s t : Printed} → x ≡ y → IsPut x s t → IsPut y s t
+same-text {x} {y} {s} {t} p h = subst (λ z. IsPut z s t) p h
+
+-- ---- a loop over a list whose text F is: what puts the rest of the text on the page s has put the whole on the page s0
+abbrev pub Puts : {X : Type 0} → (List X → List ℕ) → List X → ℕ → Printed → Printed → Type 0
+Puts F xs i s0 s = (u : Printed) → IsPut (F (drop i xs)) s u → IsPut (F xs) s0 u
+
+pub puts-none : {X : Type 0} (F : List X → List ℕ) (xs : List X) (s : Printed) → Puts F xs 0 s s
+puts-none F xs s u h = h
+
+pub puts-more : {X : Type 0} (F : List X → List ℕ) (g : X → List ℕ) → ((x : X) (xs : List X) → F (x ∷ xs) ≡ g x ++ F xs)
+    → (xs : List X) (i : ℕ) (d : X) (s0 s t : Printed) → i < length xs → Puts F xs i s0 s → IsPut (g (get_or xs i d)) s t → Puts F xs (i + 1) s0 t
+puts-more {X} F g e xs i d s0 s t h p q u r =
+    let k : i + 1 ≡ suc i = omega arith in
+    let w : F (drop i xs) ≡ g (get_or xs i d) ++ F (drop (i + 1) xs) = ap F (drop-cons xs i d h) ∙ e _ _ ∙ ap (λ j. g (get_or xs i d) ++ F (drop j xs)) (sym k) in
+    p u (same-text (sym w) (then q r))
+
+pub puts-all : {X : Type 0} (F : List X → List ℕ) (xs : List X) (i : ℕ) (s0 s u : Printed) → length xs ≤ i → Puts F xs i s0 s → IsPut (F []) s u → IsPut (F xs) s0 u
+puts-all F xs i s0 s u h p q = p u (same-text (ap F (sym (drop_of_length-le xs h))) q)
+
+-- ---- what a page that began empty says of the text
+pub within-page : (x bs : List ℕ) (max room : ℕ) (s u : Printed) → s ≡ Bytes [] max → u ≡ Bytes bs room → IsPut x s u → (bs ≡ x) × (length x ≤ max)
+within-page x bs max room s u p q h = go h.state where
+  fits : (e : Bool) → nat_le (length x) max ≡ e → Bytes bs room ≡ cond e (Bytes x (max - length x)) Full → (bs ≡ x) × (length x ≤ max)
+  fits true k w = (cc, le-true _ _ k)
+  fits false k w = cc
+
+  go : (u ≡ NoMemory) ⊎ (u ≡ put x s) → (bs ≡ x) × (length x ≤ max)
+  go (inl d) = cc
+  go (inr d) = fits (nat_le (length x) max) refl (sym q ∙ d ∙ ap (put x) p)
+
+pub full-page : (x : List ℕ) (max : ℕ) (s u : Printed) → s ≡ Bytes [] max → u ≡ Full → IsPut x s u → max < length x
+full-page x max s u p q h = go h.state where
+  fits : (e : Bool) → nat_le (length x) max ≡ e → Full ≡ cond e (Bytes x (max - length x)) Full → max < length x
+  fits true k w = cc
+  fits false k w = le-false _ _ k
+
+  go : (u ≡ NoMemory) ⊎ (u ≡ put x s) → max < length x
+  go (inl d) = cc
+  go (inr d) = fits (nat_le (length x) max) refl (sym q ∙ d ∙ ap (put x) p)

@@ -1,0 +1,4 @@
+use Rattle.ot_print.proofs.terms.+put_term.Given as goal
+
+abbrev pub decreases-put_term : goal.decreases-put_term
+decreases-put_term l = l.id

@@ -1,0 +1,77 @@
+//! What a kernel's numbers stand for, one node at a time.
+ghost use Rattle.std.specs.Prelude.{◌≡◌, ◌<◌, List, false, length, IfNone, IfSome};
+ghost use Rattle.ot_plain.specs.Names.{Name};
+ghost use Rattle.ot_plain.specs.Naming.{names};
+ghost use Rattle.ot_plain.specs.Trees.{Ty, Variable};
+ghost use Rattle.ot_plain.specs.Hol.{fun_ty, nameless_in, same_var};
+ghost use Rattle.ot_kernel.specs.State.{name_at, type_at, variable_at, named_at};
+ghost use Rattle.ot_print.specs.Texts.{name_text, is_function, is_equation};
+ghost use Rattle.ot_print.specs.Nodes.{type_tree, IsTypeNode, term_tree, IsTermNode, IsKey, equation_of};
+ghost use Rattle.ot_print.specs.Pages.{IsPut, printed};
+
+use crate::page::Page;
+use ot_kernel::Kernel;
+use ot_plain::NameId;
+use ot_term::{TermId, TermNode, VarKey};
+use ot_type::{TypeId, TypeNode};
+
+/// The spelling of a name.
+pub(crate) fn put_name(page: &mut Page, kernel: &Kernel, name: NameId)
+    requires { name < length kernel.now.names }
+    ensures { IsPut (name_text (name_at kernel.now name)) (printed page.old) (printed page.new) }
+{
+    page.put_name(kernel.names().get(name));
+}
+
+/// The node of a type.
+pub(crate) fn type_node(kernel: &Kernel, id: TypeId) -> &TypeNode
+    requires { id < length kernel.now.types }
+    ensures tree { type_at kernel.now id ≡ type_tree kernel.now result.now }
+    ensures inside { IsTypeNode kernel.now id result.now }
+{
+    kernel.sound();
+    kernel.terms().types().node(id)
+}
+
+/// The argument type and the result type of a function type.
+pub(crate) fn function_parts(kernel: &Kernel, id: TypeId) -> Option<(TypeId, TypeId)>
+    requires { id < length kernel.now.types }
+    ensures none { IfNone result (is_function names (type_at kernel.now id) ≡ false) }
+    ensures parts { IfSome result (λ p. type_at kernel.now id ≡ fun_ty names (type_at kernel.now p.0) (type_at kernel.now p.1)) }
+    ensures below { IfSome result (λ p. (p.0 < id) × (p.1 < id)) }
+{
+    kernel.sound();
+    kernel.terms().types().as_fun(id)
+}
+
+/// The node of a term.
+pub(crate) fn term_node(kernel: &Kernel, id: TermId) -> &TermNode
+    requires { id < length kernel.now.terms }
+    ensures tree { named_at kernel.now.terms id ≡ term_tree kernel.now result.now }
+    ensures inside { IsTermNode kernel.now id result.now }
+{
+    kernel.sound();
+    kernel.terms().node(id)
+}
+
+/// The two sides of an equation.
+pub(crate) fn equation_sides(kernel: &Kernel, id: TermId) -> Option<(TermId, TermId)>
+    requires { id < length kernel.now.terms }
+    ensures none { IfNone result ((e : List (Variable Name)) → is_equation names (nameless_in names e (named_at kernel.now.terms id)) ≡ false) }
+    ensures sides { IfSome result (λ p. (ty : Ty Name) × (named_at kernel.now.terms id ≡ equation_of ty (named_at kernel.now.terms p.0) (named_at kernel.now.terms p.1))) }
+    ensures below { IfSome result (λ p. (p.0 < id) × (p.1 < id)) }
+{
+    kernel.sound();
+    kernel.terms().as_eq(id)
+}
+
+/// Whether two variables are one.
+pub(crate) fn is_same(kernel: &Kernel, v: &VarKey, w: &VarKey) -> bool
+    requires left { IsKey kernel.now v.now }
+    requires right { IsKey kernel.now w.now }
+    ensures { result ≡ same_var names (variable_at kernel.now v.now) (variable_at kernel.now w.now) }
+{
+    kernel.sound();
+    let _types = kernel.terms().types();
+    v.name == w.name && v.ty == w.ty
+}

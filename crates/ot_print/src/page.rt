@@ -1,0 +1,103 @@
+//! A page on which a text is put, piece by piece.
+ghost use Rattle.std.specs.Prelude.{◌≡◌, ◌++◌, [], Some, OnOk, OnErr, Err};
+ghost use Rattle.ot_plain.specs.Names.{spelled};
+ghost use Rattle.ot_print.specs.Pages.{Bytes, Full, IsPut, is_stopped as is_stopped_at, stopped, HasRoom, printed};
+
+use crate::fault::PrintFault;
+use ot_plain::Name;
+use std::alloc::Global;
+
+/// A text in the making. After a fault nothing more is put on it.
+#[derive(Drop)]
+pub(crate) struct Page {
+    bytes: Vec<u8>,
+    // How many bytes the limit still allows.
+    room: usize,
+    fault: Option<PrintFault>,
+}
+
+impl Page {
+    /// An empty page for at most `max` bytes.
+    pub(crate) fn new(alloc: Global, max: usize) -> Page
+        ensures { printed result ≡ Bytes [] max }
+    {
+        Page {
+            bytes: Vec::new(alloc),
+            room: max,
+            fault: None,
+        }
+    }
+
+    /// Whether nothing more is put on the page.
+    pub(crate) fn is_stopped(&self) -> bool
+        ensures { result ≡ is_stopped_at (printed self.now) }
+    {
+        self.fault.is_some()
+    }
+
+    /// How many bytes more the limit allows, where the page isn't stopped.
+    pub(crate) fn room(&self) -> usize
+        ensures { HasRoom (printed self.now) result }
+    {
+        self.room
+    }
+
+    /// Stops the page, which isn't stopped yet.
+    pub(crate) fn stop(&mut self, fault: PrintFault)
+        ensures { printed self.new ≡ stopped (Some fault) (printed self.old) }
+    {
+        self.fault = Some(fault);
+    }
+
+    /// Puts bytes at the end.
+    pub(crate) fn put(&mut self, text: &[u8])
+        ensures { IsPut text.now (printed self.old) (printed self.new) }
+    {
+        if self.fault.is_some() {
+            return;
+        }
+        if text.len() > self.room {
+            self.fault = Some(PrintFault::TooLarge);
+            return;
+        }
+        match self.bytes.extend_from_slice(text) {
+            Ok(()) => self.room -= text.len(),
+            Err(_) => self.fault = Some(PrintFault::Memory),
+        }
+    }
+
+    /// Puts a name's spelling at the end.
+    pub(crate) fn put_name(&mut self, name: &Name)
+        ensures { IsPut (spelled name.now) (printed self.old) (printed self.new) }
+    {
+        if self.fault.is_some() {
+            return;
+        }
+        let len = self.bytes.len();
+        if name.spell(&mut self.bytes).is_err() {
+            self.fault = Some(PrintFault::Memory);
+            return;
+        }
+        let added = self.bytes.len() - len;
+        if added > self.room {
+            self.fault = Some(PrintFault::TooLarge);
+            return;
+        }
+        self.room -= added;
+    }
+
+    /// Appends the text, if there is one.
+    pub(crate) fn finish(self, out: &mut Vec<u8>) -> Result<(), PrintFault>
+        ensures ok { OnOk result (out.new.items ≡ out.old.items ++ self.bytes.items × (printed self ≡ Bytes self.bytes.items self.room)) }
+        ensures too_large { result ≡ Err PrintFault.TooLarge → printed self ≡ Full }
+        ensures err { OnErr result (out.new.items ≡ out.old.items) }
+    {
+        match self.fault {
+            Some(fault) => Err(fault),
+            None => match out.extend_from_slice(self.bytes.as_slice()) {
+                Ok(()) => Ok(()),
+                Err(_) => Err(PrintFault::Memory),
+            },
+        }
+    }
+}

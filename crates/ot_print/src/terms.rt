@@ -1,0 +1,151 @@
+//! The texts of terms.
+ghost use Rattle.std.specs.Prelude.{◌≡◌, ◌<◌, ◌+◌, ◌^◌, ◌++◌, codes, length, OnOk, OnErr, Err, IfSome};
+ghost use Rattle.ot_plain.specs.Naming.{names};
+ghost use Rattle.ot_plain.specs.Hol.{nameless_in, at_place, place as place_of};
+ghost use Rattle.ot_kernel.specs.State.{name_at, type_at, variable_at, named_at, term_at};
+ghost use Rattle.ot_print.specs.Texts.{name_text, number_text, ty_text, tm_text};
+ghost use Rattle.ot_print.specs.Nodes.{IsKey, AreKeys, binders_at};
+ghost use Rattle.ot_print.specs.Pages.{IsPut, printed, Appended};
+
+use crate::fault::PrintFault;
+use crate::nodes::{equation_sides, is_same, put_name, term_node};
+use crate::page::Page;
+use crate::types::put_type;
+use itoa::Buffer;
+use ot_kernel::Kernel;
+use ot_plain::NameId;
+use ot_term::{TermId, TermNode, VarKey};
+use ot_type::TypeId;
+use std::alloc::Global;
+
+/// The binders around a term, the innermost first.
+#[derive(Clone, Copy)]
+pub(crate) enum Binders<'a> {
+    Outermost,
+    Inside(&'a VarKey, &'a Binders<'a>),
+}
+
+/// Appends the text of a term. `TooLarge` exactly where it has more than `max` bytes. After a refusal `out` is as it was.
+pub fn term_text(
+    alloc: Global,
+    kernel: &Kernel,
+    id: TermId,
+    max: usize,
+    out: &mut Vec<u8>,
+) -> Result<(), PrintFault>
+    requires { id < length kernel.now.terms }
+    ensures ok { OnOk result (Appended (tm_text (term_at kernel.now id)) max out.old.items out.new.items) }
+    ensures too_large { result ≡ Err PrintFault.TooLarge → max < length (tm_text (term_at kernel.now id)) }
+    ensures err { OnErr result (out.new.items ≡ out.old.items) }
+{
+    let mut page = Page::new(alloc, max);
+    put_whole(&mut page, kernel, id);
+    page.finish(out)
+}
+
+/// A term that stands under no binder.
+pub(crate) fn put_whole(page: &mut Page, kernel: &Kernel, id: TermId)
+    requires { id < length kernel.now.terms }
+    ensures { IsPut (tm_text (term_at kernel.now id)) (printed page.old) (printed page.new) }
+{
+    put_term(page, kernel, &Binders::Outermost, id);
+}
+
+// A term. Nothing is read once the page takes no more, so a term costs no more than the limit.
+fn put_term(page: &mut Page, kernel: &Kernel, binders: &Binders<'_>, id: TermId)
+    requires inside { id < length kernel.now.terms }
+    requires binders { AreKeys kernel.now binders.now }
+    requires fits { length (binders_at kernel.now binders.now) + id < 2 ^ 64 }
+    ensures { IsPut (tm_text (nameless_in names (binders_at kernel.now binders.now) (named_at kernel.now.terms id))) (printed page.old) (printed page.new) }
+{
+    if page.is_stopped() {
+        return;
+    }
+    if let Some((left, right)) = equation_sides(kernel, id) {
+        page.put(b"(");
+        put_term(page, kernel, binders, left);
+        page.put(b" = ");
+        put_term(page, kernel, binders, right);
+        page.put(b")");
+        return;
+    }
+    match term_node(kernel, id) {
+        TermNode::Var(v) => put_variable(page, kernel, binders, v),
+        TermNode::Const(name, ty) => {
+            page.put(b"@");
+            put_typed(page, kernel, *name, *ty);
+        }
+        TermNode::App(f, x) => {
+            page.put(b"(");
+            put_term(page, kernel, binders, *f);
+            page.put(b" ");
+            put_term(page, kernel, binders, *x);
+            page.put(b")");
+        }
+        TermNode::Abs(v, body) => {
+            page.put(b"(\\");
+            put_type(page, kernel, v.ty);
+            page.put(b". ");
+            let inner = Binders::Inside(v, &*binders);
+            put_term(page, kernel, &inner, *body);
+            page.put(b")");
+        }
+    }
+}
+
+// A variable under binders: its place, or its name and type.
+fn put_variable(page: &mut Page, kernel: &Kernel, binders: &Binders<'_>, v: &VarKey)
+    requires key { IsKey kernel.now v.now }
+    requires binders { AreKeys kernel.now binders.now }
+    requires fits { length (binders_at kernel.now binders.now) < 2 ^ 64 }
+    ensures { IsPut (tm_text (at_place names (variable_at kernel.now v.now) (place_of names (binders_at kernel.now binders.now) (variable_at kernel.now v.now)))) (printed page.old) (printed page.new) }
+{
+    match place(kernel, binders, v) {
+        Some(number) => {
+            page.put(b"#");
+            put_number(page, number);
+        }
+        None => put_typed(page, kernel, v.name, v.ty),
+    }
+}
+
+// The place of a variable among binders.
+fn place(kernel: &Kernel, binders: &Binders<'_>, v: &VarKey) -> Option<usize>
+    requires key { IsKey kernel.now v.now }
+    requires binders { AreKeys kernel.now binders.now }
+    requires fits { length (binders_at kernel.now binders.now) < 2 ^ 64 }
+    ensures place { result ≡ place_of names (binders_at kernel.now binders.now) (variable_at kernel.now v.now) }
+    ensures below { IfSome result (λ k. k < length (binders_at kernel.now binders.now)) }
+{
+    match binders {
+        Binders::Outermost => None,
+        Binders::Inside(w, around) => {
+            if is_same(kernel, v, w) {
+                return Some(0);
+            }
+            match place(kernel, around, v) {
+                Some(number) => Some(number + 1),
+                None => None,
+            }
+        }
+    }
+}
+
+// A number in decimal digits.
+fn put_number(page: &mut Page, number: usize)
+    ensures { IsPut (number_text number) (printed page.old) (printed page.new) }
+{
+    let mut buffer = Buffer::new();
+    page.put(buffer.format(number).as_bytes());
+}
+
+// A name and a type.
+fn put_typed(page: &mut Page, kernel: &Kernel, name: NameId, ty: TypeId)
+    requires name { name < length kernel.now.names }
+    requires ty { ty < length kernel.now.types }
+    ensures { IsPut (name_text (name_at kernel.now name) ++ codes ":" ++ ty_text (type_at kernel.now ty)) (printed page.old) (printed page.new) }
+{
+    put_name(page, kernel, name);
+    page.put(b":");
+    put_type(page, kernel, ty);
+}
