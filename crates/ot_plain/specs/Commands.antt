@@ -49,13 +49,3 @@ commands =
 -- the command that is written so
 abbrev pub command_of : List ℕ → Option Cmd
 command_of text = find (λ c. bytes_eq (spelling c) text) commands
-
--- the machine does these commands; it refuses the others as not built yet
-abbrev pub is_built : Cmd → Bool
-is_built HdTl = false
-is_built Remove = false
-is_built Pragma = false
-is_built DefineConst = false
-is_built DefineConstList = false
-is_built DefineTypeOp = false
-is_built _ = true

@@ -37,5 +37,3 @@ pub data Fault (N : Type 0) : Type 0 where
   NotApplication : Fault N
   BadTypeVars : Fault N
   Nesting : Fault N
-  -- the word isn't built yet
-  NotBuilt : Fault N

@@ -1,5 +1,5 @@
 ghost use Rattle.std.specs.Prelude.{◌≡◌};
-ghost use Rattle.ot_plain.specs.Commands.{spelling, command_of, is_built};
+ghost use Rattle.ot_plain.specs.Commands.{spelling, command_of};
 
 /// A command word of an article.
 #[derive(Clone, Copy, Debug, PartialEq, Eq)]
@@ -126,21 +126,6 @@ impl Cmd {
     {
         COMMANDS.iter().copied().find(|c| c.text() == text)
     }
-
-    /// Whether the machine does this command. It refuses the others as not built yet.
-    pub fn is_built(self) -> bool
-        ensures { result ≡ is_built self }
-    {
-        !matches!(
-            self,
-            Cmd::HdTl
-                | Cmd::Remove
-                | Cmd::Pragma
-                | Cmd::DefineConst
-                | Cmd::DefineConstList
-                | Cmd::DefineTypeOp
-        )
-    }
 }
 
 #[cfg(test)]
@@ -149,19 +134,18 @@ mod tests {
 
     #[test]
     fn words(rt: HostRuntime) {
-        let rows: [(&[u8], Option<(Cmd, bool)>); 8] = [
-            (b"version", Some((Cmd::Version, true))),
-            (b"typeOp", Some((Cmd::TypeOp, true))),
-            (b"axiom", Some((Cmd::Axiom, true))),
-            (b"hdTl", Some((Cmd::HdTl, false))),
-            (b"defineTypeOp", Some((Cmd::DefineTypeOp, false))),
+        let rows: [(&[u8], Option<Cmd>); 8] = [
+            (b"version", Some(Cmd::Version)),
+            (b"typeOp", Some(Cmd::TypeOp)),
+            (b"axiom", Some(Cmd::Axiom)),
+            (b"hdTl", Some(Cmd::HdTl)),
+            (b"defineTypeOp", Some(Cmd::DefineTypeOp)),
             (b"typeop", None),
             (b"th", None),
             (b"", None),
         ];
         for (text, wanted) in rows {
-            let found = Cmd::find(text);
-            assert_eq!(rt; found.map(|command| (command, command.is_built())), wanted);
+            assert_eq!(rt; Cmd::find(text), wanted);
         }
     }
 }
