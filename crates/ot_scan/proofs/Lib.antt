@@ -4,3 +4,5 @@ pub mod Pieces
 pub mod Trimming
 pub mod Limits
 pub mod Taking
+pub mod Held
+pub mod Coming

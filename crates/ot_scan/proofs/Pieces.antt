@@ -1,11 +1,12 @@
 -- Laws of cutting at newlines.
-use Rattle.std.proofs.Common.{◌≡◌, ◌≢◌, ◌<◌, ◌≤◌, ◌+◌, ◌-◌, inl, inr, ℕ, zero, suc, List, [], ◌∷◌, ◌++◌, length, take, drop, get_or, append_assoc, append-nil, sym, ap, ◌∙◌, refl, arith}
+use Rattle.std.proofs.Common.{◌≡◌, ◌≢◌, ◌<◌, ◌-◌, inl, inr, ℕ, zero, suc, List, [], ◌∷◌, ◌++◌, length, take, drop, get_or, append_assoc, append-nil, sym, ap, ◌∙◌, refl, arith}
 use Rattle.std.specs.List.{concat}
 use Rattle.std.proofs.lemmas.Bool.Decides.{eqb_tells}
-use Rattle.std.proofs.lemmas.List.{take_all}
-use Rattle.std.proofs.Math.ListN.{drop_of_length-le}
+use Rattle.std.proofs.lemmas.List.{take_all, take-append-le, drop-append-le, length-append}
+use Rattle.std.proofs.Math.ListN.{drop_of_length-le, get_or-append}
 use Rattle.ot_plain.specs.Lists.{IsMember}
 use Rattle.ot_scan.specs.Lines.{onto_first, pieces, IsWhole, IsOpen, AreWhole, IsCut}
+use Rattle.ot_scan.specs.Reading.{IsOpenTo, EndsAt}
 
 -- ---- the pieces are one cut
 
@@ -93,13 +94,42 @@ pieces_none (b ∷ []) some none = pieces-other b [] (none 0 (omega arith))
 pieces_none (b ∷ c ∷ cs) some none =
     pieces-other b (c ∷ cs) (none 0 (omega arith)) ∙ ap (onto_first b) (pieces_none (c ∷ cs) (omega arith) (λ k l. none (suc k) (omega (arith, l))))
 
--- the same, in the code's indices
-pub cut_at : (xs : List ℕ) (n : ℕ) → n < length xs → get_or xs (n + 1 - 1) 0 ≡ 10 → ((k : ℕ) → k < n → get_or xs k 0 ≢ 10) → pieces xs ≡ take (n + 1) xs ∷ pieces (drop (n + 1) xs)
-cut_at xs n lt h none =
-    let one : suc n ≡ n + 1 = omega arith in
-    let at : get_or xs n 0 ≡ 10 = ap (λ i. get_or xs i 0) (omega arith) ∙ h in
-    pieces_at xs n lt at none ∙ ap (λ i. take i xs ∷ pieces (drop i xs)) one
+-- bytes before the first piece
+abbrev pub before_first : List ℕ → List (List ℕ) → List (List ℕ)
+before_first front [] = front ∷ []
+before_first front (p ∷ ps) = (front ++ p) ∷ ps
 
-pub cut_none : (xs : List ℕ) (n : ℕ) → 0 < length xs → length xs ≤ n → ((k : ℕ) → k < n → get_or xs k 0 ≢ 10) → pieces xs ≡ take n xs ∷ pieces (drop n xs)
-cut_none xs n some le none =
-    pieces_none xs some (λ k l. none k (omega (arith, l, le))) ∙ ap (λ z. z ∷ []) (sym (take_all n xs le)) ∙ ap (λ z. take n xs ∷ pieces z) (sym (drop_of_length-le xs le))
+before_first-one : (b : ℕ) (ps : List (List ℕ)) → onto_first b ps ≡ before_first (b ∷ []) ps
+before_first-one b [] = refl
+before_first-one b (p ∷ ps) = refl
+
+before_first-more : (b : ℕ) (front : List ℕ) (ps : List (List ℕ)) → onto_first b (before_first front ps) ≡ before_first (b ∷ front) ps
+before_first-more b front [] = refl
+before_first-more b front (p ∷ ps) = refl
+
+pub pieces_open : (front rest : List ℕ) → 0 < length front → IsOpenTo (length front) front → pieces (front ++ rest) ≡ before_first front (pieces rest)
+pieces_open [] rest some none = absurd (omega (arith, some))
+pieces_open (b ∷ []) rest some none = pieces-other b rest (none 0 (omega arith)) ∙ before_first-one b (pieces rest)
+pieces_open (b ∷ c ∷ cs) rest some none =
+    pieces-other b (c ∷ (cs ++ rest)) (none 0 (omega arith))
+    ∙ ap (onto_first b) (pieces_open (c ∷ cs) rest (omega arith) (λ k l. none (suc k) (omega (arith, l))))
+    ∙ before_first-more b (c ∷ cs) (pieces rest)
+
+-- ---- the first piece, by the bytes that are held
+
+pub first-ends : (len : ℕ) (held rest : List ℕ) → EndsAt len held → pieces (held ++ rest) ≡ take len held ∷ pieces (drop len held ++ rest)
+first-ends len held rest h =
+    let one : suc (len - 1) ≡ len = omega (arith, h.some) in
+    let below : len - 1 < length held = omega (arith, h.some, h.within) in
+    pieces_at (held ++ rest) (len - 1) (omega (arith, below, length-append held rest)) (get_or-append held rest 0 (len - 1) below ∙ h.newline)
+    (λ k l e. h.open_before k l (sym (get_or-append held rest 0 k (omega (arith, l, below))) ∙ e))
+    ∙ ap (λ n. take n (held ++ rest) ∷ pieces (drop n (held ++ rest))) one
+    ∙ ap (λ z. z ∷ pieces (drop len (held ++ rest))) (take-append-le len held rest h.within)
+    ∙ ap (λ z. take len held ∷ pieces z) (drop-append-le len held rest h.within)
+
+pub first-all : (len : ℕ) (held : List ℕ) → 0 < len → length held ≡ len → IsOpenTo len held → pieces (held ++ []) ≡ take len held ∷ pieces (drop len held ++ [])
+first-all len held some all none =
+    ap pieces (append-nil held)
+    ∙ pieces_none held (omega (arith, some, all)) (λ k l. none k (omega (arith, l, all)))
+    ∙ ap (λ z. z ∷ []) (sym (take_all len held (omega (arith, all))))
+    ∙ ap (λ z. take len held ∷ pieces (z ++ [])) (sym (drop_of_length-le held (omega (arith, all))))

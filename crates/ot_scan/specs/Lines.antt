@@ -1,6 +1,7 @@
 -- The lines of an article.
-use Rattle.std.specs.Prelude.{◌≡◌, ◌<◌, ◌≤◌, ◌+◌, ℕ, ◌==◌, ◌||◌, ◌⊎◌, if◌then◌else◌, nat_lt, nat_le, List, [], ◌∷◌, ◌++◌, length, take, drop, reverse, Bool, true, Option, Some, None, Result, Ok, Err}
+use Rattle.std.specs.Prelude.{◌≡◌, ◌<◌, ◌≤◌, ◌+◌, ℕ, ◌==◌, ◌||◌, ◌⊎◌, if◌then◌else◌, nat_lt, nat_le, List, [], ◌∷◌, ◌++◌, length, reverse, Bool, true, Option, Some, None, Result, Ok, Err, IfOk, IfSome, IfNone}
 use Rattle.std.specs.List.{concat}
+use Rattle.ot_io.specs.Causes.{Rose}
 use Rattle.ot_plain.specs.Faults.{Fault, LineTooLong, ArticleTooLong}
 use Rattle.ot_plain.specs.Lists.{IsMember}
 use Rattle.ot_plain.specs.Names.{Name}
@@ -115,28 +116,51 @@ lines_after max before number (p ∷ ps) = with_piece (number + 1) (text_of p) (
 abbrev pub lines_of : ℕ → List ℕ → Lines
 lines_of max bytes = lines_after max 0 0 (pieces bytes)
 
--- the lines of an article from a place on that has so many lines before it
-abbrev pub lines_at : ℕ → List ℕ → ℕ → ℕ → Lines
-lines_at max text at number = lines_after max at number (pieces (drop at text))
+-- ---- the lines to come
+
+-- what is known of an article in the midst of its lines: its limit, the bytes that are held and that no line took yet, and
+-- how many bytes and lines of it came before them
+pub record Scan : Type 0 where
+  pub max : ℕ
+  pub held : List ℕ
+  pub before : ℕ
+  pub number : ℕ
+
+-- the lines to come: those of the bytes that are held, followed by those that are left
+abbrev pub lines_to_come : Scan → List ℕ → Lines
+lines_to_come scan left = lines_after scan.max scan.before scan.number (pieces (scan.held ++ left))
 
 -- ---- the answers of the code
 
--- the next line was taken; at a fault and at the end there was none
+-- the next line was taken; at the end there was none; at a fault the lines to come are the same
 abbrev pub TakesLine : Result (Option Line) ScanFault → Lines → Lines → Type 0
 TakesLine (Ok None) old new = (old ≡ Finished) × (new ≡ Finished)
 TakesLine (Ok (Some line)) old new = old ≡ Next line.number line.text.now new
 TakesLine (Err (code.LineTooLong number)) old new = (old ≡ Broken number LineTooLong) × (new ≡ old)
 TakesLine (Err (code.ArticleTooLong number)) old new = (old ≡ Broken number ArticleTooLong) × (new ≡ old)
-TakesLine (Err code.ReadFault) old new = ⊥
-TakesLine (Err code.Memory) old new = ⊥
+TakesLine (Err code.ReadFault) old new = new ≡ old
 
--- a line with this number keeps the limits, or goes past one
-abbrev pub ChecksLimits : Result (Unit {0}) ScanFault → ℕ → Option (Fault Name) → Type 0
-ChecksLimits (Ok done) line fault = fault ≡ None
-ChecksLimits (Err (code.LineTooLong number)) line fault = (number ≡ line) × (fault ≡ Some LineTooLong)
-ChecksLimits (Err (code.ArticleTooLong number)) line fault = (number ≡ line) × (fault ≡ Some ArticleTooLong)
-ChecksLimits (Err code.ReadFault) line fault = ⊥
-ChecksLimits (Err code.Memory) line fault = ⊥
+-- the next line was taken of these bytes that are held and left; at the end there is no byte more
+pub record Takes (result : Result (Option Line) ScanFault) (old : Scan) (left : List ℕ) (new : Scan) (left' : List ℕ) : Type 0 where
+  pub line : TakesLine result (lines_to_come old left) (lines_to_come new left')
+  pub end : IfOk result (λ o. IfNone o ((new.held ≡ []) × (left' ≡ [])))
+
+-- the next line was taken, where the source tells its bytes; one that tells them goes on to do so
+abbrev pub TakesFrom : Result (Option Line) ScanFault → Scan → Scan → Option (List ℕ) → Option (List ℕ) → Type 0
+TakesFrom result old new None left' = Unit {0}
+TakesFrom result old new (Some left) None = ⊥
+TakesFrom result old new (Some left) (Some left') = Takes result old left new left'
+
+-- a line has a number of its own, greater than those of before, which the limit bounds; also where the source tells nothing
+pub record Counts (result : Result (Option Line) ScanFault) (old new : Scan) : Type 0 where
+  pub max : new.max ≡ old.max
+  pub line : IfOk result (λ o. IfSome o (λ line. (line.number ≡ new.number) × (old.number < new.number) × (new.number ≤ new.max)))
+
+-- a read fault comes only where the count of the source's failures rose
+abbrev pub HasReadCause : ScanFault → ℕ → ℕ → Type 0
+HasReadCause code.ReadFault before now = Rose before now
+HasReadCause (code.LineTooLong number) before now = Unit {0}
+HasReadCause (code.ArticleTooLong number) before now = Unit {0}
 
 -- ---- laws
 
@@ -154,7 +178,3 @@ NamesLimit max before piece =
     ((limit_fault max before piece ≡ None) × ¬ (IsLong piece) × (before + length piece ≤ max))
     ⊎ (((limit_fault max before piece ≡ Some LineTooLong) × IsLong piece × (before + 65536 < max + 1))
     ⊎ ((limit_fault max before piece ≡ Some ArticleTooLong) × (max < before + length piece) × (IsLong piece → max + 1 ≤ before + 65536)))
-
--- bytes after the first past the limit don't count
-abbrev pub OneByteMore : Type 0
-OneByteMore = (max : ℕ) (bytes : List ℕ) → lines_of max (take (max + 1) bytes) ≡ lines_of max bytes

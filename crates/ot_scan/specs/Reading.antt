@@ -1,25 +1,97 @@
--- What reading an article takes from its source.
-use Rattle.std.specs.Prelude.{◌≡◌, ◌≤◌, ℕ, List, ◌++◌, length, Option}
-use Rattle.std.specs.Io.KnownBytes.{Consumes}
-use Rattle.ot_io.specs.Causes.{Rose}
+-- How lines are read: the bytes that are held, and the first piece among them.
+use Rattle.std.specs.Prelude.{◌≡◌, ◌≢◌, ◌<◌, ◌≤◌, ◌+◌, ◌-◌, ◌^◌, ◌⊎◌, ℕ, List, [], ◌++◌, length, take, drop, slice_index, false, Option, Some, None, Result, Ok, Err, IfSome}
+use Rattle.std.specs.Io.KnownBytes.{Consumes, IsAtEnd}
+use Rattle.ot_plain.specs.Faults.{Fault, LineTooLong, ArticleTooLong}
+use Rattle.ot_plain.specs.Names.{Name}
+use Rattle.ot_scan.specs.Lines.{Scan, Lines, Broken, Next, lines_to_come, text_of, is_skipped}
 use Rattle.ot_scan.specs.declared.fault.ScanFault.{ScanFault}
 use Rattle.ot_scan.specs.declared.fault.ScanFault.TheVariants as code
 
--- at most so many bytes were added at the end
-pub record AddsAtMost (most : ℕ) (old new : List ℕ) : Type 0 where
-  pub bytes : List ℕ
-  pub few : length bytes ≤ most
-  pub added : new ≡ old ++ bytes
+-- what holds of the fields: a part of an array of 65,536 bytes, and counts that a limit bounds
+pub record IsScanner (start end before number max : ℕ) : Type 0 where
+  pub ordered : start ≤ end
+  pub inside : end ≤ 65536
+  pub numbered : number ≤ before
+  pub limited : before ≤ max
+  pub small : max ≤ 2 ^ 32
 
--- a source, where its bytes are told, lost some first bytes, at most so many
-pub record LosesAtMost (most : ℕ) (old new : Option (List ℕ)) : Type 0 where
-  pub bytes : List ℕ
-  pub few : length bytes ≤ most
-  pub taken : Consumes old new bytes
+-- ---- reading more
 
--- an article isn't read because the source failed, and its count rose, or because memory ran out
-abbrev pub IsReadRefusal : ScanFault → ℕ → ℕ → Type 0
-IsReadRefusal code.ReadFault before now = Rose before now
-IsReadRefusal code.Memory before now = Unit {0}
-IsReadRefusal (code.LineTooLong number) before now = ⊥
-IsReadRefusal (code.ArticleTooLong number) before now = ⊥
+-- what the source lost is held behind the bytes of before, and nothing else changed
+pub record Reads (old new : Scan) (left left' : Option (List ℕ)) : Type 0 where
+  pub bytes : List ℕ
+  pub lost : Consumes left left' bytes
+  pub held : new ≡ record old { held = old.held ++ bytes }
+
+-- ---- the first piece
+
+-- none of the first n bytes is a newline
+abbrev pub IsOpenTo : ℕ → List ℕ → Type 0
+IsOpenTo n bytes = (k : ℕ) → k < n → slice_index bytes k ≢ 10
+
+-- the first newline is the last of these first bytes
+pub record EndsAt (len : ℕ) (bytes : List ℕ) : Type 0 where
+  pub some : 0 < len
+  pub within : len ≤ length bytes
+  pub open_before : IsOpenTo (len - 1) bytes
+  pub newline : slice_index bytes (len - 1) ≡ 10
+
+-- all the bytes that are held, without a newline: there is no room for more, or none is left
+pub record IsUnended (len : ℕ) (held : List ℕ) (left : Option (List ℕ)) : Type 0 where
+  pub all : length held ≡ len
+  pub open_to : IsOpenTo len held
+  pub ended : (65536 ≤ len) ⊎ IsAtEnd left
+
+-- the first piece, or its first bytes where it has more than are held, or nothing at the end
+pub record IsFirst (len : ℕ) (held : List ℕ) (left : Option (List ℕ)) : Type 0 where
+  pub within : len ≤ length held
+  pub cut : EndsAt len held ⊎ IsUnended len held left
+
+-- ---- lines that hold no command
+
+-- after a line of this length
+abbrev pub taken : ℕ → Scan → Scan
+taken len scan = record { max = scan.max; held = drop len scan.held; before = scan.before + len; number = scan.number + 1 }
+
+-- the lines to come are the same
+abbrev pub KeepsLines : Scan → Scan → Option (List ℕ) → Option (List ℕ) → Type 0
+KeepsLines old new None left' = Unit {0}
+KeepsLines old new (Some left) None = ⊥
+KeepsLines old new (Some left) (Some left') = lines_to_come new left' ≡ lines_to_come old left
+
+-- the limit stays, and the number of lines doesn't fall
+pub record GoesOn (old new : Scan) : Type 0 where
+  pub max : new.max ≡ old.max
+  pub number : old.number ≤ new.number
+
+-- these are the lines to come, where the source tells its bytes
+abbrev pub AreToCome : Lines → Scan → Option (List ℕ) → Type 0
+AreToCome lines scan left = IfSome left (λ bytes. lines_to_come scan bytes ≡ lines)
+
+-- of the bytes that are held the first so many are a line that keeps the limits and holds a command
+pub record IsCommandLine (len : ℕ) (scan : Scan) (left : Option (List ℕ)) : Type 0 where
+  pub within : len ≤ length scan.held
+  pub limited : scan.before + len ≤ scan.max
+  pub holds : is_skipped (text_of (take len scan.held)) ≡ false
+  pub next : IfSome left (λ bytes. lines_to_come scan bytes ≡ Next (scan.number + 1) (text_of (take len scan.held)) (lines_to_come (taken len scan) bytes))
+
+-- the length of the next line that holds a command, or 0 at the end
+pub record FindsLine (len : ℕ) (scan : Scan) (left : Option (List ℕ)) : Type 0 where
+  pub line : 0 < len → IsCommandLine len scan left
+  pub end : len ≡ 0 → (scan.held ≡ []) × IsAtEnd left
+
+-- the next line that holds a command was found, or what stops the lines
+abbrev pub Finds : Result ℕ ScanFault → Scan → Option (List ℕ) → Type 0
+Finds (Ok len) scan left = FindsLine len scan left
+Finds (Err (code.LineTooLong number)) scan left = AreToCome (Broken number LineTooLong) scan left
+Finds (Err (code.ArticleTooLong number)) scan left = AreToCome (Broken number ArticleTooLong) scan left
+Finds (Err code.ReadFault) scan left = Unit {0}
+
+-- ---- limits
+
+-- a line with this number keeps the limits, or goes past one
+abbrev pub ChecksLimits : Result (Unit {0}) ScanFault → ℕ → Option (Fault Name) → Type 0
+ChecksLimits (Ok done) line fault = fault ≡ None
+ChecksLimits (Err (code.LineTooLong number)) line fault = (number ≡ line) × (fault ≡ Some LineTooLong)
+ChecksLimits (Err (code.ArticleTooLong number)) line fault = (number ≡ line) × (fault ≡ Some ArticleTooLong)
+ChecksLimits (Err code.ReadFault) line fault = ⊥

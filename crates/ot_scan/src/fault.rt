@@ -1,9 +1,9 @@
 ghost use Rattle.std.specs.Prelude.{◌≡◌};
-ghost use Rattle.ot_scan.specs.declared.fault.ScanFault.TheVariants.{Memory};
+ghost use Rattle.ot_scan.specs.declared.fault.ScanFault.TheVariants.{ReadFault};
 
-use std::alloc::AllocError;
+use ot_io::Failed;
 
-/// Why an article or its next line can't be read.
+/// Why the next line of an article can't be given.
 #[derive(Clone, Copy, Debug, PartialEq, Eq)]
 pub enum ScanFault {
     /// The source failed.
@@ -12,13 +12,12 @@ pub enum ScanFault {
     LineTooLong(u64),
     /// The article goes past its limit, in the line of this number.
     ArticleTooLong(u64),
-    Memory,
 }
 
-impl From<AllocError> for ScanFault {
-    ghost from_gives = { λ _ e. e ≡ Memory };
+impl From<Failed> for ScanFault {
+    ghost from_gives = { λ _ e. e ≡ ReadFault };
 
-    fn from(_: AllocError) -> ScanFault {
-        ScanFault::Memory
+    fn from(_: Failed) -> ScanFault {
+        ScanFault::ReadFault
     }
 }

@@ -2,11 +2,15 @@
 #![tactic(auto)]
 
 mod fault;
+mod laws;
 mod lines;
-mod reading;
+mod piece;
 mod words;
 
 pub use fault::ScanFault;
-pub use lines::{Line, earlier_limit, next_line, one_byte_more, one_cut};
-pub use reading::read_article;
+pub use laws::{earlier_limit, one_cut};
+pub use lines::{Line, Lines};
 pub use words::{Word, WordFault, command};
+
+#[cfg(test)]
+mod tests;

@@ -1,10 +1,19 @@
-ghost use Rattle.std.specs.Prelude.{◌≡◌, ◌<◌, ◌≤◌, ◌+◌, ◌^◌, ℕ, List, ◌∷◌, length, drop, take, OnSome, IfSome, IfNone, IfOk, OnErr};
-ghost use Rattle.ot_scan.specs.Lines.{TakesLine, ChecksLimits, lines_at, pieces, text_of, is_skipped, is_blank, without_last, trim_front, trim_back, limit_fault, OneCut, NamesLimit, OneByteMore};
+ghost use Rattle.std.specs.Prelude.{◌≡◌, ◌<◌, ◌≤◌, ◌+◌, ◌-◌, ◌^◌, [], take, drop, length, IfOk, IfErr, IfSome};
+ghost use Rattle.std.specs.Borrow.{sem};
+ghost use Rattle.std.specs.Io.BufRead.{Rests};
+ghost use Rattle.std.specs.Io.KnownBytes.{IsAtEnd};
+ghost use Rattle.ot_io.specs.Causes.{HasCause};
+ghost use Rattle.ot_scan.specs.Lines.{TakesFrom, Counts, HasReadCause};
+ghost use Rattle.ot_scan.specs.Reading.{Reads, IsFirst, KeepsLines, GoesOn, Finds, taken};
+ghost use Rattle.ot_scan.specs.contracts.lines.Lines.{the_row};
 
 use crate::fault::ScanFault;
+use crate::piece::{check_limits, is_skipped, piece_len, trimmed};
+use ot_io::{Failed, Source};
+use std::marker::Model;
 
-/// The most bytes of a line, its newline not counted.
-const LINE_BYTES: usize = 65535;
+/// How many bytes are held at most: those of the longest line and its newline.
+const CAPACITY: usize = 65536;
 
 /// A line that holds a command.
 #[derive(Clone, Copy, Debug, PartialEq, Eq)]
@@ -15,267 +24,189 @@ pub struct Line<'a> {
     pub text: &'a [u8],
 }
 
-/// The next line of an article that holds a command, by the article format, from the place `at`
-/// on, which has `number` lines before it. Both begin at 0.
-///
-/// Lines end at a newline, and the last one needs none. At a line, `at` and `number` move behind
-/// it. `None` comes exactly at the end: then `at` is the length of the text, and `number` counts
-/// all its lines.
-///
-/// `LineTooLong` comes exactly at the 65,536th byte of a line, its newline not counted, and
-/// `ArticleTooLong` exactly at byte `max_bytes + 1` of the article. The earlier of the two places
-/// counts, and at one place it is `ArticleTooLong`. After a fault `at` and `number` are as they
-/// were. No other fault comes, and no memory is taken.
-pub fn next_line<'a>(
-    text: &'a [u8],
+/// The lines of an article, in one pass over a source. It holds a fixed array and no source: the
+/// bytes to come are those in the array that no line took yet, followed by those that the source
+/// has left.
+#[derive(Drop)]
+pub struct Lines {
+    buffer: [u8; CAPACITY],
+    start: usize,
+    end: usize,
     max_bytes: u64,
-    at: &mut usize,
-    number: &mut u64,
-) -> Result<Option<Line<'a>>, ScanFault>
-    requires place { at.old ≤ length text.now }
-    requires numbered { number.old ≤ at.old }
-    ensures line { TakesLine result
-        (lines_at max_bytes text.now at.old number.old)
-        (lines_at max_bytes text.now at.new number.new) }
-    ensures not_empty { IfOk result (λ o. IfSome o (λ line. 0 < length line.text.now)) }
+    before: u64,
+    number: u64,
+}
 
-    ensures place { at.new ≤ length text.now }
-    ensures numbered { number.new ≤ at.new }
-    ensures counted { number.new + length (pieces (drop at.new text.now))
-        ≡ number.old + length (pieces (drop at.old text.now)) }
-    ensures further { IfOk result (λ o. OnSome o (at.old < at.new)) }
-    ensures behind { IfOk result (λ o. IfSome o (λ line. line.number ≡ number.new)) }
-    ensures end { IfOk result (λ o. IfNone o (at.new ≡ length text.now)) }
-    ensures kept { OnErr result ((at.new ≡ at.old) × (number.new ≡ number.old)) }
-{
-    let mut place = *at;
-    let mut passed = *number;
-    while place < text.len() {
-        let rest = &text[place..];
-        let piece = &rest[..piece_len(rest)];
-        check_limits(max_bytes, place, passed + 1, piece)?;
-        place += piece.len();
-        passed += 1;
-        let text = trimmed(piece);
-        if !is_skipped(text) {
-            *at = place;
-            *number = passed;
-            return Ok(Some(Line {
-                number: passed,
-                text,
-            }));
+impl Model for Lines {
+    ghost use Rattle.std.specs.Prelude.{◌-◌, take, drop};
+    ghost use Rattle.ot_scan.specs.Lines.{Scan};
+    ghost use Rattle.ot_scan.specs.Reading.{IsScanner};
+
+    ghost Value = { Scan };
+
+    ghost view = { λ l. record {
+      max = l.max_bytes;
+      held = take (l.end - l.start) (drop l.start l.buffer);
+      before = l.before;
+      number = l.number;
+    } };
+
+    ghost invariant = { λ l. IsScanner l.start l.end l.before l.number l.max_bytes };
+}
+
+impl Lines {
+    /// The lines of an article that has at most `max_bytes` bytes, before the first.
+    pub fn new(max_bytes: u64) -> Lines
+        requires { max_bytes ≤ 2 ^ 32 }
+        ensures { result ≡ record { max = max_bytes; held = []; before = 0; number = 0 } }
+    {
+        Lines {
+            buffer: [0; CAPACITY],
+            start: 0,
+            end: 0,
+            max_bytes,
+            before: 0,
+            number: 0,
         }
     }
-    *at = place;
-    *number = passed;
-    Ok(None)
-}
 
-/// How long the first piece is.
-fn piece_len(bytes: &[u8]) -> usize
-    requires { 0 < length bytes.now }
-    ensures some { 0 < result }
-    ensures within { result ≤ length bytes.now }
-    ensures cut { pieces bytes.now ≡ take result bytes.now ∷ pieces (drop result bytes.now) }
-{
-    let mut len = 0;
-    while len < bytes.len() {
-        len += 1;
-        if bytes[len - 1] == b'\n' {
-            break;
+    /// The next line that holds a command, by the article format.
+    ///
+    /// Lines end at a newline, and the last one needs none. `None` comes exactly at the end of the
+    /// input. `LineTooLong` comes exactly at the 65,536th byte of a line, its newline not counted, and
+    /// `ArticleTooLong` exactly at byte `max_bytes + 1` of the article. The earlier of the two places
+    /// counts, and at one place it is `ArticleTooLong`; a later call answers the same. `ReadFault`
+    /// comes only where the source failed in this call. Then no byte is lost, and a later call goes
+    /// on. No memory is taken.
+    pub fn next<S: Source>(&mut self, source: &mut S) -> Result<Option<Line<'_>>, ScanFault>
+        ensures* line { sem 𝓛 (Rests the_row self.entry (λ new.
+            TakesFrom result self.old new (S.left source.old) (S.left source.new)
+            × Counts result self.old new)) }
+        ensures not_empty { IfOk result (λ o. IfSome o (λ line. 0 < length line.text.now)) }
+
+        ensures cause { IfErr result (λ fault.
+            HasReadCause fault (S.faults source.old) (S.faults source.new)) }
+        ensures later { S.faults source.old ≤ S.faults source.new }
+
+        ensures folder { S.folder source.new ≡ S.folder source.old }
+        ensures misses { S.misses source.new ≡ S.misses source.old }
+        ensures at { S.at source.new ≡ S.at source.old }
+    {
+        let len = self.pass_skipped(source)?;
+        if len == 0 {
+            return Ok(None);
         }
+        let number = self.number + 1;
+        let text = trimmed(self.take_piece(len));
+        Ok(Some(Line { number, text }))
     }
-    len
-}
 
-/// Whether the piece of a line, which stands after so many bytes, keeps the limits.
-fn check_limits(max_bytes: u64, before: usize, number: u64, piece: &[u8]) -> Result<(), ScanFault>
-    requires { before + length piece.now < 2 ^ 64 }
-    ensures { ChecksLimits result number (limit_fault max_bytes before piece.now) }
-{
-    let is_long = without_last(piece, b'\n').len() > LINE_BYTES;
-    let is_past = (before + piece.len()) as u64 > max_bytes;
-    if is_long && !(is_past && max_bytes <= (before + LINE_BYTES) as u64) {
-        return Err(ScanFault::LineTooLong(number));
-    }
-    if is_past {
-        return Err(ScanFault::ArticleTooLong(number));
-    }
-    Ok(())
-}
+    /// Passes over the lines that hold no command, and answers how long the line after them is, its
+    /// newline counted, or 0 at the end.
+    fn pass_skipped<S: Source>(&mut self, source: &mut S) -> Result<usize, ScanFault>
+        ensures kept { KeepsLines self.old self.new (S.left source.old) (S.left source.new) }
+        ensures goes_on { GoesOn self.old self.new }
+        ensures found { Finds result self.new (S.left source.new) }
 
-/// The piece without its last byte, where it is this one.
-fn without_last(piece: &[u8], byte: u8) -> &[u8]
-    ensures text { result.now ≡ without_last byte piece.now }
-    ensures within { length result.now ≤ length piece.now }
-{
-    let len = piece.len();
-    if len > 0 && piece[len - 1] == byte {
-        &piece[..len - 1]
-    } else {
-        piece
-    }
-}
+        ensures cause { IfErr result (λ fault.
+            HasReadCause fault (S.faults source.old) (S.faults source.new)) }
+        ensures later { S.faults source.old ≤ S.faults source.new }
 
-/// The text of a piece.
-fn trimmed(piece: &[u8]) -> &[u8]
-    ensures { result.now ≡ text_of piece.now }
-{
-    let line = without_last(piece, b'\n');
-    let line = without_last(line, b'\r');
-    trimmed_back(trimmed_front(line))
-}
-
-/// Whether a text is empty or a comment.
-fn is_skipped(text: &[u8]) -> bool
-    ensures { result ≡ is_skipped text.now }
-{
-    matches!(text, [] | [b'#', ..])
-}
-
-fn is_blank(byte: u8) -> bool
-    ensures { result ≡ is_blank byte }
-{
-    byte == b' ' || byte == b'\t'
-}
-
-fn trimmed_front(line: &[u8]) -> &[u8]
-    ensures { result.now ≡ trim_front line.now }
-{
-    let mut text = line;
-    'front: while let [b' ' | b'\t', rest @ ..] = text {
-        text = rest;
-    }
-    text
-}
-
-fn trimmed_back(line: &[u8]) -> &[u8]
-    ensures { result.now ≡ trim_back line.now }
-{
-    let mut len = line.len();
-    'back: while len > 0 && is_blank(line[len - 1]) {
-        len -= 1;
-    }
-    &line[..len]
-}
-
-/// A law: the pieces of a text are its bytes, cut after each newline and nowhere else.
-pub fn one_cut()
-    ensures { OneCut }
-{}
-
-/// A law: the fault of a piece is that of the earlier of its two places, at one place the article's.
-pub fn earlier_limit()
-    ensures { (max before : ℕ) (piece : List ℕ) → NamesLimit max before piece }
-{}
-
-/// A law: an article's first bytes, one more than its limit, have the lines of the whole.
-pub fn one_byte_more()
-    ensures { OneByteMore }
-{}
-
-#[cfg(test)]
-mod tests {
-    use super::*;
-    use std::test::Fail;
-
-    const FIRST: &[u8] =
-        b"6\nversion\n\"p\"\n\"bool\"\ntypeOp\nnil\nopType\nvar\nvarTerm\n0\ndef\nassume\n0\nref\nnil\ncons\n0\nref\nthm\n";
-
-    /// Articles with their limits, the lines that hold a command, and what comes then.
-    const ROWS: [(&[u8], u64, &[(u64, &[u8])], Result<(), ScanFault>); 12] = [
-        (b"", 100, &[], Ok(())),
-        (b"\n \t\r\n#\n", 100, &[], Ok(())),
-        (b"6\nversion", 100, &[(1, b"6"), (2, b"version")], Ok(())),
-        (
-            b"6\r\n\t version\t \r\n\n  # no\nnil\r",
-            100,
-            &[(1, b"6"), (2, b"version"), (5, b"nil")],
-            Ok(()),
-        ),
-        (
-            b"a\r\r\nb \r \nc d",
-            100,
-            &[(1, b"a\r"), (2, b"b \r"), (3, b"c d")],
-            Ok(()),
-        ),
-        (
-            b"\x80\xff\n\"\xc3\xa9\"\n",
-            100,
-            &[(1, b"\x80\xff"), (2, b"\"\xc3\xa9\"")],
-            Ok(()),
-        ),
-        (
-            FIRST,
-            10,
-            &[(1, b"6"), (2, b"version")],
-            Err(ScanFault::ArticleTooLong(3)),
-        ),
-        (b"6\nversion\n", 10, &[(1, b"6"), (2, b"version")], Ok(())),
-        (
-            b"6\nversion\n",
-            9,
-            &[(1, b"6")],
-            Err(ScanFault::ArticleTooLong(2)),
-        ),
-        (
-            b"6\nversion\n\n",
-            10,
-            &[(1, b"6"), (2, b"version")],
-            Err(ScanFault::ArticleTooLong(3)),
-        ),
-        (b"#\n#\n", 3, &[], Err(ScanFault::ArticleTooLong(2))),
-        (b"6", 0, &[], Err(ScanFault::ArticleTooLong(1))),
-    ];
-
-    #[test]
-    fn lines(rt: HostRuntime) {
-        for (text, max_bytes, lines, end) in ROWS {
-            let mut at = 0;
-            let mut number = 0;
-            for (line_number, line_text) in lines {
-                assert!(rt; at <= text.len() && number <= at as u64);
-                let line = Line {
-                    number: *line_number,
-                    text: line_text,
-                };
-                assert_eq!(rt;
-                    next_line(text, max_bytes, &mut at, &mut number),
-                    Ok(Some(line))
-                );
+        ensures folder { S.folder source.new ≡ S.folder source.old }
+        ensures misses { S.misses source.new ≡ S.misses source.old }
+        ensures at { S.at source.new ≡ S.at source.old }
+    {
+        'lines: loop {
+            let len = self.first_piece(source)?;
+            if len == 0 {
+                return Ok(0);
             }
-            assert!(rt; at <= text.len() && number <= at as u64);
-            assert_eq!(rt;
-                next_line(text, max_bytes, &mut at, &mut number),
-                end.map(|()| None)
-            );
+            let piece = &self.held()[..len];
+            check_limits(self.max_bytes, self.before, self.number + 1, piece)?;
+            if !is_skipped(trimmed(piece)) {
+                return Ok(len);
+            }
+            self.take_piece(len);
         }
     }
 
-    #[test]
-    fn long_lines(rt: HostRuntime) -> Result<(), Fail> {
-        let mut text = vec![in rt.alloc(); b'x'; 65535]?;
-        text.push(b'\n')?;
-        let mut at = 0;
-        let mut number = 0;
-        let line = next_line(&text, 65536, &mut at, &mut number)?;
-        assert_eq!(rt;
-            line.map(|line| (line.number, line.text.len())),
-            Some((1, 65535))
-        );
-        assert_eq!(rt; (at, number), (65536, 1));
-        text.insert(0, b'#')?;
-        at = 0;
-        number = 0;
-        assert_eq!(rt;
-            next_line(&text, 65536, &mut at, &mut number),
-            Err(ScanFault::LineTooLong(1))
-        );
-        assert_eq!(rt;
-            next_line(&text, 65535, &mut at, &mut number),
-            Err(ScanFault::ArticleTooLong(1))
-        );
-        assert_eq!(rt; (at, number), (0, 0));
-        Ok(())
+    /// Reads until the first piece is held, or its first 65,536 bytes where it is longer, and answers
+    /// how many bytes that is: 0 exactly at the end. At a failure what was read before it is held.
+    fn first_piece<S: Source>(&mut self, source: &mut S) -> Result<usize, Failed>
+        ensures read { Reads self.old self.new (S.left source.old) (S.left source.new) }
+        ensures first { IfOk result (λ len. IsFirst len self.new.held (S.left source.new)) }
+
+        ensures cause { HasCause (S.faults source.old) (S.faults source.new) result }
+        ensures folder { S.folder source.new ≡ S.folder source.old }
+        ensures misses { S.misses source.new ≡ S.misses source.old }
+        ensures at { S.at source.new ≡ S.at source.old }
+    {
+        let mut searched = 0;
+        'reads: loop {
+            let held = self.held();
+            if let Some(len) = piece_len(held, searched) {
+                return Ok(len);
+            }
+            searched = held.len();
+            if searched >= CAPACITY || self.read_more(source)? == 0 {
+                return Ok(searched);
+            }
+        }
+    }
+
+    /// Reads more bytes, and answers how many: none at the end.
+    fn read_more<S: Source>(&mut self, source: &mut S) -> Result<usize, Failed>
+        requires { length self.old.held < 65536 }
+        ensures read { Reads self.old self.new (S.left source.old) (S.left source.new) }
+        ensures count { IfOk result (λ count.
+            length self.new.held ≡ length self.old.held + count) }
+        ensures end { IfOk result (λ count. count ≡ 0 → IsAtEnd (S.left source.new)) }
+
+        ensures cause { HasCause (S.faults source.old) (S.faults source.new) result }
+        ensures folder { S.folder source.new ≡ S.folder source.old }
+        ensures misses { S.misses source.new ≡ S.misses source.old }
+        ensures at { S.at source.new ≡ S.at source.old }
+    {
+        let len = self.end - self.start;
+        move_to_front(&mut self.buffer, self.start, self.end);
+        self.start = 0;
+        self.end = len;
+        let count = source.read(&mut self.buffer[len..])?;
+        self.end += count;
+        Ok(count)
+    }
+
+    /// The bytes that no line took yet.
+    fn held(&self) -> &[u8]
+        ensures { result.now ≡ self.now.held }
+    {
+        &self.buffer[self.start..self.end]
+    }
+
+    /// Takes the first bytes that are held, as a line.
+    fn take_piece(&mut self, len: usize) -> &[u8]
+        requires some { 0 < len }
+        requires within { len ≤ length self.old.held }
+        requires limited { self.old.before + len ≤ self.old.max }
+        ensures piece { result.now ≡ take len self.old.held }
+        ensures* taken { sem 𝓛 (Rests the_row self.entry (λ new. new ≡ taken len self.old)) }
+    {
+        let start = self.start;
+        self.start += len;
+        self.before += len as u64;
+        self.number += 1;
+        let buffer = &self.buffer;
+        &buffer[start..start + len]
+    }
+}
+
+/// Moves the bytes between two places to the front.
+fn move_to_front(buffer: &mut [u8], start: usize, end: usize)
+    requires ordered { start ≤ end }
+    requires within { end ≤ length buffer.old }
+    ensures { take (end - start) buffer.new ≡ take (end - start) (drop start buffer.old) }
+{
+    if start > 0 {
+        buffer.copy_within(start..end, 0);
     }
 }

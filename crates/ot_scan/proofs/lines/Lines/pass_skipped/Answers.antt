@@ -1,0 +1,61 @@
+use Rattle.std.proofs.Common.{◌≡◌, ◌<◌, ◌≤◌, ◌+◌, false, length, take, sym, ap, subst, ◌∙◌, arith}
+use Rattle.std.specs.Prelude.{None, Err}
+use Rattle.std.proofs.lemmas.List.{length-take-le}
+use Rattle.std.proofs.lemmas.Result.{err_from_is_err_and}
+use Rattle.ot_scan.specs.Lines.{Scan, text_of, is_skipped, limit_fault}
+use Rattle.ot_scan.specs.Reading.{KeepsLines, ChecksLimits}
+use Rattle.ot_scan.proofs.Taking.{seen, limits-kept}
+use Rattle.ot_scan.proofs.Coming.{keeps-more, keeps-reads, keeps-skipped, next-found, stop-found}
+use Rattle.ot_scan.proofs.lines.Lines.pass_skipped.Goals as goal
+
+pub returns-in_err-len-clause-found : goal.returns-in_err-len-clause-found
+returns-in_err-len-clause-found g c =
+    let p = err_from_is_err_and c.from_residual.result c.from_residual.ensures.1 in
+    rw (p.1, p.2) tt
+
+pub returns-in_err-check_limits-clause-found : goal.returns-in_err-check_limits-clause-found
+returns-in_err-check_limits-clause-found g c =
+    let p = err_from_is_err_and c.from_residual-in_err-check_limits.result c.from_residual-in_err-check_limits.ensures.1 in
+    let scan = c.first_piece.new.self in
+    let len = c.in_ok-len.len in
+    let fault = c.in_err-check_limits.field-0.0 in
+    rw (p.1, p.2) (stop-found scan len _ fault c.in_ok-len.ensures.first (omega arith)
+    (subst (λ (s : Scan). ChecksLimits (Err fault) (s.number + 1) (limit_fault s.max s.before (take len s.held))) (seen scan _ _ c.self.view_is c.held.ensures) c.in_err-check_limits.ensures.limits))
+
+pub returns-then-not-is_skipped-clause-found : goal.returns-then-not-is_skipped-clause-found
+returns-then-not-is_skipped-clause-found g c =
+    let scan = c.first_piece.new.self in
+    let len = c.in_ok-len.len in
+    let limits : limit_fault scan.max scan.before (take len scan.held) ≡ None = limits-kept scan _ _ len c.self.view_is c.held.ensures c.in_ok-check_limits.ensures.limits in
+    let holds : is_skipped (text_of (take len scan.held)) ≡ false = ap (λ bs. is_skipped (text_of (take len bs))) (sym c.held.ensures) ∙ ap is_skipped (sym c.trimmed.ensures) ∙ sym c.if-not-is_skipped.ensures in
+    let some : 0 < len = omega arith in
+    record {
+      line = λ _. record {
+        within = c.in_ok-len.ensures.first.within;
+        limited = omega (arith, subst (λ (s : Scan). s.before + length (take len s.held) ≤ s.max) (seen scan _ _ c.self.view_is c.held.ensures) c.in_ok-check_limits.ensures.within, length-take-le len scan.held c.in_ok-len.ensures.first.within);
+        holds = holds;
+        next = next-found scan len _ c.in_ok-len.ensures.first some limits holds;
+      };
+      end = λ none. absurd (omega (arith, none, some));
+    }
+
+pub lines-preserved : goal.lines-preserved
+lines-preserved g c =
+    let scan = c.first_piece.new.self in
+    let len = c.in_ok-len.len in
+    let left = g.S.Source.left c.first_piece.new.source in
+    let limits : limit_fault scan.max scan.before (take len scan.held) ≡ None = limits-kept scan _ _ len c.self.view_is c.held.ensures c.in_ok-check_limits.ensures.limits in
+    let skipped = ap (λ bs. is_skipped (text_of (take len bs))) (sym c.held.ensures) ∙ ap is_skipped (sym c.trimmed.ensures) ∙ sym c.if-not-is_skipped.ensures in
+    record {
+      kept = keeps-more c.args.self.now c.lines.self c.take_piece.follows.lender-at-none (g.S.Source.left c.args.source.now) (g.S.Source.left c.lines.source) left c.lines.invariant.kept
+          (keeps-more c.lines.self scan c.take_piece.follows.lender-at-none (g.S.Source.left c.lines.source) left left (keeps-reads c.lines.self scan (g.S.Source.left c.lines.source) left c.in_ok-len.ensures.read)
+          (subst (λ (s : Scan). KeepsLines scan s left left) (sym c.take_piece.follows.holds-at-none) (keeps-skipped scan len left c.in_ok-len.ensures.first (omega arith) limits skipped)));
+      goes_on = record {
+        max = ap (λ (s : Scan). s.max) (c.take_piece.follows.holds-at-none) ∙ ap (λ (s : Scan). s.max) c.in_ok-len.ensures.read.held ∙ c.lines.invariant.goes_on.max;
+        number = omega (arith, c.lines.invariant.goes_on.number, ap (λ (s : Scan). s.number) c.take_piece.follows.holds-at-none, ap (λ (s : Scan). s.number) c.in_ok-len.ensures.read.held);
+      };
+      later = omega (arith, c.lines.invariant.later, c.in_ok-len.ensures.cause.later);
+      folder = c.in_ok-len.ensures.folder ∙ c.lines.invariant.folder;
+      misses = c.in_ok-len.ensures.misses ∙ c.lines.invariant.misses;
+      at = c.in_ok-len.ensures.at ∙ c.lines.invariant.at;
+    }

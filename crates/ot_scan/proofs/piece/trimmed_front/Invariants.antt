@@ -1,0 +1,9 @@
+use Rattle.std.proofs.Common.{◌≡◌, length}
+use Rattle.ot_scan.specs.Lines.{trim_front}
+use Rattle.ot_scan.proofs.piece.trimmed_front.Given as goal
+
+abbrev pub invariant-front : goal.invariant-front
+invariant-front l = trim_front l.text ≡ trim_front l.line
+
+abbrev pub decreases-front : goal.decreases-front
+decreases-front l = length l.text
