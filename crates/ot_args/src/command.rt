@@ -1,15 +1,25 @@
 ghost use Rattle.std.specs.Prelude.{◌≡◌, ℕ, List};
-ghost use Rattle.std.specs.Option.{option_and_then};
-ghost use Rattle.ot_args.specs.Grammar.{texts_of, answer, arguments, check, command_of, is_input, CommandValue, IsRead};
+ghost use Rattle.ot_args.specs.Grammar.{texts_of, answer, command_of, is_input, CommandValue, IsRead};
+ghost use Rattle.ot_args.specs.Reading.{command_given, given_value};
 
 use crate::arguments::Given;
+use crate::sections::{Sections, names_any, shown};
 
-/// What the words of the command line ask for.
+/// What the words of the command line ask for. In each command the input is `-` for an article on
+/// standard input, or an article file's name, and the theory packages are in a folder.
 #[derive(Clone, Copy, Debug, PartialEq, Eq)]
 pub enum Command<'a> {
-    /// Runs the input: `-` for an article on standard input, or an article file's name. The theory
-    /// packages are in a folder.
-    Check { packages: &'a str, input: &'a str },
+    /// Runs the input.
+    Check {
+        packages: &'a str,
+        input: &'a str,
+    },
+    /// Runs the input and shows sections of its summary.
+    Info {
+        packages: &'a str,
+        input: &'a str,
+        sections: Sections,
+    },
 }
 
 /// The words are no command.
@@ -17,15 +27,20 @@ pub enum Command<'a> {
 pub struct Usage;
 
 impl<'a> Command<'a> {
-    /// The command that the words write, without the program's name: `check [--packages DIR] INPUT`.
-    /// The folder is `packages` where the words name none. `Usage` comes exactly for words outside
-    /// the grammar. No memory is taken.
+    /// The command that the words write, without the program's name: `check [--packages DIR] INPUT`
+    /// or `info [--assumptions] [--definitions] [--theorems] [--packages DIR] INPUT`, with options in
+    /// any order and each at most once. The folder is `packages` where the words name none; all three
+    /// sections are asked for where they name none. `Usage` comes exactly for words outside this
+    /// grammar, which is the program's own. No memory is taken.
     pub fn read(words: &'a [String]) -> Result<Command<'a>, Usage>
         ensures { answer result ≡ command_of (texts_of words.now) }
     {
         match words {
-            [word, words @ ..] if word.as_str() == "check" => check(words),
-            _ => Err(Usage),
+            [word, words @ ..] => match Given::read(words) {
+                Ok(given) => command_given(word.as_str(), given),
+                Err(usage) => Err(usage),
+            },
+            [] => Err(Usage),
         }
     }
 }
@@ -36,14 +51,21 @@ pub fn one_reading()
     ensures { (words : List (List ℕ)) (c : CommandValue) → IsRead words c }
 {}
 
-/// The command `check` with the words behind it.
-fn check(words: &[String]) -> Result<Command<'_>, Usage>
-    ensures { answer result ≡ option_and_then check (arguments (texts_of words.now)) }
+/// The command of a word with what is given behind it.
+fn command_given<'a>(word: &str, given: Given<'a>) -> Result<Command<'a>, Usage>
+    ensures { answer result ≡ command_given word.now (given_value given.entry) }
 {
-    match Given::read(words) {
-        Ok(given) if is_input(given.operand) => Ok(Command::Check {
-            packages: given.packages.unwrap_or("packages"),
-            input: given.operand,
+    let packages = given.packages.unwrap_or("packages");
+    let input = given.operand;
+    if !is_input(input) {
+        return Err(Usage);
+    }
+    match word.as_bytes() {
+        b"check" if !names_any(given.sections) => Ok(Command::Check { packages, input }),
+        b"info" => Ok(Command::Info {
+            packages,
+            input,
+            sections: shown(given.sections),
         }),
         _ => Err(Usage),
     }
@@ -68,19 +90,72 @@ mod tests {
     use std::alloc::{AllocError, Global};
     use std::test::Fail;
 
-    /// The words of a line, and the packages' folder and the input of its `check`.
-    const ROWS: [(&[&str], Option<(&str, &str)>); 27] = [
-        (&["check", "-"], Some(("packages", "-"))),
-        (&["check", "a.art"], Some(("packages", "a.art"))),
-        (&["check", "a.thy.art"], Some(("packages", "a.thy.art"))),
-        (&["check", "--packages", "p", "-"], Some(("p", "-"))),
+    const ALL: Sections = Sections {
+        assumptions: true,
+        definitions: true,
+        theorems: true,
+    };
+
+    const ASSUMPTIONS: Sections = Sections {
+        assumptions: true,
+        definitions: false,
+        theorems: false,
+    };
+
+    const THEOREMS: Sections = Sections {
+        assumptions: false,
+        definitions: false,
+        theorems: true,
+    };
+
+    const NO_THEOREMS: Sections = Sections {
+        assumptions: true,
+        definitions: true,
+        theorems: false,
+    };
+
+    /// The words of a line, and the packages' folder and the input of its command, with the sections
+    /// of an `info`.
+    const ROWS: [(&[&str], Option<(&str, &str, Option<Sections>)>); 47] = [
+        (&["check", "-"], Some(("packages", "-", None))),
+        (&["check", "a.art"], Some(("packages", "a.art", None))),
+        (
+            &["check", "a.thy.art"],
+            Some(("packages", "a.thy.art", None)),
+        ),
+        (&["check", "--packages", "p", "-"], Some(("p", "-", None))),
         (
             &["check", "--packages", "-p", "a.art"],
-            Some(("-p", "a.art")),
+            Some(("-p", "a.art", None)),
         ),
         (
             &["check", "--packages", "--packages", "-"],
-            Some(("--packages", "-")),
+            Some(("--packages", "-", None)),
+        ),
+        (&["info", "a"], Some(("packages", "a", Some(ALL)))),
+        (&["info", "-"], Some(("packages", "-", Some(ALL)))),
+        (
+            &["info", "--theorems", "a"],
+            Some(("packages", "a", Some(THEOREMS))),
+        ),
+        (
+            &["info", "--packages", "p", "--assumptions", "a"],
+            Some(("p", "a", Some(ASSUMPTIONS))),
+        ),
+        (
+            &[
+                "info",
+                "--definitions",
+                "--packages",
+                "--theorems",
+                "--assumptions",
+                "a",
+            ],
+            Some(("--theorems", "a", Some(NO_THEOREMS))),
+        ),
+        (
+            &["info", "--theorems", "--definitions", "--assumptions", "a"],
+            Some(("packages", "a", Some(ALL))),
         ),
         (&[], None),
         (&["check"], None),
@@ -93,14 +168,39 @@ mod tests {
         (&["check", "-", "--packages", "p"], None),
         (&["check", "--packages=p", "-"], None),
         (&["check", "--definitions", "-"], None),
+        (&["check", "--theorems", "a"], None),
         (&["check", "--", "-"], None),
         (&["check", ""], None),
         (&["check", "-x"], None),
         (&["check", "t.thy"], None),
         (&["check", ".thy"], None),
         (&["Check", "-"], None),
+        (&["info"], None),
+        (&["info", "--theorems", "--theorems", "a"], None),
+        (
+            &[
+                "info",
+                "--packages",
+                "p",
+                "--theorems",
+                "--packages",
+                "q",
+                "a",
+            ],
+            None,
+        ),
+        (&["info", "--packages"], None),
+        (&["info", "--packages", "", "a"], None),
+        (&["info", "--definitions"], None),
+        (&["info", "--theorems", "-x"], None),
+        (&["info", "-x"], None),
+        (&["info", "a.thy"], None),
+        (&["info", "a", "--theorems"], None),
+        (&["info", "a", "b"], None),
         (&["link", "a.art"], None),
-        (&["info", "-"], None),
+        (&["sample", "0"], None),
+        (&["sample", "1001"], None),
+        (&["sample", "007"], None),
         (&["--help"], None),
         (&["--version"], None),
     ];
@@ -118,7 +218,12 @@ mod tests {
         for (line, wanted) in ROWS {
             let words = owned(rt.alloc(), line)?;
             let wanted = match wanted {
-                Some((packages, input)) => Ok(Command::Check { packages, input }),
+                Some((packages, input, None)) => Ok(Command::Check { packages, input }),
+                Some((packages, input, Some(sections))) => Ok(Command::Info {
+                    packages,
+                    input,
+                    sections,
+                }),
                 None => Err(Usage),
             };
             assert_eq!(rt; Command::read(&words), wanted);

@@ -3,5 +3,7 @@
 
 mod arguments;
 mod command;
+mod sections;
 
 pub use command::{Command, Usage, one_reading};
+pub use sections::Sections;

@@ -1,26 +1,17 @@
-use Rattle.std.proofs.Common.{◌≡◌, ℕ, ◌≤◌, ◌<◌, true, List, [], ◌∷◌, length, get_or, refl, ap, sym, ◌∙◌, arith}
-use Rattle.std.specs.Prelude.{String, Option, None, Some}
-use Rattle.std.specs.Global.{Global}
+use Rattle.std.proofs.Common.{◌∙◌}
 use Rattle.std.specs.Option.{option_copied}
-use Rattle.std.specs.String.{string_bytes}
-use Rattle.ot_args.specs.Grammar.{are_options, texts_of}
-use Rattle.ot_args.specs.Reading.{read_after, folder_options}
+use Rattle.ot_args.specs.Reading.{Settings}
+use Rattle.ot_args.proofs.Steps.{section_loop, folder_loop}
 use Rattle.ot_args.proofs.arguments.Given.read.Goals as goal
 
-only_text : (words : List (String Global)) (word : String Global) → 1 ≤ length words → length words < 2 → word ≡ get_or words 0 word → texts_of words ≡ string_bytes word ∷ []
-only_text [] word h k e = absurd (omega arith)
-only_text (first ∷ []) word h k e = ap (λ (w : String Global). string_bytes w ∷ []) (sym e)
-only_text (_ ∷ _ ∷ words) word h k e = absurd (omega arith)
+pub loop-rest-preserved-in-Some : goal.loop-rest-preserved-in-Some
+loop-rest-preserved-in-Some c =
+    let s : Settings = record { folder = option_copied c.loop-rest.packages; sections = c.loop-rest.sections } in
+    c.loop-rest.invariant
+    ∙ section_loop c.loop-rest.rest.now c.word-item.result c.next-item.result _ s c.in-Some.more c.in-len2-up.len_at_least c.word-item.is c.next-item.is c.as_str-name.ensures.value c.in-Some.ensures
 
-read_last : (named : Option (List ℕ)) (operand : List ℕ) → are_options (folder_options named) ≡ true → read_after (folder_options named) (operand ∷ []) ≡ Some (record { options = folder_options named; operand = operand })
-read_last None operand h = refl
-read_last (Some folder) operand h = rw h refl
-
-pub returns-in-len1 : goal.returns-in-len1
-returns-in-len1 c =
-    let named = option_copied c.loop-rest.packages in
-    let last = only_text c.loop-rest.rest.now c.operand-item.result c.in-len1.len_at_least c.in_default.len_below c.operand-item.is in
-    let same : string_bytes c.operand-item.result ≡ c.as_str-in-len1.result.now = sym c.as_str-in-len1.ensures.value in
-    sym (c.loop-rest.invariant.reads
-    ∙ ap (read_after (folder_options named)) (last ∙ ap (λ (t : List ℕ). t ∷ []) same)
-    ∙ read_last named c.as_str-in-len1.result.now c.loop-rest.invariant.are_options)
+pub loop-rest-preserved : goal.loop-rest-preserved
+loop-rest-preserved c =
+    let s : Settings = record { folder = option_copied c.loop-rest.packages; sections = c.loop-rest.sections } in
+    c.loop-rest.invariant
+    ∙ folder_loop c.loop-rest.rest.now c.word-item.result c.next-item.result _ _ s c.in-len2-up.len_at_least c.word-item.is c.next-item.is c.as_str-name.ensures.value c.as_str-value.ensures.value c.if-names_folder.ensures
