@@ -17,7 +17,7 @@ use Rattle.ot_kernel.proofs.Equating.{limit_at, limits_at}
 
 -- ---- the terms of a table are within the limit
 module _ (t : TermTable) (table : IsTermTable t) where
-  sequent-shallow : (th : Theorem) → IsInside (length t.terms) th → is_shallow_sequent numbers (numbered_sequent t.terms th) ≡ true
+  pub sequent-shallow : (th : Theorem) → IsInside (length t.terms) th → is_shallow_sequent numbers (numbered_sequent t.terms th) ≡ true
   sequent-shallow th h =
       let a = limits_at t table th.hyps.items h.hyps in
       let b = limit_at t table th.concl h.concl in

@@ -78,11 +78,11 @@ deep_redex x y p q = redex x y p ∙ deep_conclusion (sequent_of numbers (reduce
 
 -- ---- beta's refusals
 pub beta_refused : (x : Tm ℕ) (fault : SubstFault) → (fault ≡ faults.NotRedex → contracted x ≡ None) → (fault ≡ faults.Nesting → (y : Tm ℕ) × (contracted x ≡ Some y) × (is_shallow numbers y ≡ false)) → RefusesRule (of_subst fault) (beta_conv_rule numbers x)
-beta_refused x faults.NotRedex none deep = refuses_rule rules.NotRedex NotRedex (beta_conv_rule numbers x) refl (no_redex x (none refl))
+beta_refused x faults.NotRedex none deep = refuses_rule rules.NotRedex NotRedex (beta_conv_rule numbers x) (λ _. refl) (no_redex x (none refl))
 beta_refused x faults.Nesting none deep =
     let (y, p, q) = deep refl in
-    refuses_rule rules.Nesting Nesting (beta_conv_rule numbers x) refl (deep_redex x y p (deep-right (App (Con numbers.equals (fun_ty numbers (type_of numbers x) (fun_ty numbers (type_of numbers x) (bool_ty numbers)))) x) y q))
-beta_refused x faults.Memory none deep = λ f p. cc
+    refuses_rule rules.Nesting Nesting (beta_conv_rule numbers x) (λ _. refl) (deep_redex x y p (deep-right (App (Con numbers.equals (fun_ty numbers (type_of numbers x) (fun_ty numbers (type_of numbers x) (bool_ty numbers)))) x) y q))
+beta_refused x faults.Memory none deep = λ r f p. cc
 
 -- ---- the equation over the table, which has what beta made
 module _ (t u : TermTable) (g : Grows t u) (table : IsTermTable u) (i : ℕ) (h : i < length t.terms) (id : ℕ) (made : (y : Tm ℕ) × (contracted (tm_at t.terms i) ≡ Some y) × HasForm u id y) where

@@ -33,7 +33,7 @@ use Rattle.ot_kernel.proofs.Later.{Later, IsHeld, Between, alphabet_at, over-ter
 -- ---- what a rule has answered, over names
 
 -- the stated sequent, over the terms that there are by then, or the stated refusal
-abbrev Made : Result Theorem RuleFault → Result (Sequent Name) (Fault Name) → State → Type 0
+abbrev pub Made : Result Theorem RuleFault → Result (Sequent Name) (Fault Name) → State → Type 0
 Made (Ok th) stated mid = IsInside (length mid.terms) th × (stated ≡ Ok (sequent_of mid.terms th))
 Made (Err e) stated mid = RefusesRule e stated
 
@@ -61,13 +61,17 @@ ruled-concluded (Err f) (Ok id) new d a = absurd a
 ruled-concluded {stated} {now} {mid} (Err f) (Err e) new d a = subst (λ (z : State × RuleFault). Concluded (Err z.1) stated now z.0) (λ i. (sym a.0 i, sym a.1 i)) (record { concludes = (d.same.theorems, d.made); keeps = d.keeps; same = d.same.basis })
 
 module _ {ns ms : List Name} {t u : TermTable} {held : Held} {now mid : State} (l : Later ns ms t u held now mid) where
-  -- ---- operands over the line of alphabets
-  made : (D : (L : Type 0) → Alphabet L → Type 0) (rule : (L : Type 0) (c : Alphabet L) → D L c → Result (Sequent L) (Fault L)) (x : D ℕ numbers) (y : D Name names)
-      → PathP (λ i. D (Between l i) (alphabet_at l i)) x y → (r : Result Theorem RuleFault) → Derives r (rule ℕ numbers x) u.terms → Made r (rule Name names y) mid
-  made D rule x y p (Ok th) h =
+  pub inside_after : (th : Theorem) → IsInside (length u.terms) th → IsInside (length mid.terms) th
+  inside_after th h =
       let e = ap (λ (s : State). length s.terms) l.after in
       let n = length-map (map_named (name_of ms)) u.terms in
-      let inside : IsInside (length mid.terms) th = record { hyps = λ j d m. let w = h.0.hyps j d m in omega (arith, e, n); concl = omega (arith, e, n, h.0.concl) } in
+      record { hyps = λ j d m. let w = h.hyps j d m in omega (arith, e, n); concl = omega (arith, e, n, h.concl) }
+
+  -- ---- operands over the line of alphabets
+  pub made : (D : (L : Type 0) → Alphabet L → Type 0) (rule : (L : Type 0) (c : Alphabet L) → D L c → Result (Sequent L) (Fault L)) (x : D ℕ numbers) (y : D Name names)
+      → PathP (λ i. D (Between l i) (alphabet_at l i)) x y → (r : Result Theorem RuleFault) → Derives r (rule ℕ numbers x) u.terms → Made r (rule Name names y) mid
+  made D rule x y p (Ok th) h =
+      let inside = inside_after th h.0 in
       let named = coe 0 1 (i. rule (Between l i) (alphabet_at l i) (p i) ≡ Ok (over_sequent (naming ms) (numbered_sequent u.terms th) i)) h.1 in
       (inside, named ∙ ap Ok (real_sequent ms u held mid l.after l.kernel th.hyps.items th.concl inside.hyps inside.concl))
   made D rule x y p (Err e) h = coe 0 1 (i. RefusesRule e (rule (Between l i) (alphabet_at l i) (p i))) h

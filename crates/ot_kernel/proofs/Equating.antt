@@ -29,7 +29,7 @@ module _ (t : TermTable) (table : IsTermTable t) where
   pub limit_at : (i : ℕ) → i < length t.terms → is_shallow numbers (tm_at t.terms i) ≡ true
   limit_at i h = table.limit i (term_at t.terms i) (slice_get-get_or t.terms i (NConst 0 (TyVar 0)) h)
 
-  typed_at : (i : ℕ) → i < length t.terms → (ty : Ty ℕ) × HasType numbers (tm_at t.terms i) ty
+  pub typed_at : (i : ℕ) → i < length t.terms → (ty : Ty ℕ) × HasType numbers (tm_at t.terms i) ty
   typed_at i h =
       let (ty, typed) = table.typed i (term_at t.terms i) (slice_get-get_or t.terms i (NConst 0 (TyVar 0)) h) in
       (ty, type-nameless numbers tells_numbers (term_at t.terms i) ∙ typed)

@@ -1,6 +1,6 @@
 -- What the rules on equations answer, step by step.
 use Rattle.std.specs.List.{list_all}
-use Rattle.std.proofs.Common.{◌≡◌, Bool, true, false, ◌&&◌, if◌then◌else◌, List, [], Option, Some, None, Result, Ok, Err, refl, sym, ap, ◌∙◌, subst, inl, inr, ◌⊎◌}
+use Rattle.std.proofs.Common.{◌≡◌, ℕ, Bool, true, false, ◌&&◌, if◌then◌else◌, List, [], Option, Some, None, Result, Ok, Err, refl, sym, ap, ◌∙◌, subst, inl, inr, ◌⊎◌}
 use Rattle.std.proofs.Math.Bool.{and-false}
 use Rattle.std.proofs.lemmas.Option.{same_Some}
 use Rattle.ot_plain.specs.Trees.{Alphabet, Ty, Variable, Tm, App, Abs, Sequent}
@@ -17,13 +17,13 @@ use Rattle.ot_kernel.proofs.EquationLimits.{shallow-left, shallow-right}
 
 -- ---- refusals
 -- a refusal is the stated one
-pub refuses_rule : {X N : Type 0} (e : RuleFault) (f : Fault N) (stated : Result X (Fault N)) → rule_fault e ≡ Some f → stated ≡ Err f → RefusesRule e stated
-refuses_rule e f stated p s g q = s ∙ ap Err (same_Some f g (sym p ∙ q))
+pub refuses_rule : {X N : Type 0} (e : RuleFault) (f : Fault N) (stated : Result X (Fault N)) → ((read : ℕ → N) → rule_fault read e ≡ Some f) → stated ≡ Err f → RefusesRule e stated
+refuses_rule e f stated p s read g q = s ∙ ap Err (same_Some f g (sym (p read) ∙ q))
 
 -- two rules with one refusal
 refused-same : {X Y N : Type 0} (e : RuleFault) (f : Fault N) (r : Result X (Fault N)) (s : Result Y (Fault N)) → r ≡ Err f → s ≡ Err f → RefusesRule e r → RefusesRule e s
-refused-same {X = X} {N = N} e f r s p q h g k =
-    let first : ◌≡◌ {A = Result X (Fault N)} (Err f) (Err g) = sym p ∙ h g k in
+refused-same {X = X} {N = N} e f r s p q h read g k =
+    let first : ◌≡◌ {A = Result X (Fault N)} (Err f) (Err g) = sym p ∙ h read g k in
     let same : f ≡ g = cc in
     q ∙ ap Err same
 
@@ -39,18 +39,18 @@ module _ {N : Type 0} (alphabet : Alphabet N) where
   -- ---- the limit
   -- what has a part that passes the limit passes it
   pub limited-refused : (e : RuleFault) (part t : Tm N) → (is_shallow alphabet t ≡ true → is_shallow alphabet part ≡ true) → RefusesRule e (limited alphabet part) → RefusesRule e (limited alphabet t)
-  limited-refused e part t inside h f p =
-      let (off, same) = limit-err (is_shallow alphabet part) Nesting f part (h f p) in
+  limited-refused e part t inside h read f p =
+      let (off, same) = limit-err (is_shallow alphabet part) Nesting f part (h read f p) in
       rw (off_back (is_shallow alphabet part) (is_shallow alphabet t) inside off) (ap Err same)
 
   -- what is within the limit is not refused
   pub limited-never : {X : Type 0} (e : RuleFault) (t : Tm N) (stated : Result X (Fault N)) → is_shallow alphabet t ≡ true → RefusesRule e (limited alphabet t) → RefusesRule e stated
-  limited-never e t stated on h f p = let (off, same) = limit-err (is_shallow alphabet t) Nesting f t (h f p) in cc
+  limited-never e t stated on h read f p = let (off, same) = limit-err (is_shallow alphabet t) Nesting f t (h read f p) in cc
 
   -- a conclusion that passes the limit
   pub within-refused : (e : RuleFault) (g : List (Tm N)) (t : Tm N) → RefusesRule e (limited alphabet t) → RefusesRule e (within_limit alphabet (record { hyps = g; concl = t }))
-  within-refused e g t h f p =
-      let (off, same) = limit-err (is_shallow alphabet t) Nesting f t (h f p) in
+  within-refused e g t h read f p =
+      let (off, same) = limit-err (is_shallow alphabet t) Nesting f t (h read f p) in
       rw (off, and-false (list_all (is_shallow alphabet) g)) (ap Err same)
 
   -- one within it, under hypotheses within it

@@ -5,7 +5,7 @@ use Rattle.std.proofs.Common.{refl, sym, ap, subst, arith}
 use Rattle.std.proofs.lemmas.Option.{slice_get-get_or, get_or_from_slice_get}
 use Rattle.std.proofs.lemmas.List.Elements.{All-head, All-tail}
 use Rattle.ot_plain.specs.Names.{Name}
-use Rattle.ot_plain.specs.Trees.{TyVar, Named, NConst}
+use Rattle.ot_plain.specs.Trees.{TyVar, Named, NConst, Sequent, Definition}
 use Rattle.ot_plain.specs.Hol.{nameless, IsSequent, Accepted}
 use Rattle.ot_plain.specs.Renamed.{map_ty, map_named}
 use Rattle.ot_plain.specs.Naming.{names, name_of, IsNameTable}
@@ -17,7 +17,8 @@ use Rattle.ot_term.specs.TermTable.{Grows, NamesUpTo, IsTermTable}
 use Rattle.ot_kernel.specs.declared.theorem.Theorem.{Theorem}
 use Rattle.ot_kernel.specs.State.{State, named_at, Keeps, SameTheorems}
 use Rattle.ot_laws.specs.Theorem.{IsTheorem}
-use Rattle.ot_kernel.specs.Spelled.{Held, sequent_of, sequents_at, state_of, IsInside, IsKernel}
+use Rattle.ot_kernel.specs.Spelled.{Held, sequent_of, sequents_at, undefined_state, state_of, IsInside, IsKernel}
+use Rattle.ot_kernel.proofs.Accepted.{held_stay, definitions_kept, signature_kept}
 use Rattle.ot_kernel.proofs.Namings.{agree_ty, agree_named, length-map, map-Extends, bound_ty-get, bound_named-get, name_of-Extends}
 
 -- ---- sequents
@@ -58,10 +59,12 @@ grown_from ns ms t u held k more first g table a b = record {
     table = table;
     inside = λ i th p. let h = k.inside i th p in record { hyps = λ j n q. let l = h.hyps j n q in omega (arith, g.terms.longer); concl = omega (arith, h.concl, g.terms.longer) };
     numbered = k.numbered;
+    accepted = held_stay (state_of ns t held) (state_of ms u held) more types theorems held.definitions k.accepted;
+    signature = signature_kept ns ms k.names first more (state_of ns t held).definitions (state_of ms u held).definitions held.signature defined k.signature;
     sound = record {
-      theorems = subst (λ qs. All (IsTheorem names (sequents_at qs held.assumptions) []) qs) (sym sequents) k.sound.theorems;
+      theorems = subst (λ (z : List (Sequent Name) × List (Definition Name)). All (IsTheorem names (sequents_at z.0 held.assumptions) z.1) z.0) (λ i. (sym sequents i, sym defined i)) k.sound.theorems;
       assumptions = subst (λ qs. All (IsSequent names) (sequents_at qs held.assumptions)) (sym sequents) k.sound.assumptions;
-      accepted = subst (λ qs. Accepted names (sequents_at qs held.assumptions) []) (sym sequents) k.sound.accepted;
+      accepted = subst (λ (z : List (Sequent Name) × List (Definition Name)). Accepted names (sequents_at z.0 held.assumptions) z.1) (λ i. (sym sequents i, sym defined i)) k.sound.accepted;
       names = first;
     };
   };
@@ -69,11 +72,11 @@ grown_from ns ms t u held k more first g table a b = record {
     names = more;
     types = types;
     terms = terms;
-    theorems = subst (Extends (map (sequent_of ts) held.theorems)) (sym sequents) (Extends-refl _);
+    theorems = theorems;
     assumptions = subst (Extends (sequents_at (map (sequent_of ts) held.theorems) held.assumptions)) (sym assumed) (Extends-refl _);
-    definitions = Extends-refl [];
+    definitions = subst (Extends (state_of ns t held).definitions) (sym defined) (Extends-refl _);
   };
-  same = record { theorems = sequents; basis = record { assumptions = assumed; definitions = refl } };
+  same = record { theorems = sequents; basis = record { assumptions = assumed; definitions = defined } };
 }
   where
     f : ℕ → Name
@@ -100,8 +103,14 @@ grown_from ns ms t u held k more first g table a b = record {
     sequents : map (sequent_of us) held.theorems ≡ map (sequent_of ts) held.theorems
     sequents = sequents-Extends ts us terms held.theorems (λ i th p. let h = k.inside i th p in record { hyps = λ j n q. let l = h.hyps j n q in omega (arith, length-map (map_named f) t.terms); concl = omega (arith, h.concl, length-map (map_named f) t.terms) })
 
+    theorems : Extends (map (sequent_of ts) held.theorems) (map (sequent_of us) held.theorems)
+    theorems = subst (Extends (map (sequent_of ts) held.theorems)) (sym sequents) (Extends-refl _)
+
     assumed : sequents_at (map (sequent_of us) held.theorems) held.assumptions ≡ sequents_at (map (sequent_of ts) held.theorems) held.assumptions
     assumed = ap (λ qs. sequents_at qs held.assumptions) sequents
+
+    defined : (state_of ms u held).definitions ≡ (state_of ns t held).definitions
+    defined = definitions_kept ns t held (undefined_state ms u held) k more types theorems
 
 -- the same from the state that contracts see
 pub grown : (ns ms : List Name) (t u : TermTable) (held : Held) (now : State) → state_of ns t held ≡ now → IsKernel ns t held → Extends ns ms → IsNameTable ms → Grows t u → IsTermTable u → names_in u.types ≤ length ms → names_in_terms u.terms ≤ length ms → Grown now ms u held

@@ -1,5 +1,5 @@
 -- A call that leaves a kernel's theorems as they are, and what the numbers that it takes stand for after it.
-use Rattle.std.specs.Prelude.{◌≡◌, ℕ, ◌<◌, max, suc, List, [], ◌∷◌, map, length, slice_index_or, nat_eq, ◌&&◌, Some}
+use Rattle.std.specs.Prelude.{◌≡◌, ℕ, ◌<◌, ◌≤◌, max, suc, List, [], ◌∷◌, map, length, slice_index_or, nat_eq, ◌&&◌, Some}
 use Rattle.std.specs.List.{All}
 use Rattle.std.proofs.Common.{refl, sym, ap, ◌∙◌, subst, arith}
 use mathlib.Core.Path.{PathP}
@@ -30,6 +30,7 @@ use Rattle.ot_kernel.specs.declared.kernel.Kernel.TheInside.{Inside}
 use Rattle.ot_kernel.specs.State.{State, name_at, type_at, variable_at, term_at, terms_at, theorem_at, Keeps, SameTheorems}
 use Rattle.ot_kernel.specs.Spelled.{Held, sequent_of, state_of, IsInside, IsKernel}
 use Rattle.ot_kernel.specs.Numbered.{tm_at, tms_at, numbered_sequent, IsGrownBy}
+use Rattle.ot_kernel.specs.Proved.{IsGrownTo}
 use Rattle.ot_kernel.specs.Pairs.{type_pairs, term_pairs, AreTypePairs, IsSubstIn}
 use Rattle.ot_kernel.proofs.Growth.{Grown, grown, terms_grown, names_grown}
 use Rattle.ot_kernel.proofs.Namings.{length-map, table_names}
@@ -46,12 +47,18 @@ pub record Later (ns ms : List Name) (t u : TermTable) (held : Held) (now mid : 
   pub keeps : Keeps now mid
   pub same : SameTheorems now mid
 
--- the theorems and the assumptions of a kernel
+-- the theorems, the assumptions and the definitions of a kernel
 abbrev pub held_of : Inside → Held
-held_of k = record { theorems = k.theorems.items; assumptions = k.assumptions.items }
+held_of k = record { theorems = k.theorems.items; assumptions = k.assumptions.items; definitions = k.definitions.items; signature = k.signature }
 
 later_from : (ns ms : List Name) (t u : TermTable) (held : Held) (now : State) → state_of ns t held ≡ now → IsKernel ns t held → terms.Grows t u → Grown now ms u held → Later ns ms t u held now (state_of ms u held)
 later_from ns ms t u held now view k g w = record { before = view; after = refl; old = k; kernel = w.kernel; grows = g; keeps = w.keeps; same = w.same }
+
+-- terms may be new, of names below a bound
+pub later_to : (k : ℕ) (ns : List Name) (t u : TermTable) (held : Held) (now : State) → state_of ns t held ≡ now → IsKernel ns t held → k ≤ length now.names → IsGrownTo k t u → Later ns ns t u held now (state_of ns u held)
+later_to k ns t u held now view kernel within g =
+    let e = ap (λ (s : State). length s.names) view in
+    later_from ns ns t u held now view kernel g.grows (terms_grown k ns t u held now view kernel g.grows g.table g.names (omega (arith, within, e)))
 
 -- terms may be new, of names of the table
 pub later_terms : (n : ℕ) (ns : List Name) (t u : TermTable) (held : Held) (now : State) → state_of ns t held ≡ now → IsKernel ns t held → n < length now.names → IsGrownBy n t u → Later ns ns t u held now (state_of ns u held)
@@ -90,7 +97,7 @@ module _ {ns ms : List Name} {t u : TermTable} {held : Held} {now mid : State} (
   now_within i h = let e = ap (λ (s : State). length s.terms) l.before in omega (arith, e, length-map (map_named (name_of ns)) t.terms)
 
   -- ---- what a number stands for, over numbers and over names
-  spelled_name : (i : ℕ) → i < length now.names → name_of ms i ≡ name_at now i
+  pub spelled_name : (i : ℕ) → i < length now.names → name_of ms i ≡ name_at now i
   spelled_name i h = real_name ms u held mid l.after l.kernel i (omega (arith, l.keeps.names.longer)) ∙ get_or-Extends now.names mid.names l.keeps.names i [] h
 
   spelled_type : (i : ℕ) → i < length now.types → map_ty (name_of ms) (type_tree t.types i) ≡ type_at now i
@@ -146,8 +153,11 @@ module _ {ns ms : List Name} {t u : TermTable} {held : Held} {now mid : State} (
       let c : ◌≡◌ {A = Sequent Name} (map_sequent (name_of ms) (numbered_sequent t.terms th)) (record { hyps = terms_at now th.hyps.items; concl = term_at now th.concl }) = λ j. record { hyps = a j; concl = b j } in
       c ∙ real_theorem ns t held now l.before i th h.within h.at
 
+  pub theorem_sound : (i : ℕ) → i < length now.theorems → IsTheorem names now.assumptions now.definitions (theorem_at now i)
+  theorem_sound i h = (subst (λ s. All (IsTheorem names s.assumptions s.definitions) s.theorems) l.before l.old.sound.theorems) i (record { hyps = []; concl = Bound 0 }) h
+
   pub held_sound : (i : ℕ) (th : Theorem) → IsHeld i th → IsTheorem names now.assumptions now.definitions (theorem_at now i)
-  held_sound i th h = (subst (λ s. All (IsTheorem names s.assumptions s.definitions) s.theorems) l.before l.old.sound.theorems) i (record { hyps = []; concl = Bound 0 }) h.within
+  held_sound i th h = theorem_sound i h.within
 
   -- ---- substitutions
   abbrev lettered : IsLettering (name_of ms) numbers names

@@ -1,5 +1,6 @@
 -- The real state of a kernel, as its tables and its theorems grow, and what its calls answer.
 pub mod Namings
+pub mod Accepted
 pub mod Growth
 pub mod Carried
 pub mod TermRules
@@ -22,3 +23,17 @@ pub mod Later
 pub mod Derived
 pub mod Supposed
 pub mod Adding
+pub mod Conditions
+pub mod Accepting
+pub mod Checked
+pub mod Occurring
+pub mod Constants
+pub mod Lists
+pub mod NewFunctions
+pub mod RoundTrips
+pub mod NewTypes
+pub mod Conversions
+pub mod Leaves
+pub mod PutConstants
+pub mod Premises
+pub mod Operators

@@ -24,17 +24,17 @@ use Rattle.ot_kernel.proofs.TermRules.{app-made, app-not_function, app-argument_
 use Rattle.ot_kernel.proofs.EquationRules.{refuses_rule, equation_rule-at}
 
 -- the term of a new number
-new_at : (u : TermTable) (id : ℕ) (x : Named ℕ) → slice_get u.terms id ≡ Some x → (id < length u.terms) × (term_at u.terms id ≡ x)
+pub new_at : (u : TermTable) (id : ℕ) (x : Named ℕ) → slice_get u.terms id ≡ Some x → (id < length u.terms) × (term_at u.terms id ≡ x)
 new_at u id x p = (slice_get_within u.terms id x p, get_or_from_slice_get u.terms id x (NConst 0 (TyVar 0)) p)
 
 -- a type of a named term is that of its nameless form
 has : (t : Named ℕ) (ty : Ty ℕ) → named_type numbers t ≡ Some ty → type_in numbers [] (nameless numbers t) ≡ Some ty
 has t ty h = type-nameless numbers tells_numbers t ∙ h
 
-limited-made : (t : Tm ℕ) → is_shallow numbers t ≡ true → limited numbers t ≡ Ok t
+pub limited-made : (t : Tm ℕ) → is_shallow numbers t ≡ true → limited numbers t ≡ Ok t
 limited-made t h = rw h refl
 
-limited-past : (t : Tm ℕ) → is_shallow numbers t ≡ false → limited numbers t ≡ Err Nesting
+pub limited-past : (t : Tm ℕ) → is_shallow numbers t ≡ false → limited numbers t ≡ Err Nesting
 limited-past t h = rw h refl
 
 -- ---- equations
@@ -55,8 +55,8 @@ equation_refused a b of_terms.NotFunction same function argument nesting = absur
 equation_refused a b of_terms.ArgumentType same function argument nesting = absurd (argument refl (sym (type-nameless numbers tells_numbers a) ∙ same ∙ type-nameless numbers tells_numbers b))
 equation_refused a b of_terms.Nesting same function argument nesting =
     let (ty, p, q, past) = nesting refl in
-    refuses_rule rules.Nesting Nesting _ refl (equation_rule-at numbers (nameless numbers a) (nameless numbers b) ty (has a ty p) ∙ limited-past (nameless numbers (named_equation ty a b)) past)
-equation_refused a b of_terms.Memory same function argument nesting = λ f p. cc
+    refuses_rule rules.Nesting Nesting _ (λ _. refl) (equation_rule-at numbers (nameless numbers a) (nameless numbers b) ty (has a ty p) ∙ limited-past (nameless numbers (named_equation ty a b)) past)
+equation_refused a b of_terms.Memory same function argument nesting = λ r f p. cc
 
 -- ---- applications
 pub makes_application : (u : TermTable) (f x : Named ℕ) (id : ℕ) → IsTermTable u → slice_get u.terms id ≡ Some (NApp f x) → Makes (Ok id) (app_rule numbers (nameless numbers f) (nameless numbers x)) u.terms
@@ -70,14 +70,14 @@ pub application_refused : (f x : Named ℕ) (e : TermFault)
     → (e ≡ of_terms.ArgumentType → (a b : Ty ℕ) × (named_type numbers f ≡ Some (fun_ty numbers a b)) × (named_type numbers x ≢ Some a))
     → (e ≡ of_terms.Nesting → (b : Ty ℕ) × (named_type numbers (NApp f x) ≡ Some b) × (is_within_limit (NApp f x) ≡ false))
     → RefusesRule (of_term e) (app_rule numbers (nameless numbers f) (nameless numbers x))
-application_refused f x of_terms.NotFunction function argument nesting = refuses_rule rules.NotFunction NotFunction _ refl (app-not_function numbers tells_numbers f x (function refl))
+application_refused f x of_terms.NotFunction function argument nesting = refuses_rule rules.NotFunction NotFunction _ (λ _. refl) (app-not_function numbers tells_numbers f x (function refl))
 application_refused f x of_terms.ArgumentType function argument nesting =
     let (a, b, p, q) = argument refl in
-    refuses_rule rules.ArgumentType ArgumentType _ refl (app-argument_type numbers tells_numbers f x a b p q)
+    refuses_rule rules.ArgumentType ArgumentType _ (λ _. refl) (app-argument_type numbers tells_numbers f x a b p q)
 application_refused f x of_terms.Nesting function argument nesting =
     let (b, p, q) = nesting refl in
-    refuses_rule rules.Nesting Nesting _ refl (app-nesting numbers tells_numbers f x b p q)
-application_refused f x of_terms.Memory function argument nesting = λ g p. cc
+    refuses_rule rules.Nesting Nesting _ (λ _. refl) (app-nesting numbers tells_numbers f x b p q)
+application_refused f x of_terms.Memory function argument nesting = λ r g p. cc
 
 -- ---- abstractions
 pub makes_abstraction : (u : TermTable) (v : Variable ℕ) (b : Named ℕ) (id : ℕ) → IsTermTable u → slice_get u.terms id ≡ Some (NAbs v b) → Makes (Ok id) (abs_rule numbers v (nameless numbers b)) u.terms
@@ -86,5 +86,5 @@ makes_abstraction u v b id table made =
     (below, abs-made numbers tells_numbers v b (table.limit id (NAbs v b) made) ∙ ap (λ z. Ok (nameless numbers z)) (sym is))
 
 pub abstraction_refused : (v : Variable ℕ) (b : Named ℕ) (e : TableFault) → (e ≡ of_types.Nesting → is_within_limit (NAbs v b) ≡ false) → RefusesRule (of_table e) (abs_rule numbers v (nameless numbers b))
-abstraction_refused v b of_types.Nesting nesting = refuses_rule rules.Nesting Nesting _ refl (abs-nesting numbers tells_numbers v b (nesting refl))
-abstraction_refused v b of_types.Memory nesting = λ f p. cc
+abstraction_refused v b of_types.Nesting nesting = refuses_rule rules.Nesting Nesting _ (λ _. refl) (abs-nesting numbers tells_numbers v b (nesting refl))
+abstraction_refused v b of_types.Memory nesting = λ r f p. cc

@@ -97,6 +97,10 @@ module _ (ns : List Name) (t : TermTable) (held : Held) (now : State) (view : st
   boolean-ok u (Ok id) p = get_or_from_slice_get _ id _ (TyVar []) (new_type ns u held id (bool_ty numbers) p) ∙ ap (λ n. TyOp n NoTys) letters.bool_name
   boolean-ok u (Err e) p = p
 
+  pub boolean-within : {E : Type 0} (u : TermTable) (r : Result ℕ E) → IfOk r (λ id. slice_get u.types id ≡ Some (bool_ty numbers)) → IfOk r (λ id. id < length (state_of ns u held).types)
+  boolean-within u (Ok id) p = slice_get_within _ id _ (new_type ns u held id (bool_ty numbers) p)
+  boolean-within u (Err e) p = p
+
   -- what holds of trees over numbers holds of what the numbers stand for
   real_op : (P : (L : Type 0) → Alphabet L → L → Tys L → Type 0) → (n : ℕ) (is : List ℕ) → n < length now.names → All (λ i. i < length now.types) is → P ℕ numbers n (types.types_at t.types is) → P Name names (name_at now n) (types_at now is)
   real_op P n is h g p =

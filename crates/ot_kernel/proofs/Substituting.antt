@@ -81,10 +81,10 @@ module _ (ns ms : List Name) (t u : TermTable) (s : Substitution) (ids : List �
       → RefusesRule (of_subst fault) (subst_rule numbers (type_part t s) (variable_part t s) (record { hyps = tms_at t.terms ids; concl = concl }))
   image_refused concl faults.Nesting deep never =
       let member : IsMember (F (tm_at t.terms i)) (map F (tms_at t.terms ids)) = subst (IsMember (F (tm_at t.terms i))) a.made (IsMember-right (F (tm_at t.terms i)) (tms_at u.terms is) _ (subst (IsMember (F (tm_at t.terms i))) (sym rest) (inl refl))) in
-      refuses_rule rules.Nesting Nesting (subst_rule numbers (type_part t s) (variable_part t s) (record { hyps = tms_at t.terms ids; concl = concl })) refl
+      refuses_rule rules.Nesting Nesting (subst_rule numbers (type_part t s) (variable_part t s) (record { hyps = tms_at t.terms ids; concl = concl })) (λ _. refl)
       (too_deep t s (tms_at t.terms ids) concl (F (tm_at t.terms i)) member (ap (is_shallow numbers) (sym same_image) ∙ deep refl))
   image_refused concl faults.NotRedex deep never = absurd (never refl)
-  image_refused concl faults.Memory deep never = λ f p. cc
+  image_refused concl faults.Memory deep never = λ r f p. cc
 
 -- ---- the theorem
 module _ (t u : TermTable) (g : Grows t u) (s : Substitution) (subst_of : IsSubstOf t s) (th : Theorem) (inside : IsInside (length t.terms) th) where
@@ -104,7 +104,7 @@ module _ (t u : TermTable) (g : Grows t u) (s : Substitution) (subst_of : IsSubs
   pub conclusion_refused : (fault : SubstFault) → (fault ≡ faults.Nesting → is_shallow numbers (substituted u s (nameless numbers (term_at u.terms th.concl))) ≡ false) → (fault ≡ faults.NotRedex → ⊥)
       → RefusesRule (of_subst fault) (subst_rule numbers (type_part t s) (variable_part t s) (numbered_sequent t.terms th))
   conclusion_refused faults.Nesting deep never =
-      refuses_rule rules.Nesting Nesting (subst_rule numbers (type_part t s) (variable_part t s) (numbered_sequent t.terms th)) refl
+      refuses_rule rules.Nesting Nesting (subst_rule numbers (type_part t s) (variable_part t s) (numbered_sequent t.terms th)) (λ _. refl)
       (deep_conclusion (record { hyps = once_each numbers (map (substituted t s) (tms_at t.terms th.hyps.items)); concl = substituted t s (tm_at t.terms th.concl) }) (ap (is_shallow numbers) (sym same_conclusion) ∙ deep refl))
   conclusion_refused faults.NotRedex deep never = absurd (never refl)
-  conclusion_refused faults.Memory deep never = λ f p. cc
+  conclusion_refused faults.Memory deep never = λ r f p. cc

@@ -8,13 +8,14 @@ use Rattle.std.proofs.lemmas.Option.{same_Some}
 use Rattle.std.proofs.lemmas.List.Elements.{All-push}
 use Rattle.ot_plain.specs.Lists.{AreDistinct}
 use Rattle.ot_plain.specs.Names.{Name}
-use Rattle.ot_plain.specs.Trees.{Ty, Tm, Bound, Sequent}
+use Rattle.ot_plain.specs.Trees.{Ty, Tm, Bound, Sequent, Definition}
 use Rattle.ot_plain.specs.Faults.{Fault, NotBool}
 use Rattle.ot_plain.specs.Hol.{bool_ty, nameless, once_each, same_sequent, HasType, IsSequent}
 use Rattle.ot_plain.specs.Naming.{names, numbers, name_of}
 use Rattle.ot_plain.specs.Renamed.{map_named}
 use Rattle.ot_plain.specs.Rules.{has_type}
 use Rattle.ot_plain.proofs.InternedLemmas.{slice_get-last}
+use Rattle.ot_plain.specs.Table.{Extends}
 use Rattle.ot_plain.proofs.TableLemmas.{Extends-refl, Extends-trans, Extends-append}
 use Rattle.ot_term.specs.Term.{TermTable}
 use Rattle.ot_laws.specs.Theorem.{IsTheorem}
@@ -28,11 +29,13 @@ use Rattle.ot_kernel.specs.declared.fault.RuleFault.{RuleFault}
 use Rattle.ot_kernel.specs.declared.fault.RuleFault.TheVariants.{Memory}
 use Rattle.ot_kernel.specs.declared.fault.RuleFault.TheVariants as rules
 use Rattle.ot_kernel.specs.State.{State, type_at, term_at, terms_at, theorem_at, Keeps, SameTheorems, IsSoundState}
-use Rattle.ot_kernel.specs.Spelled.{Held, sequent_of, sequents_at, state_of, IsInside, IsKernel}
+use Rattle.ot_kernel.specs.Definitions.{IsSignature}
+use Rattle.ot_kernel.specs.Spelled.{Held, sequent_of, sequents_at, undefined_state, state_of, IsInside, IsKernel}
 use Rattle.ot_kernel.specs.Numbered.{tms_at}
 use Rattle.ot_kernel.specs.Axioms.{axiom_rule, known, with_sequent, with_theorem}
 use Rattle.ot_kernel.specs.Answers.{Assumes}
 use Rattle.ot_kernel.specs.Supposed.{IsProposed, IsSupposed, supposing}
+use Rattle.ot_kernel.proofs.Accepted.{held_stay, definitions_kept}
 use Rattle.ot_kernel.proofs.Growth.{named_at-Extends, hyps-Extends}
 use Rattle.ot_kernel.proofs.Later.{Later, now_within, alphabet_at, over-terms}
 use Rattle.ot_kernel.proofs.Namings.{length-map, map-push, map-drop}
@@ -65,7 +68,7 @@ sequents_at-last qs q is h =
     map-push (λ i. slice_index_or (qs ++ q ∷ []) i (record { hyps = []; concl = Bound 0 })) is (length qs) ∙ (λ j. old j ++ last j ∷ [])
 
 assumed_from : (ns : List Name) (t : TermTable) (held : Held) (th : Theorem) → IsKernel ns t held → IsProposed (state_of ns t held) th
-    → Assumed (state_of ns t held) ns t (record { theorems = held.theorems ++ th ∷ []; assumptions = held.assumptions ++ length held.theorems ∷ [] }) th
+    → Assumed (state_of ns t held) ns t (record held { theorems = held.theorems ++ th ∷ []; assumptions = held.assumptions ++ length held.theorems ∷ [] }) th
 assumed_from ns t held th k p = record { kernel = kernel; state = state }
   where
     f : Theorem → Sequent Name
@@ -81,7 +84,7 @@ assumed_from ns t held th k p = record { kernel = kernel; state = state }
     al = sequents_at qs held.assumptions
 
     more : Held
-    more = record { theorems = held.theorems ++ th ∷ []; assumptions = held.assumptions ++ length held.theorems ∷ [] }
+    more = record held { theorems = held.theorems ++ th ∷ []; assumptions = held.assumptions ++ length held.theorems ∷ [] }
 
     same_length : length qs ≡ length held.theorems
     same_length = length-map f held.theorems
@@ -89,22 +92,31 @@ assumed_from ns t held th k p = record { kernel = kernel; state = state }
     theorems : map f (held.theorems ++ th ∷ []) ≡ qs ++ q ∷ []
     theorems = map-push f held.theorems th
 
+    longer : Extends qs (map f (held.theorems ++ th ∷ []))
+    longer = subst (Extends qs) (sym theorems) (Extends-append qs (q ∷ []))
+
     assumptions : sequents_at (map f (held.theorems ++ th ∷ [])) (held.assumptions ++ length held.theorems ∷ []) ≡ al ++ q ∷ []
     assumptions =
         (λ j. sequents_at (theorems j) (held.assumptions ++ sym same_length j ∷ []))
         ∙ sequents_at-last qs q held.assumptions (λ i d h. let l = k.numbered i d h in omega (arith, l, same_length))
 
-    state : state_of ns t more ≡ supposing (state_of ns t held) q
-    state = λ i. record (state_of ns t held) { theorems = theorems i; assumptions = assumptions i }
+    dl : List (Definition Name)
+    dl = (state_of ns t held).definitions
 
-    older : (r : Sequent Name) → IsTheorem names al [] r → IsTheorem names (al ++ q ∷ []) [] r
-    older r h = grown-theorem names (Extends-append al (q ∷ [])) (Extends-refl []) r h
+    defined : (state_of ns t more).definitions ≡ dl
+    defined = definitions_kept ns t held (undefined_state ns t more) k (Extends-refl _) (Extends-refl _) longer
+
+    state : state_of ns t more ≡ supposing (state_of ns t held) q
+    state = λ i. record (state_of ns t held) { theorems = theorems i; assumptions = assumptions i; definitions = defined i }
+
+    older : (r : Sequent Name) → IsTheorem names al dl r → IsTheorem names (al ++ q ∷ []) dl r
+    older r h = grown-theorem names (Extends-append al (q ∷ [])) (Extends-refl dl) r h
 
     sound : IsSoundState (supposing (state_of ns t held) q)
     sound = record {
-      theorems = All-push (IsTheorem names (al ++ q ∷ []) []) qs q (λ i d h. older _ (k.sound.theorems i d h)) (assumption-theorem names (al ++ q ∷ []) [] (length al) q (slice_get-last al q) p.sequent p.distinct);
+      theorems = All-push (IsTheorem names (al ++ q ∷ []) dl) qs q (λ i d h. older _ (k.sound.theorems i d h)) (assumption-theorem names (al ++ q ∷ []) dl (length al) q (slice_get-last al q) p.sequent p.distinct);
       assumptions = All-push (IsSequent names) al q k.sound.assumptions p.sequent;
-      accepted = grown-accepted names al (al ++ q ∷ []) [] (Extends-append al (q ∷ [])) k.sound.accepted;
+      accepted = grown-accepted names al (al ++ q ∷ []) dl (Extends-append al (q ∷ [])) k.sound.accepted;
       names = k.sound.names;
     }
 
@@ -116,16 +128,18 @@ assumed_from ns t held th k p = record { kernel = kernel; state = state }
       table = k.table;
       inside = All-push (IsInside (length t.terms)) held.theorems th k.inside (subst (λ n. IsInside n th) (length-map (map_named (name_of ns)) t.terms) p.inside);
       numbered = All-push (λ i. i < length (held.theorems ++ th ∷ [])) held.assumptions (length held.theorems) (λ i d h. let l = k.numbered i d h in omega (arith, l, length-append held.theorems (th ∷ []))) (omega (arith, length-append held.theorems (th ∷ [])));
+      accepted = held_stay (state_of ns t held) (state_of ns t more) (Extends-refl _) (Extends-refl _) longer held.definitions k.accepted;
+      signature = subst (λ el. IsSignature ns el held.signature) (sym defined) k.signature;
       sound = subst IsSoundState (sym state) sound;
     }
 
 -- the same from the state that contracts see
 pub assumed : (ns : List Name) (t : TermTable) (held : Held) (now : State) (th : Theorem) (ths : List Theorem) (taken : List ℕ) (n : ℕ) → state_of ns t held ≡ now → IsKernel ns t held → ths ≡ held.theorems ++ th ∷ [] → n ≡ length held.theorems → taken ≡ held.assumptions ++ n ∷ []
-    → IsProposed now th → Assumed now ns t (record { theorems = ths; assumptions = taken }) th
+    → IsProposed now th → Assumed now ns t (record held { theorems = ths; assumptions = taken }) th
 assumed ns t held now th ths taken n view k e len d p =
     let after : taken ≡ held.assumptions ++ length held.theorems ∷ [] = d ∙ ap (λ m. held.assumptions ++ m ∷ []) len in
-    let start = subst (λ s. IsProposed s th → Assumed s ns t (record { theorems = held.theorems ++ th ∷ []; assumptions = held.assumptions ++ length held.theorems ∷ [] }) th) view (assumed_from ns t held th k) p in
-    subst (λ (z : List Theorem × List ℕ). Assumed now ns t (record { theorems = z.0; assumptions = z.1 }) th) (λ i. (sym e i, sym after i)) start
+    let start = subst (λ s. IsProposed s th → Assumed s ns t (record held { theorems = held.theorems ++ th ∷ []; assumptions = held.assumptions ++ length held.theorems ∷ [] }) th) view (assumed_from ns t held th k) p in
+    subst (λ (z : List Theorem × List ℕ). Assumed now ns t (record held { theorems = z.0; assumptions = z.1 }) th) (λ i. (sym e i, sym after i)) start
 
 -- what was pushed, where memory allowed
 pub pushed_items : {U E X : Type 0} (r : Result U E) (xs ys new : List X) → is_err r ≡ false → new ≡ (if is_ok r then xs else ys) → new ≡ xs
@@ -191,8 +205,8 @@ kept_axiom now mid keeps hs p h g =
 pub refused_axiom : (now mid : State) → Keeps now mid → SameTheorems now mid → (hs : List ℕ) (p : ℕ) → All (λ i. i < length now.terms) hs → p < length now.terms
     → (has_type names (term_at mid p) (bool_ty names) ≡ false) ⊎ ((has_type names (term_at mid p) (bool_ty names) ≡ true) × (list_all (λ h. has_type names h (bool_ty names)) (terms_at mid hs) ≡ false))
     → Assumes (Err rules.NotBool) (axiom_rule (terms_at now hs) (term_at now p)) now mid
-refused_axiom now mid keeps same hs p h g (inl e) = (same, λ f q. kept_axiom now mid keeps hs p h g ∙ not_axiom-conclusion (terms_at mid hs) (term_at mid p) e ∙ ap Err (same_Some NotBool f q))
-refused_axiom now mid keeps same hs p h g (inr e) = (same, λ f q. kept_axiom now mid keeps hs p h g ∙ not_axiom-hypothesis (terms_at mid hs) (term_at mid p) e.0 e.1 ∙ ap Err (same_Some NotBool f q))
+refused_axiom now mid keeps same hs p h g (inl e) = (same, λ r f q. kept_axiom now mid keeps hs p h g ∙ not_axiom-conclusion (terms_at mid hs) (term_at mid p) e ∙ ap Err (same_Some NotBool f q))
+refused_axiom now mid keeps same hs p h g (inr e) = (same, λ r f q. kept_axiom now mid keeps hs p h g ∙ not_axiom-hypothesis (terms_at mid hs) (term_at mid p) e.0 e.1 ∙ ap Err (same_Some NotBool f q))
 
 -- propositions, by the test
 propositions : (hs : List (Tm Name)) → list_all (λ h. has_type names h (bool_ty names)) hs ≡ true → AllByRecursion (λ h. HasType names h (bool_ty names)) hs
@@ -230,4 +244,4 @@ pub assumes : (result : Result ℕ RuleFault) (stated : Result (Sequent Name) (F
 assumes (Ok id) stated now mid new q same s ok err =
     let e = same.basis.assumptions in
     (q, s, ok.within, ok.theorem ∙ ap (λ al. known al q) e, ok.assumptions ∙ ap (λ al. with_sequent al q) e, ok.definitions ∙ same.basis.definitions, ok.theorems ∙ (λ i. with_theorem (same.theorems i) (e i) q))
-assumes (Err e) stated now mid new q same s ok err = (subst (SameTheorems now) (sym err.0) same, λ f p. cc)
+assumes (Err e) stated now mid new q same s ok err = (subst (SameTheorems now) (sym err.0) same, λ r f p. cc)

@@ -12,7 +12,8 @@ use Rattle.ot_plain.specs.Naming.{names, numbers, name_of}
 use Rattle.ot_plain.specs.Renamed.{map_tm, map_named, map_sequent}
 use Rattle.ot_plain.proofs.Lift.{map-nameless}
 use Rattle.ot_plain.proofs.Naming.{naming, lettering}
-use Rattle.ot_plain.proofs.TableLemmas.{Extends-trans, Extends-append}
+use Rattle.ot_plain.specs.Table.{Extends}
+use Rattle.ot_plain.proofs.TableLemmas.{Extends-refl, Extends-trans, Extends-append}
 use Rattle.ot_term.specs.Term.{TermTable}
 use Rattle.ot_term.specs.TermTable as terms
 use Rattle.ot_laws.specs.Theorem.{IsTheorem}
@@ -20,7 +21,9 @@ use Rattle.ot_kernel.specs.declared.theorem.Theorem.{Theorem}
 use Rattle.ot_kernel.specs.declared.fault.RuleFault.{RuleFault}
 use Rattle.ot_kernel.specs.declared.fault.RuleFault.TheVariants.{Memory}
 use Rattle.ot_kernel.specs.State.{State, term_at, terms_at, theorem_at, Keeps, SameBasis, SameTheorems, IsSoundState}
-use Rattle.ot_kernel.specs.Spelled.{Held, sequent_of, sequents_at, state_of, IsInside, IsKernel}
+use Rattle.ot_kernel.specs.Definitions.{IsSignature}
+use Rattle.ot_kernel.specs.Spelled.{Held, sequent_of, sequents_at, undefined_state, state_of, IsInside, IsKernel}
+use Rattle.ot_kernel.proofs.Accepted.{held_stay, definitions_kept}
 use Rattle.ot_kernel.specs.Numbered.{tm_at, tms_at, numbered_sequent}
 use Rattle.ot_kernel.specs.Answers.{Concludes}
 use Rattle.ot_kernel.proofs.Carried.{carry-sequents}
@@ -84,8 +87,8 @@ pub record Pushed (now : State) (ns : List Name) (t : TermTable) (more : Held) (
   pub state : state_of ns t more ≡ record now { theorems = now.theorems ++ sequent_of now.terms th ∷ [] }
 
 pushed_from : (ns : List Name) (t : TermTable) (held : Held) (ths : List Theorem) (th : Theorem) → IsKernel ns t held → ths ≡ held.theorems ++ th ∷ [] → IsInside (length (state_of ns t held).terms) th
-    → IsTheorem names (state_of ns t held).assumptions (state_of ns t held).definitions (sequent_of (state_of ns t held).terms th) → Pushed (state_of ns t held) ns t (record { theorems = ths; assumptions = held.assumptions }) th
-pushed_from ns t held ths th k e inside follows = subst (λ l. Pushed (state_of ns t held) ns t (record { theorems = l; assumptions = held.assumptions }) th) (sym e) (record { kernel = kernel; state = state })
+    → IsTheorem names (state_of ns t held).assumptions (state_of ns t held).definitions (sequent_of (state_of ns t held).terms th) → Pushed (state_of ns t held) ns t (record held { theorems = ths }) th
+pushed_from ns t held ths th k e inside follows = subst (λ l. Pushed (state_of ns t held) ns t (record held { theorems = l }) th) (sym e) (record { kernel = kernel; state = state })
   where
     f : Theorem → Sequent Name
     f = sequent_of (state_of ns t held).terms
@@ -97,22 +100,28 @@ pushed_from ns t held ths th k e inside follows = subst (λ l. Pushed (state_of 
     qs = map f held.theorems
 
     more : Held
-    more = record { theorems = held.theorems ++ th ∷ []; assumptions = held.assumptions }
+    more = record held { theorems = held.theorems ++ th ∷ [] }
 
     theorems : map f (held.theorems ++ th ∷ []) ≡ qs ++ q ∷ []
     theorems = map-push f held.theorems th
+
+    longer : Extends qs (map f (held.theorems ++ th ∷ []))
+    longer = subst (Extends qs) (sym theorems) (Extends-append qs (q ∷ []))
 
     assumed : sequents_at (map f (held.theorems ++ th ∷ [])) held.assumptions ≡ sequents_at qs held.assumptions
     assumed =
         ap (λ l. sequents_at l held.assumptions) theorems
         ∙ sequents_at-push qs q held.assumptions (λ i d h. let l = k.numbered i d h in omega (arith, l, length-map f held.theorems))
 
+    defined : (state_of ns t more).definitions ≡ (state_of ns t held).definitions
+    defined = definitions_kept ns t held (undefined_state ns t more) k (Extends-refl _) (Extends-refl _) longer
+
     state : state_of ns t more ≡ record (state_of ns t held) { theorems = qs ++ q ∷ [] }
-    state = λ i. record (state_of ns t held) { theorems = theorems i; assumptions = assumed i }
+    state = λ i. record (state_of ns t held) { theorems = theorems i; assumptions = assumed i; definitions = defined i }
 
     sound : IsSoundState (record (state_of ns t held) { theorems = qs ++ q ∷ [] })
     sound = record {
-      theorems = All-push (IsTheorem names (sequents_at qs held.assumptions) []) qs q k.sound.theorems follows;
+      theorems = All-push (IsTheorem names (sequents_at qs held.assumptions) (state_of ns t held).definitions) qs q k.sound.theorems follows;
       assumptions = k.sound.assumptions;
       accepted = k.sound.accepted;
       names = k.sound.names;
@@ -126,14 +135,16 @@ pushed_from ns t held ths th k e inside follows = subst (λ l. Pushed (state_of 
       table = k.table;
       inside = All-push (IsInside (length t.terms)) held.theorems th k.inside (subst (λ n. IsInside n th) (length-map (map_named (name_of ns)) t.terms) inside);
       numbered = λ i d h. let l = k.numbered i d h in omega (arith, l, length-append held.theorems (th ∷ []));
+      accepted = held_stay (state_of ns t held) (state_of ns t more) (Extends-refl _) (Extends-refl _) longer held.definitions k.accepted;
+      signature = subst (λ dl. IsSignature ns dl held.signature) (sym defined) k.signature;
       sound = subst IsSoundState (sym state) sound;
     }
 
 -- the same from the state that contracts see
 pub pushed : (ns : List Name) (t : TermTable) (held : Held) (now : State) (ths : List Theorem) (th : Theorem) → state_of ns t held ≡ now → IsKernel ns t held → ths ≡ held.theorems ++ th ∷ [] → IsInside (length now.terms) th
-    → IsTheorem names now.assumptions now.definitions (sequent_of now.terms th) → Pushed now ns t (record { theorems = ths; assumptions = held.assumptions }) th
+    → IsTheorem names now.assumptions now.definitions (sequent_of now.terms th) → Pushed now ns t (record held { theorems = ths }) th
 pushed ns t held now ths th view k e =
-    subst (λ s. IsInside (length s.terms) th → IsTheorem names s.assumptions s.definitions (sequent_of s.terms th) → Pushed s ns t (record { theorems = ths; assumptions = held.assumptions }) th) view (pushed_from ns t held ths th k e)
+    subst (λ s. IsInside (length s.terms) th → IsTheorem names s.assumptions s.definitions (sequent_of s.terms th) → Pushed s ns t (record held { theorems = ths }) th) view (pushed_from ns t held ths th k e)
 
 -- ---- what a rule answers
 pub record Concluded (result : Result ℕ RuleFault) (stated : Result (Sequent Name) (Fault Name)) (now new : State) : Type 0 where
@@ -156,5 +167,5 @@ concluded (Ok id) stated now mid new q keeps same s ok err = subst (λ n. Conclu
   };
   same = record { assumptions = same.basis.assumptions; definitions = same.basis.definitions };
 })
-concluded (Err Memory) stated now mid new q keeps same s ok err = subst (λ n. Concluded (Err Memory) stated now n) (sym err.0) (record { concludes = (same.theorems, λ f p. cc); keeps = keeps; same = same.basis })
+concluded (Err Memory) stated now mid new q keeps same s ok err = subst (λ n. Concluded (Err Memory) stated now n) (sym err.0) (record { concludes = (same.theorems, λ r f p. cc); keeps = keeps; same = same.basis })
 concluded (Err e) stated now mid new q keeps same s ok err = cc

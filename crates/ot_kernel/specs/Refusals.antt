@@ -5,6 +5,8 @@ use Rattle.ot_term.specs.declared.term.TermFault.{TermFault}
 use Rattle.ot_term.specs.declared.term.TermFault.TheVariants as terms
 use Rattle.ot_subst.specs.declared.fault.SubstFault.{SubstFault}
 use Rattle.ot_subst.specs.declared.fault.SubstFault.TheVariants as substitutions
+use Rattle.ot_define.specs.declared.fault.DefineFault.{DefineFault}
+use Rattle.ot_define.specs.declared.fault.DefineFault.TheVariants as definitions
 use Rattle.ot_kernel.specs.declared.fault.RuleFault.{RuleFault}
 use Rattle.ot_kernel.specs.declared.fault.RuleFault.TheVariants as rules
 
@@ -22,3 +24,7 @@ abbrev pub of_subst : SubstFault → RuleFault
 of_subst substitutions.Nesting = rules.Nesting
 of_subst substitutions.NotRedex = rules.NotRedex
 of_subst substitutions.Memory = rules.Memory
+
+abbrev pub of_define : DefineFault → RuleFault
+of_define definitions.Memory = rules.Memory
+of_define e = rules.Define e

@@ -10,12 +10,17 @@ use Rattle.ot_plain.specs.Bounds.{names_in, names_in_terms}
 use Rattle.ot_term.specs.Term.{TermTable}
 use Rattle.ot_term.specs.TermTable.{IsTermTable}
 use Rattle.ot_kernel.specs.declared.theorem.Theorem.{Theorem}
+use Rattle.ot_define.specs.Signature.{Symbols}
+use Rattle.ot_kernel.specs.declared.definition.Definition as code
 use Rattle.ot_kernel.specs.State.{State, named_at, IsSoundState}
+use Rattle.ot_kernel.specs.Definitions.{definition_at, IsHeld, IsSignature}
 
--- the theorems that a kernel holds, and the numbers of those that are assumptions
+-- the theorems that a kernel holds, the numbers of those that are assumptions, and the definitions with their symbols
 pub record Held : Type 0 where
   pub theorems : List Theorem
   pub assumptions : List ℕ
+  pub definitions : List code.Definition
+  pub signature : Symbols
 
 -- the sequent of a theorem, over the real terms
 abbrev pub sequent_of : List (Named Name) → Theorem → Sequent Name
@@ -25,12 +30,16 @@ sequent_of ts th = record { hyps = map (λ i. nameless names (named_at ts i)) th
 abbrev pub sequents_at : List (Sequent Name) → List ℕ → List (Sequent Name)
 sequents_at qs is = map (λ i. slice_index_or qs i (record { hyps = []; concl = Bound 0 })) is
 
--- each number of a name becomes its name
-abbrev pub state_of : List Name → TermTable → Held → State
-state_of ns t held =
+-- the state without its definitions: each number of a name becomes its name
+abbrev pub undefined_state : List Name → TermTable → Held → State
+undefined_state ns t held =
     let ts = map (map_named (name_of ns)) t.terms in
     let qs = map (sequent_of ts) held.theorems in
     record { names = ns; types = map (map_ty (name_of ns)) t.types; terms = ts; theorems = qs; assumptions = sequents_at qs held.assumptions; definitions = [] }
+
+-- the state
+abbrev pub state_of : List Name → TermTable → Held → State
+state_of ns t held = record (undefined_state ns t held) { definitions = map (definition_at (undefined_state ns t held)) held.definitions }
 
 -- the real state of a table over numbers
 pub record IsSpelled (s : State) (t : TermTable) : Type 0 where
@@ -52,4 +61,6 @@ pub record IsKernel (ns : List Name) (t : TermTable) (held : Held) : Type 0 wher
   pub table : IsTermTable t
   pub inside : All (IsInside (length t.terms)) held.theorems
   pub numbered : All (λ i. i < length held.theorems) held.assumptions
+  pub accepted : All (IsHeld (state_of ns t held)) held.definitions
+  pub signature : IsSignature ns (state_of ns t held).definitions held.signature
   pub sound : IsSoundState (state_of ns t held)

@@ -44,7 +44,7 @@ fn sides(terms: &Terms, id: TermId) -> Result<(TermId, TermId), RuleFault>
 }
 
 // The application of a function to an argument.
-fn apply(terms: &mut Terms, f: TermId, x: TermId) -> Result<TermId, RuleFault>
+pub(crate) fn apply(terms: &mut Terms, f: TermId, x: TermId) -> Result<TermId, RuleFault>
     requires f { f < length terms.old.terms }
     requires x { x < length terms.old.terms }
     ensures makes { Makes result (app_rule numbers (tm_at terms.old.terms f) (tm_at terms.old.terms x)) terms.new.terms }
@@ -54,7 +54,7 @@ fn apply(terms: &mut Terms, f: TermId, x: TermId) -> Result<TermId, RuleFault>
 }
 
 // The abstraction of a variable.
-fn abstract_from(terms: &mut Terms, v: &VarKey, t: TermId) -> Result<TermId, RuleFault>
+pub(crate) fn abstract_from(terms: &mut Terms, v: &VarKey, t: TermId) -> Result<TermId, RuleFault>
     requires ty { v.now.ty < length terms.old.types }
     requires t { t < length terms.old.terms }
     ensures makes { Makes result (abs_rule numbers (variable_of terms.old.types v.now) (tm_at terms.old.terms t)) terms.new.terms }

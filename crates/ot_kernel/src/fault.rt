@@ -1,7 +1,8 @@
 ghost use Rattle.std.specs.Prelude.{◌≡◌};
 ghost use Rattle.ot_kernel.specs.declared.fault.RuleFault.TheVariants.{Memory as OutOfMemory};
-ghost use Rattle.ot_kernel.specs.Refusals.{of_table, of_term, of_subst};
+ghost use Rattle.ot_kernel.specs.Refusals.{of_define, of_table, of_term, of_subst};
 
+use ot_define::DefineFault;
 use ot_plain::Memory;
 use ot_subst::SubstFault;
 use ot_term::TermFault;
@@ -27,6 +28,8 @@ pub enum RuleFault {
     NotRedex,
     /// The theorem would pass the nesting limit.
     Nesting,
+    /// The definition is refused.
+    Define(DefineFault),
     /// Memory ran out.
     Memory,
 }
@@ -87,6 +90,17 @@ impl From<SubstFault> for RuleFault {
             SubstFault::Nesting => RuleFault::Nesting,
             SubstFault::NotRedex => RuleFault::NotRedex,
             SubstFault::Memory => RuleFault::Memory,
+        }
+    }
+}
+
+impl From<DefineFault> for RuleFault {
+    ghost from_gives = { λ e r. r ≡ of_define e };
+
+    fn from(fault: DefineFault) -> RuleFault {
+        match fault {
+            DefineFault::Memory => RuleFault::Memory,
+            _ => RuleFault::Define(fault),
         }
     }
 }

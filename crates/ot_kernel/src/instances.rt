@@ -21,7 +21,7 @@ use std::alloc::Global;
 
 // What a count of steps is over: here nothing asks for the count.
 #[derive(Drop)]
-struct Ledger;
+pub(crate) struct Ledger;
 
 // (\v. t) u = t with u for v.
 pub(crate) fn beta_conv(

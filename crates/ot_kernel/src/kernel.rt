@@ -7,13 +7,14 @@ ghost use Rattle.ot_plain.specs.Rules.{has_type, op_rule, app_rule, abs_rule, as
 ghost use Rattle.ot_laws.specs.Theorem.{IsTheorem};
 ghost use Rattle.ot_kernel.specs.Spelled.{sequent_of, IsInside, IsSpelled};
 ghost use Rattle.ot_kernel.specs.State.{State, name_at, type_at, types_at, variable_at, term_at, terms_at, theorem_at, Keeps, SameBasis, SameTheorems, IsSoundState};
-ghost use Rattle.ot_kernel.specs.Definitions.{definition_at};
+ghost use Rattle.ot_kernel.specs.Definitions.{definition_at, IsHeld};
 ghost use Rattle.ot_kernel.specs.Answers.{MakesType, MakesTerm, MakesAbstraction, Concludes};
 ghost use Rattle.ot_kernel.specs.Derived.{Follows, Adds};
 
 use crate::definition::Definition;
 use crate::fault::RuleFault;
 use crate::theorem::{Theorem, ThmId};
+use ot_define::Signature;
 use ot_plain::{Memory, Name, NameId, Names};
 use ot_term::{TermFault, TermId, Terms, VarKey};
 use ot_type::{TableFault, TypeId};
@@ -32,6 +33,9 @@ pub struct Kernel {
     pub(crate) theorems: Vec<Theorem>,
     // The numbers of the assumptions, in their order.
     pub(crate) assumptions: Vec<ThmId>,
+    pub(crate) definitions: Vec<Definition>,
+    // Their symbols.
+    pub(crate) signature: Signature,
 }
 
 impl Model for Kernel {
@@ -43,9 +47,9 @@ impl Model for Kernel {
 
     ghost use Rattle.ot_kernel.specs.Spelled.{state_of, IsKernel};
 
-    ghost view = { λ k. state_of k.names k.terms (record { theorems = k.theorems.items; assumptions = k.assumptions.items }) };
+    ghost view = { λ k. state_of k.names k.terms (record { theorems = k.theorems.items; assumptions = k.assumptions.items; definitions = k.definitions.items; signature = k.signature }) };
 
-    ghost invariant = { λ k. IsKernel k.names k.terms (record { theorems = k.theorems.items; assumptions = k.assumptions.items }) };
+    ghost invariant = { λ k. IsKernel k.names k.terms (record { theorems = k.theorems.items; assumptions = k.assumptions.items; definitions = k.definitions.items; signature = k.signature }) };
 }
 
 impl Kernel {
@@ -59,6 +63,8 @@ impl Kernel {
             terms: Terms::new(alloc),
             theorems: Vec::new(alloc),
             assumptions: Vec::new(alloc),
+            definitions: Vec::new(alloc),
+            signature: Signature::new(alloc),
         })
     }
 
@@ -264,11 +270,11 @@ impl Kernel {
         self.theorems[th.0].states(alloc, &self.terms, hyps, concl)
     }
 
-    /// The definitions, in the order in which they were accepted. No call makes one yet.
+    /// The definitions, in the order in which they were accepted.
     pub fn definitions(&self) -> &[Definition]
-        ensures { map (definition_at self.now) result.now ≡ self.now.definitions }
+        ensures definitions { map (definition_at self.now) result.now ≡ self.now.definitions }
+        ensures held { All (IsHeld self.now) result.now }
     {
-        let _names = &self.names;
-        &[]
+        &self.definitions
     }
 }

@@ -2,7 +2,9 @@
 #![tactic(auto)]
 
 mod axioms;
+mod defining;
 mod definition;
+mod definitions;
 mod discharge;
 mod equations;
 mod fault;
@@ -14,6 +16,7 @@ mod rules;
 #[cfg(test)]
 mod tests;
 mod theorem;
+mod type_operators;
 
 pub use definition::Definition;
 pub use fault::RuleFault;

@@ -40,6 +40,9 @@ returns-in_err-right-clause-derives c =
     let off = not_free t c.args.v th _ _ c.in_ok-is_free_in_some.ensures c.if-branch.false c.deref.ensures.value in
     rw (p.1, p.2) (right_abstraction_refused t c.abstract_from.new.terms c.args.v th ty c.in_ok-t.t c.in_ok-t.u c.in_ok-left.left c.requires.ty s off c.abstract_from.ensures.grown.grows c.in_ok-left.ensures.makes _ c.in_err-right.ensures.makes)
 
+pub returns-in_err-right-clause-grown : goal.returns-in_err-right-clause-grown
+returns-in_err-right-clause-grown c = grown_then c.args.v.name _ _ _ c.abstract_from.ensures.grown c.abstract_from-2.ensures.grown
+
 pub equate-requires-clause-typed : goal.equate-requires-clause-typed
 equate-requires-clause-typed c =
     let t = c.args.terms.now in

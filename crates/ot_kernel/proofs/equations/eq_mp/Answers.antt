@@ -14,7 +14,7 @@ returns-then-not-branch c =
     let (ty, s) = c.in_ok-p.ensures.ok in
     let other = sym (tested _ (tm_at ts c.in_ok-p.p) (tm_at ts c.args.top.now.concl) c.in_ok-alpha_eq.ensures) ∙ c.if-not-branch.true in
     record {
-      derives = refuses_rule rules.NotAlphaEqual NotAlphaEqual _ refl
+      derives = refuses_rule rules.NotAlphaEqual NotAlphaEqual _ (λ _. refl)
           (eq_mp-refused numbers (numbered_sequent ts c.args.lower.now) ty (tm_at ts c.in_ok-p.p) (tm_at ts c.in_ok-p.q) s.sides (numbered_sequent ts c.args.top.now) other);
     }
 

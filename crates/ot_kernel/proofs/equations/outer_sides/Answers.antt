@@ -32,5 +32,5 @@ returns c =
     let (uy, q) = c.in_ok-c.ensures.ok in
     let inner = sym (tested _ (tm_at ts c.in_ok-a.b) (tm_at ts c.in_ok-c.c) c.in_ok-alpha_eq.ensures) ∙ c.if-branch.false in
     let ends = sym (tested _ (tm_at ts c.in_ok-c.d) (tm_at ts c.in_ok-a.a) c.in_ok-alpha_eq-2.ensures) ∙ c.if-branch-2.false in
-    refuses_rule rules.NotAlphaEqual NotAlphaEqual _ refl
+    refuses_rule rules.NotAlphaEqual NotAlphaEqual _ (λ _. refl)
     (trans-refused numbers (numbered_sequent ts c.args.lower.now) (numbered_sequent ts c.args.top.now) ty uy (tm_at ts c.in_ok-a.a) (tm_at ts c.in_ok-a.b) (tm_at ts c.in_ok-c.c) (tm_at ts c.in_ok-c.d) p.sides q.sides inner ends)

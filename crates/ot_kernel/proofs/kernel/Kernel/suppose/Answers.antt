@@ -10,7 +10,7 @@ use Rattle.ot_kernel.proofs.kernel.Kernel.suppose.Goals.{Else-is_err}
 count : (c : Else-is_err) → c.len.result ≡ length c.self.inside.theorems.items
 count c = omega (arith, c.len.ensures, c.self.inside.theorems.ok.0)
 
-added : (c : Else-is_err) → Assumed c.args.self.now c.self.inside.names c.self.inside.terms (record { theorems = c.push.new.self.items; assumptions = c.push-2.new.self.items }) c.args.theorem
+added : (c : Else-is_err) → Assumed c.args.self.now c.self.inside.names c.self.inside.terms (record { theorems = c.push.new.self.items; assumptions = c.push-2.new.self.items; definitions = c.self.inside.definitions.items; signature = c.self.inside.signature }) c.args.theorem
 added c =
     let pushed = pushed_items c.push-2.result _ _ _ (sym c.is_err.ensures.value ∙ c.if-is_err.false) c.push-2.ensures.items in
     assumed _ _ _ _ c.args.theorem _ _ c.len.result c.self.view_is c.self.invariant c.in_ok-push.ensures.items (count c) pushed c.requires
