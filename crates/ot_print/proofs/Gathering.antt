@@ -1,5 +1,5 @@
 -- Texts gathered in order: what an insertion does, and how many bytes there are.
-use Rattle.std.specs.Prelude.{◌≡◌, ℕ, zero, suc, ◌+◌, ◌<◌, ◌≤◌, Bool, true, false, ◌||◌, List, [], ◌∷◌, ◌++◌, map, length, take, codes}
+use Rattle.std.specs.Prelude.{◌≡◌, ℕ, zero, suc, ◌+◌, ◌<◌, ◌≤◌, true, false, ◌||◌, List, [], ◌∷◌, ◌++◌, map, length, take, codes}
 use Rattle.std.specs.BTreeMap.{is_at}
 use Rattle.std.specs.BTreeSet.{insert_key}
 use Rattle.std.specs.Global.{Vec}
@@ -7,16 +7,17 @@ use Rattle.std.specs.List.{list_any}
 use Rattle.std.specs.Ordering.{match_ordering}
 use Rattle.std.specs.declared.cmp.Ordering.{Ordering}
 use Rattle.std.specs.declared.cmp.Ordering.TheVariants.{Less, Equal, Greater}
-use Rattle.std.proofs.Common.{refl, sym, ◌∙◌, ap, subst, inl, inr, arith, get_or, drop, length-append}
+use Rattle.std.proofs.Common.{refl, sym, ◌∙◌, ap, inl, inr, arith, get_or, drop, length-append}
 use Rattle.std.proofs.Math.Seq.{take-suc}
 use Rattle.std.proofs.lemmas.List.{take-append-drop}
+use Rattle.std.proofs.lemmas.Simd.{map-map}
 use Rattle.ot_plain.specs.Lists.{IsMember}
-use Rattle.ot_plain.specs.Trees.{Bound}
+use Rattle.ot_plain.specs.Names.{Name}
+use Rattle.ot_plain.specs.Trees.{Sequent}
 use Rattle.ot_laws.proofs.Sets.{same_set-swap}
-use Rattle.ot_kernel.specs.State.{State, term_at, terms_at}
 use Rattle.ot_kernel.proofs.Namings.{length-map, index-map}
-use Rattle.ot_print.specs.Texts.{tm_text, order, ascending, further_hyps, hyps_text}
-use Rattle.ot_print.specs.Hypotheses.{bytes_in, hyp_text, hyps_from}
+use Rattle.ot_print.specs.Texts.{tm_text, order, ascending, further_hyps, hyps_text, sequent_text, items_text}
+use Rattle.ot_print.specs.Gathered.{bytes_in}
 use Rattle.ot_print.proofs.Ascending.{ascending-same, ascending-member}
 
 -- ---- an insertion into a set of vectors is one into the list of their bytes
@@ -48,6 +49,10 @@ bytes-new (x ∷ xs) k h = go (bytes-new xs k) (by_bytes k x) refl
         let one = more other in
         omega arith
 
+-- ---- the texts of what stands for others
+pub texts-through : {X Y : Type 0} (f : Y → List ℕ) (g : X → Y) (xs : List X) (ys : List Y) → map g xs ≡ ys → map (λ x. f (g x)) xs ≡ map f ys
+texts-through f g xs ys p = sym (map-map f g xs) ∙ ap (map f) p
+
 -- ---- how many bytes there are
 -- an insertion takes none away
 bytes-insert : (xs : List (List ℕ)) (x : List ℕ) → bytes_in xs ≤ bytes_in (insert_key order xs x)
@@ -64,7 +69,7 @@ bytes-more [] ys = omega arith
 bytes-more (x ∷ xs) ys = omega (arith, bytes-more xs ys, bytes-insert (ascending (xs ++ ys)) x)
 
 -- the first texts have at most the bytes of all
-pub bytes-first : (xs : List (List ℕ)) (i : ℕ) → bytes_in (ascending (take i xs)) ≤ bytes_in (ascending xs)
+bytes-first : (xs : List (List ℕ)) (i : ℕ) → bytes_in (ascending (take i xs)) ≤ bytes_in (ascending xs)
 bytes-first xs i =
     let whole : ascending (drop i xs ++ take i xs) ≡ ascending xs = ascending-same _ _ (same_set-swap (take i xs) (drop i xs)) ∙ ap ascending (take-append-drop i xs) in
     let more = bytes-more (drop i xs) (take i xs) in
@@ -83,69 +88,71 @@ further-bytes (x ∷ xs) =
     let n : length (codes ", " ++ x ++ further_hyps xs) ≡ suc (suc (length x + length (further_hyps xs))) = ap (λ k. suc (suc k)) (length-append x (further_hyps xs)) in
     omega arith
 
-pub hyps-bytes : (xs : List (List ℕ)) → bytes_in xs ≤ length (hyps_text xs)
+hyps-bytes : (xs : List (List ℕ)) → bytes_in xs ≤ length (hyps_text xs)
 hyps-bytes [] = omega arith
 hyps-bytes (x ∷ xs) = let more = further-bytes xs in let n = length-append x (further_hyps xs) in omega arith
+
+pub items-bytes : (xs : List (List ℕ)) → bytes_in xs ≤ length (items_text xs)
+items-bytes [] = omega arith
+items-bytes (x ∷ xs) =
+    let more = items-bytes xs in
+    let n : length (codes "  " ++ x ++ 10 ∷ items_text xs) ≡ suc (suc (length x + suc (length (items_text xs)))) = ap (λ k. suc (suc k)) (length-append x (10 ∷ items_text xs)) in
+    omega arith
+
+-- a sequent has at least the bytes of its hypotheses
+pub sequent-bytes : (room : ℕ) (q : Sequent Name) → room < bytes_in (ascending (map tm_text q.hyps)) → room < length (sequent_text q)
+sequent-bytes room q h =
+    let a = hyps-bytes (ascending (map tm_text q.hyps)) in
+    let n = length-append (hyps_text (ascending (map tm_text q.hyps))) (tm_text q.concl) in
+    omega arith
 
 get-member : {X : Type 0} (xs : List X) (k : ℕ) (d : X) → k < length xs → IsMember (get_or xs k d) xs
 get-member [] k d h = absurd (omega arith)
 get-member (x ∷ xs) zero d h = inl refl
 get-member (x ∷ xs) (suc k) d h = inr (get-member xs k d (omega arith))
 
--- ---- text after text
-pub hyps-first : (b : Bool) (x : List ℕ) (xs : List (List ℕ)) → hyp_text b x ++ further_hyps xs ≡ hyps_from b (x ∷ xs)
-hyps-first true x xs = refl
-hyps-first false x xs = refl
-
-pub ascending-step : (xs : List (List ℕ)) (i : ℕ) (d : List ℕ) → i < length xs → ascending (take (i + 1) xs) ≡ insert_key order (ascending (take i xs)) (get_or xs i d)
+ascending-step : (xs : List (List ℕ)) (i : ℕ) (d : List ℕ) → i < length xs → ascending (take (i + 1) xs) ≡ insert_key order (ascending (take i xs)) (get_or xs i d)
 ascending-step xs i d h =
     let n : i + 1 ≡ suc i = omega arith in
     ap (λ k. ascending (take k xs)) n
     ∙ ap ascending (take-suc xs i d h)
     ∙ ascending-same _ _ (same_set-swap (get_or xs i d ∷ []) (take i xs))
 
--- one text alone is too large
-pub too_large-one : (xs : List (List ℕ)) (i max : ℕ) (d : List ℕ) → i < length xs → max < length (get_or xs i d) → max < length (hyps_text (ascending xs))
-too_large-one xs i max d h g =
-    let a = member-bytes (get_or xs i d) (ascending xs) (ascending-member _ xs (get-member xs i d h)) in
-    let b = hyps-bytes (ascending xs) in
-    omega arith
-
--- the first texts together are too large
-pub too_large-together : (xs : List (List ℕ)) (i max : ℕ) → max < bytes_in (ascending (take i xs)) → max < length (hyps_text (ascending xs))
-too_large-together xs i max g = let a = bytes-first xs i in let b = hyps-bytes (ascending xs) in omega arith
-
--- ---- the texts of hypotheses by number
-module _ (s : State) (hyps : List ℕ) (i h : ℕ) (within : i < length hyps) (at : h ≡ get_or hyps i h) where
+-- ---- the texts of items
+module _ {X : Type 0} (f : X → List ℕ) (items : List X) (i : ℕ) (x : X) (within : i < length items) (at : x ≡ get_or items i x) where
   abbrev texts : List (List ℕ)
-  texts = map tm_text (terms_at s hyps)
+  texts = map f items
 
   text_inside : i < length texts
-  text_inside = omega (arith, within, length-map (term_at s) hyps, length-map tm_text (terms_at s hyps))
+  text_inside = omega (arith, within, length-map f items)
 
-  text_is : get_or texts i [] ≡ tm_text (term_at s h)
-  text_is =
-      index-map tm_text (terms_at s hyps) i (Bound 0) [] (omega (arith, within, length-map (term_at s) hyps))
-      ∙ ap tm_text (index-map (term_at s) hyps i h (Bound 0) within ∙ ap (term_at s) (sym at))
+  text_is : get_or texts i [] ≡ f x
+  text_is = index-map f items i x [] within ∙ ap f (sym at)
 
-  pub hyps-step : ascending (take (i + 1) texts) ≡ insert_key order (ascending (take i texts)) (tm_text (term_at s h))
-  hyps-step = ascending-step texts i [] text_inside ∙ ap (insert_key order (ascending (take i texts))) text_is
+  one-step : ascending (take (i + 1) texts) ≡ insert_key order (ascending (take i texts)) (f x)
+  one-step = ascending-step texts i [] text_inside ∙ ap (insert_key order (ascending (take i texts))) text_is
 
-  pub hyp-too_large : (max : ℕ) → max < length (tm_text (term_at s h)) → max < length (hyps_text (ascending texts))
-  hyp-too_large max g = too_large-one texts i max [] text_inside (subst (λ x. max < length x) (sym text_is) g)
+  -- one text alone is too large
+  pub one-too_large : (max : ℕ) → max < length (f x) → max < bytes_in (ascending texts)
+  one-too_large max g =
+      let a = member-bytes (get_or texts i []) (ascending texts) (ascending-member _ texts (get-member texts i [] text_inside)) in
+      let b = ap length text_is in
+      omega arith
 
-  module _ (text : List ℕ) (sofar more : List (List ℕ)) (max room left : ℕ) (is : sofar ≡ ascending (take i texts)) (has : room + bytes_in (ascending (take i texts)) ≡ max) (text_of : text ≡ tm_text (term_at s h)) where
+  module _ (text : List ℕ) (sofar more : List (List ℕ)) (max room left : ℕ) (is : sofar ≡ ascending (take i texts)) (has : room + bytes_in (ascending (take i texts)) ≡ max) (text_of : text ≡ f x) where
     abbrev next_is : insert_key order sofar text ≡ ascending (take (i + 1) texts)
-    next_is = (λ j. insert_key order (is j) (text_of j)) ∙ sym hyps-step
+    next_is = (λ j. insert_key order (is j) (text_of j)) ∙ sym one-step
 
-    pub hyps-kept : more ≡ insert_key order sofar text → left + bytes_in (insert_key order sofar text) ≡ room + bytes_in sofar → (more ≡ ascending (take (i + 1) texts)) × (left + bytes_in (ascending (take (i + 1) texts)) ≡ max)
-    hyps-kept p q =
+    pub one-kept : more ≡ insert_key order sofar text → left + bytes_in (insert_key order sofar text) ≡ room + bytes_in sofar → (more ≡ ascending (take (i + 1) texts)) × (left + bytes_in (ascending (take (i + 1) texts)) ≡ max)
+    one-kept p q =
         let a = ap bytes_in is in
         let b = ap bytes_in next_is in
         (p ∙ next_is, omega arith)
 
-    pub hyps-too_large : room + bytes_in sofar < bytes_in (insert_key order sofar text) → max < length (hyps_text (ascending texts))
-    hyps-too_large p =
+    -- the first texts together are too large
+    pub together-too_large : room + bytes_in sofar < bytes_in (insert_key order sofar text) → max < bytes_in (ascending texts)
+    together-too_large p =
         let a = ap bytes_in is in
         let b = ap bytes_in next_is in
-        too_large-together texts (i + 1) max (omega arith)
+        let more = bytes-first texts (i + 1) in
+        omega arith

@@ -8,6 +8,8 @@ pub mod Ascending
 pub mod SequentLaw
 pub mod Decimals
 pub mod Putting
+pub mod Separating
 pub mod Spelled
 pub mod Pieces
 pub mod Gathering
+pub mod Sections

@@ -1,9 +1,11 @@
 -- One text after another.
-use Rattle.std.specs.Prelude.{◌≡◌, ℕ, suc, ◌+◌, ◌-◌, ◌<◌, ◌≤◌, Bool, true, false, cond, nat_le, List, [], ◌∷◌, ◌++◌, length, ◌⊎◌}
+use Rattle.std.specs.Prelude.{◌≡◌, ℕ, suc, ◌+◌, ◌-◌, ◌<◌, ◌≤◌, Bool, true, false, cond, nat_le, List, [], ◌∷◌, ◌++◌, length, Some, ◌⊎◌}
 use Rattle.std.proofs.Common.{refl, sym, ◌∙◌, ap, subst, inl, inr, arith, append_assoc, append-nil, length-append, drop, drop-cons, get_or}
 use Rattle.std.proofs.lemmas.Bool.Decides.{nat_tests}
 use Rattle.std.proofs.Math.ListN.{drop_of_length-le}
-use Rattle.ot_print.specs.Pages.{Printed, Bytes, Full, NoMemory, put, is_stopped, IsPut}
+use Rattle.ot_print.specs.declared.fault.PrintFault.{PrintFault}
+use Rattle.ot_print.specs.declared.fault.PrintFault.TheVariants.{TooLarge, Memory}
+use Rattle.ot_print.specs.Pages.{Printed, Bytes, Full, NoMemory, put, is_stopped, IsPut, HasRoom, stopped}
 
 le-true : (a b : ℕ) → nat_le a b ≡ true → a ≤ b
 le-true a b h = grind (arith, nat_tests)
@@ -69,12 +71,32 @@ stays (Bytes bs room) h = cc
 stays Full h = record { state = inr refl }
 stays NoMemory h = record { state = inl refl }
 
+-- a page that isn't stopped gives up where the text doesn't fit, or for want of memory
+pub gives-up : (x : List ℕ) (s t : Printed) (room : ℕ) (fault : PrintFault) → t ≡ stopped (Some fault) s → is_stopped s ≡ false → HasRoom s room → (fault ≡ TooLarge → room < length x) → IsPut x s t
+gives-up x (Bytes bs r) t room TooLarge p e h g =
+    let n = g refl in
+    let f = false-le (length x) r (omega (arith, n, h)) in
+    record { state = inr (p ∙ rw f refl) }
+gives-up x (Bytes bs r) t room Memory p e h g = record { state = inl p }
+gives-up x Full t room fault p e h g = cc
+gives-up x NoMemory t room fault p e h g = cc
+
 pub same-text : {x y : List ℕ} {s t : Printed} → x ≡ y → IsPut x s t → IsPut y s t
 same-text {x} {y} {s} {t} p h = subst (λ z. IsPut z s t) p h
 
+-- ---- a loop: what puts the rest x on the page s has put the whole y on the page s0
+abbrev pub Leaves : List ℕ → List ℕ → Printed → Printed → Type 0
+Leaves x y s0 s = (u : Printed) → IsPut x s u → IsPut y s0 u
+
+pub leaves-more : {x y z r : List ℕ} {s0 s t : Printed} → Leaves x y s0 s → x ≡ z ++ r → IsPut z s t → Leaves r y s0 t
+leaves-more p e q u h = p u (same-text (sym e) (then q h))
+
+pub leaves-all : {x y r : List ℕ} {s0 s t : Printed} → Leaves x y s0 s → x ≡ r → IsPut r s t → IsPut y s0 t
+leaves-all {t = t} p e q = p t (same-text (sym e) q)
+
 -- ---- a loop over a list whose text F is: what puts the rest of the text on the page s has put the whole on the page s0
 abbrev pub Puts : {X : Type 0} → (List X → List ℕ) → List X → ℕ → Printed → Printed → Type 0
-Puts F xs i s0 s = (u : Printed) → IsPut (F (drop i xs)) s u → IsPut (F xs) s0 u
+Puts F xs i s0 s = Leaves (F (drop i xs)) (F xs) s0 s
 
 pub puts-none : {X : Type 0} (F : List X → List ℕ) (xs : List X) (s : Printed) → Puts F xs 0 s s
 puts-none F xs s u h = h

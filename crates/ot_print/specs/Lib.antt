@@ -3,4 +3,5 @@ pub mod Texts
 pub mod Laws
 pub mod Pages
 pub mod Nodes
-pub mod Hypotheses
+pub mod Separated
+pub mod Gathered

@@ -9,6 +9,7 @@ use Rattle.ot_plain.specs.Names.{Name, spelled}
 use Rattle.ot_plain.specs.Naming.{names}
 use Rattle.ot_plain.specs.Trees.{Alphabet, Ty, Tys, TyVar, TyOp, NoTys, MoreTys, Variable, Tm, Free, Con, Bound, App, Abs, Sequent, Definition, ConDef, ListDef, TyDef}
 use Rattle.ot_plain.specs.Hol.{as_fun_ty, as_equation, theorems}
+use Rattle.ot_args.specs.declared.sections.Sections.{Sections}
 
 -- a name's spelling; a list without components, which is no name, has a mark of its own
 abbrev pub name_text : Name → List ℕ
@@ -138,12 +139,6 @@ items_text (x ∷ xs) = codes "  " ++ x ++ 10 ∷ items_text xs
 abbrev pub section_text : Bool → List ℕ → List (List ℕ) → List ℕ
 section_text false title xs = []
 section_text true title xs = title ++ codes ": " ++ number_text (length xs) ++ 10 ∷ items_text xs
-
--- the sections that are asked for
-pub record Sections : Type 0 where
-  pub assumptions : Bool
-  pub definitions : Bool
-  pub theorems : Bool
 
 -- assumptions in the order of the bytes of their texts, definitions and theorems in their own order
 abbrev pub summary_text : Sections → List (Sequent Name) → List (Definition Name) → List (Sequent Name) → List ℕ

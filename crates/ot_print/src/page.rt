@@ -2,6 +2,7 @@
 ghost use Rattle.std.specs.Prelude.{◌≡◌, ◌++◌, [], Some, OnOk, OnErr, Err};
 ghost use Rattle.ot_plain.specs.Names.{spelled};
 ghost use Rattle.ot_print.specs.Pages.{Bytes, Full, IsPut, is_stopped as is_stopped_at, stopped, HasRoom, printed};
+ghost use Rattle.ot_print.specs.Separated.{separator as separator_text};
 
 use crate::fault::PrintFault;
 use ot_plain::Name;
@@ -63,6 +64,15 @@ impl Page {
         match self.bytes.extend_from_slice(text) {
             Ok(()) => self.room -= text.len(),
             Err(_) => self.fault = Some(PrintFault::Memory),
+        }
+    }
+
+    /// Puts a separator at the end, unless the part that comes is the first.
+    pub(crate) fn separate(&mut self, is_first: bool, separator: &[u8])
+        ensures { IsPut (separator_text is_first separator.now) (printed self.old) (printed self.new) }
+    {
+        if !is_first {
+            self.put(separator);
         }
     }
 

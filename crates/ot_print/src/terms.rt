@@ -10,6 +10,7 @@ ghost use Rattle.ot_print.specs.Pages.{IsPut, printed, Appended};
 use crate::fault::PrintFault;
 use crate::nodes::{equation_sides, is_same, put_name, term_node};
 use crate::page::Page;
+use crate::printable::{Printable, append};
 use crate::types::put_type;
 use itoa::Buffer;
 use ot_kernel::Kernel;
@@ -38,9 +39,17 @@ pub fn term_text(
     ensures too_large { result ≡ Err PrintFault.TooLarge → max < length (tm_text (term_at kernel.now id)) }
     ensures err { OnErr result (out.new.items ≡ out.old.items) }
 {
-    let mut page = Page::new(alloc, max);
-    put_whole(&mut page, kernel, id);
-    page.finish(out)
+    append(alloc, kernel, &id, max, out)
+}
+
+impl Printable for TermId {
+    ghost is_inside = { λ s id. id < length s.terms };
+
+    ghost text = { λ s id. tm_text (term_at s id) };
+
+    fn put(&self, page: &mut Page, _alloc: Global, kernel: &Kernel) {
+        put_whole(page, kernel, *self);
+    }
 }
 
 /// A term that stands under no binder.
@@ -131,16 +140,16 @@ fn place(kernel: &Kernel, binders: &Binders<'_>, v: &VarKey) -> Option<usize>
     }
 }
 
-// A number in decimal digits.
-fn put_number(page: &mut Page, number: usize)
+/// A number in decimal digits.
+pub(crate) fn put_number(page: &mut Page, number: usize)
     ensures { IsPut (number_text number) (printed page.old) (printed page.new) }
 {
     let mut buffer = Buffer::new();
     page.put(buffer.format(number).as_bytes());
 }
 
-// A name and a type.
-fn put_typed(page: &mut Page, kernel: &Kernel, name: NameId, ty: TypeId)
+/// A name and a type.
+pub(crate) fn put_typed(page: &mut Page, kernel: &Kernel, name: NameId, ty: TypeId)
     requires name { name < length kernel.now.names }
     requires ty { ty < length kernel.now.types }
     ensures { IsPut (name_text (name_at kernel.now name) ++ codes ":" ++ ty_text (type_at kernel.now ty)) (printed page.old) (printed page.new) }

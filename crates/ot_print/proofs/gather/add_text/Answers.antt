@@ -1,8 +1,8 @@
 use Rattle.std.specs.Prelude.{not}
 use Rattle.std.proofs.Common.{◌∙◌, sym, ap, arith, ◌≡◌, Bool, true, false, refl, map}
-use Rattle.ot_print.specs.Hypotheses.{bytes_in}
+use Rattle.ot_print.specs.Gathered.{bytes_in}
 use Rattle.ot_print.proofs.Gathering.{texts-insert, bytes-new}
-use Rattle.ot_print.proofs.sequents.add_text.Goals as goal
+use Rattle.ot_print.proofs.gather.add_text.Goals as goal
 
 was_new : (a b : Bool) → a ≡ not b → a ≡ true → b ≡ false
 was_new a true p h = cc

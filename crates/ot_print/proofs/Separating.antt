@@ -1,0 +1,68 @@
+-- Texts with a separator between two, part by part.
+use Rattle.std.specs.Prelude.{◌≡◌, ℕ, suc, ◌+◌, ◌<◌, ◌≤◌, Bool, true, false, List, [], ◌∷◌, ◌++◌, map, length, codes}
+use Rattle.std.proofs.Common.{refl, sym, ◌∙◌, ap, arith, append_assoc, drop, drop-cons, get_or}
+use Rattle.std.proofs.Math.ListN.{drop_of_length-le}
+use Rattle.ot_plain.specs.Names.{Name}
+use Rattle.ot_plain.specs.Trees.{Variable, Sequent, TyDef}
+use Rattle.ot_term.specs.declared.term.VarKey.{VarKey}
+use Rattle.ot_kernel.specs.State.{State, name_at, variable_at}
+use Rattle.ot_kernel.specs.Definitions.{pairs_at}
+use Rattle.ot_print.specs.Texts.{name_text, pair_text, pairs_text, further_pairs, names_text, further_names, further_hyps, sequent_text, head_text}
+use Rattle.ot_print.specs.Separated.{separator, hyps_from}
+
+pub hyps-first : (b : Bool) (x y : List ℕ) (xs : List (List ℕ)) → y ≡ x → hyps_from b (x ∷ xs) ≡ separator b (codes ", ") ++ y ++ further_hyps xs
+hyps-first true x y xs p = ap (λ z. z ++ further_hyps xs) (sym p)
+hyps-first false x y xs p = ap (λ z. codes ", " ++ z ++ further_hyps xs) (sym p)
+
+-- the pairs from the first or from a further one on
+abbrev pub pairs_from : Bool → List (Name × Variable Name) → List ℕ
+pairs_from true ps = pairs_text ps
+pairs_from false ps = further_pairs ps
+
+pub pairs-first : (b : Bool) (p : Name × Variable Name) (ps : List (Name × Variable Name)) → pairs_from b (p ∷ ps) ≡ separator b (codes ",") ++ pair_text p ++ further_pairs ps
+pairs-first true p ps = refl
+pairs-first false p ps = refl
+
+pub pairs-none : (b : Bool) → pairs_from b [] ≡ []
+pairs-none true = refl
+pairs-none false = refl
+
+-- the names from the first or from a further one on
+abbrev pub names_from : Bool → List Name → List ℕ
+names_from true ns = names_text ns
+names_from false ns = further_names ns
+
+pub names-first : (b : Bool) (n : Name) (ns : List Name) → names_from b (n ∷ ns) ≡ separator b (codes " ") ++ name_text n ++ further_names ns
+names-first true n ns = refl
+names-first false n ns = refl
+
+pub names-none : (b : Bool) → names_from b [] ≡ []
+names-none true = refl
+names-none false = refl
+
+-- ---- a type operator
+pub type-pieces : (n abs rep : Name) (vs : List Name) (q : Sequent Name)
+    → codes "type " ++ name_text n ++ codes " (" ++ names_text vs ++ codes ") abs " ++ name_text abs ++ codes " rep " ++ name_text rep ++ (codes " from " ++ sequent_text q) ≡ head_text (TyDef n abs rep vs q)
+type-pieces n abs rep vs q = sym (append_assoc (codes "type " ++ name_text n ++ codes " (" ++ names_text vs ++ codes ") abs " ++ name_text abs ++ codes " rep " ++ name_text rep) (codes " from ") (sequent_text q))
+
+-- ---- the rest of a list
+pub rest-next : {X : Type 0} (xs : List X) (i : ℕ) (x : X) → i < length xs → x ≡ get_or xs i x → drop i xs ≡ x ∷ drop (i + 1) xs
+rest-next xs i x h p =
+    let n : suc i ≡ i + 1 = omega arith in
+    drop-cons xs i x h ∙ (λ j. sym p j ∷ drop (n j) xs)
+
+pub pairs-rest : (s : State) (ns : List ℕ) (vs : List VarKey) (i n : ℕ) (v : VarKey) → i < length ns → i < length vs → n ≡ get_or ns i n → v ≡ get_or vs i v
+    → pairs_at s (drop i ns) (drop i vs) ≡ (name_at s n, variable_at s v) ∷ pairs_at s (drop (i + 1) ns) (drop (i + 1) vs)
+pairs-rest s ns vs i n v h g p q =
+    let a = rest-next ns i n h p in
+    let b = rest-next vs i v g q in
+    λ j. pairs_at s (a j) (b j)
+
+pub pairs-end : (s : State) (ns : List ℕ) (vs : List VarKey) (i : ℕ) → length ns ≤ i → pairs_at s (drop i ns) (drop i vs) ≡ []
+pairs-end s ns vs i h = ap (λ is. pairs_at s is (drop i vs)) (drop_of_length-le ns h)
+
+pub names-rest : (s : State) (ns : List ℕ) (i n : ℕ) → i < length ns → n ≡ get_or ns i n → map (name_at s) (drop i ns) ≡ name_at s n ∷ map (name_at s) (drop (i + 1) ns)
+names-rest s ns i n h p = ap (map (name_at s)) (rest-next ns i n h p)
+
+pub names-end : (s : State) (ns : List ℕ) (i : ℕ) → length ns ≤ i → map (name_at s) (drop i ns) ≡ []
+names-end s ns i h = ap (map (name_at s)) (drop_of_length-le ns h)
