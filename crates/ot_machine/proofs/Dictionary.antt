@@ -1,12 +1,12 @@
 -- The dictionary, seen as the finite map of what its objects stand for.
-use Rattle.std.proofs.Common.{◌≡◌, ℤ, List, Bool, true, false, cond, sym, ap, ◌∙◌, refl, subst}
+use Rattle.std.proofs.Common.{◌≡◌, ℤ, List, Bool, true, false, cond, sym, ap, ◌∙◌, refl}
 use Rattle.std.specs.Prelude.{Option, Some, None, Ok, Err}
 use Rattle.std.specs.Option.{option_map}
 use Rattle.std.specs.Ordering.{int_cmp, is_eq, eq_by_cmp}
 use Rattle.std.specs.Cmp.{int_cmp_total, eq_by_cmp_equiv}
 use Rattle.std.specs.Map.{lookup}
 use Rattle.std.specs.BTreeMap.{is_at}
-use Rattle.std.specs.FinMap.{get, insert, get-insert, same_map, int_cmp-IsAntisymmetric}
+use Rattle.std.specs.FinMap.{get, insert, remove, get-insert, get-remove, same_map, int_cmp-IsAntisymmetric}
 use Rattle.std.proofs.lemmas.Option.{same_Some}
 use Rattle.ot_plain.specs.Names.{Name}
 use Rattle.ot_plain.specs.Faults as faults
@@ -26,32 +26,38 @@ module _ (k : kernel.State) (cs : List Objects) where
       ap (λ z. some_or (faults.NoEntry z) (get (dictionary_of k cs es) z)) (sym same)
       ∙ ap (some_or (faults.NoEntry j)) (get-dictionary k cs es j ∙ ap (option_map (entry_of k cs)) (sym e))
 
-  pub entry-none : (es : List (ℤ × Object)) (j key : ℤ) → j ≡ key → None ≡ lookup (is_at (int_cmp j)) es → Refuses (code.NoEntry j) (some_or (faults.NoEntry key) (get (dictionary_of k cs es) key))
-  entry-none es j key same e f p =
+  pub entry-none : (l : kernel.State) (es : List (ℤ × Object)) (j key : ℤ) → j ≡ key → None ≡ lookup (is_at (int_cmp j)) es → Refuses l (code.NoEntry j) (some_or (faults.NoEntry key) (get (dictionary_of k cs es) key))
+  entry-none l es j key same e =
       let none : get (dictionary_of k cs es) key ≡ None = ap (get (dictionary_of k cs es)) (sym same) ∙ get-dictionary k cs es j ∙ ap (option_map (entry_of k cs)) (sym e) in
-      ap (some_or (faults.NoEntry key)) none ∙ ap (λ z. Err (faults.NoEntry z)) (sym same) ∙ ap Err (same_Some _ _ p)
+      (tt, λ f p. ap (some_or (faults.NoEntry key)) none ∙ ap (λ z. Err (faults.NoEntry z)) (sym same) ∙ ap Err (same_Some _ _ p))
 
-  map-cond : (b : Bool) (o : Object) (r : Option Object) → option_map (entry_of k cs) (cond b (Some o) r) ≡ cond b (Some (entry_of k cs o)) (option_map (entry_of k cs) r)
-  map-cond true o r = refl
-  map-cond false o r = refl
+  map-cond : (b : Bool) (w r : Option Object) → option_map (entry_of k cs) (cond b w r) ≡ cond b (option_map (entry_of k cs) w) (option_map (entry_of k cs) r)
+  map-cond true w r = refl
+  map-cond false w r = refl
 
-  insert-at : (es fs : List (ℤ × Object)) (key : ℤ) (o : Object) → ((q : ℤ) → lookup (is_at (int_cmp q)) fs ≡ cond (is_at (int_cmp key) q) (Some o) (lookup (is_at (int_cmp q)) es)) → dictionary_of k cs fs ≡ insert (dictionary_of k cs es) key (entry_of k cs o)
-  insert-at es fs key o changed =
-      same_map int_cmp_total int_cmp-IsAntisymmetric _ _ (λ q.
+  -- what is there after a change at one key
+  get-changed : (es fs : List (ℤ × Object)) (key : ℤ) (w : Option Object) → ((q : ℤ) → lookup (is_at (int_cmp q)) fs ≡ cond (is_at (int_cmp key) q) w (lookup (is_at (int_cmp q)) es)) → (q : ℤ) → get (dictionary_of k cs fs) q ≡ cond (eq_by_cmp int_cmp q key) (option_map (entry_of k cs) w) (get (dictionary_of k cs es) q)
+  get-changed es fs key w changed q =
       get-dictionary k cs fs q
       ∙ ap (option_map (entry_of k cs)) (changed q)
-      ∙ map-cond (is_eq (int_cmp key q)) o _
-      ∙ ap (λ b. cond b (Some (entry_of k cs o)) (option_map (entry_of k cs) (lookup (is_at (int_cmp q)) es))) ((eq_by_cmp_equiv int_cmp_total).symm key q)
-      ∙ ap (cond (eq_by_cmp int_cmp q key) (Some (entry_of k cs o))) (sym (get-dictionary k cs es q))
-      ∙ sym (get-insert int_cmp_total (dictionary_of k cs es) key (entry_of k cs o) q))
+      ∙ map-cond (is_eq (int_cmp key q)) w _
+      ∙ ap (λ b. cond b (option_map (entry_of k cs) w) (option_map (entry_of k cs) (lookup (is_at (int_cmp q)) es))) ((eq_by_cmp_equiv int_cmp_total).symm key q)
+      ∙ ap (cond (eq_by_cmp int_cmp q key) (option_map (entry_of k cs) w)) (sym (get-dictionary k cs es q))
 
   pub insert-dictionary : (es fs : List (ℤ × Object)) (j key : ℤ) (o : Object) → j ≡ key → ((q : ℤ) → lookup (is_at (int_cmp q)) fs ≡ cond (is_at (int_cmp j) q) (Some o) (lookup (is_at (int_cmp q)) es)) → dictionary_of k cs fs ≡ insert (dictionary_of k cs es) key (entry_of k cs o)
-  insert-dictionary es fs j key o same changed = insert-at es fs j o changed ∙ ap (λ z. insert (dictionary_of k cs es) z (entry_of k cs o)) same
+  insert-dictionary es fs j key o same changed =
+      same_map int_cmp_total int_cmp-IsAntisymmetric _ _ (λ q. get-changed es fs j (Some o) changed q ∙ sym (get-insert int_cmp_total (dictionary_of k cs es) j (entry_of k cs o) q))
+      ∙ ap (λ z. insert (dictionary_of k cs es) z (entry_of k cs o)) same
 
--- what held of each object that is stored, and holds of the new one, holds of each
-pub each-inserted : (P : Object → Type 0) (es fs : List (ℤ × Object)) (j : ℤ) (o : Object) → ((q : ℤ) → lookup (is_at (int_cmp q)) fs ≡ cond (is_at (int_cmp j) q) (Some o) (lookup (is_at (int_cmp q)) es)) → ((q : ℤ) (x : Object) → lookup (is_at (int_cmp q)) es ≡ Some x → P x) → P o → (q : ℤ) (x : Object) → lookup (is_at (int_cmp q)) fs ≡ Some x → P x
-each-inserted P es fs j o changed each new q x p = by (is_at (int_cmp j) q) (lookup (is_at (int_cmp q)) es) (sym (changed q) ∙ p) (each q x)
+  pub remove-dictionary : (es fs : List (ℤ × Object)) (j key : ℤ) → j ≡ key → ((q : ℤ) → lookup (is_at (int_cmp q)) fs ≡ cond (is_at (int_cmp j) q) None (lookup (is_at (int_cmp q)) es)) → dictionary_of k cs fs ≡ remove (dictionary_of k cs es) key
+  remove-dictionary es fs j key same changed =
+      same_map int_cmp_total int_cmp-IsAntisymmetric _ _ (λ q. get-changed es fs j None changed q ∙ sym (get-remove int_cmp_total (dictionary_of k cs es) j q))
+      ∙ ap (remove (dictionary_of k cs es)) same
+
+-- what held of each object that is stored, and holds of what is there at a changed key, holds of each
+pub each-changed : (P : Object → Type 0) (es fs : List (ℤ × Object)) (j : ℤ) (w : Option Object) → ((q : ℤ) → lookup (is_at (int_cmp q)) fs ≡ cond (is_at (int_cmp j) q) w (lookup (is_at (int_cmp q)) es)) → ((q : ℤ) (x : Object) → lookup (is_at (int_cmp q)) es ≡ Some x → P x) → ((x : Object) → w ≡ Some x → P x) → (q : ℤ) (x : Object) → lookup (is_at (int_cmp q)) fs ≡ Some x → P x
+each-changed P es fs j w changed each new q x p = by (is_at (int_cmp j) q) (lookup (is_at (int_cmp q)) es) (sym (changed q) ∙ p) (each q x)
   where
-    by : (b : Bool) (r : Option Object) → cond b (Some o) r ≡ Some x → (r ≡ Some x → P x) → P x
-    by true r e old = subst P (same_Some o x e) new
+    by : (b : Bool) (r : Option Object) → cond b w r ≡ Some x → (r ≡ Some x → P x) → P x
+    by true r e old = new x e
     by false r e old = old e

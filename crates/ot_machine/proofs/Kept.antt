@@ -25,7 +25,7 @@ use Rattle.ot_machine.specs.Meaning.{list_at, object_of, cell_of, cells_onto, ce
 
 -- ---- places of lists that grow
 module _ {X : Type 0} (xs ys : List X) (e : Extends xs ys) (d : X) where
-  at-Extends : (i : ℕ) → i < length xs → slice_index_or ys i d ≡ slice_index_or xs i d
+  pub at-Extends : (i : ℕ) → i < length xs → slice_index_or ys i d ≡ slice_index_or xs i d
   at-Extends i h = get_or_from_slice_get ys i _ d (e.keeps i _ (slice_get-get_or xs i d h))
 
 -- ---- an object over a kernel that grew

@@ -2,9 +2,14 @@
 pub mod Kept
 pub mod Readings
 pub mod Stack
+pub mod Turning
 pub mod Dictionary
 pub mod Cells
+pub mod Constants
 pub mod Elements
 pub mod Exported
 pub mod Taken
+pub mod Refusals
+pub mod Defined
 pub mod Reached
+pub mod Followed

@@ -4,6 +4,7 @@ use Rattle.std.proofs.Common.{◌≡◌, ℕ, zero, suc, List, sym, ap, ◌∙�
 use Rattle.ot_plain.specs.Names.{Name}
 use Rattle.ot_plain.specs.Faults as stated
 use Rattle.ot_scan.specs.Lines.{Lines, Finished, Broken, Next}
+use Rattle.ot_kernel.specs.State as kernel
 use Rattle.ot_machine.specs.declared.fault.Fault.{Fault}
 use Rattle.ot_machine.specs.declared.fault.Fault.TheVariants as faults
 use Rattle.ot_machine.specs.Faults.{fault_of}
@@ -58,13 +59,13 @@ module _ (c : Context) where
   pub after_run : (all : Lines) (start now : State) (rest : Lines) → After all start now rest → run c all start ≡ run c rest now
   after_run all start now rest a = run_behind a.count all start now a.now_is ∙ ap (λ z. run c z now) a.rest_is
 
-  runs_refusal : (line : ℕ) (e : Fault) (all : Lines) (start now : State) → ((f : stated.Fault Name) → fault_of e ≡ Some f → run c all start ≡ Stopped line f now) → IsReached c all start now → Runs (Err (refusal line e)) c all start now
-  runs_refusal line faults.Memory all start now stopped reached = reached
-  runs_refusal line e all start now stopped reached = (_, refl, stopped _ refl)
+  runs_refusal : (k : kernel.State) (line : ℕ) (e : Fault) (all : Lines) (start now : State) → ((f : stated.Fault Name) → fault_of (kernel.name_at k) e ≡ Some f → run c all start ≡ Stopped line f now) → IsReached c all start now → Runs k (Err (refusal line e)) c all start now
+  runs_refusal k line faults.Memory all start now stopped reached = reached
+  runs_refusal k line e all start now stopped reached = (_, refl, stopped _ refl)
 
   -- a line that is refused ends the run, and one that wants memory leaves it where it was
-  pub runs_stopped : (line : ℕ) (e : Fault) (all : Lines) (start now new : State) (t : List ℕ) (rest ls : Lines) → After all start now rest → rest ≡ Next line t ls → (new ≡ now) × Refuses e (line_step c now t) → Runs (Err (refusal line e)) c all start new
-  runs_stopped line e all start now new t rest ls a b m =
-      runs_refusal line e all start new
-      (λ f p. after_run all start now rest a ∙ ap (λ z. run c z now) b ∙ ap (λ r. go_on line now r (run c ls)) (m.1 f p) ∙ ap (Stopped line f) (sym m.0))
+  pub runs_stopped : (k : kernel.State) (line : ℕ) (e : Fault) (all : Lines) (start now new : State) (t : List ℕ) (rest ls : Lines) → After all start now rest → rest ≡ Next line t ls → (new ≡ now) × Refuses k e (line_step c now t) → Runs k (Err (refusal line e)) c all start new
+  runs_stopped k line e all start now new t rest ls a b m =
+      runs_refusal k line e all start new
+      (λ f p. after_run all start now rest a ∙ ap (λ z. run c z now) b ∙ ap (λ r. go_on line now r (run c ls)) (m.1.1 f p) ∙ ap (Stopped line f) (sym m.0))
       (a.count, a.now_is ∙ ap Ended (sym m.0))

@@ -1,15 +1,16 @@
 -- The run behind an assumption.
-use Rattle.std.specs.Prelude.{◌≡◌, ℕ, List, [], ◌∷◌, ◌++◌, map, find, is_some, Bool, true, false, if◌then◌else◌, Ok}
+use Rattle.std.specs.Prelude.{◌≡◌, ℕ, List, [], ◌∷◌, ◌++◌, map, find, is_some, Bool, true, false, if◌then◌else◌, Ok, Err}
 use Rattle.std.proofs.Common.{refl, sym, ap, ◌∙◌}
 use Rattle.std.proofs.lemmas.List.{map-append}
 use Rattle.ot_plain.specs.Names.{Name}
 use Rattle.ot_plain.specs.Trees.{Tm, Sequent}
 use Rattle.ot_plain.specs.Hol.{same_sequent}
 use Rattle.ot_plain.specs.Naming.{names}
+use Rattle.ot_plain.specs.Faults.{Fault}
 use Rattle.ot_plain.specs.Answers.{◌>>=◌}
 use Rattle.ot_kernel.specs.Axioms.{axiom_rule, known, with_sequent}
 use Rattle.ot_kernel.specs.State as kernel
-use Rattle.ot_machine.specs.States.{Given, no_context}
+use Rattle.ot_machine.specs.States.{Given, RunState, no_context}
 use Rattle.ot_machine.specs.Rows.{sequents_of, assuming, assumed}
 use Rattle.ot_machine.specs.Meaning.{run_of}
 
@@ -39,3 +40,8 @@ assumed-is k l hyps p q th rule made taken same =
         definitions = map (λ d. record { definition = d }) (sym same i);
       },
     ))
+
+-- and so is its refusal
+pub assumed-refused : (run : RunState) (hyps : List (Tm Name)) (p : Tm Name) (f : Fault Name) → axiom_rule hyps p ≡ Err f → assumed no_context hyps p run ≡ Err f
+assumed-refused run hyps p f refused =
+    ap (λ r. r >>= λ q. Ok (known (sequents_of run.assumptions) q, record run { assumptions = assuming (sequents_of run.assumptions) q run.assumptions })) refused

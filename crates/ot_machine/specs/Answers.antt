@@ -4,6 +4,7 @@ use Rattle.ot_plain.specs.Names.{Name}
 use Rattle.ot_plain.specs.Faults as faults
 use Rattle.ot_scan.specs.Lines.{Lines}
 use Rattle.ot_machine.specs.declared.fault.Fault.{Fault}
+use Rattle.ot_machine.specs.declared.fault.Fault.TheVariants as code
 use Rattle.ot_machine.specs.declared.fault.ArticleFault.{ArticleFault}
 use Rattle.ot_machine.specs.declared.fault.ArticleFault.TheVariants as article
 use Rattle.ot_machine.specs.Faults.{fault_of}
@@ -17,19 +18,26 @@ use Rattle.ot_machine.specs.Meaning.{state_of, object_of, list_at, cells_of, len
 use Rattle.ot_machine.specs.States.{State, Context}
 use Rattle.ot_machine.specs.Run.{Ended, Stopped, run, IsReached}
 
--- a refusal is the stated one; want of memory is free
-abbrev pub Refuses : {X : Type 0} → Fault → Result X (faults.Fault Name) → Type 0
-Refuses e stated = (f : faults.Fault Name) → fault_of e ≡ Some f → stated ≡ Err f
+-- the symbol that a fault names, where it names one, is of the kernel
+abbrev pub IsSymbolIn : kernel.State → Fault → Type 0
+IsSymbolIn k (code.Primitive s) = s.name < length k.names
+IsSymbolIn k (code.AlreadyDefined s) = s.name < length k.names
+IsSymbolIn k (code.SymbolInUse s) = s.name < length k.names
+IsSymbolIn k e = Unit {0}
+
+-- a refusal is the stated one, by the kernel's names; want of memory is free
+abbrev pub Refuses : {X : Type 0} → kernel.State → Fault → Result X (faults.Fault Name) → Type 0
+Refuses k e stated = IsSymbolIn k e × ((f : faults.Fault Name) → fault_of (kernel.name_at k) e ≡ Some f → stated ≡ Err f)
 
 -- what was made is what is stated
-abbrev pub Makes : {X Y : Type 0} → (X → Y) → Result X Fault → Result Y (faults.Fault Name) → Type 0
-Makes view (Ok x) stated = stated ≡ Ok (view x)
-Makes view (Err e) stated = Refuses e stated
+abbrev pub Makes : {X Y : Type 0} → kernel.State → (X → Y) → Result X Fault → Result Y (faults.Fault Name) → Type 0
+Makes k view (Ok x) stated = stated ≡ Ok (view x)
+Makes k view (Err e) stated = Refuses k e stated
 
 -- a change of old into new is the stated one; a refusal changes nothing
-abbrev pub Moves : {X S : Type 0} → Result X Fault → Result S (faults.Fault Name) → S → S → Type 0
-Moves (Ok x) stated old new = stated ≡ Ok new
-Moves (Err e) stated old new = (new ≡ old) × Refuses e stated
+abbrev pub Moves : {X S : Type 0} → kernel.State → Result X Fault → Result S (faults.Fault Name) → S → S → Type 0
+Moves k (Ok x) stated old new = stated ≡ Ok new
+Moves k (Err e) stated old new = (new ≡ old) × Refuses k e stated
 
 -- the first object of a list and the rest, where there is one
 pub record IsFirstOf (k : kernel.State) (cells : List cell.Cell) (l : items.List) (o : object.Object) (rest : items.List) : Type 0 where
@@ -42,13 +50,19 @@ abbrev pub IsFirst : kernel.State → List cell.Cell → items.List → Option (
 IsFirst k cells l None = list_at (cells_of k cells) l ≡ no_objects
 IsFirst k cells l (Some p) = IsFirstOf k cells l p.0 p.1
 
--- what running the lines answered, and the state that it left
-abbrev pub Runs : Result (Unit {0}) ArticleFault → Context → Lines → State → State → Type 0
-Runs (Ok u) c lines start now = run c lines start ≡ Ended now
-Runs (Err (article.At line fault)) c lines start now = (f : faults.Fault Name) × (fault_of fault ≡ Some f) × (run c lines start ≡ Stopped line f now)
-Runs (Err article.Memory) c lines start now = IsReached c lines start now
+-- what running the lines answered, by the kernel's names, and the state that it left
+abbrev pub Runs : kernel.State → Result (Unit {0}) ArticleFault → Context → Lines → State → State → Type 0
+Runs k (Ok u) c lines start now = run c lines start ≡ Ended now
+Runs k (Err (article.At line fault)) c lines start now = (f : faults.Fault Name) × (fault_of (kernel.name_at k) fault ≡ Some f) × (run c lines start ≡ Stopped line f now)
+Runs k (Err article.ReadFault) c lines start now = IsReached c lines start now
+Runs k (Err article.Memory) c lines start now = IsReached c lines start now
+
+-- the symbol that the fault at which an article stops names, where it names one, is of the kernel
+abbrev pub NamesSymbolIn : kernel.State → ArticleFault → Type 0
+NamesSymbolIn k (article.At line fault) = IsSymbolIn k fault
+NamesSymbolIn k e = Unit {0}
 
 -- a row was taken: the state moved by it, and the machine is still of its session
 pub record Turns (result : Result (Unit {0}) Fault) (row : State → Result State (faults.Fault Name)) (k : kernel.State) (m : Machine) (l : kernel.State) (n : Machine) : Type 0 where
-  pub moves : Moves result (row (state_of k m)) (state_of k m) (state_of l n)
+  pub moves : Moves l result (row (state_of k m)) (state_of k m) (state_of l n)
   pub of : IsOf l n

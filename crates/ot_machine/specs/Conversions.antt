@@ -4,12 +4,16 @@ use Rattle.ot_type.specs.declared.fault.TableFault.{TableFault}
 use Rattle.ot_type.specs.declared.fault.TableFault.TheVariants as types
 use Rattle.ot_term.specs.declared.term.TermFault.{TermFault}
 use Rattle.ot_term.specs.declared.term.TermFault.TheVariants as terms
+use Rattle.ot_define.specs.declared.fault.DefineFault.{DefineFault}
+use Rattle.ot_define.specs.declared.fault.DefineFault.TheVariants as definitions
 use Rattle.ot_kernel.specs.declared.fault.RuleFault.{RuleFault}
 use Rattle.ot_kernel.specs.declared.fault.RuleFault.TheVariants as rules
+use Rattle.ot_scan.specs.declared.fault.ScanFault.{ScanFault}
+use Rattle.ot_scan.specs.declared.fault.ScanFault.TheVariants as lines
 use Rattle.ot_scan.specs.declared.words.WordFault.{WordFault}
 use Rattle.ot_scan.specs.declared.words.WordFault.TheVariants as words
 use Rattle.ot_machine.specs.declared.fault.ArticleFault.{ArticleFault}
-use Rattle.ot_machine.specs.declared.fault.ArticleFault.TheVariants.{At, Memory}
+use Rattle.ot_machine.specs.declared.fault.ArticleFault.TheVariants.{At, ReadFault, Memory}
 use Rattle.ot_machine.specs.declared.fault.Fault.{Fault}
 use Rattle.ot_machine.specs.declared.fault.Fault.TheVariants as code
 
@@ -23,6 +27,18 @@ term_fault terms.ArgumentType = code.ArgumentType
 term_fault terms.Nesting = code.Nesting
 term_fault terms.Memory = code.Memory
 
+abbrev pub define_fault : DefineFault → Fault
+define_fault definitions.BadDefinitionList = code.BadDefinitionList
+define_fault definitions.HypothesesPresent = code.HypothesesPresent
+define_fault definitions.NotApplication = code.NotApplication
+define_fault definitions.BadTypeVars = code.BadTypeVars
+define_fault (definitions.Primitive s) = code.Primitive s
+define_fault (definitions.AlreadyDefined s) = code.AlreadyDefined s
+define_fault (definitions.SymbolInUse s) = code.SymbolInUse s
+define_fault definitions.NotClosed = code.NotClosed
+define_fault definitions.TypeVarEscapes = code.TypeVarEscapes
+define_fault definitions.Memory = code.Memory
+
 abbrev pub rule_fault : RuleFault → Fault
 rule_fault rules.NotBool = code.NotBool
 rule_fault rules.NotEquation = code.NotEquation
@@ -32,6 +48,7 @@ rule_fault rules.ArgumentType = code.ArgumentType
 rule_fault rules.VarFreeInHyps = code.VarFreeInHyps
 rule_fault rules.NotRedex = code.NotRedex
 rule_fault rules.Nesting = code.Nesting
+rule_fault (rules.Define e) = define_fault e
 rule_fault rules.Memory = code.Memory
 
 abbrev pub word_fault : WordFault → Fault
@@ -39,6 +56,12 @@ word_fault words.UnknownCommand = code.UnknownCommand
 word_fault words.BadName = code.BadName
 word_fault words.BadNumber = code.BadNumber
 word_fault words.NumberRange = code.NumberRange
+
+-- what stops the lines of an article
+abbrev pub article_fault : ScanFault → ArticleFault
+article_fault (lines.LineTooLong number) = At number code.LineTooLong
+article_fault (lines.ArticleTooLong number) = At number code.ArticleTooLong
+article_fault lines.ReadFault = ReadFault
 
 -- the fault of a line, where it was not for want of memory
 abbrev pub refusal : ℕ → Fault → ArticleFault

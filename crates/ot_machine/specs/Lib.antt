@@ -2,7 +2,9 @@
 pub mod Objects
 pub mod States
 pub mod Places
+pub mod Parts
 pub mod Substitutions
+pub mod DefinitionLists
 pub mod Rows
 pub mod Step
 pub mod Run

@@ -1,5 +1,5 @@
 -- What stands at a place of the stack, of which kind.
-use Rattle.std.specs.Prelude.{◌-◌, ℕ, suc, ℤ, List, [], ◌∷◌, ◌++◌, take, length, Result, Ok, Err, slice_get, nat_lt, if◌then◌else◌}
+use Rattle.std.specs.Prelude.{◌-◌, ℕ, suc, ℤ, List, [], ◌∷◌, ◌++◌, take, length, map, Result, Ok, Err, slice_get, nat_lt, if◌then◌else◌}
 use Rattle.ot_plain.specs.Names.{Name}
 use Rattle.ot_plain.specs.Trees.{Ty, Tys, NoTys, MoreTys, Variable, Tm, Sequent}
 use Rattle.ot_plain.specs.Faults.{Fault, StackEmpty, WrongKind}
@@ -27,6 +27,10 @@ pushed o stack = stack ++ record { object = o } ∷ []
 -- an object in the place of the top n
 abbrev pub replaced : ℕ → Object → List Entry → List Entry
 replaced n o stack = pushed o (dropped n stack)
+
+-- objects in the place of the top n
+abbrev pub exchanged : ℕ → List Object → List Entry → List Entry
+exchanged n os stack = dropped n stack ++ map (λ o. record { object = o }) os
 
 -- ---- an object of one kind
 
@@ -114,3 +118,6 @@ types_on n stack = list_on n stack >>= as_each as_type
 
 abbrev pub terms_on : ℕ → List Entry → Result (List (Tm Name)) (Fault Name)
 terms_on n stack = list_on n stack >>= as_each as_term
+
+abbrev pub names_on : ℕ → List Entry → Result (List Name) (Fault Name)
+names_on n stack = list_on n stack >>= as_each as_name

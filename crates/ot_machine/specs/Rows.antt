@@ -1,19 +1,21 @@
 -- The commands of the article format: one row for each word.
-use Rattle.std.specs.Prelude.{pos, List, [], ◌∷◌, ◌++◌, map, find, is_some, Bool, false, ◌||◌, Result, Ok, Err, nat_le, if◌then◌else◌, cond}
+use Rattle.std.specs.Prelude.{pos, ℕ, List, [], ◌∷◌, ◌++◌, map, find, is_some, Bool, false, ◌||◌, Result, Ok, Err, nat_le, if◌then◌else◌, cond}
 use Rattle.std.specs.Ordering.{int_eq}
 use Rattle.std.specs.FinMap as dictionaries
 use Rattle.ot_plain.specs.Names.{Name}
 use Rattle.ot_plain.specs.Naming.{names}
-use Rattle.ot_plain.specs.Trees.{TyVar, Tm, Free, Con, Sequent}
-use Rattle.ot_plain.specs.Hol.{depth_limit, same_sequent}
-use Rattle.ot_plain.specs.Faults.{Fault, VersionUnsupported, NoEntry, ExportMismatch, Nesting}
+use Rattle.ot_plain.specs.Trees.{TyVar, Tm, Free, Con, Sequent, Definition}
+use Rattle.ot_plain.specs.Hol.{depth_limit, same_sequent, theorems}
+use Rattle.ot_plain.specs.Faults.{Fault, VersionUnsupported, NoEntry, EmptyList, ExportMismatch, Nesting}
 use Rattle.ot_plain.specs.Answers.{◌>>=◌, unless, some_or}
 use Rattle.ot_plain.specs.Rules.{op_rule, app_rule, abs_rule, refl_rule, assume_rule, abs_thm_rule, beta_conv_rule, subst_rule}
 use Rattle.ot_machine.specs.Objects.{Object, Objects, list, type_op, a_type, constant, variable, term, theorem, no_objects, more_objects, nesting}
 use Rattle.ot_kernel.specs.Axioms.{axiom_rule, known}
-use Rattle.ot_machine.specs.States.{Entry, Export, Given, ArticleState, RunState, State, Context, renamed}
-use Rattle.ot_machine.specs.Places.{entry_at, object_at, pushed, dropped, replaced, number_on, name_on, list_on, type_op_on, type_on, constant_on, variable_on, term_on, theorem_on, types_on, terms_on, arguments}
+use Rattle.ot_kernel.specs.Defining.{Defining, const_definition, list_definition, type_definition}
+use Rattle.ot_machine.specs.States.{Entry, Export, Given, Made, ArticleState, RunState, State, Context, renamed}
+use Rattle.ot_machine.specs.Places.{entry_at, object_at, pushed, dropped, replaced, exchanged, number_on, name_on, list_on, type_op_on, type_on, constant_on, variable_on, term_on, theorem_on, types_on, terms_on, names_on, arguments}
 use Rattle.ot_machine.specs.Substitutions.{maps_of}
+use Rattle.ot_machine.specs.DefinitionLists.{pairs_of}
 
 -- ---- commands that change the stack alone
 
@@ -38,6 +40,18 @@ abbrev pub pop_row : List Entry → Row
 pop_row stack = do
   _ ← object_at 0 stack
   Ok (dropped 1 stack)
+
+-- the first object of a list and the rest
+abbrev pub first_of : Objects → Result (Object × Objects) (Fault Name)
+first_of no_objects = Err EmptyList
+first_of (more_objects o os) = Ok (o, os)
+
+-- the head of a list, and on top its tail
+abbrev pub hd_tl_row : List Entry → Row
+hd_tl_row stack = do
+  os ← list_on 0 stack
+  parts ← first_of os
+  Ok (exchanged 1 (parts.0 ∷ list parts.1 ∷ []) stack)
 
 -- the number 6 alone is a version
 abbrev pub version_row : List Entry → Row
@@ -173,6 +187,55 @@ axiom_row c s = do
   a ← assumed c hyps p s.run
   Ok (record { article = record s.article { stack = replaced 2 (theorem a.0) s.article.stack }; run = a.1 })
 
+-- ---- commands that add a definition
+
+abbrev pub definitions_of : List Made → List (Definition Name)
+definitions_of = map (λ d. d.definition)
+
+-- the theorems of the definition that a rule gives after those of the run, and the run with it at their end
+abbrev pub defined : (List (Definition Name) → Defining names) → RunState → Result (List (Sequent Name) × RunState) (Fault Name)
+defined rule run = do
+  d ← rule (definitions_of run.definitions)
+  Ok (theorems names d, record run { definitions = run.definitions ++ record { definition = d } ∷ [] })
+
+-- the symbols that were defined and their theorems, in the place of the top n objects
+abbrev pub with_defined : ℕ → List Object → List (Sequent Name) × RunState → State → State
+with_defined n symbols made s = record { article = record s.article { stack = exchanged n (symbols ++ map theorem made.0) s.article.stack }; run = made.1 }
+
+abbrev pub define_const_row : Context → State → Result State (Fault Name)
+define_const_row c s = do
+  t ← term_on 0 s.article.stack
+  n ← name_on 1 s.article.stack
+  let m = renamed c.interpretation.constants n in
+      defined (λ ds. const_definition names ds m t) s.run >>= λ made. Ok (with_defined 2 (constant m ∷ []) made s)
+
+-- from the top: the theorem, the list of type variables, and the names rep, abs and that of the operator
+abbrev pub define_type_op_row : Context → State → Result State (Fault Name)
+define_type_op_row c s = do
+  th ← theorem_on 0 s.article.stack
+  vars ← names_on 1 s.article.stack
+  rep ← name_on 2 s.article.stack
+  abs ← name_on 3 s.article.stack
+  n ← name_on 4 s.article.stack
+  let op = renamed c.interpretation.type_ops n in
+      let a = renamed c.interpretation.constants abs in
+      let r = renamed c.interpretation.constants rep in
+      defined (λ ds. type_definition names ds op a r vars th) s.run >>= λ made. Ok (with_defined 5 (type_op op ∷ constant a ∷ constant r ∷ []) made s)
+
+-- the list of constants
+abbrev pub constants_of : List Name → Objects
+constants_of [] = no_objects
+constants_of (n ∷ ns) = more_objects (constant n) (constants_of ns)
+
+-- the theorem is on the top, and the list with the names and the variables below it
+abbrev pub define_const_list_row : Context → State → Result State (Fault Name)
+define_const_list_row c s = do
+  th ← theorem_on 0 s.article.stack
+  os ← list_on 1 s.article.stack
+  pairs ← pairs_of os
+  let ns = map (λ p. renamed c.interpretation.constants p.0) pairs in
+      defined (λ ds. list_definition names ds ns (map (λ p. p.1) pairs) th) s.run >>= λ made. Ok (with_defined 2 (list (constants_of ns) ∷ []) made s)
+
 -- ---- commands that read or change the dictionary or the exports
 
 -- the entry below the key stays, and the key goes
@@ -187,6 +250,13 @@ ref_row s = do
   k ← number_on 0 s.stack
   e ← some_or (NoEntry k) (dictionaries.get s.dictionary k)
   Ok (record s { stack = dropped 1 s.stack ++ e ∷ [] })
+
+-- the entry under the key comes back to the stack, and goes from the dictionary
+abbrev pub remove_row : ArticleState → Result ArticleState (Fault Name)
+remove_row s = do
+  k ← number_on 0 s.stack
+  e ← some_or (NoEntry k) (dictionaries.get s.dictionary k)
+  Ok (record s { stack = dropped 1 s.stack ++ e ∷ []; dictionary = dictionaries.remove s.dictionary k })
 
 -- whether the sequent is exported already
 abbrev pub is_exported : Sequent Name → List Export → Bool

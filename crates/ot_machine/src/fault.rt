@@ -1,11 +1,12 @@
 ghost use Rattle.std.specs.Prelude.{◌≡◌};
 ghost use Rattle.ot_machine.specs.declared.fault.Fault.TheVariants.{Memory as OutOfMemory};
-ghost use Rattle.ot_machine.specs.Conversions.{table_fault, term_fault, rule_fault, word_fault, refusal};
+ghost use Rattle.ot_machine.specs.Conversions.{table_fault, term_fault, define_fault, rule_fault, word_fault, article_fault, refusal};
 
+use ot_define::DefineFault;
 use ot_kernel::RuleFault;
 use ot_plain::{Kind, Memory};
-use ot_scan::WordFault;
-use ot_term::TermFault;
+use ot_scan::{ScanFault, WordFault};
+use ot_term::{Symbol, TermFault};
 use ot_type::TableFault;
 use std::alloc::{AllocError, AllocFailed};
 
@@ -25,6 +26,7 @@ pub enum Fault {
     /// The kind that is wanted, and the kind that was found.
     WrongKind(Kind, Kind),
     NoEntry(i64),
+    EmptyList,
     NotFunction,
     ArgumentType,
     NotBool,
@@ -33,10 +35,18 @@ pub enum Fault {
     VarFreeInHyps,
     NotRedex,
     BadSubst,
+    /// A list of names and variables that is none, or that the premise doesn't fit.
+    BadDefinitionList,
+    HypothesesPresent,
+    NotApplication,
+    BadTypeVars,
+    Primitive(Symbol),
+    AlreadyDefined(Symbol),
+    SymbolInUse(Symbol),
+    NotClosed,
+    TypeVarEscapes,
     ExportMismatch,
     Nesting,
-    /// The word has no row yet.
-    NotBuilt,
     Memory,
 }
 
@@ -88,6 +98,25 @@ impl From<TermFault> for Fault {
     }
 }
 
+impl From<DefineFault> for Fault {
+    ghost from_gives = { λ e f. f ≡ define_fault e };
+
+    fn from(fault: DefineFault) -> Fault {
+        match fault {
+            DefineFault::BadDefinitionList => Fault::BadDefinitionList,
+            DefineFault::HypothesesPresent => Fault::HypothesesPresent,
+            DefineFault::NotApplication => Fault::NotApplication,
+            DefineFault::BadTypeVars => Fault::BadTypeVars,
+            DefineFault::Primitive(symbol) => Fault::Primitive(symbol),
+            DefineFault::AlreadyDefined(symbol) => Fault::AlreadyDefined(symbol),
+            DefineFault::SymbolInUse(symbol) => Fault::SymbolInUse(symbol),
+            DefineFault::NotClosed => Fault::NotClosed,
+            DefineFault::TypeVarEscapes => Fault::TypeVarEscapes,
+            DefineFault::Memory => Fault::Memory,
+        }
+    }
+}
+
 impl From<RuleFault> for Fault {
     ghost from_gives = { λ e f. f ≡ rule_fault e };
 
@@ -101,6 +130,7 @@ impl From<RuleFault> for Fault {
             RuleFault::VarFreeInHyps => Fault::VarFreeInHyps,
             RuleFault::NotRedex => Fault::NotRedex,
             RuleFault::Nesting => Fault::Nesting,
+            RuleFault::Define(fault) => fault.into(),
             RuleFault::Memory => Fault::Memory,
         }
     }
@@ -124,7 +154,27 @@ impl From<WordFault> for Fault {
 pub enum ArticleFault {
     /// The first fault, with its line. It is never want of memory.
     At { line: u64, fault: Fault },
+    /// The source failed in this call.
+    ReadFault,
     Memory,
+}
+
+impl From<ScanFault> for ArticleFault {
+    ghost from_gives = { λ e r. r ≡ article_fault e };
+
+    fn from(fault: ScanFault) -> ArticleFault {
+        match fault {
+            ScanFault::LineTooLong(line) => ArticleFault::At {
+                line,
+                fault: Fault::LineTooLong,
+            },
+            ScanFault::ArticleTooLong(line) => ArticleFault::At {
+                line,
+                fault: Fault::ArticleTooLong,
+            },
+            ScanFault::ReadFault => ArticleFault::ReadFault,
+        }
+    }
 }
 
 /// The fault of a line; want of memory has no line.

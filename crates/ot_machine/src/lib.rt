@@ -1,12 +1,14 @@
 //! The stack machine: it runs the commands of articles over a kernel.
 #![tactic(auto)]
 
+mod definition_lists;
 mod exports;
 mod fault;
 mod lists;
 mod machine;
 mod makers;
 mod object;
+mod parts;
 mod places;
 mod rows;
 mod session;

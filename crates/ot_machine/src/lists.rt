@@ -1,19 +1,19 @@
 // Lists of objects of a machine of this session.
 ghost use Rattle.std.specs.Prelude.{◌≡◌, ◌<◌, ◌≤◌, length, map, IfOk, OnErr};
 ghost use Rattle.std.specs.List.{All};
-ghost use Rattle.ot_kernel.specs.State.{type_at, term_at};
+ghost use Rattle.ot_kernel.specs.State.{name_at, type_at, term_at};
 ghost use Rattle.ot_plain.specs.Hol.{depth_limit};
 ghost use Rattle.ot_machine.specs.Objects.{list as a_list, nesting};
 ghost use Rattle.ot_machine.specs.Meaning.{object_of, list_at, lists_of, article_of, IsOf, IsIn, IsListIn};
-ghost use Rattle.ot_machine.specs.Places.{as_type, as_term, as_each, types_on, terms_on};
-ghost use Rattle.ot_machine.specs.Rows.{consed};
+ghost use Rattle.ot_machine.specs.Places.{as_name, as_type, as_term, as_each, types_on, terms_on, names_on};
+ghost use Rattle.ot_machine.specs.Rows.{consed, constants_of};
 ghost use Rattle.ot_machine.specs.Answers.{Makes};
 
 use crate::fault::Fault;
 use crate::machine::Machine;
 use crate::object::{Cell, List, Object};
 use crate::session::Session;
-use ot_plain::{DEPTH_LIMIT, Kind};
+use ot_plain::{DEPTH_LIMIT, Kind, Memory, NameId};
 use ot_term::TermId;
 use ot_type::TypeId;
 use std::alloc::Global;
@@ -29,7 +29,7 @@ impl Session {
         requires of { IsOf self.now.kernel machine.old }
         requires head { IsIn self.now.kernel (length machine.old.cells.items) head }
         requires tail { IsListIn (length machine.old.cells.items) tail }
-        ensures made { Makes (λ l. a_list (list_at (lists_of self.now.kernel machine.new) l)) result (consed (object_of self.now.kernel (lists_of self.now.kernel machine.old) head) (list_at (lists_of self.now.kernel machine.old) tail)) }
+        ensures made { Makes self.now.kernel (λ l. a_list (list_at (lists_of self.now.kernel machine.new) l)) result (consed (object_of self.now.kernel (lists_of self.now.kernel machine.old) head) (list_at (lists_of self.now.kernel machine.old) tail)) }
         ensures inside { IfOk result (IsListIn (length machine.new.cells.items)) }
         ensures kept { article_of self.now.kernel machine.new ≡ article_of self.now.kernel machine.old }
         ensures of { IsOf self.now.kernel machine.new }
@@ -48,6 +48,29 @@ impl Session {
             nesting,
         })?;
         Ok(List::Cell(place))
+    }
+
+    /// The list of these constants.
+    pub(crate) fn constants(&self, machine: &mut Machine, names: &[NameId]) -> Result<List, Memory>
+        requires of { IsOf self.now.kernel machine.old }
+        requires names { All (λ n. n < length self.now.kernel.names) names.now }
+        ensures made { IfOk result (λ l. list_at (lists_of self.now.kernel machine.new) l ≡ constants_of (map (name_at self.now.kernel) names.now)) }
+        ensures inside { IfOk result (IsListIn (length machine.new.cells.items)) }
+        ensures kept { article_of self.now.kernel machine.new ≡ article_of self.now.kernel machine.old }
+        ensures of { IsOf self.now.kernel machine.new }
+        ensures stack { machine.new.stack ≡ machine.old.stack }
+    {
+        let mut list = List::Nil;
+        let mut rest = names;
+        'names: while let Some((name, front)) = rest.split_last() {
+            list = match self.cons(machine, Object::Const(*name), list) {
+                Ok(longer) => longer,
+                // Constants are no lists, so the nesting is 1 and memory alone can be wanting.
+                Err(_) => return Err(Memory),
+            };
+            rest = front;
+        }
+        Ok(list)
     }
 
     /// How deep lists lie in each other in an object.
@@ -84,7 +107,7 @@ impl Session {
         place: usize,
     ) -> Result<Vec<TypeId>, Fault>
         requires { IsOf self.now.kernel machine.now }
-        ensures found { Makes (λ v. map (type_at self.now.kernel) v.items) result (types_on place (article_of self.now.kernel machine.now).stack) }
+        ensures found { Makes self.now.kernel (λ v. map (type_at self.now.kernel) v.items) result (types_on place (article_of self.now.kernel machine.now).stack) }
         ensures inside { IfOk result (λ v. All (λ i. i < length self.now.kernel.types) v.items) }
     {
         let list = self.list_on(machine, place)?;
@@ -95,7 +118,7 @@ impl Session {
     fn types_of(&self, alloc: Global, machine: &Machine, list: List) -> Result<Vec<TypeId>, Fault>
         requires of { IsOf self.now.kernel machine.now }
         requires inside { IsListIn (length machine.now.cells.items) list }
-        ensures found { Makes (λ v. map (type_at self.now.kernel) v.items) result (as_each as_type (list_at (lists_of self.now.kernel machine.now) list)) }
+        ensures found { Makes self.now.kernel (λ v. map (type_at self.now.kernel) v.items) result (as_each as_type (list_at (lists_of self.now.kernel machine.now) list)) }
         ensures inside { IfOk result (λ v. All (λ i. i < length self.now.kernel.types) v.items) }
     {
         let mut types = Vec::new(alloc);
@@ -119,7 +142,7 @@ impl Session {
         place: usize,
     ) -> Result<Vec<TermId>, Fault>
         requires { IsOf self.now.kernel machine.now }
-        ensures found { Makes (λ v. map (term_at self.now.kernel) v.items) result (terms_on place (article_of self.now.kernel machine.now).stack) }
+        ensures found { Makes self.now.kernel (λ v. map (term_at self.now.kernel) v.items) result (terms_on place (article_of self.now.kernel machine.now).stack) }
         ensures inside { IfOk result (λ v. All (λ i. i < length self.now.kernel.terms) v.items) }
     {
         let list = self.list_on(machine, place)?;
@@ -130,7 +153,7 @@ impl Session {
     fn terms_of(&self, alloc: Global, machine: &Machine, list: List) -> Result<Vec<TermId>, Fault>
         requires of { IsOf self.now.kernel machine.now }
         requires inside { IsListIn (length machine.now.cells.items) list }
-        ensures found { Makes (λ v. map (term_at self.now.kernel) v.items) result (as_each as_term (list_at (lists_of self.now.kernel machine.now) list)) }
+        ensures found { Makes self.now.kernel (λ v. map (term_at self.now.kernel) v.items) result (as_each as_term (list_at (lists_of self.now.kernel machine.now) list)) }
         ensures inside { IfOk result (λ v. All (λ i. i < length self.now.kernel.terms) v.items) }
     {
         let mut terms = Vec::new(alloc);
@@ -144,5 +167,40 @@ impl Session {
             rest = cell.tail;
         }
         Ok(terms)
+    }
+
+    /// The names of the list at a place.
+    pub(crate) fn names_on(
+        &self,
+        alloc: Global,
+        machine: &Machine,
+        place: usize,
+    ) -> Result<Vec<NameId>, Fault>
+        requires { IsOf self.now.kernel machine.now }
+        ensures found { Makes self.now.kernel (λ v. map (name_at self.now.kernel) v.items) result (names_on place (article_of self.now.kernel machine.now).stack) }
+        ensures inside { IfOk result (λ v. All (λ i. i < length self.now.kernel.names) v.items) }
+    {
+        let list = self.list_on(machine, place)?;
+        self.names_of(alloc, machine, list)
+    }
+
+    /// The names of a list.
+    fn names_of(&self, alloc: Global, machine: &Machine, list: List) -> Result<Vec<NameId>, Fault>
+        requires of { IsOf self.now.kernel machine.now }
+        requires inside { IsListIn (length machine.now.cells.items) list }
+        ensures found { Makes self.now.kernel (λ v. map (name_at self.now.kernel) v.items) result (as_each as_name (list_at (lists_of self.now.kernel machine.now) list)) }
+        ensures inside { IfOk result (λ v. All (λ i. i < length self.now.kernel.names) v.items) }
+    {
+        let mut names = Vec::new(alloc);
+        let mut rest = list;
+        'cells: while let List::Cell(place) = rest {
+            let cell = &machine.cells[place];
+            let Object::Name(name) = cell.head else {
+                return Err(Fault::WrongKind(Kind::Name, cell.head.kind()));
+            };
+            names.push(name)?;
+            rest = cell.tail;
+        }
+        Ok(names)
     }
 }

@@ -1,20 +1,22 @@
-ghost use Rattle.std.specs.Prelude.{◌≡◌, ◌<◌, length};
+ghost use Rattle.std.specs.Prelude.{◌≡◌, ◌<◌, ◌≤◌, ◌^◌, [], length, Err, IfSome, IfErr, OnOk};
+ghost use Rattle.ot_io.specs.Causes.{Rose};
 ghost use Rattle.ot_kernel.specs.State.{State};
 ghost use Rattle.ot_scan.specs.Lines.{lines_of};
 ghost use Rattle.ot_scan.specs.Words.{word_value};
 ghost use Rattle.ot_machine.specs.States.{no_context, fresh_article};
 ghost use Rattle.ot_machine.specs.Meaning.{article_of, state_of, command_at, IsOf, IsCommandIn};
-ghost use Rattle.ot_machine.specs.Step.{step, row, word_row, version_rule, built_rule};
+ghost use Rattle.ot_machine.specs.Step.{step, row, word_row, version_rule};
 ghost use Rattle.ot_machine.specs.Run.{line_step};
-ghost use Rattle.ot_machine.specs.Answers.{Makes, Moves, Turns, Runs};
+ghost use Rattle.ot_machine.specs.Answers.{Makes, Moves, Turns, Runs, NamesSymbolIn};
 
 use crate::fault::{ArticleFault, Fault, refusal};
 use crate::object::{Cell, Command, Object};
 use crate::rows;
 use crate::session::Session;
+use ot_io::Source;
 use ot_kernel::ThmId;
 use ot_plain::Cmd;
-use ot_scan::{ScanFault, Word, command as read_word, next_line};
+use ot_scan::{Lines, Word, command as read_word};
 use std::alloc::Global;
 use std::collections::BTreeMap;
 
@@ -62,53 +64,48 @@ impl Machine {
     /// The machine's numbers have to be of this session.
     pub fn step(&mut self, session: &mut Session, word: Word<'_>) -> Result<(), Fault>
         requires { IsOf session.old.kernel self.old }
-        ensures moves { Moves result (step no_context (state_of session.old.kernel self.old) (word_value word.entry)) (state_of session.old.kernel self.old) (state_of session.new.kernel self.new) }
+        ensures moves { Moves session.new.kernel result (step no_context (state_of session.old.kernel self.old) (word_value word.entry)) (state_of session.old.kernel self.old) (state_of session.new.kernel self.new) }
         ensures of { IsOf session.new.kernel self.new }
     {
         let command = session.command(self, word)?;
         check_version(self.count, &command)?;
-        check_built(&command)?;
         self.row(session, command)?;
         self.count = self.count.saturating_add(1);
         Ok(())
     }
 
-    /// Runs the lines of an article, up to the first fault. It has the line at which it stands, and the state is as before that
-    /// line. After want of memory the state is that of some number of the first lines. The machine's numbers have to be of this
-    /// session.
-    pub fn run_article(
+    /// Runs the lines of an article, up to the first fault, in one pass over a source. The fault has the line at which it stands,
+    /// and the state is as before that line. `ReadFault` comes only where the source failed in this call. After it, and after
+    /// want of memory, the state is that of some number of the first lines. The machine's numbers have to be of this session.
+    pub fn run_article<S: Source>(
         &mut self,
         session: &mut Session,
-        text: &[u8],
+        source: &mut S,
         max_bytes: u64,
     ) -> Result<(), ArticleFault>
-        requires { IsOf session.old.kernel self.old }
-        ensures runs { Runs result no_context (lines_of max_bytes text.now) (state_of session.old.kernel self.old) (state_of session.new.kernel self.new) }
+        requires of { IsOf session.old.kernel self.old }
+        requires max_bytes { max_bytes ≤ 2 ^ 32 }
+        ensures runs { IfSome (S.left source.old) (λ bytes. Runs session.new.kernel result no_context (lines_of max_bytes bytes) (state_of session.old.kernel self.old) (state_of session.new.kernel self.new)) }
         ensures of { IsOf session.new.kernel self.new }
+        ensures symbols { IfErr result (NamesSymbolIn session.new.kernel) }
+        ensures spent { OnOk result (IfSome (S.left source.old) (λ _. IfSome (S.left source.new) (λ bytes. bytes ≡ []))) }
+
+        ensures cause { result ≡ Err ArticleFault.ReadFault → Rose (S.faults source.old) (S.faults source.new) }
+        ensures later { S.faults source.old ≤ S.faults source.new }
+        ensures folder { S.folder source.new ≡ S.folder source.old }
+        ensures misses { S.misses source.new ≡ S.misses source.old }
+        ensures at { S.at source.new ≡ S.at source.old }
     {
-        let mut at = 0;
-        let mut number = 0;
+        let mut lines = Lines::new(max_bytes);
         'lines: loop {
-            match next_line(text, max_bytes, &mut at, &mut number) {
+            match lines.next(source) {
                 Ok(None) => return Ok(()),
                 Ok(Some(line)) => {
                     if let Err(fault) = self.line(session, line.text) {
                         return Err(refusal(line.number, fault));
                     }
                 }
-                Err(ScanFault::LineTooLong(line)) => {
-                    return Err(ArticleFault::At {
-                        line,
-                        fault: Fault::LineTooLong,
-                    });
-                }
-                Err(ScanFault::ArticleTooLong(line)) => {
-                    return Err(ArticleFault::At {
-                        line,
-                        fault: Fault::ArticleTooLong,
-                    });
-                }
-                Err(ScanFault::ReadFault | ScanFault::Memory) => unreachable!(),
+                Err(fault) => return Err(ArticleFault::from(fault)),
             }
         }
     }
@@ -117,7 +114,7 @@ impl Machine {
     fn line(&mut self, session: &mut Session, text: &[u8]) -> Result<(), Fault>
         requires of { IsOf session.old.kernel self.old }
         requires some { 0 < length text.now }
-        ensures moves { Moves result (line_step no_context (state_of session.old.kernel self.old) text.now) (state_of session.old.kernel self.old) (state_of session.new.kernel self.new) }
+        ensures moves { Moves session.new.kernel result (line_step no_context (state_of session.old.kernel self.old) text.now) (state_of session.old.kernel self.old) (state_of session.new.kernel self.new) }
         ensures of { IsOf session.new.kernel self.new }
     {
         let word = read_word(text)?;
@@ -153,9 +150,11 @@ impl Machine {
             Cmd::Version => rows::version(session, self),
             Cmd::Nil => rows::nil(session, self),
             Cmd::Cons => rows::cons(session, self),
+            Cmd::HdTl => rows::hd_tl(session, self),
             Cmd::Def => rows::def(session, self),
             Cmd::Ref => rows::refer(session, self),
-            Cmd::Pop => rows::pop(session, self),
+            Cmd::Remove => rows::remove(session, self),
+            Cmd::Pop | Cmd::Pragma => rows::pop(session, self),
             Cmd::TypeOp => rows::type_op(session, self),
             Cmd::OpType => rows::op_type(alloc, session, self),
             Cmd::VarType => rows::var_type(session, self),
@@ -178,14 +177,16 @@ impl Machine {
             Cmd::ProveHyp => rows::prove_hyp(session, self),
             Cmd::Axiom => rows::axiom(alloc, session, self),
             Cmd::Thm => rows::thm(alloc, session, self),
-            _ => Err(Fault::NotBuilt),
+            Cmd::DefineConst => rows::define_const(session, self),
+            Cmd::DefineConstList => rows::define_const_list(alloc, session, self),
+            Cmd::DefineTypeOp => rows::define_type_op(alloc, session, self),
         }
     }
 }
 
 /// The rule on the first two commands, after so many.
 fn check_version(count: u64, command: &Command) -> Result<(), Fault>
-    ensures { (k : State) → Makes (λ u. u) result (version_rule count (command_at k command.now)) }
+    ensures { (k : State) → Makes k (λ u. u) result (version_rule count (command_at k command.now)) }
 {
     let is_version = matches!(command, Command::Order(Cmd::Version));
     match count {
@@ -197,23 +198,29 @@ fn check_version(count: u64, command: &Command) -> Result<(), Fault>
     }
 }
 
-/// The refusal of words that no row is built for.
-fn check_built(command: &Command) -> Result<(), Fault>
-    ensures { (k : State) → Makes (λ u. u) result (built_rule (command_at k command.now)) }
-{
-    match command {
-        Command::Order(order) if !order.is_built() => Err(Fault::NotBuilt),
-        _ => Ok(()),
-    }
-}
-
 #[cfg(test)]
 mod tests {
     use super::*;
+    use ot_io::MemSource;
     use std::test::Fail;
 
     const FIRST: &[u8] =
         b"6\nversion\n\"p\"\n\"bool\"\ntypeOp\nnil\nopType\nvar\nvarTerm\n0\ndef\nassume\n0\nref\nnil\ncons\n0\nref\nthm\n";
+
+    // Runs an article that a source gives in pieces.
+    fn ran(
+        alloc: Global,
+        session: &mut Session,
+        machine: &mut Machine,
+        article: &[u8],
+    ) -> Result<Result<(), ArticleFault>, Fail>
+        requires { IsOf session.old.kernel machine.old }
+        ensures { IsOf session.new.kernel machine.new }
+    {
+        let bytes = Vec::from_slice(alloc, article)?;
+        let mut source = MemSource::new(bytes, 7, Vec::new(alloc));
+        Ok(machine.run_article(session, &mut source, 200))
+    }
 
     // The theorem is exported, and once only; a refusal has its line, and the next article of the session is a fresh one.
     #[test]
@@ -221,16 +228,10 @@ mod tests {
         let alloc = rt.alloc();
         let mut session = Session::new(alloc)?;
         let mut machine = Machine::new(alloc);
-        assert_eq!(rt; machine.run_article(&mut session, FIRST, 200), Ok(()));
+        assert_eq!(rt; ran(alloc, &mut session, &mut machine, FIRST)?, Ok(()));
         assert_eq!(rt; machine.exports().len(), 1);
-        assert_eq!(rt;
-            machine.run_article(
-                &mut session,
-                b"0\nref\nassume\n0\nref\n0\nref\nnil\ncons\ncons\n0\nref\nthm",
-                100
-            ),
-            Ok(())
-        );
+        let again = b"0\nref\nassume\n0\nref\n0\nref\nnil\ncons\ncons\n0\nref\nthm";
+        assert_eq!(rt; ran(alloc, &mut session, &mut machine, again)?, Ok(()));
         assert_eq!(rt; machine.exports().len(), 1);
         assert_eq!(rt;
             machine.step(&mut session, Word::Command(Cmd::Version)),
@@ -239,7 +240,7 @@ mod tests {
         let mut other = Machine::new(alloc);
         assert_eq!(rt; other.step(&mut session, Word::Number(6)), Ok(()));
         assert_eq!(rt;
-            other.run_article(&mut session, b"version\nnil\n0\nref", 100),
+            ran(alloc, &mut session, &mut other, b"version\nnil\n0\nref")?,
             Err(ArticleFault::At {
                 line: 4,
                 fault: Fault::NoEntry(0),

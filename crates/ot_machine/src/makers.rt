@@ -9,6 +9,7 @@ ghost use Rattle.ot_machine.specs.Step.{command_of};
 ghost use Rattle.ot_machine.specs.Meaning.{IsOf, Leaves, command_at, IsCommandIn};
 ghost use Rattle.ot_machine.specs.Answers.{Makes};
 
+mod definitions;
 mod terms;
 mod theorems;
 
@@ -29,7 +30,7 @@ impl Session {
         text: &[u8],
     ) -> Result<NameId, Fault>
         requires { IsOf self.old.kernel machine.now }
-        ensures made { Makes (name_at self.new.kernel) result (some_or BadName (name_read text.now)) }
+        ensures made { Makes self.new.kernel (name_at self.new.kernel) result (some_or BadName (name_read text.now)) }
         ensures inside { IfOk result (λ n. n < length self.new.kernel.names) }
         ensures kept { Leaves self.old.kernel self.new.kernel machine.now }
     {
@@ -46,7 +47,7 @@ impl Session {
     /// The command of a word.
     pub(crate) fn command(&mut self, machine: &Machine, word: Word<'_>) -> Result<Command, Fault>
         requires { IsOf self.old.kernel machine.now }
-        ensures made { Makes (command_at self.new.kernel) result (command_of (word_value word.entry)) }
+        ensures made { Makes self.new.kernel (command_at self.new.kernel) result (command_of (word_value word.entry)) }
         ensures inside { IfOk result (IsCommandIn self.new.kernel) }
         ensures kept { Leaves self.old.kernel self.new.kernel machine.now }
     {

@@ -18,7 +18,7 @@ impl Session {
     /// The object at a place.
     pub(crate) fn object_at(&self, machine: &Machine, place: usize) -> Result<Object, Fault>
         requires { IsOf self.now.kernel machine.now }
-        ensures found { Makes (object_of self.now.kernel (lists_of self.now.kernel machine.now)) result (object_at place (article_of self.now.kernel machine.now).stack) }
+        ensures found { Makes self.now.kernel (object_of self.now.kernel (lists_of self.now.kernel machine.now)) result (object_at place (article_of self.now.kernel machine.now).stack) }
         ensures inside { IfOk result (IsIn self.now.kernel (length machine.now.cells.items)) }
     {
         let stack = &machine.stack;
@@ -32,7 +32,7 @@ impl Session {
     /// The number at a place.
     pub(crate) fn number_on(&self, machine: &Machine, place: usize) -> Result<i64, Fault>
         requires { IsOf self.now.kernel machine.now }
-        ensures { Makes (λ n. n) result (number_on place (article_of self.now.kernel machine.now).stack) }
+        ensures { Makes self.now.kernel (λ n. n) result (number_on place (article_of self.now.kernel machine.now).stack) }
     {
         match self.object_at(machine, place)? {
             Object::Number(number) => Ok(number),
@@ -43,7 +43,7 @@ impl Session {
     /// The name at a place.
     pub(crate) fn name_on(&self, machine: &Machine, place: usize) -> Result<NameId, Fault>
         requires { IsOf self.now.kernel machine.now }
-        ensures found { Makes (name_at self.now.kernel) result (name_on place (article_of self.now.kernel machine.now).stack) }
+        ensures found { Makes self.now.kernel (name_at self.now.kernel) result (name_on place (article_of self.now.kernel machine.now).stack) }
         ensures inside { IfOk result (λ n. n < length self.now.kernel.names) }
     {
         match self.object_at(machine, place)? {
@@ -55,7 +55,7 @@ impl Session {
     /// The list at a place.
     pub(crate) fn list_on(&self, machine: &Machine, place: usize) -> Result<List, Fault>
         requires { IsOf self.now.kernel machine.now }
-        ensures found { Makes (list_at (lists_of self.now.kernel machine.now)) result (list_on place (article_of self.now.kernel machine.now).stack) }
+        ensures found { Makes self.now.kernel (list_at (lists_of self.now.kernel machine.now)) result (list_on place (article_of self.now.kernel machine.now).stack) }
         ensures inside { IfOk result (IsListIn (length machine.now.cells.items)) }
     {
         match self.object_at(machine, place)? {
@@ -67,7 +67,7 @@ impl Session {
     /// The type operator at a place.
     pub(crate) fn type_op_on(&self, machine: &Machine, place: usize) -> Result<NameId, Fault>
         requires { IsOf self.now.kernel machine.now }
-        ensures found { Makes (name_at self.now.kernel) result (type_op_on place (article_of self.now.kernel machine.now).stack) }
+        ensures found { Makes self.now.kernel (name_at self.now.kernel) result (type_op_on place (article_of self.now.kernel machine.now).stack) }
         ensures inside { IfOk result (λ n. n < length self.now.kernel.names) }
     {
         match self.object_at(machine, place)? {
@@ -79,7 +79,7 @@ impl Session {
     /// The type at a place.
     pub(crate) fn type_on(&self, machine: &Machine, place: usize) -> Result<TypeId, Fault>
         requires { IsOf self.now.kernel machine.now }
-        ensures found { Makes (type_at self.now.kernel) result (type_on place (article_of self.now.kernel machine.now).stack) }
+        ensures found { Makes self.now.kernel (type_at self.now.kernel) result (type_on place (article_of self.now.kernel machine.now).stack) }
         ensures inside { IfOk result (λ t. t < length self.now.kernel.types) }
     {
         match self.object_at(machine, place)? {
@@ -91,7 +91,7 @@ impl Session {
     /// The constant at a place.
     pub(crate) fn constant_on(&self, machine: &Machine, place: usize) -> Result<NameId, Fault>
         requires { IsOf self.now.kernel machine.now }
-        ensures found { Makes (name_at self.now.kernel) result (constant_on place (article_of self.now.kernel machine.now).stack) }
+        ensures found { Makes self.now.kernel (name_at self.now.kernel) result (constant_on place (article_of self.now.kernel machine.now).stack) }
         ensures inside { IfOk result (λ n. n < length self.now.kernel.names) }
     {
         match self.object_at(machine, place)? {
@@ -103,7 +103,7 @@ impl Session {
     /// The variable at a place.
     pub(crate) fn variable_on(&self, machine: &Machine, place: usize) -> Result<VarKey, Fault>
         requires { IsOf self.now.kernel machine.now }
-        ensures found { Makes (variable_at self.now.kernel) result (variable_on place (article_of self.now.kernel machine.now).stack) }
+        ensures found { Makes self.now.kernel (variable_at self.now.kernel) result (variable_on place (article_of self.now.kernel machine.now).stack) }
         ensures name { IfOk result (λ v. v.name < length self.now.kernel.names) }
         ensures ty { IfOk result (λ v. v.ty < length self.now.kernel.types) }
     {
@@ -116,7 +116,7 @@ impl Session {
     /// The term at a place.
     pub(crate) fn term_on(&self, machine: &Machine, place: usize) -> Result<TermId, Fault>
         requires { IsOf self.now.kernel machine.now }
-        ensures found { Makes (term_at self.now.kernel) result (term_on place (article_of self.now.kernel machine.now).stack) }
+        ensures found { Makes self.now.kernel (term_at self.now.kernel) result (term_on place (article_of self.now.kernel machine.now).stack) }
         ensures inside { IfOk result (λ t. t < length self.now.kernel.terms) }
     {
         match self.object_at(machine, place)? {
@@ -128,7 +128,7 @@ impl Session {
     /// The theorem at a place.
     pub(crate) fn theorem_on(&self, machine: &Machine, place: usize) -> Result<ThmId, Fault>
         requires { IsOf self.now.kernel machine.now }
-        ensures found { Makes (theorem_at self.now.kernel) result (theorem_on place (article_of self.now.kernel machine.now).stack) }
+        ensures found { Makes self.now.kernel (theorem_at self.now.kernel) result (theorem_on place (article_of self.now.kernel machine.now).stack) }
         ensures inside { IfOk result (λ th. th < length self.now.kernel.theorems) }
     {
         match self.object_at(machine, place)? {

@@ -1,9 +1,11 @@
 // The rows of the commands: each reads its places from the top downwards, makes, and then changes the machine.
+mod definitions;
 mod stack;
 mod terms;
 mod theorems;
 
-pub use stack::{cons, def, nil, pop, refer, version};
+pub use definitions::{define_const, define_const_list, define_type_op};
+pub use stack::{cons, def, hd_tl, nil, pop, refer, remove, version};
 pub use terms::{
     abs_term, app_term, const_term, constant, op_type, type_op, var, var_term, var_type,
 };

@@ -2,14 +2,17 @@
 ghost use Rattle.std.specs.Prelude.{◌≡◌, ◌<◌, [], length, IfOk};
 ghost use Rattle.ot_kernel.specs.State.{name_at, type_at, variable_at, term_at};
 ghost use Rattle.ot_kernel.specs.Pairs.{type_pairs, term_pairs, AreTypePairs, IsSubstIn};
-ghost use Rattle.ot_machine.specs.Substitutions.{or_bad, two_of, type_pair, term_pair, types_onto, terms_onto, maps_of};
-ghost use Rattle.ot_machine.specs.Places.{as_list, as_name, as_type, as_variable, as_term};
+ghost use Rattle.ot_plain.specs.Faults.{BadSubst};
+ghost use Rattle.ot_machine.specs.Parts.{or_bad};
+ghost use Rattle.ot_machine.specs.Places.{as_type, as_term};
+ghost use Rattle.ot_machine.specs.Substitutions.{type_pair, term_pair, types_onto, terms_onto, maps_of};
 ghost use Rattle.ot_machine.specs.Meaning.{object_of, list_at, lists_of, IsOf, IsIn, IsListIn};
-ghost use Rattle.ot_machine.specs.Answers.{Makes, IsFirst};
+ghost use Rattle.ot_machine.specs.Answers.{Makes};
 
 use crate::fault::Fault;
 use crate::machine::Machine;
 use crate::object::{List, Object};
+use crate::parts::ListForm;
 use crate::session::Session;
 use ot_plain::NameId;
 use ot_subst::Subst;
@@ -27,12 +30,12 @@ impl Session {
     ) -> Result<Subst, Fault>
         requires of { IsOf self.now.kernel machine.now }
         requires inside { IsListIn (length machine.now.cells.items) list }
-        ensures read { Makes (λ s. (type_pairs self.now.kernel s.types, term_pairs self.now.kernel s)) result (maps_of (list_at (lists_of self.now.kernel machine.now) list)) }
+        ensures read { Makes self.now.kernel (λ s. (type_pairs self.now.kernel s.types, term_pairs self.now.kernel s)) result (maps_of (list_at (lists_of self.now.kernel machine.now) list)) }
         ensures inside { IfOk result (IsSubstIn self.now.kernel) }
     {
-        let (types, terms) = self.two_of(machine, list)?;
-        let types = self.list_in(machine, types)?;
-        let terms = self.list_in(machine, terms)?;
+        let (types, terms) = self.two_of(machine, list, ListForm::Substitution)?;
+        let types = self.list_in(machine, types, ListForm::Substitution)?;
+        let terms = self.list_in(machine, terms, ListForm::Substitution)?;
         let types = self.types_onto(alloc, machine, types)?;
         self.terms_onto(alloc, machine, types, terms)
     }
@@ -41,7 +44,7 @@ impl Session {
     fn types_onto(&self, alloc: Global, machine: &Machine, list: List) -> Result<TypeSubst, Fault>
         requires of { IsOf self.now.kernel machine.now }
         requires inside { IsListIn (length machine.now.cells.items) list }
-        ensures read { Makes (type_pairs self.now.kernel) result (types_onto [] (list_at (lists_of self.now.kernel machine.now) list)) }
+        ensures read { Makes self.now.kernel (type_pairs self.now.kernel) result (types_onto [] (list_at (lists_of self.now.kernel machine.now) list)) }
         ensures inside { IfOk result (AreTypePairs self.now.kernel) }
     {
         let mut types = TypeSubst::new(alloc);
@@ -65,7 +68,7 @@ impl Session {
         requires of { IsOf self.now.kernel machine.now }
         requires types { AreTypePairs self.now.kernel types }
         requires inside { IsListIn (length machine.now.cells.items) list }
-        ensures read { Makes (term_pairs self.now.kernel) result (terms_onto [] (list_at (lists_of self.now.kernel machine.now) list)) }
+        ensures read { Makes self.now.kernel (term_pairs self.now.kernel) result (terms_onto [] (list_at (lists_of self.now.kernel machine.now) list)) }
         ensures types { IfOk result (λ s. s.types ≡ types) }
         ensures inside { IfOk result (IsSubstIn self.now.kernel) }
     {
@@ -85,13 +88,13 @@ impl Session {
     fn type_pair(&self, machine: &Machine, pair: Object) -> Result<(NameId, TypeId), Fault>
         requires of { IsOf self.now.kernel machine.now }
         requires inside { IsIn self.now.kernel (length machine.now.cells.items) pair }
-        ensures read { Makes (λ p. (name_at self.now.kernel p.0, type_at self.now.kernel p.1)) result (type_pair (object_of self.now.kernel (lists_of self.now.kernel machine.now) pair)) }
+        ensures read { Makes self.now.kernel (λ p. (name_at self.now.kernel p.0, type_at self.now.kernel p.1)) result (type_pair (object_of self.now.kernel (lists_of self.now.kernel machine.now) pair)) }
         ensures name { IfOk result (λ p. p.0 < length self.now.kernel.names) }
         ensures ty { IfOk result (λ p. p.1 < length self.now.kernel.types) }
     {
-        let list = self.list_in(machine, pair)?;
-        let (name, ty) = self.two_of(machine, list)?;
-        let name = self.name_in(machine, name)?;
+        let list = self.list_in(machine, pair, ListForm::Substitution)?;
+        let (name, ty) = self.two_of(machine, list, ListForm::Substitution)?;
+        let name = self.name_in(machine, name, ListForm::Substitution)?;
         let ty = self.type_in(machine, ty)?;
         Ok((name, ty))
     }
@@ -100,81 +103,22 @@ impl Session {
     fn term_pair(&self, machine: &Machine, pair: Object) -> Result<(VarKey, TermId), Fault>
         requires of { IsOf self.now.kernel machine.now }
         requires inside { IsIn self.now.kernel (length machine.now.cells.items) pair }
-        ensures read { Makes (λ p. (variable_at self.now.kernel p.0, term_at self.now.kernel p.1)) result (term_pair (object_of self.now.kernel (lists_of self.now.kernel machine.now) pair)) }
+        ensures read { Makes self.now.kernel (λ p. (variable_at self.now.kernel p.0, term_at self.now.kernel p.1)) result (term_pair (object_of self.now.kernel (lists_of self.now.kernel machine.now) pair)) }
         ensures name { IfOk result (λ p. p.0.name < length self.now.kernel.names) }
         ensures ty { IfOk result (λ p. p.0.ty < length self.now.kernel.types) }
         ensures term { IfOk result (λ p. p.1 < length self.now.kernel.terms) }
     {
-        let list = self.list_in(machine, pair)?;
-        let (variable, term) = self.two_of(machine, list)?;
-        let variable = self.variable_in(machine, variable)?;
+        let list = self.list_in(machine, pair, ListForm::Substitution)?;
+        let (variable, term) = self.two_of(machine, list, ListForm::Substitution)?;
+        let variable = self.variable_in(machine, variable, ListForm::Substitution)?;
         let term = self.term_in(machine, term)?;
         Ok((variable, term))
-    }
-
-    /// The two objects of a list.
-    fn two_of(&self, machine: &Machine, list: List) -> Result<(Object, Object), Fault>
-        requires of { IsOf self.now.kernel machine.now }
-        requires inside { IsListIn (length machine.now.cells.items) list }
-        ensures read { Makes (λ p. (object_of self.now.kernel (lists_of self.now.kernel machine.now) p.0, object_of self.now.kernel (lists_of self.now.kernel machine.now) p.1)) result (two_of (list_at (lists_of self.now.kernel machine.now) list)) }
-        ensures first { IfOk result (λ p. IsIn self.now.kernel (length machine.now.cells.items) p.0) }
-        ensures second { IfOk result (λ p. IsIn self.now.kernel (length machine.now.cells.items) p.1) }
-    {
-        let Some((one, rest)) = self.first(machine, list) else {
-            return Err(Fault::BadSubst);
-        };
-        let Some((other, rest)) = self.first(machine, rest) else {
-            return Err(Fault::BadSubst);
-        };
-        match self.first(machine, rest) {
-            Some(_) => Err(Fault::BadSubst),
-            None => Ok((one, other)),
-        }
-    }
-
-    /// The first object of a list, and the rest.
-    fn first(&self, machine: &Machine, list: List) -> Option<(Object, List)>
-        requires of { IsOf self.now.kernel machine.now }
-        requires inside { IsListIn (length machine.now.cells.items) list }
-        ensures { IsFirst self.now.kernel machine.now.cells.items list result }
-    {
-        match list {
-            List::Nil => None,
-            List::Cell(place) => {
-                let cell = &machine.cells[place];
-                Some((cell.head, cell.tail))
-            }
-        }
-    }
-
-    /// An object that has to be a list.
-    fn list_in(&self, machine: &Machine, object: Object) -> Result<List, Fault>
-        requires { IsIn self.now.kernel (length machine.now.cells.items) object }
-        ensures read { Makes (list_at (lists_of self.now.kernel machine.now)) result (or_bad (as_list (object_of self.now.kernel (lists_of self.now.kernel machine.now) object))) }
-        ensures inside { IfOk result (IsListIn (length machine.now.cells.items)) }
-    {
-        match object {
-            Object::List(list) => Ok(list),
-            _ => Err(Fault::BadSubst),
-        }
-    }
-
-    /// An object that has to be a name.
-    fn name_in(&self, machine: &Machine, object: Object) -> Result<NameId, Fault>
-        requires { IsIn self.now.kernel (length machine.now.cells.items) object }
-        ensures read { Makes (name_at self.now.kernel) result (or_bad (as_name (object_of self.now.kernel (lists_of self.now.kernel machine.now) object))) }
-        ensures inside { IfOk result (λ n. n < length self.now.kernel.names) }
-    {
-        match object {
-            Object::Name(name) => Ok(name),
-            _ => Err(Fault::BadSubst),
-        }
     }
 
     /// An object that has to be a type.
     fn type_in(&self, machine: &Machine, object: Object) -> Result<TypeId, Fault>
         requires { IsIn self.now.kernel (length machine.now.cells.items) object }
-        ensures read { Makes (type_at self.now.kernel) result (or_bad (as_type (object_of self.now.kernel (lists_of self.now.kernel machine.now) object))) }
+        ensures read { Makes self.now.kernel (type_at self.now.kernel) result (or_bad BadSubst (as_type (object_of self.now.kernel (lists_of self.now.kernel machine.now) object))) }
         ensures inside { IfOk result (λ t. t < length self.now.kernel.types) }
     {
         match object {
@@ -183,23 +127,10 @@ impl Session {
         }
     }
 
-    /// An object that has to be a variable.
-    fn variable_in(&self, machine: &Machine, object: Object) -> Result<VarKey, Fault>
-        requires { IsIn self.now.kernel (length machine.now.cells.items) object }
-        ensures read { Makes (variable_at self.now.kernel) result (or_bad (as_variable (object_of self.now.kernel (lists_of self.now.kernel machine.now) object))) }
-        ensures name { IfOk result (λ v. v.name < length self.now.kernel.names) }
-        ensures ty { IfOk result (λ v. v.ty < length self.now.kernel.types) }
-    {
-        match object {
-            Object::Var(variable) => Ok(variable),
-            _ => Err(Fault::BadSubst),
-        }
-    }
-
     /// An object that has to be a term.
     fn term_in(&self, machine: &Machine, object: Object) -> Result<TermId, Fault>
         requires { IsIn self.now.kernel (length machine.now.cells.items) object }
-        ensures read { Makes (term_at self.now.kernel) result (or_bad (as_term (object_of self.now.kernel (lists_of self.now.kernel machine.now) object))) }
+        ensures read { Makes self.now.kernel (term_at self.now.kernel) result (or_bad BadSubst (as_term (object_of self.now.kernel (lists_of self.now.kernel machine.now) object))) }
         ensures inside { IfOk result (λ t. t < length self.now.kernel.terms) }
     {
         match object {

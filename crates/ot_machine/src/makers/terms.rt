@@ -39,7 +39,7 @@ impl Session {
         requires of { IsOf self.old.kernel machine.now }
         requires name { name < length self.old.kernel.names }
         requires args { All (λ t. t < length self.old.kernel.types) args.now }
-        ensures made { Makes (type_at self.new.kernel) result (op_rule names (name_at self.old.kernel name) (arguments (map (type_at self.old.kernel) args.now))) }
+        ensures made { Makes self.new.kernel (type_at self.new.kernel) result (op_rule names (name_at self.old.kernel name) (arguments (map (type_at self.old.kernel) args.now))) }
         ensures inside { IfOk result (λ t. t < length self.new.kernel.types) }
         ensures kept { Leaves self.old.kernel self.new.kernel machine.now }
     {
@@ -91,7 +91,7 @@ impl Session {
         requires of { IsOf self.old.kernel machine.now }
         requires f { f < length self.old.kernel.terms }
         requires x { x < length self.old.kernel.terms }
-        ensures made { Makes (term_at self.new.kernel) result (app_rule names (term_at self.old.kernel f) (term_at self.old.kernel x)) }
+        ensures made { Makes self.new.kernel (term_at self.new.kernel) result (app_rule names (term_at self.old.kernel f) (term_at self.old.kernel x)) }
         ensures inside { IfOk result (λ t. t < length self.new.kernel.terms) }
         ensures kept { Leaves self.old.kernel self.new.kernel machine.now }
     {
@@ -109,7 +109,7 @@ impl Session {
         requires name { variable.name < length self.old.kernel.names }
         requires ty { variable.ty < length self.old.kernel.types }
         requires body { body < length self.old.kernel.terms }
-        ensures made { Makes (term_at self.new.kernel) result (abs_rule names (variable_at self.old.kernel variable) (term_at self.old.kernel body)) }
+        ensures made { Makes self.new.kernel (term_at self.new.kernel) result (abs_rule names (variable_at self.old.kernel variable) (term_at self.old.kernel body)) }
         ensures inside { IfOk result (λ t. t < length self.new.kernel.terms) }
         ensures kept { Leaves self.old.kernel self.new.kernel machine.now }
     {

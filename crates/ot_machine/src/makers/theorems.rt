@@ -3,7 +3,7 @@ ghost use Rattle.std.specs.Prelude.{◌≡◌, ◌<◌, length, map, IfOk, OnErr
 ghost use Rattle.std.specs.List.{All};
 ghost use Rattle.ot_plain.specs.Naming.{names};
 ghost use Rattle.ot_plain.specs.Rules.{refl_rule, assume_rule, eq_mp_rule, abs_thm_rule, app_thm_rule, deduct_antisym_rule, beta_conv_rule, subst_rule, sym_rule, trans_rule, prove_hyp_rule};
-ghost use Rattle.ot_kernel.specs.State.{variable_at, term_at, theorem_at};
+ghost use Rattle.ot_kernel.specs.State.{name_at, variable_at, term_at, theorem_at};
 ghost use Rattle.ot_kernel.specs.Pairs.{type_pairs, term_pairs, IsSubstIn};
 ghost use Rattle.ot_machine.specs.States.{no_context};
 ghost use Rattle.ot_machine.specs.Rows.{assumed};
@@ -22,22 +22,28 @@ impl Session {
     pub(crate) fn reflexivity(&mut self, machine: &Machine, term: TermId) -> Result<ThmId, Fault>
         requires of { IsOf self.old.kernel machine.now }
         requires term { term < length self.old.kernel.terms }
-        ensures made { Makes (theorem_at self.new.kernel) result (refl_rule names (term_at self.old.kernel term)) }
+        ensures made { Makes self.new.kernel (theorem_at self.new.kernel) result (refl_rule names (term_at self.old.kernel term)) }
         ensures inside { IfOk result (λ th. th < length self.new.kernel.theorems) }
         ensures kept { Leaves self.old.kernel self.new.kernel machine.now }
     {
-        Ok(self.kernel.refl(term)?)
+        match self.kernel.refl(term) {
+            Ok(theorem) => Ok(theorem),
+            Err(fault) => Err(Fault::from(fault)),
+        }
     }
 
     /// The theorem that a term follows from itself.
     pub(crate) fn assumption(&mut self, machine: &Machine, term: TermId) -> Result<ThmId, Fault>
         requires of { IsOf self.old.kernel machine.now }
         requires term { term < length self.old.kernel.terms }
-        ensures made { Makes (theorem_at self.new.kernel) result (assume_rule names (term_at self.old.kernel term)) }
+        ensures made { Makes self.new.kernel (theorem_at self.new.kernel) result (assume_rule names (term_at self.old.kernel term)) }
         ensures inside { IfOk result (λ th. th < length self.new.kernel.theorems) }
         ensures kept { Leaves self.old.kernel self.new.kernel machine.now }
     {
-        Ok(self.kernel.assume(term)?)
+        match self.kernel.assume(term) {
+            Ok(theorem) => Ok(theorem),
+            Err(fault) => Err(Fault::from(fault)),
+        }
     }
 
     /// The right side of an equation, from its left side.
@@ -50,11 +56,14 @@ impl Session {
         requires of { IsOf self.old.kernel machine.now }
         requires lower { lower < length self.old.kernel.theorems }
         requires top { top < length self.old.kernel.theorems }
-        ensures made { Makes (theorem_at self.new.kernel) result (eq_mp_rule names (theorem_at self.old.kernel lower) (theorem_at self.old.kernel top)) }
+        ensures made { Makes self.new.kernel (theorem_at self.new.kernel) result (eq_mp_rule names (theorem_at self.old.kernel lower) (theorem_at self.old.kernel top)) }
         ensures inside { IfOk result (λ th. th < length self.new.kernel.theorems) }
         ensures kept { Leaves self.old.kernel self.new.kernel machine.now }
     {
-        Ok(self.kernel.eq_mp(lower, top)?)
+        match self.kernel.eq_mp(lower, top) {
+            Ok(theorem) => Ok(theorem),
+            Err(fault) => Err(Fault::from(fault)),
+        }
     }
 
     /// The equation of the abstractions of a variable from both sides of an equation.
@@ -68,11 +77,14 @@ impl Session {
         requires name { variable.name < length self.old.kernel.names }
         requires ty { variable.ty < length self.old.kernel.types }
         requires premise { premise < length self.old.kernel.theorems }
-        ensures made { Makes (theorem_at self.new.kernel) result (abs_thm_rule names (variable_at self.old.kernel variable) (theorem_at self.old.kernel premise)) }
+        ensures made { Makes self.new.kernel (theorem_at self.new.kernel) result (abs_thm_rule names (variable_at self.old.kernel variable) (theorem_at self.old.kernel premise)) }
         ensures inside { IfOk result (λ th. th < length self.new.kernel.theorems) }
         ensures kept { Leaves self.old.kernel self.new.kernel machine.now }
     {
-        Ok(self.kernel.abs_thm(variable, premise)?)
+        match self.kernel.abs_thm(variable, premise) {
+            Ok(theorem) => Ok(theorem),
+            Err(fault) => Err(Fault::from(fault)),
+        }
     }
 
     /// An equation of functions, applied to one of arguments.
@@ -85,11 +97,14 @@ impl Session {
         requires of { IsOf self.old.kernel machine.now }
         requires lower { lower < length self.old.kernel.theorems }
         requires top { top < length self.old.kernel.theorems }
-        ensures made { Makes (theorem_at self.new.kernel) result (app_thm_rule names (theorem_at self.old.kernel lower) (theorem_at self.old.kernel top)) }
+        ensures made { Makes self.new.kernel (theorem_at self.new.kernel) result (app_thm_rule names (theorem_at self.old.kernel lower) (theorem_at self.old.kernel top)) }
         ensures inside { IfOk result (λ th. th < length self.new.kernel.theorems) }
         ensures kept { Leaves self.old.kernel self.new.kernel machine.now }
     {
-        Ok(self.kernel.app_thm(lower, top)?)
+        match self.kernel.app_thm(lower, top) {
+            Ok(theorem) => Ok(theorem),
+            Err(fault) => Err(Fault::from(fault)),
+        }
     }
 
     /// The equation of two propositions that follow from each other.
@@ -102,11 +117,14 @@ impl Session {
         requires of { IsOf self.old.kernel machine.now }
         requires lower { lower < length self.old.kernel.theorems }
         requires top { top < length self.old.kernel.theorems }
-        ensures made { Makes (theorem_at self.new.kernel) result (deduct_antisym_rule names (theorem_at self.old.kernel lower) (theorem_at self.old.kernel top)) }
+        ensures made { Makes self.new.kernel (theorem_at self.new.kernel) result (deduct_antisym_rule names (theorem_at self.old.kernel lower) (theorem_at self.old.kernel top)) }
         ensures inside { IfOk result (λ th. th < length self.new.kernel.theorems) }
         ensures kept { Leaves self.old.kernel self.new.kernel machine.now }
     {
-        Ok(self.kernel.deduct_antisym(lower, top)?)
+        match self.kernel.deduct_antisym(lower, top) {
+            Ok(theorem) => Ok(theorem),
+            Err(fault) => Err(Fault::from(fault)),
+        }
     }
 
     /// The theorem that a beta redex equals what it reduces to.
@@ -117,22 +135,28 @@ impl Session {
     ) -> Result<ThmId, Fault>
         requires of { IsOf self.old.kernel machine.now }
         requires term { term < length self.old.kernel.terms }
-        ensures made { Makes (theorem_at self.new.kernel) result (beta_conv_rule names (term_at self.old.kernel term)) }
+        ensures made { Makes self.new.kernel (theorem_at self.new.kernel) result (beta_conv_rule names (term_at self.old.kernel term)) }
         ensures inside { IfOk result (λ th. th < length self.new.kernel.theorems) }
         ensures kept { Leaves self.old.kernel self.new.kernel machine.now }
     {
-        Ok(self.kernel.beta_conv(term)?)
+        match self.kernel.beta_conv(term) {
+            Ok(theorem) => Ok(theorem),
+            Err(fault) => Err(Fault::from(fault)),
+        }
     }
 
     /// An equation, turned round.
     pub(crate) fn symmetry(&mut self, machine: &Machine, premise: ThmId) -> Result<ThmId, Fault>
         requires of { IsOf self.old.kernel machine.now }
         requires premise { premise < length self.old.kernel.theorems }
-        ensures made { Makes (theorem_at self.new.kernel) result (sym_rule names (theorem_at self.old.kernel premise)) }
+        ensures made { Makes self.new.kernel (theorem_at self.new.kernel) result (sym_rule names (theorem_at self.old.kernel premise)) }
         ensures inside { IfOk result (λ th. th < length self.new.kernel.theorems) }
         ensures kept { Leaves self.old.kernel self.new.kernel machine.now }
     {
-        Ok(self.kernel.sym(premise)?)
+        match self.kernel.sym(premise) {
+            Ok(theorem) => Ok(theorem),
+            Err(fault) => Err(Fault::from(fault)),
+        }
     }
 
     /// Two equations, joined.
@@ -145,11 +169,14 @@ impl Session {
         requires of { IsOf self.old.kernel machine.now }
         requires lower { lower < length self.old.kernel.theorems }
         requires top { top < length self.old.kernel.theorems }
-        ensures made { Makes (theorem_at self.new.kernel) result (trans_rule names (theorem_at self.old.kernel lower) (theorem_at self.old.kernel top)) }
+        ensures made { Makes self.new.kernel (theorem_at self.new.kernel) result (trans_rule names (theorem_at self.old.kernel lower) (theorem_at self.old.kernel top)) }
         ensures inside { IfOk result (λ th. th < length self.new.kernel.theorems) }
         ensures kept { Leaves self.old.kernel self.new.kernel machine.now }
     {
-        Ok(self.kernel.trans(lower, top)?)
+        match self.kernel.trans(lower, top) {
+            Ok(theorem) => Ok(theorem),
+            Err(fault) => Err(Fault::from(fault)),
+        }
     }
 
     /// A theorem without the hypothesis that another one proves.
@@ -162,11 +189,14 @@ impl Session {
         requires of { IsOf self.old.kernel machine.now }
         requires lower { lower < length self.old.kernel.theorems }
         requires top { top < length self.old.kernel.theorems }
-        ensures made { Makes (theorem_at self.new.kernel) result (prove_hyp_rule names (theorem_at self.old.kernel lower) (theorem_at self.old.kernel top)) }
+        ensures made { Makes self.new.kernel (theorem_at self.new.kernel) result (prove_hyp_rule names (theorem_at self.old.kernel lower) (theorem_at self.old.kernel top)) }
         ensures inside { IfOk result (λ th. th < length self.new.kernel.theorems) }
         ensures kept { Leaves self.old.kernel self.new.kernel machine.now }
     {
-        Ok(self.kernel.prove_hyp(lower, top)?)
+        match self.kernel.prove_hyp(lower, top) {
+            Ok(theorem) => Ok(theorem),
+            Err(fault) => Err(Fault::from(fault)),
+        }
     }
 
     /// A theorem with a substitution put in.
@@ -179,11 +209,14 @@ impl Session {
         requires of { IsOf self.old.kernel machine.now }
         requires maps { IsSubstIn self.old.kernel maps.now }
         requires premise { premise < length self.old.kernel.theorems }
-        ensures made { Makes (theorem_at self.new.kernel) result (subst_rule names (type_pairs self.old.kernel maps.now.types) (term_pairs self.old.kernel maps.now) (theorem_at self.old.kernel premise)) }
+        ensures made { Makes self.new.kernel (theorem_at self.new.kernel) result (subst_rule names (type_pairs self.old.kernel maps.now.types) (term_pairs self.old.kernel maps.now) (theorem_at self.old.kernel premise)) }
         ensures inside { IfOk result (λ th. th < length self.new.kernel.theorems) }
         ensures kept { Leaves self.old.kernel self.new.kernel machine.now }
     {
-        Ok(self.kernel.subst(maps, premise)?)
+        match self.kernel.subst(maps, premise) {
+            Ok(theorem) => Ok(theorem),
+            Err(fault) => Err(Fault::from(fault)),
+        }
     }
 
     /// The assumption of a sequent. The run has it from then on.
@@ -196,11 +229,14 @@ impl Session {
         requires of { IsOf self.old.kernel machine.now }
         requires hyps { All (λ t. t < length self.old.kernel.terms) hyps.now }
         requires concl { concl < length self.old.kernel.terms }
-        ensures made { Makes (λ th. (theorem_at self.new.kernel th, run_of self.new.kernel)) result (assumed no_context (map (term_at self.old.kernel) hyps.now) (term_at self.old.kernel concl) (run_of self.old.kernel)) }
+        ensures made { Makes self.new.kernel (λ th. (theorem_at self.new.kernel th, run_of self.new.kernel)) result (assumed no_context (map (term_at self.old.kernel) hyps.now) (term_at self.old.kernel concl) (run_of self.old.kernel)) }
         ensures refused { OnErr result (run_of self.new.kernel ≡ run_of self.old.kernel) }
         ensures inside { IfOk result (λ th. th < length self.new.kernel.theorems) }
         ensures kept { Carries self.old.kernel self.new.kernel machine.now }
     {
-        Ok(self.kernel.axiom(hyps, concl)?)
+        match self.kernel.axiom(hyps, concl) {
+            Ok(theorem) => Ok(theorem),
+            Err(fault) => Err(Fault::from(fault)),
+        }
     }
 }

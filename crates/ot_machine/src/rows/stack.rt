@@ -2,7 +2,7 @@
 ghost use Rattle.ot_machine.specs.Meaning.{IsOf};
 ghost use Rattle.ot_machine.specs.Answers.{Turns};
 ghost use Rattle.ot_machine.specs.Step.{on_article, on_stack};
-ghost use Rattle.ot_machine.specs.Rows.{nil_row, cons_row, pop_row, version_row, def_row, ref_row};
+ghost use Rattle.ot_machine.specs.Rows.{nil_row, cons_row, hd_tl_row, pop_row, version_row, def_row, ref_row, remove_row};
 
 use crate::fault::Fault;
 use crate::machine::Machine;
@@ -30,7 +30,22 @@ pub fn cons(session: &mut Session, machine: &mut Machine) -> Result<(), Fault>
     Ok(())
 }
 
-/// `pop` drops any object.
+/// `hdTl` takes a list apart into its head and, on top, its tail.
+pub fn hd_tl(session: &mut Session, machine: &mut Machine) -> Result<(), Fault>
+    requires { IsOf session.old.kernel machine.old }
+    ensures { Turns result (on_stack hd_tl_row) session.old.kernel machine.old session.new.kernel machine.new }
+{
+    let list = session.list_on(machine, 0)?;
+    let Some((head, tail)) = session.first(machine, list) else {
+        return Err(Fault::EmptyList);
+    };
+    // The stack grows before it changes.
+    session.push(machine, Object::List(tail))?;
+    session.exchange(machine, &[head, Object::List(tail)]);
+    Ok(())
+}
+
+/// `pop` and `pragma` drop any object.
 pub fn pop(session: &mut Session, machine: &mut Machine) -> Result<(), Fault>
     requires { IsOf session.old.kernel machine.old }
     ensures { Turns result (on_stack pop_row) session.old.kernel machine.old session.new.kernel machine.new }
@@ -73,5 +88,17 @@ pub fn refer(session: &mut Session, machine: &mut Machine) -> Result<(), Fault>
     let key = session.number_on(machine, 0)?;
     let object = session.stored(machine, key)?;
     session.replace(machine, 1, object);
+    Ok(())
+}
+
+/// `remove` gives the object under a key, which goes.
+pub fn remove(session: &mut Session, machine: &mut Machine) -> Result<(), Fault>
+    requires { IsOf session.old.kernel machine.old }
+    ensures { Turns result (on_article remove_row) session.old.kernel machine.old session.new.kernel machine.new }
+{
+    let key = session.number_on(machine, 0)?;
+    let object = session.stored(machine, key)?;
+    session.replace(machine, 1, object);
+    session.forget(machine, key);
     Ok(())
 }

@@ -1,37 +1,49 @@
-use Rattle.std.proofs.Common.{◌∙◌, ap, refl}
-use Rattle.ot_plain.specs.Faults.{LineTooLong, ArticleTooLong}
+use Rattle.std.specs.Prelude.{Ok}
+use Rattle.std.proofs.Common.{◌∙◌, ap, subst, arith}
+use Rattle.ot_scan.specs.Lines.{TakesFrom}
 use Rattle.ot_machine.specs.States.{no_context}
 use Rattle.ot_machine.specs.Meaning.{state_of}
-use Rattle.ot_machine.specs.Run.{run}
-use Rattle.ot_machine.proofs.Reached.{after_run, after_more, runs_stopped}
+use Rattle.ot_machine.proofs.Followed.{follows-end, follows-spent, follows-line, follows-refused, follows-stopped}
 use Rattle.ot_machine.proofs.machine.Machine.run_article.Goals as goal
 
 pub returns-in-Ok-None-clause-runs : goal.returns-in-Ok-None-clause-runs
-returns-in-Ok-None-clause-runs c =
-    let ensured = rw c.in-Ok-None.field-0-is at c.in-Ok-None.ensures in
-    after_run no_context _ _ _ _ c.lines.invariant.so_far ∙ ap (λ z. run no_context z (state_of c.lines.session.kernel c.lines.self)) ensured.line.0
+returns-in-Ok-None-clause-runs g c =
+    let before = g.S.Source.left c.lines.source in
+    let after = g.S.Source.left c.next.new.source in
+    let taken = subst (λ r. TakesFrom r c.lines.lines c.next.follows.lender-at-none before after) (c.in-Ok-None.is ∙ ap Ok c.in-Ok-None.field-0-is) c.next.follows.holds-at-none.0 in
+    follows-end no_context c.args.max_bytes (state_of c.args.session.now.kernel c.args.self.now) c.lines.session.kernel (state_of c.lines.session.kernel c.lines.self) c.lines.lines c.next.follows.lender-at-none (g.S.Source.left c.args.source.now) before after c.lines.invariant.so_far taken
 
-pub returns-in-Err-clause-runs : goal.returns-in-Err-clause-runs
-returns-in-Err-clause-runs c =
-    let ensured = rw c.in-Ok-Some.field-0-is at c.in-Ok-Some.ensures in
-    rw c.refusal.ensures (runs_stopped no_context _ _ _ _ _ _ _ _ _ c.lines.invariant.so_far ensured.line c.in-Err.ensures.moves)
+pub returns-in-Ok-None-clause-spent : goal.returns-in-Ok-None-clause-spent
+returns-in-Ok-None-clause-spent g c =
+    let before = g.S.Source.left c.lines.source in
+    let after = g.S.Source.left c.next.new.source in
+    let taken = subst (λ r. TakesFrom r c.lines.lines c.next.follows.lender-at-none before after) (c.in-Ok-None.is ∙ ap Ok c.in-Ok-None.field-0-is) c.next.follows.holds-at-none.0 in
+    follows-spent no_context c.args.max_bytes (state_of c.args.session.now.kernel c.args.self.now) (state_of c.lines.session.kernel c.lines.self) c.lines.lines c.next.follows.lender-at-none (g.S.Source.left c.args.source.now) before after c.lines.invariant.so_far taken
+
+pub returns-in-Err-line-clause-runs : goal.returns-in-Err-line-clause-runs
+returns-in-Err-line-clause-runs g c =
+    let before = g.S.Source.left c.lines.source in
+    let after = g.S.Source.left c.next.new.source in
+    let taken = subst (λ r. TakesFrom r c.lines.lines c.next.follows.lender-at-none before after) (c.in-Ok-Some.is ∙ ap Ok c.in-Ok-Some.field-0-is) c.next.follows.holds-at-none.0 in
+    rw c.refusal.ensures (follows-refused no_context c.args.max_bytes (state_of c.args.session.now.kernel c.args.self.now) c.line.new.session.kernel c.in-Err-line.fault (state_of c.lines.session.kernel c.lines.self) (state_of c.line.new.session.kernel c.line.new.self) c.lines.lines c.next.follows.lender-at-none c.in-Ok-Some.line (g.S.Source.left c.args.source.now) before after c.lines.invariant.so_far taken c.in-Err-line.ensures.moves)
 
 pub lines-preserved : goal.lines-preserved
-lines-preserved c =
-    let ensured = rw c.in-Ok-Some.field-0-is at c.in-Ok-Some.ensures in
+lines-preserved g c =
+    let before = g.S.Source.left c.lines.source in
+    let after = g.S.Source.left c.next.new.source in
+    let taken = subst (λ r. TakesFrom r c.lines.lines c.next.follows.lender-at-none before after) (c.in-Ok-Some.is ∙ ap Ok c.in-Ok-Some.field-0-is) c.next.follows.holds-at-none.0 in
     record {
-      in_range = c.next_line.ensures.place;
-      numbered = c.next_line.ensures.numbered;
-      so_far = after_more no_context _ _ _ _ _ _ _ _ c.lines.invariant.so_far ensured.line c.in_default.ensures.moves;
+      so_far = follows-line no_context c.args.max_bytes (state_of c.args.session.now.kernel c.args.self.now) (state_of c.lines.session.kernel c.lines.self) (state_of c.line.new.session.kernel c.line.new.self) c.lines.lines c.next.follows.lender-at-none c.in-Ok-Some.line (g.S.Source.left c.args.source.now) before after c.lines.invariant.so_far taken c.in_default.ensures.moves;
       of = c.line.ensures.of;
+      later = omega (arith, c.lines.invariant.later, c.next.ensures.later);
+      folder = c.next.ensures.folder ∙ c.lines.invariant.folder;
+      misses = c.next.ensures.misses ∙ c.lines.invariant.misses;
+      at = c.next.ensures.at ∙ c.lines.invariant.at;
     }
 
-pub returns-in-Err-LineTooLong-clause-runs : goal.returns-in-Err-LineTooLong-clause-runs
-returns-in-Err-LineTooLong-clause-runs c =
-    let ensured = rw c.in-Err-LineTooLong.field-0-is at c.in-Err-LineTooLong.ensures in
-    (LineTooLong, refl, after_run no_context _ _ _ _ c.lines.invariant.so_far ∙ ap (λ z. run no_context z (state_of c.lines.session.kernel c.lines.self)) ensured.line.0)
-
-pub returns-in-Err-ArticleTooLong-clause-runs : goal.returns-in-Err-ArticleTooLong-clause-runs
-returns-in-Err-ArticleTooLong-clause-runs c =
-    let ensured = rw c.in-Err-ArticleTooLong.field-0-is at c.in-Err-ArticleTooLong.ensures in
-    (ArticleTooLong, refl, after_run no_context _ _ _ _ c.lines.invariant.so_far ∙ ap (λ z. run no_context z (state_of c.lines.session.kernel c.lines.self)) ensured.line.0)
+pub returns-in-Err-clause-runs : goal.returns-in-Err-clause-runs
+returns-in-Err-clause-runs g c =
+    let before = g.S.Source.left c.lines.source in
+    let after = g.S.Source.left c.next.new.source in
+    let taken = subst (λ r. TakesFrom r c.lines.lines c.next.follows.lender-at-none before after) c.in-Err.is c.next.follows.holds-at-none.0 in
+    rw c.from.ensures (follows-stopped no_context c.args.max_bytes (state_of c.args.session.now.kernel c.args.self.now) c.lines.session.kernel c.in-Err.fault (state_of c.lines.session.kernel c.lines.self) c.lines.lines c.next.follows.lender-at-none (g.S.Source.left c.args.source.now) before after c.lines.invariant.so_far taken)

@@ -1,17 +1,18 @@
-use Rattle.std.proofs.Common.{◌≤◌, ◌-◌, length}
-use Rattle.ot_scan.specs.Lines.{lines_of, lines_at}
+use Rattle.std.proofs.Common.{◌≡◌, ◌≤◌, ◌-◌}
 use Rattle.ot_machine.specs.States.{no_context}
 use Rattle.ot_machine.specs.Meaning.{state_of, IsOf}
-use Rattle.ot_machine.proofs.Reached.{After}
+use Rattle.ot_machine.proofs.Followed.{Follows}
 use Rattle.ot_machine.proofs.machine.Machine.run_article.Given as goal
 
 abbrev pub invariant-lines : goal.invariant-lines
-invariant-lines l = record {
-  in_range : l.at ≤ length l.text;
-  numbered : l.number ≤ l.at;
-  so_far : After no_context (lines_of l.max_bytes l.text) (state_of l.fn.session.kernel l.fn.self) (state_of l.session.kernel l.self) (lines_at l.max_bytes l.text l.at l.number);
+invariant-lines g l = record {
+  so_far : Follows no_context l.max_bytes (state_of l.fn.session.kernel l.fn.self) (state_of l.session.kernel l.self) l.lines (g.S.Source.left l.fn.source) (g.S.Source.left l.source);
   of : IsOf l.session.kernel l.self;
+  later : g.S.Source.faults l.fn.source ≤ g.S.Source.faults l.source;
+  folder : g.S.Source.folder l.source ≡ g.S.Source.folder l.fn.source;
+  misses : g.S.Source.misses l.source ≡ g.S.Source.misses l.fn.source;
+  at : g.S.Source.at l.source ≡ g.S.Source.at l.fn.source;
 }
 
 abbrev pub decreases-lines : goal.decreases-lines
-decreases-lines l = length l.text - l.at
+decreases-lines g l = l.lines.max - l.lines.number

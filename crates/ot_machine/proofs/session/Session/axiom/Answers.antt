@@ -1,16 +1,23 @@
 use Rattle.std.specs.Prelude.{map}
 use Rattle.ot_kernel.specs.State.{term_at}
+use Rattle.ot_machine.specs.Meaning.{run_of}
 use Rattle.ot_machine.proofs.Kept.{carries}
-use Rattle.ot_machine.proofs.Taken.{assumed-is}
+use Rattle.ot_machine.proofs.Taken.{assumed-is, assumed-refused}
+use Rattle.ot_machine.proofs.Refusals.{refuses-rule}
 use Rattle.ot_machine.proofs.session.Session.axiom.Goals as goal
 
-pub returns-in_err-axiom-clause-kept : goal.returns-in_err-axiom-clause-kept
-returns-in_err-axiom-clause-kept c = carries _ _ _ c.requires.of c.axiom.ensures.keeps
+pub returns-in-Err-clause-kept : goal.returns-in-Err-clause-kept
+returns-in-Err-clause-kept c = carries _ _ _ c.requires.of c.axiom.ensures.keeps
 
-pub returns-clause-kept : goal.returns-clause-kept
-returns-clause-kept c = carries _ _ _ c.requires.of c.axiom.ensures.keeps
+pub returns-in-Err-clause-made : goal.returns-in-Err-clause-made
+returns-in-Err-clause-made c =
+    let k = c.args.self.now.kernel in
+    rw c.from.ensures (refuses-rule c.axiom.new.self _ _ (λ read f q. assumed-refused (run_of k) (map (term_at k) c.args.hyps.now) (term_at k c.args.concl) f (c.in-Err.ensures.assumes.1 read f q)))
 
-pub returns-clause-made : goal.returns-clause-made
-returns-clause-made c =
-    let a = c.in_ok-axiom.ensures.assumes in
-    assumed-is c.args.self.now.kernel c.axiom.new.self (map (term_at c.args.self.now.kernel) c.args.hyps.now) (term_at c.args.self.now.kernel c.args.concl) a.0 c.in_ok-axiom.field-0 a.1 a.3 a.4 a.5
+pub returns-in-Ok-clause-kept : goal.returns-in-Ok-clause-kept
+returns-in-Ok-clause-kept c = carries _ _ _ c.requires.of c.axiom.ensures.keeps
+
+pub returns-in-Ok-clause-made : goal.returns-in-Ok-clause-made
+returns-in-Ok-clause-made c =
+    let a = c.in-Ok.ensures.assumes in
+    assumed-is c.args.self.now.kernel c.axiom.new.self (map (term_at c.args.self.now.kernel) c.args.hyps.now) (term_at c.args.self.now.kernel c.args.concl) a.0 c.in-Ok.theorem a.1 a.3 a.4 a.5

@@ -1,8 +1,12 @@
 use Rattle.ot_machine.proofs.Kept.{leaves}
+use Rattle.ot_machine.proofs.Refusals.{refuses-rule}
 use Rattle.ot_machine.proofs.session.Session.beta_conversion.Goals as goal
 
-pub returns-in_err-beta_conv-clause-kept : goal.returns-in_err-beta_conv-clause-kept
-returns-in_err-beta_conv-clause-kept c = leaves _ _ _ c.requires.of c.beta_conv.ensures.keeps c.beta_conv.ensures.same
+pub returns-in-Err-clause-kept : goal.returns-in-Err-clause-kept
+returns-in-Err-clause-kept c = leaves _ _ _ c.requires.of c.beta_conv.ensures.keeps c.beta_conv.ensures.same
 
-pub returns-clause-kept : goal.returns-clause-kept
-returns-clause-kept c = leaves _ _ _ c.requires.of c.beta_conv.ensures.keeps c.beta_conv.ensures.same
+pub returns-in-Err-clause-made : goal.returns-in-Err-clause-made
+returns-in-Err-clause-made c = rw c.from.ensures (refuses-rule c.beta_conv.new.self _ _ c.in-Err.ensures.concludes.1)
+
+pub returns-in-Ok-clause-kept : goal.returns-in-Ok-clause-kept
+returns-in-Ok-clause-kept c = leaves _ _ _ c.requires.of c.beta_conv.ensures.keeps c.beta_conv.ensures.same

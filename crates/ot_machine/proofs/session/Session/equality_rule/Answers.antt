@@ -1,8 +1,12 @@
 use Rattle.ot_machine.proofs.Kept.{leaves}
+use Rattle.ot_machine.proofs.Refusals.{refuses-rule}
 use Rattle.ot_machine.proofs.session.Session.equality_rule.Goals as goal
 
-pub returns-in_err-eq_mp-clause-kept : goal.returns-in_err-eq_mp-clause-kept
-returns-in_err-eq_mp-clause-kept c = leaves _ _ _ c.requires.of c.eq_mp.ensures.keeps c.eq_mp.ensures.same
+pub returns-in-Err-clause-kept : goal.returns-in-Err-clause-kept
+returns-in-Err-clause-kept c = leaves _ _ _ c.requires.of c.eq_mp.ensures.keeps c.eq_mp.ensures.same
 
-pub returns-clause-kept : goal.returns-clause-kept
-returns-clause-kept c = leaves _ _ _ c.requires.of c.eq_mp.ensures.keeps c.eq_mp.ensures.same
+pub returns-in-Err-clause-made : goal.returns-in-Err-clause-made
+returns-in-Err-clause-made c = rw c.from.ensures (refuses-rule c.eq_mp.new.self _ _ c.in-Err.ensures.concludes.1)
+
+pub returns-in-Ok-clause-kept : goal.returns-in-Ok-clause-kept
+returns-in-Ok-clause-kept c = leaves _ _ _ c.requires.of c.eq_mp.ensures.keeps c.eq_mp.ensures.same

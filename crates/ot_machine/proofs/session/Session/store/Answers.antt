@@ -2,9 +2,10 @@ use Rattle.std.specs.Map.{lookup}
 use Rattle.std.specs.BTreeMap.{is_at}
 use Rattle.std.specs.Ordering.{int_cmp}
 use Rattle.std.proofs.lemmas.Int.{to_z-of_z}
-use Rattle.std.proofs.Common.{sym, ap, ◌∙◌, length}
+use Rattle.std.proofs.Common.{sym, ap, subst, ◌∙◌, length}
+use Rattle.std.proofs.lemmas.Option.{same_Some}
 use Rattle.ot_machine.specs.Meaning.{lists_of, article_of, IsIn}
-use Rattle.ot_machine.proofs.Dictionary.{insert-dictionary, each-inserted}
+use Rattle.ot_machine.proofs.Dictionary.{insert-dictionary, each-changed}
 use Rattle.ot_machine.proofs.session.Session.store.Goals as goal
 
 pub returns-in_err-insert-clause-of : goal.returns-in_err-insert-clause-of
@@ -24,7 +25,7 @@ returns-clause-ok c =
 pub returns-clause-of : goal.returns-clause-of
 returns-clause-of c = record {
   stack = c.requires.of.stack;
-  dictionary = each-inserted (IsIn c.args.self.now.kernel (length c.args.machine.now.cells.items)) _ _ _ c.args.object c.in_ok-insert.ensures.updates.0 c.requires.of.dictionary c.requires.inside;
+  dictionary = each-changed (IsIn c.args.self.now.kernel (length c.args.machine.now.cells.items)) _ _ _ _ c.in_ok-insert.ensures.updates.0 c.requires.of.dictionary (λ x e. subst (IsIn c.args.self.now.kernel (length c.args.machine.now.cells.items)) (same_Some c.args.object x e) c.requires.inside);
   exports = c.requires.of.exports;
   cells = c.requires.of.cells;
 }

@@ -18,9 +18,12 @@ returns-in_default-head c =
     let next = next_cell k c.args.machine.now.cells.items c.requires.of.cells c.cells.rest c.in-Cell.place c.index-cell.result.now c.in-Cell.is c.cells.invariant.inside c.index-cell.ensures in
     let head = c.index-cell.result.now.head in
     record {
-      found = λ f p.
-          let other = term-other k cs head c.in_default-head.not-Term ∙ ap (λ q. Err (WrongKind kinds.Tm q)) (sym (c.kind.ensures k cs)) ∙ ap Err (same_Some _ _ p) in
-          sym c.cells.invariant.so_far ∙ read-other as_term (map (term_at k) c.cells.terms.items) (object_of k cs head) (list_at cs c.cells.rest) _ f other next.list_is;
+      found = (
+        tt,
+        λ f p.
+            let other = term-other k cs head c.in_default-head.not-Term ∙ ap (λ q. Err (WrongKind kinds.Tm q)) (sym (c.kind.ensures k cs)) ∙ ap Err (same_Some _ _ p) in
+            sym c.cells.invariant.so_far ∙ read-other as_term (map (term_at k) c.cells.terms.items) (object_of k cs head) (list_at cs c.cells.rest) _ f other next.list_is,
+      );
       inside = tt;
     }
 

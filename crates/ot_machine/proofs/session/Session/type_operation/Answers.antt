@@ -16,8 +16,8 @@ returns-clause-kept c = leaves _ _ _ c.requires.of c.type_op.ensures.keeps c.typ
 pub returns-in_err-type_op-clause-made : goal.returns-in_err-type_op-clause-made
 returns-in_err-type_op-clause-made c =
     let k = c.args.self.now.kernel in
-    let made : Makes (type_at c.type_op.new.self) c.from_residual.result (op_rule names (name_at k c.args.name) (types_at k c.args.args.now)) = search rules in
-    subst (λ ts. Makes (type_at c.type_op.new.self) c.from_residual.result (op_rule names (name_at k c.args.name) ts)) (types_at-arguments k c.args.args.now) made
+    let made : Makes c.type_op.new.self (type_at c.type_op.new.self) c.from_residual.result (op_rule names (name_at k c.args.name) (types_at k c.args.args.now)) = search rules in
+    subst (λ ts. Makes c.type_op.new.self (type_at c.type_op.new.self) c.from_residual.result (op_rule names (name_at k c.args.name) ts)) (types_at-arguments k c.args.args.now) made
 
 pub returns-clause-made : goal.returns-clause-made
 returns-clause-made c =

@@ -18,9 +18,12 @@ returns-in_default-head c =
     let next = next_cell k c.args.machine.now.cells.items c.requires.of.cells c.cells.rest c.in-Cell.place c.index-cell.result.now c.in-Cell.is c.cells.invariant.inside c.index-cell.ensures in
     let head = c.index-cell.result.now.head in
     record {
-      found = λ f p.
-          let other = type-other k cs head c.in_default-head.not-Type ∙ ap (λ q. Err (WrongKind kinds.Ty q)) (sym (c.kind.ensures k cs)) ∙ ap Err (same_Some _ _ p) in
-          sym c.cells.invariant.so_far ∙ read-other as_type (map (type_at k) c.cells.types.items) (object_of k cs head) (list_at cs c.cells.rest) _ f other next.list_is;
+      found = (
+        tt,
+        λ f p.
+            let other = type-other k cs head c.in_default-head.not-Type ∙ ap (λ q. Err (WrongKind kinds.Ty q)) (sym (c.kind.ensures k cs)) ∙ ap Err (same_Some _ _ p) in
+            sym c.cells.invariant.so_far ∙ read-other as_type (map (type_at k) c.cells.types.items) (object_of k cs head) (list_at cs c.cells.rest) _ f other next.list_is,
+      );
       inside = tt;
     }
 

@@ -1,0 +1,29 @@
+-- A list of constants, made from its end.
+use Rattle.std.specs.Prelude.{◌≡◌, List, [], ◌∷◌, ◌++◌, Result, Ok, Err, nat_le, Bool, true, false, if◌then◌else◌}
+use Rattle.std.proofs.Common.{refl, ap}
+use Rattle.ot_plain.specs.Names.{Name}
+use Rattle.ot_plain.specs.Faults.{Fault, Nesting}
+use Rattle.ot_plain.specs.Hol.{depth_limit}
+use Rattle.ot_machine.specs.Objects.{Object, Objects, list, constant, no_objects, more_objects, nesting}
+use Rattle.ot_machine.specs.Rows.{constants_of, consed}
+
+-- constants before other objects
+abbrev pub constants_onto : List Name → Objects → Objects
+constants_onto [] os = os
+constants_onto (n ∷ ns) os = more_objects (constant n) (constants_onto ns os)
+
+pub constants_onto-start : (ns : List Name) → constants_onto ns no_objects ≡ constants_of ns
+constants_onto-start [] = refl
+constants_onto-start (n ∷ ns) = ap (more_objects (constant n)) (constants_onto-start ns)
+
+pub constants_onto-push : (ns : List Name) (n : Name) (os : Objects) → constants_onto (ns ++ n ∷ []) os ≡ constants_onto ns (more_objects (constant n) os)
+constants_onto-push [] n os = refl
+constants_onto-push (m ∷ ns) n os = ap (more_objects (constant m)) (constants_onto-push ns n os)
+
+-- a list that was made is its head and its tail
+pub consed-made : (o : Object) (os xs : Objects) → consed o os ≡ Ok (list xs) → xs ≡ more_objects o os
+consed-made o os xs e = by (nat_le (nesting (list (more_objects o os))) depth_limit) e
+  where
+    by : (b : Bool) → ◌≡◌ {A = Result Object (Fault Name)} (if b then Ok (list (more_objects o os)) else Err Nesting) (Ok (list xs)) → xs ≡ more_objects o os
+    by true e = cc
+    by false e = cc

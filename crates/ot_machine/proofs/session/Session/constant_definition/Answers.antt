@@ -1,0 +1,36 @@
+use Rattle.ot_plain.specs.Naming.{names}
+use Rattle.ot_kernel.specs.State.{name_at, term_at}
+use Rattle.ot_kernel.specs.Defining.{const_definition}
+use Rattle.ot_machine.proofs.Kept.{carries}
+use Rattle.ot_machine.proofs.Defined.{defined-is, defined-refused, const-theorem, run-same}
+use Rattle.ot_machine.proofs.Refusals.{refuses-definition}
+use Rattle.ot_machine.proofs.session.Session.constant_definition.Goals as goal
+
+pub returns-in-Err-clause-made : goal.returns-in-Err-clause-made
+returns-in-Err-clause-made c =
+    let k = c.args.self.now.kernel in
+    rw c.from.ensures (refuses-definition c.define_const.new.self _ _ (λ f q. defined-refused k (λ ds. const_definition names ds (name_at k c.args.name) (term_at k c.args.term)) f (c.in-Err.ensures.defines.1 f q)) c.in-Err.ensures.symbols)
+
+pub returns-in-Err-clause-refused : goal.returns-in-Err-clause-refused
+returns-in-Err-clause-refused c =
+    run-same _ _ c.in-Err.ensures.defines.0.basis
+
+pub returns-in-Err-clause-kept : goal.returns-in-Err-clause-kept
+returns-in-Err-clause-kept c = carries _ _ _ c.requires.of c.define_const.ensures.keeps
+
+pub returns-in-Ok-clause-made : goal.returns-in-Ok-clause-made
+returns-in-Ok-clause-made c =
+    let k = c.args.self.now.kernel in
+    let l = c.define_const.new.self in
+    let a = c.in-Ok.ensures.defines in
+    let made = const-theorem k l (name_at k c.args.name) (term_at k c.args.term) a.0 c.in-Ok.theorem a.1 a.3 a.4 in
+    defined-is k l (λ ds. const_definition names ds (name_at k c.args.name) (term_at k c.args.term)) a.0 _ a.1 made.0 a.2 a.5
+
+pub returns-in-Ok-clause-inside : goal.returns-in-Ok-clause-inside
+returns-in-Ok-clause-inside c =
+    let k = c.args.self.now.kernel in
+    let a = c.in-Ok.ensures.defines in
+    (const-theorem k c.define_const.new.self (name_at k c.args.name) (term_at k c.args.term) a.0 c.in-Ok.theorem a.1 a.3 a.4).1
+
+pub returns-in-Ok-clause-kept : goal.returns-in-Ok-clause-kept
+returns-in-Ok-clause-kept c = carries _ _ _ c.requires.of c.define_const.ensures.keeps
