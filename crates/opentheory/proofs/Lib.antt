@@ -1,2 +1,5 @@
--- Texts of what was run.
+-- The program: lines of text, runs, verdicts, and replies.
 pub mod TextLemmas
+pub mod RunLemmas
+pub mod VerdictLemmas
+pub mod ReplyLemmas

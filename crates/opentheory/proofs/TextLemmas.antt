@@ -1,34 +1,31 @@
--- The lines of text, over what they say.
-use Rattle.std.proofs.Common.{◌≡◌, ℕ, List, length, map, sym, ap, ◌∙◌, refl}
-use Rattle.std.proofs.lemmas.List.{length-map}
-use Rattle.std.specs.Prelude.{Option, Some, None, IfSome, Result, Ok, Err, IfOk, String}
-use Rattle.std.specs.Global.{Global}
-use Rattle.std.specs.String.{string_bytes}
-use Rattle.ot_plain.specs.Names.{Name}
-use Rattle.ot_plain.specs.Trees.{Sequent, Definition}
+-- How lines are put together.
+use Rattle.std.proofs.Common.{◌≡◌, ℕ, List, [], ◌++◌, codes, refl, sym, ap, ◌∙◌, append_assoc}
+use Rattle.std.specs.Prelude.{slice_get, Option, Some, None, IfSome, Result, Ok, Err, OnOk}
+use Rattle.std.proofs.lemmas.Option.{get_or_from_slice_get}
+use Rattle.ot_plain.specs.Names.{Name, spelled}
+use Rattle.ot_plain.specs.Renamed.{map_symbol}
 use Rattle.ot_plain.specs.Faults.{Fault}
-use Rattle.ot_kernel.specs.State as kernel
-use Rattle.ot_machine.specs.declared.machine.Export as code
-use Rattle.ot_machine.specs.declared.machine.Machine.{Machine}
-use Rattle.ot_machine.specs.Meaning.{state_of}
-use Rattle.opentheory.specs.Texts.{fault_text, line_with, fault_line}
-use Rattle.opentheory.specs.Reply.{line_of_counts, count_line}
+use Rattle.ot_kernel.specs.State.{State, name_at}
+use Rattle.ot_term.specs.Symbols.{symbol_named}
+use Rattle.ot_term.specs.declared.term.SymbolKind.{SymbolKind}
+use Rattle.ot_term.specs.declared.term.SymbolKind.TheVariants.{Con, TyOp}
+use Rattle.opentheory.specs.Texts.{symbol_text, fault_text, fault_line}
+use Rattle.opentheory.specs.Wording.{kind_word, line_start}
 
--- the line of the fault whose text is told
-pub line_of_fault : {E : Type 0} (o : Option (Fault Name)) (number : ℕ) (text : List ℕ) (r : Result (String Global) E) → IfSome o (λ f. text ≡ fault_text f) → IfOk r (λ line. string_bytes line ≡ line_with number text) → IfOk r (λ line. IfSome o (λ f. string_bytes line ≡ fault_line number f))
-line_of_fault None number text (Ok line) told is = tt
-line_of_fault None number text (Err e) told is = tt
-line_of_fault (Some f) number text (Ok line) told is = is ∙ ap (line_with number) told
-line_of_fault (Some f) number text (Err e) told is = tt
+symbol_text_is : (kind : SymbolKind) (n : ℕ) (read : ℕ → Name) → kind_word kind ++ spelled (read n) ≡ symbol_text (map_symbol read (symbol_named kind n))
+symbol_text_is Con n read = refl
+symbol_text_is TyOp n read = refl
 
--- the counts of a kernel and a machine
-pub counts_are : {A B : Type 0} (k seen : kernel.State) (m : Machine) (es : List code.Export) (f : A → Sequent Name) (ns : List A) (g : B → Definition Name) (ds : List B) → es ≡ m.exports.items → seen ≡ k → map f ns ≡ seen.assumptions → map g ds ≡ seen.definitions → line_of_counts (length es) (length ns) (length ds) ≡ count_line (state_of k m)
-counts_are k seen m es f ns g ds exports same assumptions definitions =
-    let theorems : length es ≡ length (state_of k m).article.exports = ap length exports ∙ sym (length-map m.exports.items _) in
-    let assumed : length ns ≡ length (state_of k m).run.assumptions = sym (length-map ns f) ∙ ap length assumptions ∙ ap (λ s. length s.assumptions) same ∙ sym (length-map k.assumptions _) in
-    let defined : length ds ≡ length (state_of k m).run.definitions = sym (length-map ds g) ∙ ap length definitions ∙ ap (λ s. length s.definitions) same ∙ sym (length-map k.definitions _) in
-    rw (theorems, assumed, defined) refl
+-- a symbol's word and the spelling of its name
+pub symbol_added : {E : Type 0} (r : Result (Unit {0}) E) (k : State) (kind : SymbolKind) (n : ℕ) (m : Name) (old mid new : List ℕ) → mid ≡ old ++ kind_word kind → slice_get k.names n ≡ Some m → OnOk r (new ≡ mid ++ spelled m) → OnOk r (new ≡ old ++ symbol_text (map_symbol (name_at k) (symbol_named kind n)))
+symbol_added (Err e) k kind n m old mid new word name all = tt
+symbol_added (Ok u) k kind n m old mid new word name all =
+    let read : name_at k n ≡ m = get_or_from_slice_get k.names n m [] name in
+    let whole : mid ++ spelled m ≡ old ++ (kind_word kind ++ spelled m) = ap (λ xs. xs ++ spelled m) word ∙ append_assoc old (kind_word kind) (spelled m) in
+    all ∙ whole ∙ ap (λ xs. old ++ (kind_word kind ++ spelled xs)) (sym read) ∙ ap (λ xs. old ++ xs) (symbol_text_is kind n (name_at k))
 
-pub if_ok_is : {E : Type 0} (r : Result (String Global) E) (a b : List ℕ) → a ≡ b → IfOk r (λ line. string_bytes line ≡ a) → IfOk r (λ line. string_bytes line ≡ b)
-if_ok_is (Ok line) a b e is = is ∙ e
-if_ok_is (Err x) a b e is = tt
+-- a line's start, the text of its fault where that is told, and the end of the line
+pub fault_line_is : (o : Option (Fault Name)) (path : List ℕ) (number : ℕ) (start mid line : List ℕ) → start ≡ line_start path number → IfSome o (λ f. mid ≡ start ++ fault_text f) → line ≡ mid ++ codes "\n" → IfSome o (λ f. line ≡ fault_line path number f)
+fault_line_is None path number start mid line begins told ends = tt
+fault_line_is (Some f) path number start mid line begins told ends =
+    ends ∙ ap (λ xs. xs ++ codes "\n") (told ∙ ap (λ xs. xs ++ fault_text f) begins) ∙ simp append_assoc

@@ -2,3 +2,5 @@
 pub mod Texts
 pub mod Reply
 pub mod Answer
+pub mod Verdicts
+pub mod Wording

@@ -6,7 +6,7 @@ use Rattle.ot_plain.specs.Names.{Name, spelled}
 use Rattle.ot_plain.specs.Trees.{Symbol, ConSymbol, OpSymbol}
 use Rattle.ot_plain.specs.declared.kind.Kind.{Kind}
 use Rattle.ot_plain.specs.declared.kind.Kind.TheVariants as kinds
-use Rattle.ot_plain.specs.Faults.{Fault, LineTooLong, ArticleTooLong, UnknownCommand, BadName, BadNumber, NumberRange, VersionMissing, VersionUnsupported, VersionLate, StackEmpty, WrongKind, NoEntry, EmptyList, NotFunction, ArgumentType, NotBool, NotEquation, NotAlphaEqual, VarFreeInHyps, NotRedex, BadSubst, ExportMismatch, Primitive, AlreadyDefined, SymbolInUse, NotClosed, TypeVarEscapes, BadDefinitionList, HypothesesPresent, NotApplication, BadTypeVars, Nesting, NotBuilt}
+use Rattle.ot_plain.specs.Faults.{Fault, LineTooLong, ArticleTooLong, UnknownCommand, BadName, BadNumber, NumberRange, VersionMissing, VersionUnsupported, VersionLate, StackEmpty, WrongKind, NoEntry, EmptyList, NotFunction, ArgumentType, NotBool, NotEquation, NotAlphaEqual, VarFreeInHyps, NotRedex, BadSubst, ExportMismatch, Primitive, AlreadyDefined, SymbolInUse, NotClosed, TypeVarEscapes, BadDefinitionList, HypothesesPresent, NotApplication, BadTypeVars, Nesting}
 
 -- how a kind is called
 abbrev pub kind_text : Kind → List ℕ
@@ -28,7 +28,7 @@ symbol_text (OpSymbol n) = codes "type " ++ spelled n
 -- the text of a fault
 abbrev pub fault_text : Fault Name → List ℕ
 fault_text LineTooLong = codes "line longer than 65535 bytes"
-fault_text ArticleTooLong = codes "article longer than 1048576 bytes"
+fault_text ArticleTooLong = codes "article longer than 4294967296 bytes"
 fault_text UnknownCommand = codes "unknown command"
 fault_text BadName = codes "bad name"
 fault_text BadNumber = codes "bad number"
@@ -59,22 +59,30 @@ fault_text HypothesesPresent = codes "theorem has hypotheses"
 fault_text NotApplication = codes "conclusion is not an application"
 fault_text BadTypeVars = codes "bad type variable list"
 fault_text Nesting = codes "nested deeper than 4096"
-fault_text NotBuilt = codes "command not built yet"
 
--- the line for a text at a line of the article on standard input
-abbrev pub line_with : ℕ → List ℕ → List ℕ
-line_with number text = concat (codes "opentheory: -:" ∷ decimal number ∷ codes ": " ∷ text ∷ codes "\n" ∷ [])
+-- the line for a text of a path
+abbrev pub line_of : List ℕ → List ℕ → List ℕ
+line_of path text = concat (codes "opentheory: " ∷ path ∷ codes ": " ∷ text ∷ codes "\n" ∷ [])
 
--- the line for a fault at a line of the article
-abbrev pub fault_line : ℕ → Fault Name → List ℕ
-fault_line number fault = line_with number (fault_text fault)
+-- the line for a fault at a line of the article of a path
+abbrev pub fault_line : List ℕ → ℕ → Fault Name → List ℕ
+fault_line path number fault = line_of (concat (path ∷ codes ":" ∷ decimal number ∷ [])) (fault_text fault)
+
+-- the line for a summary that is too large
+abbrev pub large_line : List ℕ → List ℕ
+large_line path = line_of path (codes "summary larger than 67108864 bytes")
+
+-- the line for a file that isn't there
+abbrev pub missing_line : List ℕ → List ℕ
+missing_line path = line_of path (codes "no such file")
+
+-- the line for an input that failed
+abbrev pub read_fault_line : List ℕ → List ℕ
+read_fault_line path = line_of path (codes "read fault")
 
 -- the line for words that are no command
 abbrev pub usage_line : List ℕ
 usage_line = codes "usage: opentheory check|info|link|minimise [--packages DIR] INPUT; info also takes --assumptions --definitions --theorems; opentheory sample [--article] N\n"
-
-abbrev pub read_fault_line : List ℕ
-read_fault_line = codes "opentheory: -: read fault\n"
 
 abbrev pub write_fault_line : List ℕ
 write_fault_line = codes "opentheory: write fault\n"

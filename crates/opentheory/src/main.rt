@@ -1,24 +1,36 @@
-//! Reads an OpenTheory article from standard input and checks its proofs.
+//! Reads an OpenTheory article, checks its proofs, and says what it came to.
 #![tactic(auto)]
 
+mod input;
 mod program;
+mod report;
+mod status;
 mod texts;
 
-use ot_io::{StdSink, StdSource, write_whole};
+use ot_io::{DirFiles, StdSink, StdSource, write_whole};
 use ot_plain::Memory;
-use program::{Status, run};
+use program::run;
+use status::Status;
 use std::process::ExitCode;
 use std::{env, io};
 use texts::OUT_OF_MEMORY;
 
-/// Runs the program on the command's words and the standard streams. Words that are no text are no
+/// Runs the program on the command's words, the system's files and the standard streams. Words that are no text are no
 /// command.
 fn main(rt: HostRuntime) -> ExitCode {
+    let mut files = DirFiles::new(&rt);
     let mut input = StdSource::new(rt.stdin());
     let mut out = StdSink::new(rt.stdout());
     let mut err = StdSink::new(rt.stderr());
     let status = match words_of(&rt) {
-        Ok(words) => run(rt.alloc(), &words, &mut input, &mut out, &mut err),
+        Ok(words) => run(
+            rt.alloc(),
+            &words,
+            &mut files,
+            &mut input,
+            &mut out,
+            &mut err,
+        ),
         Err(_) => {
             let _ = write_whole(&mut err, OUT_OF_MEMORY);
             Status::Memory

@@ -1,230 +1,192 @@
-ghost use Rattle.std.specs.Prelude.{◌≡◌, ◌↔◌, ◌⊎◌, ◌≤◌, IsTrue, IfSome, IfOk, IfErr, OnOk, OnErr, take};
+ghost use Rattle.std.specs.Prelude.{◌≡◌, ◌↔◌, ◌⊎◌, ◌≤◌, None, Some, IfOk, IfSome, OnOk, OnErr};
 ghost use Rattle.std.specs.Io.KnownBytes.{Appends};
 ghost use Rattle.ot_io.specs.Causes.{Rose, HasCause};
 ghost use Rattle.ot_io.specs.Sinks.{FlushesAll, AppendsFront};
-ghost use Rattle.ot_machine.specs.Run.{Outcome};
-ghost use Rattle.opentheory.specs.declared.program.Halt.TheVariants.{Memory as OutOfMemory};
-ghost use Rattle.opentheory.specs.Reply.{texts_of, is_command, outcome, reply_of, answer};
-ghost use Rattle.opentheory.specs.Texts.{write_fault_line};
-ghost use Rattle.opentheory.specs.Answer.{Answers, IsSilent, Says, own_line, IsTextOf, IsVerdict, IsHalt};
+ghost use Rattle.ot_args.specs.Grammar.{texts_of, command_of, command_value};
+ghost use Rattle.ot_machine.specs.Meaning.{state_of, IsOf};
+ghost use Rattle.opentheory.specs.Reply.{start, input_of, article_at, answer};
+ghost use Rattle.opentheory.specs.Answer.{Answers, IsSilent, Says, own_line, path_of, Failed, FailedAt, LeavesOne, AsksFor, Informs, Writes};
+ghost use Rattle.opentheory.specs.Verdicts.{IsVerdict, Ends, status_of, text_of, error_line};
 
-use crate::texts::{OUT_OF_MEMORY, READ_FAULT, USAGE, WRITE_FAULT, count_line, fault_line};
-use ot_io::{Sink, Source, WriteFault, write_whole};
-use ot_machine::{ArticleFault, Machine, Session};
+use crate::input::run_input;
+use crate::report::{Verdict, input_of, verdict_on};
+use crate::status::Status;
+use crate::texts::{OUT_OF_MEMORY, USAGE, WRITE_FAULT};
+use ot_args::{Command, Usage};
+use ot_io::{Files, Sink, Source, WriteFault, write_whole};
+use ot_machine::{Machine, Session};
 use ot_plain::Memory;
-use ot_scan::{ScanFault, one_byte_more, read_article};
-use std::alloc::{AllocError, Global};
+use std::alloc::Global;
 
-/// How the program ends.
-#[derive(Clone, Copy, Debug, PartialEq, Eq)]
-pub enum Status {
-    /// The input is accepted, and all of the output was written and flushed.
-    Accepted,
-    /// The rules refuse the input.
-    Refused,
-    /// The words are no command.
-    Usage,
-    /// The input failed.
-    ReadFault,
-    /// The output failed.
-    WriteFault,
-    /// Memory ran out.
-    Memory,
-}
-
-impl Status {
-    ghost use Rattle.std.specs.Prelude.{◌≡◌};
-    ghost use Rattle.opentheory.specs.Answer.{code_of};
-
-    /// The exit status; 3 is kept for a file that isn't there.
-    pub fn code(self) -> u8
-        ensures { result ≡ code_of self }
-    {
-        match self {
-            Status::Accepted => 0,
-            Status::Refused => 1,
-            Status::Usage => 2,
-            Status::ReadFault => 4,
-            Status::WriteFault => 5,
-            Status::Memory => 6,
-        }
-    }
-}
-
-/// The most bytes of an article.
-const MAX_BYTES: u64 = 1048576;
-
-/// What the run of an article came to, with its line of text.
-#[derive(Drop)]
-enum Checked {
-    Accepted(String),
-    Refused(String),
-}
-
-/// Why an article isn't run to its end or its first fault.
-#[derive(Clone, Copy, Debug, PartialEq, Eq)]
-enum Halt {
-    ReadFault,
-    Memory,
-}
-
-impl From<Memory> for Halt {
-    ghost from_gives = { λ _ h. h ≡ OutOfMemory };
-
-    fn from(_: Memory) -> Halt {
-        Halt::Memory
-    }
-}
-
-impl From<AllocError> for Halt {
-    ghost from_gives = { λ _ h. h ≡ OutOfMemory };
-
-    fn from(_: AllocError) -> Halt {
-        Halt::Memory
-    }
-}
-
-/// All that the program does. `check` `-` runs the article from `input` by the rules of the article
-/// format, with at most 1,048,576 bytes; other words are no command yet. The whole input is read
-/// first, so a failure of it counts before a fault of a line.
+/// All that the program does with the command's words, without the program's name. `check` runs an article and says how
+/// many theorems, assumptions and definitions that came to; `info` says which. `-` is an article on `input`, and any
+/// other name that of an article file. The text is made whole, then written to `out` and flushed; each status but
+/// `Accepted` has its line on `err`. Whether `err` takes it changes no status.
 ///
-/// `Accepted` comes with the count line on `out`, all of it written and flushed, and `Refused` with
-/// the first fault and its line on `err`. `Usage` comes exactly for words that are no command: it
-/// takes no memory and reads nothing. `ReadFault` comes only where `input` failed in this call, and
-/// `WriteFault` only where `out` did. `Memory` is free. Each but `Accepted` has its line on `err`.
-/// Whether `err` takes it changes no status.
-pub fn run<S: Source, O: Sink, E: Sink>(
+/// - `Accepted`: the article's run ended, and all of the text was written and flushed.
+/// - `Refused`: the article's run stopped, at the first fault and its line by the article format; or the summary has more
+///   than 67,108,864 bytes.
+/// - `Usage`: exactly for words that are no command. It takes no memory and reads nothing.
+/// - `NoFile`: only where a file was missing in this call.
+/// - `ReadFault`: only where what the command reads failed in this call: `input` for `-`, else `files`.
+/// - `WriteFault`: only where the input is accepted and `out` failed in this call; a front of the text was written.
+/// - `Memory`: free. Once the text is made no more memory is taken.
+pub fn run<F: Files, S: Source, O: Sink, E: Sink>(
     alloc: Global,
     words: &[String],
+    files: &mut F,
     input: &mut S,
     out: &mut O,
     err: &mut E,
 ) -> Status
-    ensures usage { (result ≡ Status.Usage) ↔ (¬ IsTrue (is_command (texts_of words.now))) }
-    ensures unread { result ≡ Status.Usage → input.new ≡ input.old }
+    ensures usage { (result ≡ Status.Usage) ↔ (command_of (texts_of words.now) ≡ None) }
+    ensures unread { result ≡ Status.Usage → (files.new ≡ files.old) × (input.new ≡ input.old) }
 
-    // Where the input is told, the status and the output are the stated reply's.
-    ensures answer { IfSome (S.left input.old) (λ bytes.
-        Answers result (answer (texts_of words.now) bytes) (O.written out.old) (O.written out.new)) }
+    // Where what the words name is told, the status and the output are the stated reply's.
+    ensures answer { IfSome (answer (texts_of words.now) (F.folder files.old) (S.left input.old)) (λ reply.
+        Answers result reply (O.written out.old) (O.written out.new)) }
     ensures silent { IsSilent result → out.new ≡ out.old }
     ensures flushed { result ≡ Status.Accepted
         → FlushesAll (O.flushed out.old) (O.written out.new) (O.flushed out.new) }
+
+    // What `info` prints are derivable theorems, under the assumptions and the accepted definitions printed.
+    ensures proved { ¬ IsSilent result → Informs result (command_of (texts_of words.now))
+        (F.folder files.old) (S.left input.old) (O.written out.old) (O.written out.new) }
 
     // What stands on the error sink is the status's line.
     ensures quiet { result ≡ Status.Accepted → err.new ≡ err.old }
-    ensures own_line { IfSome (own_line result) (λ line.
+    ensures own_line { IfSome (own_line (path_of (command_of (texts_of words.now))) result) (λ line.
         Says (E.written err.old) (E.written err.new) (E.faults err.old) (E.faults err.new) line) }
-    ensures refused_line { result ≡ Status.Refused → IfSome (S.left input.old) (λ bytes.
-        Says (E.written err.old) (E.written err.new) (E.faults err.old) (E.faults err.new)
-        (answer (texts_of words.now) bytes).error) }
+    ensures refused_line { result ≡ Status.Refused
+        → IfSome (answer (texts_of words.now) (F.folder files.old) (S.left input.old)) (λ reply.
+        Says (E.written err.old) (E.written err.new) (E.faults err.old) (E.faults err.new) reply.error) }
 
-    // Only a failure that was counted, or want of memory, answers otherwise.
-    ensures read { result ≡ Status.ReadFault → Rose (S.faults input.old) (S.faults input.new) }
+    // Only a missing file, a failure that was counted, or want of memory answers otherwise.
+    ensures missing { result ≡ Status.NoFile → Rose (F.misses files.old) (F.misses files.new) }
+    ensures read { result ≡ Status.ReadFault → Failed (command_of (texts_of words.now))
+        (S.faults input.old) (S.faults input.new) (F.faults files.old) (F.faults files.new) }
     ensures write { result ≡ Status.WriteFault → Rose (O.faults out.old) (O.faults out.new) }
-    ensures complete { IfSome (S.left input.old) (λ bytes.
+    ensures complete { IfSome (answer (texts_of words.now) (F.folder files.old) (S.left input.old)) (λ reply.
         ¬ Rose (S.faults input.old) (S.faults input.new)
+        → ¬ Rose (F.faults files.old) (F.faults files.new)
         → ¬ Rose (O.faults out.old) (O.faults out.new)
-        → (result ≡ Status.Memory) ⊎ (result ≡ (answer (texts_of words.now) bytes).status)) }
+        → (result ≡ Status.Memory) ⊎ (result ≡ reply.status)) }
 
     // Counts never fall, and an input that isn't files stays so.
-    ensures later { (S.faults input.old ≤ S.faults input.new)
-        × (O.faults out.old ≤ O.faults out.new)
-        × (E.faults err.old ≤ E.faults err.new) }
-    ensures files { (S.folder input.new ≡ S.folder input.old)
-        × (S.misses input.new ≡ S.misses input.old)
+    ensures later { (S.faults input.old ≤ S.faults input.new) × (F.faults files.old ≤ F.faults files.new)
+        × (F.misses files.old ≤ F.misses files.new)
+        × (O.faults out.old ≤ O.faults out.new) × (E.faults err.old ≤ E.faults err.new) }
+    ensures source { (S.folder input.new ≡ S.folder input.old) × (S.misses input.new ≡ S.misses input.old)
         × (S.at input.new ≡ S.at input.old) }
+    ensures files { F.folder files.new ≡ F.folder files.old }
+
+    // For `-` the files are left alone, and for a file standard input. The path of a missing file, or of one that failed,
+    // is the command's.
+    ensures one { LeavesOne (path_of (command_of (texts_of words.now))) files.old files.new input.old input.new }
+    ensures at { (result ≡ Status.NoFile) ⊎ (result ≡ Status.ReadFault)
+        → AsksFor (path_of (command_of (texts_of words.now))) (F.folder files.old) (F.at files.new) }
 {
-    if !is_command(words) {
-        say(err, USAGE);
-        return Status::Usage;
-    }
-    match run_input(alloc, input) {
-        Ok(checked) => answered(out, err, checked),
-        Err(Halt::ReadFault) => {
-            say(err, READ_FAULT);
-            Status::ReadFault
-        }
-        Err(Halt::Memory) => {
-            say(err, OUT_OF_MEMORY);
-            Status::Memory
+    match Command::read(words) {
+        Ok(command) => match run_command(alloc, command, files, input) {
+            Ok(verdict) => finish(out, err, &verdict),
+            Err(Memory) => {
+                say(err, OUT_OF_MEMORY);
+                Status::Memory
+            }
+        },
+        Err(Usage) => {
+            say(err, USAGE);
+            Status::Usage
         }
     }
 }
 
-/// Whether the words are the one command.
-fn is_command(words: &[String]) -> bool
-    ensures { result ≡ is_command (texts_of words.now) }
-{
-    match words {
-        [command, input] => command.as_str() == "check" && input.as_str() == "-",
-        _ => false,
-    }
-}
-
-/// Reads the input, and runs it.
-fn run_input<S: Source>(alloc: Global, input: &mut S) -> Result<Checked, Halt>
-    ensures told { IfOk result (λ c. IfSome (S.left input.old) (λ bytes. IsTextOf c (outcome bytes))) }
-    ensures halt { IfErr result (λ h. IsHalt h (S.faults input.old) (S.faults input.new)) }
-    ensures later { S.faults input.old ≤ S.faults input.new }
-    ensures files { (S.folder input.new ≡ S.folder input.old)
-        × (S.misses input.new ≡ S.misses input.old)
+/// Runs the input of a command, and makes the text for what that came to.
+fn run_command<F: Files, S: Source>(
+    alloc: Global,
+    command: Command<'_>,
+    files: &mut F,
+    input: &mut S,
+) -> Result<Verdict, Memory>
+    ensures verdict { IfOk result (IsVerdict (command_value command.entry)
+        (article_at (input_of (command_value command.entry)) (F.folder files.old) (S.left input.old))) }
+    ensures missing { IfOk result (λ v. status_of v ≡ Status.NoFile → Rose (F.misses files.old) (F.misses files.new)) }
+    ensures read { IfOk result (λ v. status_of v ≡ Status.ReadFault → FailedAt (input_of (command_value command.entry))
+        (S.faults input.old) (S.faults input.new) (F.faults files.old) (F.faults files.new)) }
+    ensures later { (S.faults input.old ≤ S.faults input.new) × (F.faults files.old ≤ F.faults files.new)
+        × (F.misses files.old ≤ F.misses files.new) }
+    ensures source { (S.folder input.new ≡ S.folder input.old) × (S.misses input.new ≡ S.misses input.old)
         × (S.at input.new ≡ S.at input.old) }
-{
-    let mut text = Vec::new(alloc);
-    one_byte_more();
-    match read_article(alloc, input, MAX_BYTES, &mut text) {
-        Ok(()) => run_text(alloc, &text),
-        Err(ScanFault::ReadFault) => Err(Halt::ReadFault),
-        Err(_) => Err(Halt::Memory),
-    }
-}
-
-/// Runs an article with a fresh session, and makes the line for what that came to.
-fn run_text(alloc: Global, text: &[u8]) -> Result<Checked, Halt>
-    ensures told { IfOk result (λ c. IsTextOf c (outcome text.now)) }
-    ensures memory { OnErr result (result ≡ Err Halt.Memory) }
+    ensures files { F.folder files.new ≡ F.folder files.old }
+    ensures one { LeavesOne (input_of (command_value command.entry)) files.old files.new input.old input.new }
+    ensures at { IfOk result (λ v. AsksFor (input_of (command_value command.entry)) (F.folder files.old) (F.at files.new)) }
 {
     let mut session = Session::new(alloc)?;
     let mut machine = Machine::new(alloc);
-    match machine.run_article(&mut session, text, MAX_BYTES) {
-        Ok(()) => Ok(Checked::Accepted(count_line(alloc, &session, &machine)?)),
-        Err(ArticleFault::At { line, fault }) => {
-            Ok(Checked::Refused(fault_line(alloc, line, fault)?))
-        }
-        Err(ArticleFault::Memory) => Err(Halt::Memory),
-    }
+    run_in(alloc, command, &mut session, &mut machine, files, input)
 }
 
-/// Writes what the run of an article came to.
-fn answered<O: Sink, E: Sink>(out: &mut O, err: &mut E, checked: Checked) -> Status
-    ensures answer { (o : Outcome) → IsTextOf checked o
-        → Answers result (reply_of o) (O.written out.old) (O.written out.new) }
-    ensures verdict { IsVerdict result }
+/// Runs the input of a command in a fresh session, and makes the text for what that came to.
+fn run_in<F: Files, S: Source>(
+    alloc: Global,
+    command: Command<'_>,
+    session: &mut Session,
+    machine: &mut Machine,
+    files: &mut F,
+    input: &mut S,
+) -> Result<Verdict, Memory>
+    requires of { IsOf session.old.kernel machine.old }
+    requires fresh { state_of session.old.kernel machine.old ≡ start }
+    ensures verdict { IfOk result (IsVerdict (command_value command.entry)
+        (article_at (input_of (command_value command.entry)) (F.folder files.old) (S.left input.old))) }
+    ensures missing { IfOk result (λ v. status_of v ≡ Status.NoFile → Rose (F.misses files.old) (F.misses files.new)) }
+    ensures read { IfOk result (λ v. status_of v ≡ Status.ReadFault → FailedAt (input_of (command_value command.entry))
+        (S.faults input.old) (S.faults input.new) (F.faults files.old) (F.faults files.new)) }
+    ensures later { (S.faults input.old ≤ S.faults input.new) × (F.faults files.old ≤ F.faults files.new)
+        × (F.misses files.old ≤ F.misses files.new) }
+    ensures source { (S.folder input.new ≡ S.folder input.old) × (S.misses input.new ≡ S.misses input.old)
+        × (S.at input.new ≡ S.at input.old) }
+    ensures files { F.folder files.new ≡ F.folder files.old }
+    ensures one { LeavesOne (input_of (command_value command.entry)) files.old files.new input.old input.new }
+    ensures at { AsksFor (input_of (command_value command.entry)) (F.folder files.old) (F.at files.new) }
+{
+    let path = input_of(command);
+    let ran = run_input(session, machine, path, files, input);
+    verdict_on(alloc, command, session, machine, ran)
+}
+
+/// Writes a verdict, and says how the program ends.
+fn finish<O: Sink, E: Sink>(out: &mut O, err: &mut E, verdict: &Verdict) -> Status
+    ensures ends { Ends verdict.now result }
+    ensures writes { Writes result (O.written out.old) (O.written out.new) (text_of verdict.now) }
     ensures silent { IsSilent result → out.new ≡ out.old }
     ensures flushed { result ≡ Status.Accepted
         → FlushesAll (O.flushed out.old) (O.written out.new) (O.flushed out.new) }
-
     ensures quiet { result ≡ Status.Accepted → err.new ≡ err.old }
-    ensures write_line { result ≡ Status.WriteFault → Says (E.written err.old) (E.written err.new)
-        (E.faults err.old) (E.faults err.new) write_fault_line }
-    ensures refused_line { result ≡ Status.Refused → (o : Outcome) → IsTextOf checked o
-        → Says (E.written err.old) (E.written err.new) (E.faults err.old) (E.faults err.new)
-        (reply_of o).error }
-
+    ensures says { IfSome (error_line verdict.now result) (λ line.
+        Says (E.written err.old) (E.written err.new) (E.faults err.old) (E.faults err.new) line) }
     ensures write { result ≡ Status.WriteFault → Rose (O.faults out.old) (O.faults out.new) }
     ensures later { (O.faults out.old ≤ O.faults out.new) × (E.faults err.old ≤ E.faults err.new) }
 {
-    match checked {
-        Checked::Accepted(text) => match print(out, text.as_bytes()) {
+    match verdict {
+        Verdict::Accepted(text) => match print(out, text) {
             Ok(()) => Status::Accepted,
             Err(WriteFault) => {
                 say(err, WRITE_FAULT);
                 Status::WriteFault
             }
         },
-        Checked::Refused(text) => {
-            say(err, text.as_bytes());
+        Verdict::Refused(text) => {
+            say(err, text);
             Status::Refused
+        }
+        Verdict::NoFile(text) => {
+            say(err, text);
+            Status::NoFile
+        }
+        Verdict::ReadFault(text) => {
+            say(err, text);
+            Status::ReadFault
         }
     }
 }

@@ -1,26 +1,61 @@
-ghost use Rattle.std.specs.Prelude.{◌≡◌, IfOk, IfSome, string_bytes};
-ghost use Rattle.ot_plain.specs.Faults.{WrongKind};
+ghost use Rattle.std.specs.Prelude.{◌≡◌, ◌<◌, ◌++◌, length, IfOk, IfSome, OnOk, codes};
+ghost use Rattle.std.specs.Fmt.{signed_decimal};
+ghost use Rattle.ot_plain.specs.Renamed.{map_symbol};
+ghost use Rattle.ot_kernel.specs.State.{name_at};
+ghost use Rattle.ot_term.specs.Symbols.{symbol_of};
 ghost use Rattle.ot_machine.specs.Faults.{fault_of};
-ghost use Rattle.ot_machine.specs.Meaning.{state_of};
-ghost use Rattle.opentheory.specs.Texts.{kind_text, fault_text, line_with, fault_line};
-ghost use Rattle.opentheory.specs.Reply.{line_of_counts, count_line};
+ghost use Rattle.ot_machine.specs.Answers.{IsSymbolIn};
+ghost use Rattle.opentheory.specs.Texts.{kind_text, symbol_text, fault_text, line_of, fault_line};
+ghost use Rattle.opentheory.specs.Wording.{kind_word, line_start};
 
-use ot_machine::{Fault, Machine, Session};
-use ot_plain::Kind;
-use std::alloc::{AllocError, Global};
+use ot_kernel::Kernel;
+use ot_machine::Fault;
+use ot_plain::{Kind, Memory};
+use ot_term::{Symbol, SymbolKind};
+use std::alloc::Global;
 
 /// The line for words that are no command.
 pub const USAGE: &[u8] =
     b"usage: opentheory check|info|link|minimise [--packages DIR] INPUT; info also takes --assumptions --definitions --theorems; opentheory sample [--article] N\n";
-
-/// The line for a source that failed.
-pub const READ_FAULT: &[u8] = b"opentheory: -: read fault\n";
 
 /// The line for an output that failed.
 pub const WRITE_FAULT: &[u8] = b"opentheory: write fault\n";
 
 /// The line for want of memory.
 pub const OUT_OF_MEMORY: &[u8] = b"opentheory: out of memory\n";
+
+/// The line for a text about the input of a path.
+pub fn line_of(alloc: Global, path: &str, text: &str) -> Result<Vec<u8>, Memory>
+    ensures { IfOk result (λ line. line.items ≡ line_of path.now text.now) }
+{
+    let line = format!(in alloc; "opentheory: {path}: {text}\n")?;
+    Ok(line.into_bytes())
+}
+
+/// The line for a fault at a line of the article of a path. The kernel has the name of its symbol.
+pub fn fault_line(
+    alloc: Global,
+    kernel: &Kernel,
+    path: &str,
+    number: u64,
+    fault: Fault,
+) -> Result<Vec<u8>, Memory>
+    requires { IsSymbolIn kernel.now fault }
+    ensures { IfOk result (λ line. IfSome (fault_of (name_at kernel.now) fault) (λ f. line.items ≡ fault_line path.now number f)) }
+{
+    let mut line = line_start(alloc, path, number)?;
+    add_fault(alloc, kernel, fault, &mut line)?;
+    add(&mut line, "\n")?;
+    Ok(line)
+}
+
+/// What stands before the text of a fault at a line.
+fn line_start(alloc: Global, path: &str, number: u64) -> Result<Vec<u8>, Memory>
+    ensures { IfOk result (λ start. start.items ≡ line_start path.now number) }
+{
+    let start = format!(in alloc; "opentheory: {path}:{number}: ")?;
+    Ok(start.into_bytes())
+}
 
 /// How a kind of object is called.
 fn kind_text(kind: Kind) -> &'static str
@@ -39,89 +74,111 @@ fn kind_text(kind: Kind) -> &'static str
     }
 }
 
-/// The text of a fault. Want of memory has a line of its own.
-fn fault_text(alloc: Global, fault: Fault) -> Result<String, AllocError>
-    ensures { IfOk result (λ text. IfSome (fault_of fault) (λ f. string_bytes text ≡ fault_text f)) }
+/// Appends the text of a fault. Want of memory has a line of its own.
+fn add_fault(alloc: Global, kernel: &Kernel, fault: Fault, out: &mut Vec<u8>) -> Result<(), Memory>
+    requires { IsSymbolIn kernel.now fault }
+    ensures { OnOk result (IfSome (fault_of (name_at kernel.now) fault) (λ f. out.new.items ≡ out.old.items ++ fault_text f)) }
 {
     match fault {
-        Fault::LineTooLong => String::from_str(alloc, "line longer than 65535 bytes"),
-        Fault::ArticleTooLong => String::from_str(alloc, "article longer than 1048576 bytes"),
-        Fault::UnknownCommand => String::from_str(alloc, "unknown command"),
-        Fault::BadName => String::from_str(alloc, "bad name"),
-        Fault::BadNumber => String::from_str(alloc, "bad number"),
-        Fault::NumberRange => String::from_str(alloc, "number out of range"),
-        Fault::VersionMissing => String::from_str(alloc, "version command missing"),
-        Fault::VersionUnsupported(k) => format!(in alloc; "version {k} unsupported"),
-        Fault::VersionLate => String::from_str(alloc, "version command in a wrong place"),
-        Fault::StackEmpty => String::from_str(alloc, "stack empty"),
-        Fault::WrongKind(wanted, found) => wrong_kind_text(alloc, wanted, found),
-        Fault::NoEntry(k) => format!(in alloc; "no entry {k}"),
-        Fault::NotFunction => String::from_str(alloc, "not a function"),
-        Fault::ArgumentType => String::from_str(alloc, "argument of another type"),
-        Fault::NotBool => String::from_str(alloc, "not of type bool"),
-        Fault::NotEquation => String::from_str(alloc, "not an equation"),
-        Fault::NotAlphaEqual => String::from_str(alloc, "terms differ"),
-        Fault::VarFreeInHyps => String::from_str(alloc, "variable free in a hypothesis"),
-        Fault::NotRedex => String::from_str(alloc, "not a beta redex"),
-        Fault::BadSubst => String::from_str(alloc, "bad substitution list"),
-        Fault::ExportMismatch => {
-            String::from_str(alloc, "theorem differs from the stated sequent")
-        }
-        Fault::Nesting => String::from_str(alloc, "nested deeper than 4096"),
-        Fault::NotBuilt => String::from_str(alloc, "command not built yet"),
-        Fault::Memory => String::from_str(alloc, "out of memory"),
+        Fault::LineTooLong => add(out, "line longer than 65535 bytes"),
+        Fault::ArticleTooLong => add(out, "article longer than 4294967296 bytes"),
+        Fault::UnknownCommand => add(out, "unknown command"),
+        Fault::BadName => add(out, "bad name"),
+        Fault::BadNumber => add(out, "bad number"),
+        Fault::NumberRange => add(out, "number out of range"),
+        Fault::VersionMissing => add(out, "version command missing"),
+        Fault::VersionUnsupported(k) => add_number(alloc, "version ", k, " unsupported", out),
+        Fault::VersionLate => add(out, "version command in a wrong place"),
+        Fault::StackEmpty => add(out, "stack empty"),
+        Fault::WrongKind(wanted, found) => add_kinds(wanted, found, out),
+        Fault::NoEntry(k) => add_number(alloc, "no entry ", k, "", out),
+        Fault::EmptyList => add(out, "empty list"),
+        Fault::NotFunction => add(out, "not a function"),
+        Fault::ArgumentType => add(out, "argument of another type"),
+        Fault::NotBool => add(out, "not of type bool"),
+        Fault::NotEquation => add(out, "not an equation"),
+        Fault::NotAlphaEqual => add(out, "terms differ"),
+        Fault::VarFreeInHyps => add(out, "variable free in a hypothesis"),
+        Fault::NotRedex => add(out, "not a beta redex"),
+        Fault::BadSubst => add(out, "bad substitution list"),
+        Fault::ExportMismatch => add(out, "theorem differs from the stated sequent"),
+        Fault::Primitive(symbol) => add_about(kernel, "primitive symbol ", symbol, "", out),
+        Fault::AlreadyDefined(symbol) => add_about(kernel, "", symbol, " is defined already", out),
+        Fault::SymbolInUse(symbol) => add_about(kernel, "", symbol, " is in use", out),
+        Fault::NotClosed => add(out, "free variable in a definition"),
+        Fault::TypeVarEscapes => add(out, "type variable not in the type of the constant"),
+        Fault::BadDefinitionList => add(out, "definition list and hypotheses disagree"),
+        Fault::HypothesesPresent => add(out, "theorem has hypotheses"),
+        Fault::NotApplication => add(out, "conclusion is not an application"),
+        Fault::BadTypeVars => add(out, "bad type variable list"),
+        Fault::Nesting => add(out, "nested deeper than 4096"),
+        Fault::Memory => add(out, "out of memory"),
     }
 }
 
-/// The text of an object of another kind than is wanted.
-fn wrong_kind_text(alloc: Global, wanted: Kind, found: Kind) -> Result<String, AllocError>
-    ensures { IfOk result (λ text. string_bytes text ≡ fault_text (WrongKind wanted found)) }
-{
-    let wanted = kind_text(wanted);
-    let found = kind_text(found);
-    format!(in alloc; "wanted {wanted}, found {found}")
-}
-
-/// The line for a fault at a line of the article on standard input.
-pub fn fault_line(alloc: Global, number: u64, fault: Fault) -> Result<String, AllocError>
-    ensures { IfOk result (λ line. IfSome (fault_of fault) (λ f. string_bytes line ≡ fault_line number f)) }
-{
-    let text = fault_text(alloc, fault)?;
-    line_with(alloc, number, text.as_str())
-}
-
-/// The line for a text at a line of the article on standard input.
-fn line_with(alloc: Global, number: u64, text: &str) -> Result<String, AllocError>
-    ensures { IfOk result (λ line. string_bytes line ≡ line_with number text.now) }
-{
-    format!(in alloc; "opentheory: -:{number}: {text}\n")
-}
-
-/// How many theorems, assumptions and definitions a run came to.
-pub fn count_line(alloc: Global, session: &Session, machine: &Machine) -> Result<String, AllocError>
-    ensures { IfOk result (λ line. string_bytes line ≡ count_line (state_of session.now.kernel machine.now)) }
-{
-    let theorems = machine.exports();
-    let kernel = session.kernel();
-    let assumptions = kernel.assumptions();
-    line_of_counts(
-        alloc,
-        theorems.len(),
-        assumptions.len(),
-        kernel.definitions().len(),
-    )
-}
-
-/// The line for these counts.
-fn line_of_counts(
+/// Appends a number between two texts.
+fn add_number(
     alloc: Global,
-    theorems: usize,
-    assumptions: usize,
-    definitions: usize,
-) -> Result<String, AllocError>
-    ensures { IfOk result (λ line. string_bytes line ≡ line_of_counts theorems assumptions definitions) }
+    before: &str,
+    number: i64,
+    after: &str,
+    out: &mut Vec<u8>,
+) -> Result<(), Memory>
+    ensures { OnOk result (out.new.items ≡ out.old.items ++ (before.now ++ signed_decimal number ++ after.now)) }
 {
-    format!(in alloc;
-        "accepted: {theorems} theorems, {assumptions} assumptions, {definitions} definitions\n"
-    )
+    let text = format!(in alloc; "{before}{number}{after}")?;
+    add(out, text.as_str())
+}
+
+/// Appends a symbol between two texts.
+fn add_about(
+    kernel: &Kernel,
+    before: &str,
+    symbol: Symbol,
+    after: &str,
+    out: &mut Vec<u8>,
+) -> Result<(), Memory>
+    requires { symbol.name < length kernel.now.names }
+    ensures { OnOk result (out.new.items ≡ out.old.items ++ (before.now ++ symbol_text (map_symbol (name_at kernel.now) (symbol_of symbol)) ++ after.now)) }
+{
+    add(out, before)?;
+    add_symbol(kernel, symbol, out)?;
+    add(out, after)
+}
+
+/// Appends that another kind is wanted than was found.
+fn add_kinds(wanted: Kind, found: Kind, out: &mut Vec<u8>) -> Result<(), Memory>
+    ensures { OnOk result (out.new.items ≡ out.old.items ++ (codes "wanted " ++ kind_text wanted ++ codes ", found " ++ kind_text found)) }
+{
+    add(out, "wanted ")?;
+    add(out, kind_text(wanted))?;
+    add(out, ", found ")?;
+    add(out, kind_text(found))
+}
+
+/// Appends a symbol: which of the two it is, and how its name is spelled.
+fn add_symbol(kernel: &Kernel, symbol: Symbol, out: &mut Vec<u8>) -> Result<(), Memory>
+    requires { symbol.name < length kernel.now.names }
+    ensures { OnOk result (out.new.items ≡ out.old.items ++ symbol_text (map_symbol (name_at kernel.now) (symbol_of symbol))) }
+{
+    add(out, kind_word(symbol.kind))?;
+    kernel.names().get(symbol.name).spell(out)
+}
+
+/// The word for constants or for type operators, and a space.
+fn kind_word(kind: SymbolKind) -> &'static str
+    ensures { result.now ≡ kind_word kind }
+{
+    match kind {
+        SymbolKind::Con => "const ",
+        SymbolKind::TyOp => "type ",
+    }
+}
+
+/// Appends a text.
+fn add(out: &mut Vec<u8>, text: &str) -> Result<(), Memory>
+    ensures { OnOk result (out.new.items ≡ out.old.items ++ text.now) }
+{
+    out.extend_from_slice(text.as_bytes())?;
+    Ok(())
 }
