@@ -1,7 +1,5 @@
 -- Lemmas on numbers, lines and what is read.
 pub mod Digits
-pub mod Pieces
-pub mod Trimming
 pub mod Limits
 pub mod Taking
 pub mod Held

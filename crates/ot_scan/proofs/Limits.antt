@@ -2,11 +2,11 @@
 use Rattle.std.proofs.Common.{◌≡◌, ◌≢◌, ◌<◌, ◌≤◌, ◌+◌, ◌-◌, inl, inr, ℕ, suc, Bool, true, false, cond, List, [], ◌∷◌, ◌++◌, length, ltb, append-nil, length-append, sym, subst, ◌∙◌, refl, arith}
 use Rattle.std.specs.Prelude.{Option, Some, None}
 use Rattle.std.proofs.lemmas.Bool.Decides.{leb_tells}
+use Rattle.ot_lines.specs.Pieces.{IsOpenTo, without_last}
+use Rattle.ot_lines.proofs.Trimming.{kept_last, length-without_last, length-without_last_le}
 use Rattle.ot_plain.specs.Faults.{Fault, LineTooLong, ArticleTooLong}
 use Rattle.ot_plain.specs.Names.{Name}
-use Rattle.ot_scan.specs.Lines.{without_last, limit_fault, NamesLimit, IsLong}
-use Rattle.ot_scan.specs.Reading.{IsOpenTo}
-use Rattle.ot_scan.proofs.Trimming.{kept_last, length-without_last, length-without_last_le}
+use Rattle.ot_scan.specs.Lines.{limit_fault, NamesLimit, IsLong}
 
 -- ---- which place is the earlier
 

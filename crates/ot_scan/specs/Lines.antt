@@ -1,77 +1,12 @@
 -- The lines of an article.
-use Rattle.std.specs.Prelude.{◌≡◌, ◌<◌, ◌≤◌, ◌+◌, ℕ, ◌==◌, ◌||◌, ◌⊎◌, if◌then◌else◌, nat_lt, nat_le, List, [], ◌∷◌, ◌++◌, length, reverse, Bool, true, Option, Some, None, Result, Ok, Err, IfOk, IfSome, IfNone}
-use Rattle.std.specs.List.{concat}
+use Rattle.std.specs.Prelude.{◌≡◌, ◌<◌, ◌≤◌, ◌+◌, ℕ, ◌⊎◌, if◌then◌else◌, nat_lt, nat_le, List, [], ◌∷◌, ◌++◌, length, Option, Some, None, Result, Ok, Err, IfOk, IfSome, IfNone}
 use Rattle.ot_io.specs.Causes.{Rose}
+use Rattle.ot_lines.specs.Pieces.{pieces, without_last, text_of, is_skipped}
 use Rattle.ot_plain.specs.Faults.{Fault, LineTooLong, ArticleTooLong}
-use Rattle.ot_plain.specs.Lists.{IsMember}
 use Rattle.ot_plain.specs.Names.{Name}
 use Rattle.ot_scan.specs.declared.lines.Line.{Line}
 use Rattle.ot_scan.specs.declared.fault.ScanFault.{ScanFault}
 use Rattle.ot_scan.specs.declared.fault.ScanFault.TheVariants as code
-
--- ---- cutting
-
--- a byte before the first piece
-abbrev pub onto_first : ℕ → List (List ℕ) → List (List ℕ)
-onto_first b [] = (b ∷ []) ∷ []
-onto_first b (p ∷ ps) = (b ∷ p) ∷ ps
-
--- the bytes, cut after each newline
-abbrev pub pieces : List ℕ → List (List ℕ)
-pieces [] = []
-pieces (b ∷ bs) = if b == 10 then (b ∷ []) ∷ pieces bs else onto_first b (pieces bs)
-
--- a newline stands at the end, and nowhere else
-pub record IsWhole (piece : List ℕ) : Type 0 where
-  pub front : List ℕ
-  pub is : piece ≡ front ++ 10 ∷ []
-  pub none : ¬ (IsMember 10 front)
-
--- bytes without a newline
-pub record IsOpen (piece : List ℕ) : Type 0 where
-  pub some : 0 < length piece
-  pub none : ¬ (IsMember 10 piece)
-
--- whole pieces, the last of which may be open
-abbrev pub AreWhole : List (List ℕ) → Type 0
-AreWhole [] = Unit {0}
-AreWhole (p ∷ []) = IsWhole p ⊎ IsOpen p
-AreWhole (p ∷ q ∷ qs) = IsWhole p × AreWhole (q ∷ qs)
-
--- the bytes are cut at their newlines
-pub record IsCut (bytes : List ℕ) (ps : List (List ℕ)) : Type 0 where
-  pub joined : concat ps ≡ bytes
-  pub whole : AreWhole ps
-
--- ---- the text of a piece
-
--- without the last byte, where it is this one
-abbrev pub without_last : ℕ → List ℕ → List ℕ
-without_last x [] = []
-without_last x (b ∷ []) = if b == x then [] else b ∷ []
-without_last x (b ∷ c ∷ bs) = b ∷ without_last x (c ∷ bs)
-
--- a space or a tab
-abbrev pub is_blank : ℕ → Bool
-is_blank b = (b == 32) || (b == 9)
-
--- without blanks at the front
-abbrev pub trim_front : List ℕ → List ℕ
-trim_front [] = []
-trim_front (b ∷ bs) = if is_blank b then trim_front bs else b ∷ bs
-
--- without blanks at the end
-abbrev pub trim_back : List ℕ → List ℕ
-trim_back text = reverse (trim_front (reverse text))
-
--- a piece without its newline, then without one CR at its end, then without blanks at both ends
-abbrev pub text_of : List ℕ → List ℕ
-text_of piece = trim_back (trim_front (without_last 13 (without_last 10 piece)))
-
--- nothing, or a comment
-abbrev pub is_skipped : List ℕ → Bool
-is_skipped [] = true
-is_skipped (b ∷ bs) = b == 35
 
 -- ---- limits
 
@@ -163,10 +98,6 @@ HasReadCause (code.LineTooLong number) before now = Unit {0}
 HasReadCause (code.ArticleTooLong number) before now = Unit {0}
 
 -- ---- laws
-
--- the pieces are the one way to cut the bytes at their newlines
-abbrev pub OneCut : Type 0
-OneCut = (bytes : List ℕ) (ps : List (List ℕ)) → (IsCut bytes ps → ps ≡ pieces bytes) × (ps ≡ pieces bytes → IsCut bytes ps)
 
 -- a line has a 65,536th byte, its newline not counted
 abbrev pub IsLong : List ℕ → Type 0

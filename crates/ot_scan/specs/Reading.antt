@@ -1,9 +1,10 @@
 -- How lines are read: the bytes that are held, and the first piece among them.
-use Rattle.std.specs.Prelude.{◌≡◌, ◌≢◌, ◌<◌, ◌≤◌, ◌+◌, ◌-◌, ◌^◌, ◌⊎◌, ℕ, List, [], ◌++◌, length, take, drop, slice_index, false, Option, Some, None, Result, Ok, Err, IfSome}
+use Rattle.std.specs.Prelude.{◌≡◌, ◌<◌, ◌≤◌, ◌+◌, ◌^◌, ◌⊎◌, ℕ, List, [], ◌++◌, length, take, drop, false, Option, Some, None, Result, Ok, Err, IfSome}
 use Rattle.std.specs.Io.KnownBytes.{Consumes, IsAtEnd}
+use Rattle.ot_lines.specs.Pieces.{IsOpenTo, EndsAt, text_of, is_skipped}
 use Rattle.ot_plain.specs.Faults.{Fault, LineTooLong, ArticleTooLong}
 use Rattle.ot_plain.specs.Names.{Name}
-use Rattle.ot_scan.specs.Lines.{Scan, Lines, Broken, Next, lines_to_come, text_of, is_skipped}
+use Rattle.ot_scan.specs.Lines.{Scan, Lines, Broken, Next, lines_to_come}
 use Rattle.ot_scan.specs.declared.fault.ScanFault.{ScanFault}
 use Rattle.ot_scan.specs.declared.fault.ScanFault.TheVariants as code
 
@@ -24,17 +25,6 @@ pub record Reads (old new : Scan) (left left' : Option (List ℕ)) : Type 0 wher
   pub held : new ≡ record old { held = old.held ++ bytes }
 
 -- ---- the first piece
-
--- none of the first n bytes is a newline
-abbrev pub IsOpenTo : ℕ → List ℕ → Type 0
-IsOpenTo n bytes = (k : ℕ) → k < n → slice_index bytes k ≢ 10
-
--- the first newline is the last of these first bytes
-pub record EndsAt (len : ℕ) (bytes : List ℕ) : Type 0 where
-  pub some : 0 < len
-  pub within : len ≤ length bytes
-  pub open_before : IsOpenTo (len - 1) bytes
-  pub newline : slice_index bytes (len - 1) ≡ 10
 
 -- all the bytes that are held, without a newline: there is no room for more, or none is left
 pub record IsUnended (len : ℕ) (held : List ℕ) (left : Option (List ℕ)) : Type 0 where

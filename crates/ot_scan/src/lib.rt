@@ -8,7 +8,7 @@ mod piece;
 mod words;
 
 pub use fault::ScanFault;
-pub use laws::{earlier_limit, one_cut};
+pub use laws::earlier_limit;
 pub use lines::{Line, Lines};
 pub use words::{Word, WordFault, command};
 

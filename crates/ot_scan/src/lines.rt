@@ -8,8 +8,9 @@ ghost use Rattle.ot_scan.specs.Reading.{Reads, IsFirst, KeepsLines, GoesOn, Find
 ghost use Rattle.ot_scan.specs.contracts.lines.Lines.{the_row};
 
 use crate::fault::ScanFault;
-use crate::piece::{check_limits, is_skipped, piece_len, trimmed};
+use crate::piece::check_limits;
 use ot_io::{Failed, Source};
+use ot_lines::{is_skipped, piece_len, trimmed};
 use std::marker::Model;
 
 /// How many bytes are held at most: those of the longest line and its newline.

@@ -1,5 +1,6 @@
 use Rattle.std.proofs.Common.{◌≡◌, ◌≤◌, ◌-◌, length}
-use Rattle.ot_scan.specs.Reading.{Reads, IsOpenTo}
+use Rattle.ot_lines.specs.Pieces.{IsOpenTo}
+use Rattle.ot_scan.specs.Reading.{Reads}
 use Rattle.ot_scan.proofs.lines.Lines.first_piece.Given as goal
 
 abbrev pub invariant-reads : goal.invariant-reads

@@ -2,7 +2,8 @@ use Rattle.std.proofs.Common.{◌≡◌, ◌<◌, ◌≤◌, ◌+◌, false, len
 use Rattle.std.specs.Prelude.{None, Err}
 use Rattle.std.proofs.lemmas.List.{length-take-le}
 use Rattle.std.proofs.lemmas.Result.{err_from_is_err_and}
-use Rattle.ot_scan.specs.Lines.{Scan, text_of, is_skipped, limit_fault}
+use Rattle.ot_lines.specs.Pieces.{text_of, is_skipped}
+use Rattle.ot_scan.specs.Lines.{Scan, limit_fault}
 use Rattle.ot_scan.specs.Reading.{KeepsLines, ChecksLimits}
 use Rattle.ot_scan.proofs.Taking.{seen, limits-kept}
 use Rattle.ot_scan.proofs.Coming.{keeps-more, keeps-reads, keeps-skipped, next-found, stop-found}

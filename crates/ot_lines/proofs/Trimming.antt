@@ -2,7 +2,7 @@
 use Rattle.std.proofs.Common.{◌≡◌, ◌≢◌, ◌<◌, ◌≤◌, ◌+◌, ◌-◌, inl, inr, ℕ, zero, suc, List, [], ◌∷◌, ◌++◌, length, take, get_or, reverse, true, false, sym, ap, ◌∙◌, refl, arith}
 use Rattle.std.proofs.lemmas.Bool.Decides.{eqb_tells}
 use Rattle.std.proofs.lemmas.List.{take_more, reverse-append, reverse-reverse}
-use Rattle.ot_scan.specs.Lines.{without_last, is_blank, trim_front, trim_back}
+use Rattle.ot_lines.specs.Pieces.{without_last, is_blank, trim_front, trim_back}
 
 -- ---- the last byte is this one, or another one
 last_is : (x : ℕ) (xs : List ℕ) (n : ℕ) → length xs ≡ suc n → get_or xs n 0 ≡ x → without_last x xs ≡ take n xs

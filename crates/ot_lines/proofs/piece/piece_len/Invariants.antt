@@ -1,6 +1,6 @@
 use Rattle.std.proofs.Common.{◌≤◌, ◌-◌, length}
-use Rattle.ot_scan.specs.Reading.{IsOpenTo}
-use Rattle.ot_scan.proofs.piece.piece_len.Given as goal
+use Rattle.ot_lines.specs.Pieces.{IsOpenTo}
+use Rattle.ot_lines.proofs.piece.piece_len.Given as goal
 
 abbrev pub invariant-loop-at : goal.invariant-loop-at
 invariant-loop-at l = record { within : l.at ≤ length l.bytes; open_to : IsOpenTo l.at l.bytes }

@@ -1,7 +1,7 @@
 use Rattle.std.proofs.Common.{◌∙◌, arith}
-use Rattle.ot_scan.proofs.Trimming.{back_step, back_end}
-use Rattle.ot_scan.proofs.piece.trimmed_back.Goals as goal
-use Rattle.ot_scan.proofs.piece.trimmed_back.Goals.{then-back-test+else-is_blank, else-back-test}
+use Rattle.ot_lines.proofs.Trimming.{back_step, back_end}
+use Rattle.ot_lines.proofs.piece.trimmed_back.Goals as goal
+use Rattle.ot_lines.proofs.piece.trimmed_back.Goals.{then-back-test+else-is_blank, else-back-test}
 
 pub back-preserved : goal.back-preserved
 back-preserved c = record {

@@ -1,0 +1,3 @@
+-- Lemmas on cutting and trimming.
+pub mod Pieces
+pub mod Trimming

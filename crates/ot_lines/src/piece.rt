@@ -1,0 +1,123 @@
+ghost use Rattle.std.specs.Prelude.{◌≡◌, ◌≤◌, length, MatchOption};
+ghost use Rattle.ot_lines.specs.Pieces.{IsOpenTo, EndsAt, OneCut, text_of, is_skipped, is_blank, without_last, trim_front, trim_back};
+
+/// How long the first piece is, its newline counted, where the newline is among the bytes. None of
+/// the first `searched` is a newline.
+pub fn piece_len(bytes: &[u8], searched: usize) -> Option<usize>
+    requires within { searched ≤ length bytes.now }
+    requires open { IsOpenTo searched bytes.now }
+    ensures { MatchOption result
+        (IsOpenTo (length bytes.now) bytes.now)
+        (λ len. EndsAt len bytes.now) }
+{
+    let mut at = searched;
+    while at < bytes.len() {
+        if bytes[at] == b'\n' {
+            return Some(at + 1);
+        }
+        at += 1;
+    }
+    None
+}
+
+/// The piece without its last byte, where it is this one.
+pub fn without_last(piece: &[u8], byte: u8) -> &[u8]
+    ensures text { result.now ≡ without_last byte piece.now }
+    ensures within { length result.now ≤ length piece.now }
+{
+    let len = piece.len();
+    if len > 0 && piece[len - 1] == byte {
+        &piece[..len - 1]
+    } else {
+        piece
+    }
+}
+
+/// The text of a piece, by the article format: without its newline, then without one CR at its end,
+/// then without blanks at both ends.
+pub fn trimmed(piece: &[u8]) -> &[u8]
+    ensures { result.now ≡ text_of piece.now }
+{
+    let line = without_last(piece, b'\n');
+    let line = without_last(line, b'\r');
+    trimmed_back(trimmed_front(line))
+}
+
+/// Whether a line with this text is passed over, by the article format: it is empty or a comment,
+/// which begins with `#`.
+pub fn is_skipped(text: &[u8]) -> bool
+    ensures { result ≡ is_skipped text.now }
+{
+    matches!(text, [] | [b'#', ..])
+}
+
+/// Whether a byte is a space or a tab.
+pub fn is_blank(byte: u8) -> bool
+    ensures { result ≡ is_blank byte }
+{
+    byte == b' ' || byte == b'\t'
+}
+
+/// The line without blanks at its front.
+pub fn trimmed_front(line: &[u8]) -> &[u8]
+    ensures { result.now ≡ trim_front line.now }
+{
+    let mut text = line;
+    'front: while let [b' ' | b'\t', rest @ ..] = text {
+        text = rest;
+    }
+    text
+}
+
+/// The line without blanks at its end.
+pub fn trimmed_back(line: &[u8]) -> &[u8]
+    ensures { result.now ≡ trim_back line.now }
+{
+    let mut len = line.len();
+    'back: while len > 0 && is_blank(line[len - 1]) {
+        len -= 1;
+    }
+    &line[..len]
+}
+
+/// A law: the pieces of a text are its bytes, cut after each newline and nowhere else.
+pub fn one_cut()
+    ensures { OneCut }
+{}
+
+#[cfg(test)]
+mod tests {
+    use super::*;
+
+    /// Bytes, the length of a piece that ends in a newline, its text, and whether it is passed over.
+    const ROWS: [(&[u8], Option<usize>, &[u8], bool); 14] = [
+        (b"", None, b"", true),
+        (b"6", None, b"6", false),
+        (b"6\nversion", Some(2), b"6", false),
+        (b"\n6", Some(1), b"", true),
+        (b"6\r\n", Some(3), b"6", false),
+        (b"nil\r", None, b"nil", false),
+        (b"a\r\r\n", Some(4), b"a\r", false),
+        (b"b \r \n", Some(5), b"b \r", false),
+        (b"\t version\t \r\n", Some(13), b"version", false),
+        (b" \t\r\n", Some(4), b"", true),
+        (b"c d\n", Some(4), b"c d", false),
+        (b"  # no\n", Some(7), b"# no", true),
+        (b"\"#\"\n", Some(4), b"\"#\"", false),
+        (b"\x80\xff\x0b\n", Some(4), b"\x80\xff\x0b", false),
+    ];
+
+    #[test]
+    fn cuts_and_trims(rt: HostRuntime) {
+        for (bytes, len, text, skipped) in ROWS {
+            let found = piece_len(bytes, 0);
+            assert_eq!(rt; found, len);
+            let piece = match found {
+                Some(len) => &bytes[..len],
+                None => bytes,
+            };
+            assert_eq!(rt; trimmed(piece), text);
+            assert_eq!(rt; is_skipped(text), skipped);
+        }
+    }
+}
