@@ -1,0 +1,2 @@
+-- Interpretations.
+pub mod Interpretation
