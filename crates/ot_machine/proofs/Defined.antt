@@ -47,7 +47,7 @@ defined-refused k rule f refused =
 
 -- ---- the theorem of a constant
 
-twice-ok : {Y E : Type 0} (r s : Result (Unit {0}) E) (x d : Y) → (r >>= λ _. s >>= λ _. Ok x) ≡ Ok d → x ≡ d
+pub twice-ok : {Y E : Type 0} (r s : Result (Unit {0}) E) (x d : Y) → (r >>= λ _. s >>= λ _. Ok x) ≡ Ok d → x ≡ d
 twice-ok (Ok u) (Ok v) x d e = cc
 twice-ok (Ok u) (Err f) x d e = cc
 twice-ok (Err f) s x d e = cc

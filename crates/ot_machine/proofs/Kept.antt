@@ -14,6 +14,7 @@ use Rattle.ot_plain.specs.Table.{Extends}
 use Rattle.ot_plain.specs.Trees.{TyVar, NConst, Bound}
 use Rattle.ot_plain.specs.Hol.{nameless}
 use Rattle.ot_plain.specs.Naming.{names}
+use Rattle.ot_plain.proofs.TableLemmas.{Extends-refl, Extends-trans}
 use Rattle.ot_kernel.specs.State as kernel
 use Rattle.ot_machine.specs.Objects.{Objects, name, list, type_op, a_type, constant, variable, term, theorem, more_objects, nesting}
 use Rattle.ot_machine.specs.declared.object.Object as object
@@ -22,6 +23,20 @@ use Rattle.ot_machine.specs.declared.object.Cell as cell
 use Rattle.ot_machine.specs.declared.machine.Export as code
 use Rattle.ot_machine.specs.declared.machine.Machine.{Machine}
 use Rattle.ot_machine.specs.Meaning.{list_at, object_of, cell_of, cells_onto, cells_of, IsIn, IsCell, AreCells, entry_of, dictionary_of, export_of, lists_of, IsOf, Carries, Leaves}
+
+-- ---- kernels that grow
+pub keeps-same : (k : kernel.State) → kernel.Keeps k k
+keeps-same k = record { names = Extends-refl _; types = Extends-refl _; terms = Extends-refl _; theorems = Extends-refl _; assumptions = Extends-refl _; definitions = Extends-refl _ }
+
+pub keeps-on : {a b c : kernel.State} → kernel.Keeps a b → kernel.Keeps b c → kernel.Keeps a c
+keeps-on p q = record {
+  names = Extends-trans p.names q.names;
+  types = Extends-trans p.types q.types;
+  terms = Extends-trans p.terms q.terms;
+  theorems = Extends-trans p.theorems q.theorems;
+  assumptions = Extends-trans p.assumptions q.assumptions;
+  definitions = Extends-trans p.definitions q.definitions;
+}
 
 -- ---- places of lists that grow
 module _ {X : Type 0} (xs ys : List X) (e : Extends xs ys) (d : X) where
@@ -118,6 +133,7 @@ carries k l m h kept =
     let lists = lists-kept k l kept m.cells.items h.cells in
     let n = length m.cells.items in
     record {
+      grown = kept;
       article = λ i. record {
         stack = (ap (λ cs. map (entry_of l cs) m.stack.items) lists ∙ stack-kept k l kept (lists_of k m) n m.stack.items h.stack) i;
         dictionary = (ap (λ cs. dictionary_of l cs m.dictionary.entries) lists ∙ dictionary-same k l (lists_of k m) (lists_of k m) m.dictionary.entries (λ q o p. object-kept k l kept (lists_of k m) n o (h.dictionary q o p))) i;

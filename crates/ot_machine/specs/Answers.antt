@@ -62,7 +62,8 @@ abbrev pub NamesSymbolIn : kernel.State → ArticleFault → Type 0
 NamesSymbolIn k (article.At line fault) = IsSymbolIn k fault
 NamesSymbolIn k e = Unit {0}
 
--- a row was taken: the state moved by it, and the machine is still of its session
+-- a row was taken: the state moved by it, the kernel grew, and the machine is still of its session
 pub record Turns (result : Result (Unit {0}) Fault) (row : State → Result State (faults.Fault Name)) (k : kernel.State) (m : Machine) (l : kernel.State) (n : Machine) : Type 0 where
   pub moves : Moves l result (row (state_of k m)) (state_of k m) (state_of l n)
+  pub grown : kernel.Keeps k l
   pub of : IsOf l n

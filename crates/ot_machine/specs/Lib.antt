@@ -11,4 +11,5 @@ pub mod Run
 pub mod Faults
 pub mod Conversions
 pub mod Meaning
+pub mod Contexts
 pub mod Answers

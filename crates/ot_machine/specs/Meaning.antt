@@ -132,6 +132,7 @@ pub record IsOf (k : kernel.State) (m : Machine) : Type 0 where
 
 -- a kernel that grew leaves what the machine stands for
 pub record Carries (old new : kernel.State) (m : Machine) : Type 0 where
+  pub grown : kernel.Keeps old new
   pub article : article_of new m ≡ article_of old m
   pub lists : lists_of new m ≡ lists_of old m
   pub of : IsOf new m

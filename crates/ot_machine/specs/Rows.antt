@@ -12,7 +12,8 @@ use Rattle.ot_plain.specs.Rules.{op_rule, app_rule, abs_rule, refl_rule, assume_
 use Rattle.ot_machine.specs.Objects.{Object, Objects, list, type_op, a_type, constant, variable, term, theorem, no_objects, more_objects, nesting}
 use Rattle.ot_kernel.specs.Axioms.{axiom_rule, known}
 use Rattle.ot_kernel.specs.Defining.{Defining, const_definition, list_definition, type_definition}
-use Rattle.ot_machine.specs.States.{Entry, Export, Given, Made, ArticleState, RunState, State, Context, renamed}
+use Rattle.ot_interp.specs.Interpretation.{renamed}
+use Rattle.ot_machine.specs.States.{Entry, Export, Given, Made, ArticleState, RunState, State, Context}
 use Rattle.ot_machine.specs.Places.{entry_at, object_at, pushed, dropped, replaced, exchanged, number_on, name_on, list_on, type_op_on, type_on, constant_on, variable_on, term_on, theorem_on, types_on, terms_on, names_on, arguments}
 use Rattle.ot_machine.specs.Substitutions.{maps_of}
 use Rattle.ot_machine.specs.DefinitionLists.{pairs_of}
@@ -63,7 +64,7 @@ version_row stack = do
 abbrev pub type_op_row : Context → List Entry → Row
 type_op_row c stack = do
   n ← name_on 0 stack
-  Ok (replaced 1 (type_op (renamed c.interpretation.type_ops n)) stack)
+  Ok (replaced 1 (type_op (renamed names c.interpretation.type_ops n)) stack)
 
 abbrev pub op_type_row : List Entry → Row
 op_type_row stack = do
@@ -91,7 +92,7 @@ var_term_row stack = do
 abbrev pub const_row : Context → List Entry → Row
 const_row c stack = do
   n ← name_on 0 stack
-  Ok (replaced 1 (constant (renamed c.interpretation.constants n)) stack)
+  Ok (replaced 1 (constant (renamed names c.interpretation.constants n)) stack)
 
 abbrev pub const_term_row : List Entry → Row
 const_term_row stack = do
@@ -206,7 +207,7 @@ abbrev pub define_const_row : Context → State → Result State (Fault Name)
 define_const_row c s = do
   t ← term_on 0 s.article.stack
   n ← name_on 1 s.article.stack
-  let m = renamed c.interpretation.constants n in
+  let m = renamed names c.interpretation.constants n in
       defined (λ ds. const_definition names ds m t) s.run >>= λ made. Ok (with_defined 2 (constant m ∷ []) made s)
 
 -- from the top: the theorem, the list of type variables, and the names rep, abs and that of the operator
@@ -217,9 +218,9 @@ define_type_op_row c s = do
   rep ← name_on 2 s.article.stack
   abs ← name_on 3 s.article.stack
   n ← name_on 4 s.article.stack
-  let op = renamed c.interpretation.type_ops n in
-      let a = renamed c.interpretation.constants abs in
-      let r = renamed c.interpretation.constants rep in
+  let op = renamed names c.interpretation.type_ops n in
+      let a = renamed names c.interpretation.constants abs in
+      let r = renamed names c.interpretation.constants rep in
       defined (λ ds. type_definition names ds op a r vars th) s.run >>= λ made. Ok (with_defined 5 (type_op op ∷ constant a ∷ constant r ∷ []) made s)
 
 -- the list of constants
@@ -233,7 +234,7 @@ define_const_list_row c s = do
   th ← theorem_on 0 s.article.stack
   os ← list_on 1 s.article.stack
   pairs ← pairs_of os
-  let ns = map (λ p. renamed c.interpretation.constants p.0) pairs in
+  let ns = map (λ p. renamed names c.interpretation.constants p.0) pairs in
       defined (λ ds. list_definition names ds ns (map (λ p. p.1) pairs) th) s.run >>= λ made. Ok (with_defined 2 (list (constants_of ns) ∷ []) made s)
 
 -- ---- commands that read or change the dictionary or the exports

@@ -1,9 +1,10 @@
 -- The state of an article, and that of the whole run.
-use Rattle.std.specs.Prelude.{ℕ, List, [], ◌∷◌, cond}
+use Rattle.std.specs.Prelude.{ℕ, List, []}
 use Rattle.std.specs.Ordering.{int_cmp}
 use Rattle.std.specs.FinMap.{FinMap, empty}
-use Rattle.ot_plain.specs.Names.{Name, same_name}
+use Rattle.ot_plain.specs.Names.{Name}
 use Rattle.ot_plain.specs.Trees.{Sequent, Definition}
+use Rattle.ot_interp.specs.Interpretation.{Interpretation, identity}
 use Rattle.ot_machine.specs.Objects.{Object}
 
 -- what stands on the stack and in the dictionary
@@ -48,21 +49,11 @@ fresh_run = record { assumptions = []; definitions = [] }
 
 -- ---- the context of an article
 
--- two finite maps of names: one for constants, one for type operators
-pub record Interpretation : Type 0 where
-  pub constants : List (Name × Name)
-  pub type_ops : List (Name × Name)
-
--- a name that isn't held stays
-abbrev pub renamed : List (Name × Name) → Name → Name
-renamed [] n = n
-renamed (p ∷ ps) n = cond (same_name n p.0) p.1 (renamed ps n)
-
 -- how names of symbols are read, and the theorems that come from other articles
 pub record Context : Type 0 where
-  pub interpretation : Interpretation
+  pub interpretation : Interpretation Name
   pub theorems : List Given
 
 -- the identity, and no theorem
 abbrev pub no_context : Context
-no_context = record { interpretation = record { constants = []; type_ops = [] }; theorems = [] }
+no_context = record { interpretation = identity; theorems = [] }

@@ -55,13 +55,6 @@ impl Session {
     }
 }
 
-/// The names of pairs.
-pub(crate) fn names_of(alloc: Global, pairs: &[(NameId, VarKey)]) -> Result<Vec<NameId>, Memory>
-    ensures { IfOk result (λ v. v.items ≡ map (λ p. p.0) pairs.now) }
-{
-    Ok(pairs.iter().map(|pair| pair.0).collect(alloc)?)
-}
-
 /// The variables of pairs.
 pub(crate) fn variables_of(alloc: Global, pairs: &[(NameId, VarKey)]) -> Result<Vec<VarKey>, Memory>
     ensures { IfOk result (λ v. v.items ≡ map (λ p. p.1) pairs.now) }

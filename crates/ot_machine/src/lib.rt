@@ -1,6 +1,7 @@
 //! The stack machine: it runs the commands of articles over a kernel.
 #![tactic(auto)]
 
+mod context;
 mod definition_lists;
 mod exports;
 mod fault;
@@ -15,6 +16,10 @@ mod session;
 mod stores;
 mod substitutions;
 
+pub use context::{Context, Given};
 pub use fault::{ArticleFault, Fault};
 pub use machine::{Export, Machine};
 pub use session::Session;
+
+#[cfg(test)]
+mod tests;

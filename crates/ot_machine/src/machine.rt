@@ -1,14 +1,16 @@
 ghost use Rattle.std.specs.Prelude.{◌≡◌, ◌<◌, ◌≤◌, ◌^◌, [], length, Err, IfSome, IfErr, OnOk};
 ghost use Rattle.ot_io.specs.Causes.{Rose};
-ghost use Rattle.ot_kernel.specs.State.{State};
+ghost use Rattle.ot_kernel.specs.State.{State, Keeps};
 ghost use Rattle.ot_scan.specs.Lines.{lines_of};
 ghost use Rattle.ot_scan.specs.Words.{word_value};
-ghost use Rattle.ot_machine.specs.States.{no_context, fresh_article};
+ghost use Rattle.ot_machine.specs.States.{fresh_article};
 ghost use Rattle.ot_machine.specs.Meaning.{article_of, state_of, command_at, IsOf, IsCommandIn};
+ghost use Rattle.ot_machine.specs.Contexts.{context_of, IsContextOf};
 ghost use Rattle.ot_machine.specs.Step.{step, row, word_row, version_rule};
 ghost use Rattle.ot_machine.specs.Run.{line_step};
 ghost use Rattle.ot_machine.specs.Answers.{Makes, Moves, Turns, Runs, NamesSymbolIn};
 
+use crate::context::Context;
 use crate::fault::{ArticleFault, Fault, refusal};
 use crate::object::{Cell, Command, Object};
 use crate::rows;
@@ -61,32 +63,43 @@ impl Machine {
     }
 
     /// One command. The first fault of the stated machine counts; after it, and after want of memory, the state is as before.
-    /// The machine's numbers have to be of this session.
-    pub fn step(&mut self, session: &mut Session, word: Word<'_>) -> Result<(), Fault>
-        requires { IsOf session.old.kernel self.old }
-        ensures moves { Moves session.new.kernel result (step no_context (state_of session.old.kernel self.old) (word_value word.entry)) (state_of session.old.kernel self.old) (state_of session.new.kernel self.new) }
+    /// The machine's numbers, and the context's names and theorems, have to be of this session.
+    pub fn step(
+        &mut self,
+        session: &mut Session,
+        ctx: &Context<'_>,
+        word: Word<'_>,
+    ) -> Result<(), Fault>
+        requires of { IsOf session.old.kernel self.old }
+        requires context { IsContextOf session.old.kernel ctx.now }
+        ensures moves { Moves session.new.kernel result (step (context_of session.old.kernel ctx.now) (state_of session.old.kernel self.old) (word_value word.entry)) (state_of session.old.kernel self.old) (state_of session.new.kernel self.new) }
         ensures of { IsOf session.new.kernel self.new }
+        ensures grown { Keeps session.old.kernel session.new.kernel }
     {
         let command = session.command(self, word)?;
         check_version(self.count, &command)?;
-        self.row(session, command)?;
+        self.row(session, ctx, command)?;
         self.count = self.count.saturating_add(1);
         Ok(())
     }
 
     /// Runs the lines of an article, up to the first fault, in one pass over a source. The fault has the line at which it stands,
     /// and the state is as before that line. `ReadFault` comes only where the source failed in this call. After it, and after
-    /// want of memory, the state is that of some number of the first lines. The machine's numbers have to be of this session.
+    /// want of memory, the state is that of some number of the first lines. The machine's numbers, and the context's names and
+    /// theorems, have to be of this session.
     pub fn run_article<S: Source>(
         &mut self,
         session: &mut Session,
+        ctx: &Context<'_>,
         source: &mut S,
         max_bytes: u64,
     ) -> Result<(), ArticleFault>
         requires of { IsOf session.old.kernel self.old }
+        requires context { IsContextOf session.old.kernel ctx.now }
         requires max_bytes { max_bytes ≤ 2 ^ 32 }
-        ensures runs { IfSome (S.left source.old) (λ bytes. Runs session.new.kernel result no_context (lines_of max_bytes bytes) (state_of session.old.kernel self.old) (state_of session.new.kernel self.new)) }
+        ensures runs { IfSome (S.left source.old) (λ bytes. Runs session.new.kernel result (context_of session.old.kernel ctx.now) (lines_of max_bytes bytes) (state_of session.old.kernel self.old) (state_of session.new.kernel self.new)) }
         ensures of { IsOf session.new.kernel self.new }
+        ensures grown { Keeps session.old.kernel session.new.kernel }
         ensures symbols { IfErr result (NamesSymbolIn session.new.kernel) }
         ensures spent { OnOk result (IfSome (S.left source.old) (λ _. IfSome (S.left source.new) (λ bytes. bytes ≡ []))) }
 
@@ -101,7 +114,7 @@ impl Machine {
             match lines.next(source) {
                 Ok(None) => return Ok(()),
                 Ok(Some(line)) => {
-                    if let Err(fault) = self.line(session, line.text) {
+                    if let Err(fault) = self.line(session, ctx, line.text) {
                         return Err(refusal(line.number, fault));
                     }
                 }
@@ -111,21 +124,29 @@ impl Machine {
     }
 
     /// The text of a line that holds a command.
-    fn line(&mut self, session: &mut Session, text: &[u8]) -> Result<(), Fault>
+    fn line(&mut self, session: &mut Session, ctx: &Context<'_>, text: &[u8]) -> Result<(), Fault>
         requires of { IsOf session.old.kernel self.old }
+        requires context { IsContextOf session.old.kernel ctx.now }
         requires some { 0 < length text.now }
-        ensures moves { Moves session.new.kernel result (line_step no_context (state_of session.old.kernel self.old) text.now) (state_of session.old.kernel self.old) (state_of session.new.kernel self.new) }
+        ensures moves { Moves session.new.kernel result (line_step (context_of session.old.kernel ctx.now) (state_of session.old.kernel self.old) text.now) (state_of session.old.kernel self.old) (state_of session.new.kernel self.new) }
         ensures of { IsOf session.new.kernel self.new }
+        ensures grown { Keeps session.old.kernel session.new.kernel }
     {
         let word = read_word(text)?;
-        self.step(session, word)
+        self.step(session, ctx, word)
     }
 
     /// The row of a command.
-    fn row(&mut self, session: &mut Session, command: Command) -> Result<(), Fault>
+    fn row(
+        &mut self,
+        session: &mut Session,
+        ctx: &Context<'_>,
+        command: Command,
+    ) -> Result<(), Fault>
         requires of { IsOf session.old.kernel self.old }
+        requires context { IsContextOf session.old.kernel ctx.now }
         requires inside { IsCommandIn session.old.kernel command }
-        ensures { Turns result (row no_context (command_at session.old.kernel command)) session.old.kernel self.old session.new.kernel self.new }
+        ensures { Turns result (row (context_of session.old.kernel ctx.now) (command_at session.old.kernel command)) session.old.kernel self.old session.new.kernel self.new }
     {
         match command {
             Command::Numeral(number) => {
@@ -136,14 +157,15 @@ impl Machine {
                 session.push(self, Object::Name(name))?;
                 Ok(())
             }
-            Command::Order(order) => self.order(session, order),
+            Command::Order(order) => self.order(session, ctx, order),
         }
     }
 
     /// The row of a word.
-    fn order(&mut self, session: &mut Session, order: Cmd) -> Result<(), Fault>
-        requires { IsOf session.old.kernel self.old }
-        ensures { Turns result (word_row no_context order) session.old.kernel self.old session.new.kernel self.new }
+    fn order(&mut self, session: &mut Session, ctx: &Context<'_>, order: Cmd) -> Result<(), Fault>
+        requires of { IsOf session.old.kernel self.old }
+        requires context { IsContextOf session.old.kernel ctx.now }
+        ensures { Turns result (word_row (context_of session.old.kernel ctx.now) order) session.old.kernel self.old session.new.kernel self.new }
     {
         let alloc = self.alloc;
         match order {
@@ -155,12 +177,12 @@ impl Machine {
             Cmd::Ref => rows::refer(session, self),
             Cmd::Remove => rows::remove(session, self),
             Cmd::Pop | Cmd::Pragma => rows::pop(session, self),
-            Cmd::TypeOp => rows::type_op(session, self),
+            Cmd::TypeOp => rows::type_op(session, self, ctx),
             Cmd::OpType => rows::op_type(alloc, session, self),
             Cmd::VarType => rows::var_type(session, self),
             Cmd::Var => rows::var(session, self),
             Cmd::VarTerm => rows::var_term(session, self),
-            Cmd::Const => rows::constant(session, self),
+            Cmd::Const => rows::constant(session, self, ctx),
             Cmd::ConstTerm => rows::const_term(session, self),
             Cmd::AppTerm => rows::app_term(session, self),
             Cmd::AbsTerm => rows::abs_term(session, self),
@@ -175,11 +197,11 @@ impl Machine {
             Cmd::Sym => rows::sym(session, self),
             Cmd::Trans => rows::trans(session, self),
             Cmd::ProveHyp => rows::prove_hyp(session, self),
-            Cmd::Axiom => rows::axiom(alloc, session, self),
+            Cmd::Axiom => rows::axiom(alloc, session, self, ctx),
             Cmd::Thm => rows::thm(alloc, session, self),
-            Cmd::DefineConst => rows::define_const(session, self),
-            Cmd::DefineConstList => rows::define_const_list(alloc, session, self),
-            Cmd::DefineTypeOp => rows::define_type_op(alloc, session, self),
+            Cmd::DefineConst => rows::define_const(session, self, ctx),
+            Cmd::DefineConstList => rows::define_const_list(alloc, session, self, ctx),
+            Cmd::DefineTypeOp => rows::define_type_op(alloc, session, self, ctx),
         }
     }
 }
@@ -195,58 +217,5 @@ fn check_version(count: u64, command: &Command) -> Result<(), Fault>
         0 | 1 => Ok(()),
         _ if is_version => Err(Fault::VersionLate),
         _ => Ok(()),
-    }
-}
-
-#[cfg(test)]
-mod tests {
-    use super::*;
-    use ot_io::MemSource;
-    use std::test::Fail;
-
-    const FIRST: &[u8] =
-        b"6\nversion\n\"p\"\n\"bool\"\ntypeOp\nnil\nopType\nvar\nvarTerm\n0\ndef\nassume\n0\nref\nnil\ncons\n0\nref\nthm\n";
-
-    // Runs an article that a source gives in pieces.
-    fn ran(
-        alloc: Global,
-        session: &mut Session,
-        machine: &mut Machine,
-        article: &[u8],
-    ) -> Result<Result<(), ArticleFault>, Fail>
-        requires { IsOf session.old.kernel machine.old }
-        ensures { IsOf session.new.kernel machine.new }
-    {
-        let bytes = Vec::from_slice(alloc, article)?;
-        let mut source = MemSource::new(bytes, 7, Vec::new(alloc));
-        Ok(machine.run_article(session, &mut source, 200))
-    }
-
-    // The theorem is exported, and once only; a refusal has its line, and the next article of the session is a fresh one.
-    #[test]
-    fn runs_articles(rt: HostRuntime) -> Result<(), Fail> {
-        let alloc = rt.alloc();
-        let mut session = Session::new(alloc)?;
-        let mut machine = Machine::new(alloc);
-        assert_eq!(rt; ran(alloc, &mut session, &mut machine, FIRST)?, Ok(()));
-        assert_eq!(rt; machine.exports().len(), 1);
-        let again = b"0\nref\nassume\n0\nref\n0\nref\nnil\ncons\ncons\n0\nref\nthm";
-        assert_eq!(rt; ran(alloc, &mut session, &mut machine, again)?, Ok(()));
-        assert_eq!(rt; machine.exports().len(), 1);
-        assert_eq!(rt;
-            machine.step(&mut session, Word::Command(Cmd::Version)),
-            Err(Fault::VersionLate)
-        );
-        let mut other = Machine::new(alloc);
-        assert_eq!(rt; other.step(&mut session, Word::Number(6)), Ok(()));
-        assert_eq!(rt;
-            ran(alloc, &mut session, &mut other, b"version\nnil\n0\nref")?,
-            Err(ArticleFault::At {
-                line: 4,
-                fault: Fault::NoEntry(0),
-            })
-        );
-        assert!(rt; other.exports().is_empty());
-        Ok(())
     }
 }

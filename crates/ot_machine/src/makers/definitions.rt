@@ -2,7 +2,7 @@
 ghost use Rattle.std.specs.Prelude.{◌≡◌, ◌<◌, ◌∷◌, [], length, map, IfOk, OnErr};
 ghost use Rattle.std.specs.List.{All};
 ghost use Rattle.ot_plain.specs.Naming.{names};
-ghost use Rattle.ot_kernel.specs.State.{name_at, variable_at, term_at, theorem_at, Keeps};
+ghost use Rattle.ot_kernel.specs.State.{name_at, variable_at, term_at, theorem_at};
 ghost use Rattle.ot_kernel.specs.Defining.{const_definition, list_definition, type_definition};
 ghost use Rattle.ot_machine.specs.Rows.{defined};
 ghost use Rattle.ot_machine.specs.Meaning.{run_of, IsOf, Carries};
@@ -29,7 +29,6 @@ impl Session {
         ensures made { Makes self.new.kernel (λ th. (theorem_at self.new.kernel th ∷ [], run_of self.new.kernel)) result (defined (λ ds. const_definition names ds (name_at self.old.kernel name) (term_at self.old.kernel term)) (run_of self.old.kernel)) }
         ensures refused { OnErr result (run_of self.new.kernel ≡ run_of self.old.kernel) }
         ensures inside { IfOk result (λ th. th < length self.new.kernel.theorems) }
-        ensures grown { Keeps self.old.kernel self.new.kernel }
         ensures kept { Carries self.old.kernel self.new.kernel machine.now }
     {
         match self.kernel.define_const(name, term) {
@@ -54,7 +53,6 @@ impl Session {
         ensures made { Makes self.new.kernel (λ th. (theorem_at self.new.kernel th ∷ [], run_of self.new.kernel)) result (defined (λ ds. list_definition names ds (map (name_at self.old.kernel) constants.now) (map (variable_at self.old.kernel) variables.now) (theorem_at self.old.kernel theorem)) (run_of self.old.kernel)) }
         ensures refused { OnErr result (run_of self.new.kernel ≡ run_of self.old.kernel) }
         ensures inside { IfOk result (λ th. th < length self.new.kernel.theorems) }
-        ensures grown { Keeps self.old.kernel self.new.kernel }
         ensures kept { Carries self.old.kernel self.new.kernel machine.now }
     {
         match self.kernel.define_list(constants, variables, theorem) {
@@ -84,7 +82,6 @@ impl Session {
         ensures refused { OnErr result (run_of self.new.kernel ≡ run_of self.old.kernel) }
         ensures first { IfOk result (λ ths. ths.0 < length self.new.kernel.theorems) }
         ensures second { IfOk result (λ ths. ths.1 < length self.new.kernel.theorems) }
-        ensures grown { Keeps self.old.kernel self.new.kernel }
         ensures kept { Carries self.old.kernel self.new.kernel machine.now }
     {
         match self.kernel.define_type(name, abs, rep, variables, theorem) {

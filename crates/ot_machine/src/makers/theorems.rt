@@ -5,17 +5,19 @@ ghost use Rattle.ot_plain.specs.Naming.{names};
 ghost use Rattle.ot_plain.specs.Rules.{refl_rule, assume_rule, eq_mp_rule, abs_thm_rule, app_thm_rule, deduct_antisym_rule, beta_conv_rule, subst_rule, sym_rule, trans_rule, prove_hyp_rule};
 ghost use Rattle.ot_kernel.specs.State.{name_at, variable_at, term_at, theorem_at};
 ghost use Rattle.ot_kernel.specs.Pairs.{type_pairs, term_pairs, IsSubstIn};
-ghost use Rattle.ot_machine.specs.States.{no_context};
 ghost use Rattle.ot_machine.specs.Rows.{assumed};
 ghost use Rattle.ot_machine.specs.Meaning.{run_of, IsOf, Carries, Leaves};
+ghost use Rattle.ot_machine.specs.Contexts.{context_of, IsContextOf};
 ghost use Rattle.ot_machine.specs.Answers.{Makes};
 
+use crate::context::Context;
 use crate::fault::Fault;
 use crate::machine::Machine;
 use crate::session::Session;
 use ot_kernel::ThmId;
 use ot_subst::Subst;
 use ot_term::{TermId, VarKey};
+use std::alloc::Global;
 
 impl Session {
     /// The theorem that a term equals itself.
@@ -219,21 +221,28 @@ impl Session {
         }
     }
 
-    /// The assumption of a sequent. The run has it from then on.
+    /// The theorem of a sequent: the first of the context that is it, else the assumption of it, which the run has from then on.
     pub(crate) fn axiom(
         &mut self,
+        alloc: Global,
         machine: &Machine,
+        ctx: &Context<'_>,
         hyps: &[TermId],
         concl: TermId,
     ) -> Result<ThmId, Fault>
         requires of { IsOf self.old.kernel machine.now }
+        requires context { IsContextOf self.old.kernel ctx.now }
         requires hyps { All (λ t. t < length self.old.kernel.terms) hyps.now }
         requires concl { concl < length self.old.kernel.terms }
-        ensures made { Makes self.new.kernel (λ th. (theorem_at self.new.kernel th, run_of self.new.kernel)) result (assumed no_context (map (term_at self.old.kernel) hyps.now) (term_at self.old.kernel concl) (run_of self.old.kernel)) }
+        ensures made { Makes self.new.kernel (λ th. (theorem_at self.new.kernel th, run_of self.new.kernel)) result (assumed (context_of self.old.kernel ctx.now) (map (term_at self.old.kernel) hyps.now) (term_at self.old.kernel concl) (run_of self.old.kernel)) }
         ensures refused { OnErr result (run_of self.new.kernel ≡ run_of self.old.kernel) }
         ensures inside { IfOk result (λ th. th < length self.new.kernel.theorems) }
         ensures kept { Carries self.old.kernel self.new.kernel machine.now }
     {
+        if let Some(given) = self.given(alloc, ctx, hyps, concl)? {
+            self.kernel.sound();
+            return Ok(given);
+        }
         match self.kernel.axiom(hyps, concl) {
             Ok(theorem) => Ok(theorem),
             Err(fault) => Err(Fault::from(fault)),

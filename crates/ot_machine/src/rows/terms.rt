@@ -1,10 +1,11 @@
 // The rows of the commands for types and terms.
 ghost use Rattle.ot_machine.specs.Meaning.{IsOf};
 ghost use Rattle.ot_machine.specs.Answers.{Turns};
-ghost use Rattle.ot_machine.specs.States.{no_context};
+ghost use Rattle.ot_machine.specs.Contexts.{context_of, IsContextOf};
 ghost use Rattle.ot_machine.specs.Step.{on_stack};
 ghost use Rattle.ot_machine.specs.Rows.{type_op_row, op_type_row, var_type_row, var_row, var_term_row, const_row, const_term_row, app_term_row, abs_term_row};
 
+use crate::context::Context;
 use crate::fault::Fault;
 use crate::machine::Machine;
 use crate::object::Object;
@@ -12,13 +13,15 @@ use crate::session::Session;
 use ot_term::VarKey;
 use std::alloc::Global;
 
-/// `typeOp` makes a type operator of a name.
-pub fn type_op(session: &mut Session, machine: &mut Machine) -> Result<(), Fault>
-    requires { IsOf session.old.kernel machine.old }
-    ensures { Turns result (on_stack (type_op_row no_context)) session.old.kernel machine.old session.new.kernel machine.new }
+/// `typeOp` makes a type operator of a name, as the context reads it.
+pub fn type_op(session: &mut Session, machine: &mut Machine, ctx: &Context<'_>) -> Result<(), Fault>
+    requires of { IsOf session.old.kernel machine.old }
+    requires context { IsContextOf session.old.kernel ctx.now }
+    ensures { Turns result (on_stack (type_op_row (context_of session.old.kernel ctx.now))) session.old.kernel machine.old session.new.kernel machine.new }
 {
     let name = session.name_on(machine, 0)?;
-    session.replace(machine, 1, Object::TypeOp(name));
+    let named = session.type_op_named(ctx, name);
+    session.replace(machine, 1, Object::TypeOp(named));
     Ok(())
 }
 
@@ -67,13 +70,19 @@ pub fn var_term(session: &mut Session, machine: &mut Machine) -> Result<(), Faul
     Ok(())
 }
 
-/// `const` makes a constant of a name.
-pub fn constant(session: &mut Session, machine: &mut Machine) -> Result<(), Fault>
-    requires { IsOf session.old.kernel machine.old }
-    ensures { Turns result (on_stack (const_row no_context)) session.old.kernel machine.old session.new.kernel machine.new }
+/// `const` makes a constant of a name, as the context reads it.
+pub fn constant(
+    session: &mut Session,
+    machine: &mut Machine,
+    ctx: &Context<'_>,
+) -> Result<(), Fault>
+    requires of { IsOf session.old.kernel machine.old }
+    requires context { IsContextOf session.old.kernel ctx.now }
+    ensures { Turns result (on_stack (const_row (context_of session.old.kernel ctx.now))) session.old.kernel machine.old session.new.kernel machine.new }
 {
     let name = session.name_on(machine, 0)?;
-    session.replace(machine, 1, Object::Const(name));
+    let named = session.constant_named(ctx, name);
+    session.replace(machine, 1, Object::Const(named));
     Ok(())
 }
 

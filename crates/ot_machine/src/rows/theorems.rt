@@ -3,10 +3,11 @@ ghost use Rattle.ot_machine.specs.Meaning.{IsOf};
 ghost use Rattle.ot_machine.specs.Answers.{Turns};
 ghost use Rattle.ot_plain.specs.Naming.{names};
 ghost use Rattle.ot_plain.specs.Rules.{eq_mp_rule, app_thm_rule, deduct_antisym_rule, sym_rule, trans_rule, prove_hyp_rule};
-ghost use Rattle.ot_machine.specs.States.{no_context};
+ghost use Rattle.ot_machine.specs.Contexts.{context_of, IsContextOf};
 ghost use Rattle.ot_machine.specs.Step.{on_article, on_stack};
 ghost use Rattle.ot_machine.specs.Rows.{refl_row, assume_row, one_theorem_row, two_theorems_row, abs_thm_row, beta_conv_row, subst_row, axiom_row, thm_row};
 
+use crate::context::Context;
 use crate::fault::Fault;
 use crate::machine::Machine;
 use crate::object::Object;
@@ -142,14 +143,20 @@ pub fn subst(alloc: Global, session: &mut Session, machine: &mut Machine) -> Res
     Ok(())
 }
 
-/// `axiom` takes a sequent as an assumption of the run.
-pub fn axiom(alloc: Global, session: &mut Session, machine: &mut Machine) -> Result<(), Fault>
-    requires { IsOf session.old.kernel machine.old }
-    ensures { Turns result (axiom_row no_context) session.old.kernel machine.old session.new.kernel machine.new }
+/// `axiom` takes a sequent as a theorem of the context, else as an assumption of the run.
+pub fn axiom(
+    alloc: Global,
+    session: &mut Session,
+    machine: &mut Machine,
+    ctx: &Context<'_>,
+) -> Result<(), Fault>
+    requires of { IsOf session.old.kernel machine.old }
+    requires context { IsContextOf session.old.kernel ctx.now }
+    ensures { Turns result (axiom_row (context_of session.old.kernel ctx.now)) session.old.kernel machine.old session.new.kernel machine.new }
 {
     let concl = session.term_on(machine, 0)?;
     let hyps = session.terms_on(alloc, machine, 1)?;
-    let theorem = session.axiom(machine, &hyps, concl)?;
+    let theorem = session.axiom(alloc, machine, ctx, &hyps, concl)?;
     session.replace(machine, 2, Object::Theorem(theorem));
     Ok(())
 }

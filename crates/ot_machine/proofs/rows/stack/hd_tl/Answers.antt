@@ -6,6 +6,7 @@ use Rattle.ot_machine.specs.declared.object.Object.TheVariants as objects
 use Rattle.ot_machine.specs.Meaning.{object_of, cells_of, run_of, state_of, IsIn}
 use Rattle.ot_machine.specs.Rows.{hd_tl_row}
 use Rattle.ot_machine.specs.Places.{exchanged}
+use Rattle.ot_machine.proofs.Kept.{keeps-same}
 use Rattle.ot_machine.proofs.Turning.{stacked, parts-exchanged}
 use Rattle.ot_machine.proofs.rows.stack.hd_tl.Goals as goal
 
@@ -26,5 +27,6 @@ returns c =
       moves = stacked hd_tl_row s _ row
           ∙ sym (ap (λ a. Ok (record { article = a; run = run_of k })) (c.exchange.ensures.changed
           ∙ (λ i. let a = c.in_ok-push.ensures.ok i in record a { stack = exchanged 2 (map (object_of k (cells_of k (c.in_ok-push.ensures.cells i).items)) (c.in-Some.head ∷ objects.List c.in-Some.tail ∷ [])) a.stack })));
+      grown = keeps-same k;
       of = c.exchange.ensures.of;
     }
