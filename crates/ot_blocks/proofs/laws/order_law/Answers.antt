@@ -1,0 +1,12 @@
+use Rattle.ot_blocks.proofs.Bounded.{ends_always}
+use Rattle.ot_blocks.proofs.Reaching.{gives_order, gives_cycle}
+use Rattle.ot_blocks.proofs.laws.order_law.Goals as goal
+
+pub returns-clause-ends : goal.returns-clause-ends
+returns-clause-ends c = ends_always
+
+pub returns-clause-order : goal.returns-clause-order
+returns-clause-order c = gives_order
+
+pub returns-clause-cycle : goal.returns-clause-cycle
+returns-clause-cycle c = gives_cycle

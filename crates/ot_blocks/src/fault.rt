@@ -1,0 +1,46 @@
+use std::alloc::{AllocError, AllocFailed};
+
+/// What is wrong with the blocks of a theory file, by the theory file format.
+#[derive(Clone, Copy, Debug, PartialEq, Eq)]
+pub enum StructureFault {
+    /// An `import:` of a block that isn't there.
+    UnknownImport,
+    /// A `package:` whose value is no package's full name.
+    BadPackageName,
+    /// An import that leads back to a block on the way to it.
+    ImportCycle,
+    /// A `package:` that names a package which is being run.
+    PackageCycle,
+    /// A `package:` in too many packages, each named in the one before.
+    PackageDepth,
+}
+
+/// Why blocks have no plan.
+#[derive(Clone, Copy, Debug, PartialEq, Eq)]
+pub enum PlanFault {
+    /// The first fault, and its line.
+    At { line: u64, fault: StructureFault },
+    Memory,
+}
+
+impl From<AllocError> for PlanFault {
+    ghost use Rattle.std.specs.Prelude.{◌≡◌};
+    ghost use Rattle.ot_blocks.specs.declared.fault.PlanFault.TheVariants.{Memory};
+
+    ghost from_gives = { λ _ r. r ≡ Memory };
+
+    fn from(_: AllocError) -> PlanFault {
+        PlanFault::Memory
+    }
+}
+
+impl<T: Drop> From<AllocFailed<T>> for PlanFault {
+    ghost use Rattle.std.specs.Prelude.{◌≡◌};
+    ghost use Rattle.ot_blocks.specs.declared.fault.PlanFault.TheVariants.{Memory};
+
+    ghost from_gives = { λ _ r. r ≡ Memory };
+
+    fn from(_: AllocFailed<T>) -> PlanFault {
+        PlanFault::Memory
+    }
+}
