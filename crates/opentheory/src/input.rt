@@ -1,14 +1,19 @@
-ghost use Rattle.std.specs.Prelude.{◌≡◌, ◌≢◌, ◌≤◌, Err, IfErr};
+ghost use Rattle.std.specs.Prelude.{◌≡◌, ◌≢◌, ◌≤◌, Err, IfErr, IfSome};
 ghost use Rattle.ot_io.specs.Causes.{Rose};
 ghost use Rattle.ot_io.specs.Folder.{path_asked};
+ghost use Rattle.ot_scan.specs.Lines.{lines_of};
+ghost use Rattle.ot_machine.specs.States.{no_context};
 ghost use Rattle.ot_machine.specs.Meaning.{state_of, IsOf};
-ghost use Rattle.opentheory.specs.Reply.{start, told, file_at, article_at};
+ghost use Rattle.ot_machine.specs.Answers.{Runs, NamesSymbolIn as NamesFaultIn};
+ghost use Rattle.opentheory.specs.Reply.{start, told, file_at, article_at, article_limit};
 ghost use Rattle.opentheory.specs.Answer.{FailedAt, LeavesOne, AsksFor};
 ghost use Rattle.opentheory.specs.Verdicts.{ComesTo, NamesSymbolIn};
 
+use ot_interp::Interp;
 use ot_io::{Files, OpenFault, Source};
-use ot_machine::{ArticleFault, Fault, Machine, Session};
+use ot_machine::{ArticleFault, Context, Fault, Machine, Session};
 use ot_plain::Limits;
+use std::alloc::Global;
 
 /// Why an input isn't run to its end.
 #[derive(Clone, Copy, Debug, PartialEq, Eq)]
@@ -26,6 +31,7 @@ pub enum InputFault {
 /// Runs the article of a path, up to its first fault: `-` is `input`, and any other name a file's. The session and the
 /// machine are fresh.
 pub fn run_input<F: Files, S: Source>(
+    alloc: Global,
     session: &mut Session,
     machine: &mut Machine,
     path: &str,
@@ -46,14 +52,15 @@ pub fn run_input<F: Files, S: Source>(
     ensures at { AsksFor path.now (F.folder files.old) (F.at files.new) }
 {
     if path == "-" {
-        run_source(session, machine, input)
+        run_source(alloc, session, machine, input)
     } else {
-        run_file(session, machine, path, files)
+        run_file(alloc, session, machine, path, files)
     }
 }
 
 /// Opens the file of a path, runs its article and closes it.
 fn run_file<F: Files>(
+    alloc: Global,
     session: &mut Session,
     machine: &mut Machine,
     path: &str,
@@ -72,7 +79,7 @@ fn run_file<F: Files>(
 {
     match files.open_file(path) {
         Ok(()) => {
-            let result = run_source(session, machine, files);
+            let result = run_source(alloc, session, machine, files);
             files.close();
             result
         }
@@ -83,6 +90,7 @@ fn run_file<F: Files>(
 
 /// Runs the article that a source has left.
 fn run_source<S: Source>(
+    alloc: Global,
     session: &mut Session,
     machine: &mut Machine,
     source: &mut S,
@@ -99,10 +107,36 @@ fn run_source<S: Source>(
     ensures misses { S.misses source.new ≡ S.misses source.old }
     ensures at { S.at source.new ≡ S.at source.old }
 {
-    match machine.run_article(session, source, Limits::standard().article_bytes) {
+    match run_alone(alloc, session, machine, source) {
         Ok(()) => Ok(()),
         Err(ArticleFault::At { line, fault }) => Err(InputFault::At { line, fault }),
         Err(ArticleFault::ReadFault) => Err(InputFault::ReadFault),
         Err(ArticleFault::Memory) => Err(InputFault::Memory),
     }
+}
+
+/// Runs the article that a source has left in the empty context: its symbols have the names that it gives them, and no
+/// theorem comes from elsewhere.
+fn run_alone<S: Source>(
+    alloc: Global,
+    session: &mut Session,
+    machine: &mut Machine,
+    source: &mut S,
+) -> Result<(), ArticleFault>
+    requires { IsOf session.old.kernel machine.old }
+    ensures runs { IfSome (S.left source.old) (λ bytes. Runs session.new.kernel result no_context (lines_of article_limit bytes) (state_of session.old.kernel machine.old) (state_of session.new.kernel machine.new)) }
+    ensures of { IsOf session.new.kernel machine.new }
+    ensures symbols { IfErr result (NamesFaultIn session.new.kernel) }
+    ensures cause { result ≡ Err ArticleFault.ReadFault → Rose (S.faults source.old) (S.faults source.new) }
+    ensures later { S.faults source.old ≤ S.faults source.new }
+    ensures folder { S.folder source.new ≡ S.folder source.old }
+    ensures misses { S.misses source.new ≡ S.misses source.old }
+    ensures at { S.at source.new ≡ S.at source.old }
+{
+    let interp = Interp::new(alloc);
+    let context = Context {
+        interp: &interp,
+        theorems: &[],
+    };
+    machine.run_article(session, &context, source, Limits::standard().article_bytes)
 }

@@ -151,7 +151,7 @@ fn run_in<F: Files, S: Source>(
     ensures at { AsksFor (input_of (command_value command.entry)) (F.folder files.old) (F.at files.new) }
 {
     let path = input_of(command);
-    let ran = run_input(session, machine, path, files, input);
+    let ran = run_input(alloc, session, machine, path, files, input);
     verdict_on(alloc, command, session, machine, ran)
 }
 

@@ -8,8 +8,9 @@ mod tables;
 
 use crate::program::run;
 use crate::status::Status;
+use ot_interp::Interp;
 use ot_io::{MemFiles, MemSink, MemSource};
-use ot_machine::{Machine, Session};
+use ot_machine::{Context, Machine, Session};
 use std::alloc::Global;
 use std::test::Fail;
 use tables::{
@@ -165,7 +166,12 @@ fn ran(alloc: Global, session: &mut Session, parts: &[&[u8]]) -> Result<Machine,
     let article = joined(alloc, parts)?;
     let mut source = source(alloc, &article, FINE.read)?;
     let mut machine = Machine::new(alloc);
-    let _ = machine.run_article(session, &mut source, 4294967296);
+    let interp = Interp::new(alloc);
+    let context = Context {
+        interp: &interp,
+        theorems: &[],
+    };
+    let _ = machine.run_article(session, &context, &mut source, 4294967296);
     Ok(machine)
 }
 
