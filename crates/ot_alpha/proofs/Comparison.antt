@@ -1,14 +1,13 @@
--- What a comparison of numbers, and one of nameless forms, decides.
-use Rattle.std.proofs.Common.{◌≡◌, ℕ, ◌<◌, Bool, nat_eq, List, [], length, ap, subst, sym, ◌∙◌}
+-- What a comparison of numbers decides.
+use Rattle.std.proofs.Common.{◌≡◌, ℕ, ◌<◌, nat_eq, List, length, ap}
 use Rattle.std.specs.Bool.{Decides}
 use Rattle.std.proofs.lemmas.Bool.Decides.{same_from_decides, Decides-eqb}
-use Rattle.ot_plain.specs.Trees.{Ty, TyVar, Named}
-use Rattle.ot_plain.specs.Hol.{same_ty, same_tm, nameless, nameless_in}
+use Rattle.ot_plain.specs.Trees.{Ty, TyVar}
+use Rattle.ot_plain.specs.Hol.{same_ty}
 use Rattle.ot_plain.specs.Naming.{numbers}
 use Rattle.ot_plain.proofs.TableLemmas.{get_or-IsInjective}
 use Rattle.ot_type.specs.TypeTable.{type_at, IsTypeTable}
-use Rattle.ot_laws.proofs.Tests.{same_ty-is, same_tm-is, tells_numbers}
-use Rattle.ot_laws.proofs.Named.{nameless_in-nil}
+use Rattle.ot_laws.proofs.Tests.{same_ty-is, tells_numbers}
 
 -- two numbers of a table are equal just where their types are
 pub same_type : (tys : List (Ty ℕ)) (a b : ℕ) → IsTypeTable tys → a < length tys → b < length tys → nat_eq a b ≡ same_ty numbers (type_at tys a) (type_at tys b)
@@ -19,10 +18,3 @@ same_type tys a b table la lb = same_from_decides (nat_eq a b) (same_ty numbers 
 
     by_trees : Decides (same_ty numbers (type_at tys a) (type_at tys b)) (a ≡ b)
     by_trees = (λ p. get_or-IsInjective tys table.injective a b (TyVar 0) la lb (tree.0 p), λ e. tree.1 (ap (type_at tys) e))
-
--- a comparison under no binders decides whether the nameless forms are equal
-pub alike : (b : Bool) (t u : Named ℕ) → b ≡ same_tm numbers (nameless_in numbers [] t) (nameless_in numbers [] u) → Decides b (nameless numbers t ≡ nameless numbers u)
-alike b t u e = subst (λ c. Decides c (nameless numbers t ≡ nameless numbers u)) (sym (e ∙ closed)) (same_tm-is numbers tells_numbers (nameless numbers t) (nameless numbers u))
-  where
-    closed : same_tm numbers (nameless_in numbers [] t) (nameless_in numbers [] u) ≡ same_tm numbers (nameless numbers t) (nameless numbers u)
-    closed = λ i. same_tm numbers (nameless_in-nil numbers tells_numbers t i) (nameless_in-nil numbers tells_numbers u i)

@@ -61,10 +61,6 @@ given-append : (g h : List (Tm ℕ)) (v : Variable ℕ) → given numbers (g ++ 
 given-append [] h v = refl
 given-append (t ∷ g) h v = ap (λ l. given_by numbers v (as_equation numbers t) ++ l) (given-append g h v) ∙ sym (append_assoc (given_by numbers v (as_equation numbers t)) (given numbers g v) (given numbers h v))
 
-pub only-listed : (o : Option (Tm ℕ)) → only (listed o) ≡ o
-only-listed None = refl
-only-listed (Some t) = refl
-
 module _ (ts : List (Named ℕ)) (v : Variable ℕ) (hyps : List ℕ) (i x : ℕ) (within : i < length hyps) (item : x ≡ get_or hyps i x) where
   pub given-next : (before here : List (Tm ℕ)) → given numbers (map (tm_at ts) (take i hyps)) v ≡ before → given_by numbers v (as_equation numbers (tm_at ts x)) ≡ here → given numbers (map (tm_at ts) (take (i + 1) hyps)) v ≡ before ++ here
   given-next before here b h =
@@ -96,25 +92,3 @@ module _ (ts : List (Named ℕ)) (v : Variable ℕ) (hyps : List ℕ) (i x : ℕ
         by : (o : Option X) → is_some o ≡ true → (rest : List (Tm ℕ)) → only ((listed (option_map f o) ++ b ∷ []) ++ rest) ≡ None
         by None e rest = cc
         by (Some y) e rest = refl
-
--- ---- all variables
-module _ {K : Type 0} (f : K → Variable ℕ) (hs : List (Tm ℕ)) (ks : List K) (i : ℕ) (k : K) (within : i < length ks) (item : k ≡ get_or ks i k) where
-  left : map f (drop i ks) ≡ f k ∷ map f (drop (i + 1) ks)
-  left = ap (map f) (drop-cons ks i k within) ∙ (λ j. f (sym item j) ∷ map f (drop (sym (add-one i) j) ks))
-
-  -- the terms so far, and those of the variables that are left
-  pub terms-next : (pre : List (Tm ℕ)) (t : Tm ℕ) → only (given numbers hs (f k)) ≡ Some t
-      → option_map (λ ts. pre ++ ts) (terms_given numbers hs (map f (drop i ks))) ≡ option_map (λ ts. (pre ++ t ∷ []) ++ ts) (terms_given numbers hs (map f (drop (i + 1) ks)))
-  terms-next pre t h =
-      ap (λ l. option_map (λ ts. pre ++ ts) (terms_given numbers hs l)) left
-      ∙ ap (λ o. option_map (λ ts. pre ++ ts) (option_and_then (λ t. option_map (λ ts. t ∷ ts) (terms_given numbers hs (map f (drop (i + 1) ks)))) o)) h
-      ∙ by (terms_given numbers hs (map f (drop (i + 1) ks)))
-    where
-      by : (o : Option (List (Tm ℕ))) → option_map (λ ts. pre ++ ts) (option_map (λ ts. t ∷ ts) o) ≡ option_map (λ ts. (pre ++ t ∷ []) ++ ts) o
-      by None = refl
-      by (Some ts) = ap Some (sym (append_assoc pre (t ∷ []) ts))
-
-  pub terms-none : (pre : List (Tm ℕ)) → only (given numbers hs (f k)) ≡ None → option_map (λ ts. pre ++ ts) (terms_given numbers hs (map f (drop i ks))) ≡ None
-  terms-none pre h =
-      ap (λ l. option_map (λ ts. pre ++ ts) (terms_given numbers hs l)) left
-      ∙ ap (λ o. option_map (λ ts. pre ++ ts) (option_and_then (λ t. option_map (λ ts. t ∷ ts) (terms_given numbers hs (map f (drop (i + 1) ks)))) o)) h

@@ -96,11 +96,6 @@ checks-one p xs i x e fault within here h = λ f is. by (p x) refl f (h f is)
     by true same f k = cc
     by false same f k = ap (unless fault) (list_all_at p xs i x within (subst (λ y. p y ≡ false) here same)) ∙ k
 
--- a test that each element so far passes
-pub all-passed : {X : Type 0} (p : X → Bool) (xs : List X) (i : ℕ) (x : X) (fault : Fault ℕ) → i < length xs → x ≡ get_or xs i x → unless fault (p x) ≡ Ok tt → list_all p (take i xs) ≡ true → list_all p (take (i + 1) xs) ≡ true
-all-passed p xs i x fault within here ok before =
-    list_all_more p xs i x within ∙ (λ j. before j && (subst (λ y. p y ≡ true) here (unless-ok fault (p x) tt ok)) j)
-
 -- what comes after something that is there
 pub checks-some : {A : Type 0} (r : Result (Unit {0}) DefineFault) (e : Fault ℕ) (o : Option A) (x : A) (f : A → Stated) → o ≡ Some x → Checks r (f x) → Checks r (some_or e o >>= f)
 checks-some r e o x f is h = subst (λ o. Checks r (some_or e o >>= f)) (sym is) h

@@ -13,6 +13,3 @@ mod types;
 pub use fault::DefineFault;
 pub use laws::{constants_law, lists_law, types_law};
 pub use signature::Signature;
-
-#[cfg(test)]
-mod tests;

@@ -1,10 +1,9 @@
 -- Lemmas on tables of nodes that refer to earlier nodes by number.
-use Rattle.std.proofs.Common.{◌≡◌, ℕ, zero, suc, ◌<◌, ◌≤◌, ◌⊎◌, inl, inr, Bool, true, false, List, [], ◌∷◌, ◌++◌, length, slice_get, get_or, position, None, Some, refl, sym, ap, subst, ◌∙◌, true≢false, arith, length-append}
+use Rattle.std.proofs.Common.{◌≡◌, ℕ, zero, suc, ◌<◌, ◌⊎◌, inl, inr, Bool, true, false, List, [], ◌∷◌, ◌++◌, length, slice_get, get_or, position, None, Some, refl, sym, ap, subst, ◌∙◌, true≢false, arith, length-append}
 use Rattle.std.specs.Map.{keys_of, lookup}
-use Rattle.std.proofs.lemmas.Option.{slice_get_within, slice_get-get_or, none-some, same_Some}
+use Rattle.std.proofs.lemmas.Option.{slice_get_within, none-some, same_Some}
 use Rattle.std.proofs.lemmas.Map.{NonePasses, none_passes_from_lookup}
 use Rattle.std.proofs.lemmas.Map.Entries.{length-keys_of}
-use Rattle.std.proofs.lemmas.List.{get_or-map}
 use Rattle.std.proofs.lemmas.List.Quantifiers.{position-Some}
 use Rattle.indexmap.specs.IndexMap.{IndexMap, keys, insert_entry}
 use Rattle.indexmap.proofs.CallerLemmas.{insert_entry-new}
@@ -113,7 +112,7 @@ module _ {N T D : Type 0} (of : List T → N → T) where
             let e = entry_at i _ p in
             let entry = sound.entries i e.0 e.1 e.2 in
             let one : of ts n ≡ of ts e.0 = same_Some _ _ (sym p ∙ entry.tree) in
-            true≢false (sym (laws.same_tree ts sound.injective n e.0 below (below_all i e.0 e.1 entry) one) ∙ apart_at (same n) es absent i e.0 e.1 e.2)
+            true≢false (sym (laws.same_tree ts sound.injective n e.0 d e.1 below (below_all i e.0 e.1 entry) fits entry.fits one) ∙ apart_at (same n) es absent i e.0 e.1 e.2)
 
         sound_push : IsSound of Below Fits (es ++ (n, d) ∷ []) after
         sound_push = record {

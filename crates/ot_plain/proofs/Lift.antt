@@ -1,12 +1,12 @@
 -- What is defined over one alphabet is, renamed, what is defined over the other: one line for each definition.
-use Rattle.std.specs.Prelude.{◌≡◌, ℕ, Bool, List, [], ◌∷◌, map, Option, Some, None}
+use Rattle.std.specs.Prelude.{◌≡◌, List, [], map, Option, Some}
 use mathlib.Core.Path.{PathP}
 use Rattle.std.proofs.Common.{sym, ◌∙◌, ap}
 use Rattle.std.specs.Option.{option_map}
-use Rattle.ot_plain.specs.Trees.{Alphabet, Ty, Tys, Variable, Tm, Named, Sequent, Definition}
-use Rattle.ot_plain.specs.Renamed.{map_ty, map_tys, map_variable, map_tm, map_named, map_sequent, map_definition}
-use Rattle.ot_plain.specs.Hol.{TypeMap, TermMap, inst, type_in, close_at, subst_tm, nameless, equation, minus, theorems, same_ty, same_tm, opened, named_type, IsFree, Derivable, Accepted, HasType, fun_ty, bool_ty}
-use Rattle.ot_plain.proofs.Line.{IsLettering, one_end, one_start, over_option, Line, letters, over_name, over_ty, over_tys, over_variable, over_tm, over_named, over_list, over_sequent, over_definition}
+use Rattle.ot_plain.specs.Trees.{Alphabet, Ty, Variable, Tm, Named, Sequent, Definition}
+use Rattle.ot_plain.specs.Renamed.{map_ty, map_variable, map_tm, map_named, map_sequent, map_definition}
+use Rattle.ot_plain.specs.Hol.{TypeMap, TermMap, inst, type_in, subst_tm, nameless, equation, minus, theorems, same_tm, named_type, IsFree, Derivable, Accepted, bool_ty}
+use Rattle.ot_plain.proofs.Line.{IsLettering, one_end, one_start, over_option, Line, letters, over_name, over_ty, over_variable, over_tm, over_named, over_list, over_sequent, over_definition}
 
 module _ {M N : Type 0} (e : Equiv M N) (a : Alphabet M) (b : Alphabet N) (k : IsLettering e.0 a b) where
   abbrev f : M → N

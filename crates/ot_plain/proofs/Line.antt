@@ -1,10 +1,10 @@
 -- Two alphabets that an equivalence of their names makes one: a line of types from the one to the other.
-use Rattle.std.specs.Prelude.{◌≡◌, ℕ, Bool, List, [], ◌∷◌, map, Option, Some, None}
+use Rattle.std.specs.Prelude.{◌≡◌, List, [], ◌∷◌, map, Option, Some, None}
 use Rattle.std.specs.Option.{option_map}
 use mathlib.Core.Path.{PathP, from_path_p}
 use Rattle.std.proofs.Common.{sym, ◌∙◌, ap}
-use Rattle.ot_plain.specs.Trees.{Alphabet, Ty, Tys, TyVar, TyOp, NoTys, MoreTys, Variable, Tm, Free, Con, Bound, App, Abs, Named, NVar, NConst, NApp, NAbs, Sequent, Symbol, ConSymbol, OpSymbol, Definition, ConDef, ListDef, TyDef}
-use Rattle.ot_plain.specs.Renamed.{map_ty, map_tys, map_variable, map_tm, map_named, map_sequent, map_symbol, map_definition}
+use Rattle.ot_plain.specs.Trees.{Alphabet, Ty, Tys, TyVar, TyOp, NoTys, MoreTys, Variable, Tm, Free, Con, Bound, App, Abs, Named, NVar, NConst, NApp, NAbs, Sequent, Definition, ConDef, ListDef, TyDef}
+use Rattle.ot_plain.specs.Renamed.{map_ty, map_tys, map_variable, map_tm, map_named, map_sequent, map_definition}
 
 -- the function takes the test and the primitive names to those of the other alphabet
 pub record IsLettering {M N : Type 0} (f : M → N) (a : Alphabet M) (b : Alphabet N) : Type 0 where

@@ -1,8 +1,7 @@
 -- Lemmas on the table of names.
-use Rattle.std.proofs.Common.{◌≡◌, ◌<◌, ℕ, zero, suc, true, false, List, [], ◌∷◌, ◌++◌, length, get_or, if◌then◌else◌, refl, arith, sym, ap, subst}
+use Rattle.std.proofs.Common.{zero, suc, true, false, List, [], ◌∷◌, ◌++◌, if◌then◌else◌, refl, arith}
 use Rattle.std.specs.List.{All, IsDistinct, list_any}
-use Rattle.std.specs.Str.{bytes_eq}
-use Rattle.std.proofs.lemmas.List.Elements.{All-push, All-cons, All-nil}
+use Rattle.std.proofs.lemmas.List.Elements.{All-push}
 use Rattle.indexmap.specs.IndexSet.{insert_key}
 use Rattle.ot_plain.specs.Names.{Name, same_name, same_name-Decides, IsName}
 use Rattle.ot_plain.specs.Naming.{IsNameTable, first_names}

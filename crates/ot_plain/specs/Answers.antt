@@ -1,5 +1,5 @@
 -- Steps that may be refused, one after another.
-use Rattle.std.specs.Prelude.{◌≡◌, Bool, if◌then◌else◌, Option, Some, None, Result, Ok, Err}
+use Rattle.std.specs.Prelude.{Bool, if◌then◌else◌, Option, Some, None, Result, Ok, Err}
 
 infixl 10 ◌>>=◌
 -- goes on with what was made; the first refusal counts

@@ -1,5 +1,5 @@
 -- The named faults of the stated machine, each a rule that the input breaks.
-use Rattle.std.specs.Prelude.{ℕ, ℤ}
+use Rattle.std.specs.Prelude.{ℤ}
 use Rattle.ot_plain.specs.Trees.{Symbol}
 use Rattle.ot_plain.specs.declared.kind.Kind.{Kind}
 

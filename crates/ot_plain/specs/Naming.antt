@@ -1,6 +1,6 @@
 -- What name a number stands for under a list of names.
 use Rattle.std.specs.List.{All}
-use Rattle.std.specs.Prelude.{codes, ◌≡◌, ℕ, zero, suc, nat_eq, Bool, cond, List, [], ◌∷◌, map, slice_get, Some}
+use Rattle.std.specs.Prelude.{codes, ◌≡◌, ℕ, zero, suc, nat_eq, cond, List, [], ◌∷◌, map, slice_get, Some}
 use Rattle.ot_plain.specs.Lists.{AreDistinct}
 use Rattle.ot_plain.specs.Names.{Name, same_name, IsName}
 use Rattle.ot_plain.specs.Table.{Extends, IsInjective}

@@ -1,5 +1,5 @@
 -- The rules by which types, terms and theorems are made, as functions: what is made, or the one refusal that counts first.
-use Rattle.std.specs.Prelude.{◌≡◌, Bool, true, false, ◌&&◌, ◌||◌, not, cond, if◌then◌else◌, List, [], ◌∷◌, map, Option, Some, None, Result, Ok, Err}
+use Rattle.std.specs.Prelude.{Bool, false, ◌&&◌, not, if◌then◌else◌, [], ◌∷◌, map, Option, Some, None, Result, Ok, Err}
 use Rattle.std.specs.Option.{option_and_then}
 use Rattle.ot_plain.specs.Trees.{Alphabet, Ty, Tys, TyOp, Variable, Tm, App, Abs, Sequent}
 use Rattle.ot_plain.specs.Hol.{same_ty, fun_ty, bool_ty, as_fun_ty, is_shallow_ty, type_in, type_of, close, opened, TypeMap, TermMap, subst_tm, is_shallow, same_tm, equation, as_equation, minus, is_in, union, once_each, is_free_in_some, is_shallow_sequent, sequent_of}

@@ -97,6 +97,22 @@ impl Name {
         Ok(Name { components })
     }
 
+    /// The name with these components, the base name last.
+    pub fn from_components(components: Vec<Vec<u8>>) -> Name
+        requires { 0 < length components.items }
+        ensures { result ≡ map (λ c. c.items) components.items }
+    {
+        Name { components }
+    }
+
+    /// The components, the base name last.
+    pub fn components(&self) -> &[Vec<u8>]
+        ensures value { map (λ c. c.items) result.now ≡ self.now }
+        ensures some { 0 < length result.now }
+    {
+        &self.components
+    }
+
     /// Whether the text spells a name. No memory is taken.
     #[tactic(auto, using(crate::proofs::Reading::is_done_steps))]
     pub fn is_name(text: &[u8]) -> bool

@@ -1,4 +1,4 @@
-ghost use Rattle.std.specs.Prelude.{◌≡◌, ℕ, ◌<◌, ◌≤◌, Some, slice_get, length, IfOk, OnErr};
+ghost use Rattle.std.specs.Prelude.{◌≡◌, ℕ, ◌<◌, ◌≤◌, Some, slice_get, length, List, [], ◌∷◌, IfOk, OnErr};
 ghost use Rattle.ot_plain.specs.Names.{Name as NameValue};
 ghost use Rattle.ot_plain.specs.Naming.{first_names, IsNameTable};
 ghost use Rattle.ot_plain.specs.Table.{Extends};
@@ -38,6 +38,19 @@ impl NameId {
 
     /// The number of `r`.
     pub const R: NameId = NameId(4);
+
+    /// The five names that have fixed numbers, in the order of these numbers.
+    pub fn fixed() -> [NameId; 5]
+        ensures { result ≡ 0 ∷ 1 ∷ 2 ∷ 3 ∷ 4 ∷ [] }
+    {
+        [
+            NameId::ARROW,
+            NameId::BOOL,
+            NameId::EQUALS,
+            NameId::A,
+            NameId::R,
+        ]
+    }
 }
 
 /// Names, each with a number that it keeps.

@@ -8,12 +8,13 @@ use Rattle.ot_plain.specs.Lists.{IsMember}
 use Rattle.ot_plain.specs.Trees.{Variable, Free, Named}
 use Rattle.ot_plain.specs.Hol.{inst, inst_var, term_at as term_for_variable, TermMap, TypeMap, Renaming, image, nameless, IsFree, IsFreeIn}
 use Rattle.ot_plain.specs.Naming.{numbers}
-use Rattle.ot_laws.proofs.Tests.{tells_numbers, var_cases}
+use Rattle.ot_laws.proofs.Tests.{tells_numbers, cases_of, var_cases}
 use Rattle.ot_laws.proofs.Sets.{IsMember-cases, IsMember-map, IsMember-map_back}
 use Rattle.ot_laws.proofs.Named.{free-nameless, nameless-free}
 use Rattle.ot_laws.proofs.Apply.{term_at-cases}
+use Rattle.ot_type.specs.TypeTable.{images}
 use Rattle.ot_type.proofs.TypeTableLemmas.{type_at-Extends}
-use Rattle.ot_type.proofs.InstLemmas.{images-Extends}
+use Rattle.ot_type.proofs.InstLemmas.{images-Extends, inst-nothing}
 use Rattle.ot_type.proofs.SubtypeLemmas.{All-member}
 use Rattle.ot_term.specs.Term.{TermTable}
 use Rattle.ot_term.specs.TermTable.{term_at, variable_of, Grows}
@@ -111,43 +112,60 @@ module _ (t : TermTable) (s : Substitution) (r : List (VarKey × VarKey)) (frees
   pub clash-free : IsMember w frees → ¬ (IsUnclashing t s v body)
   clash-free m apart = let (p, i, f) = free.to w m in apart.not_in p i (subst (λ z. IsFree numbers z p.1) instance f)
 
+  -- no other variable of the body becomes the binder
+  abbrev IsAlone : Type 0
+  IsAlone = (x : Variable ℕ) → IsFreeIn numbers x (term_at t.terms body) → inst_var numbers (type_part t s) x ≡ inst_var numbers (type_part t s) (variable_of t.types v) → x ≡ variable_of t.types v
+
+  module _ (unmet : ¬ (Meets r v w)) (no_term : is_some (term_for s w) ≡ false) (not_free : ¬ (IsMember w frees)) (alone : IsAlone) where
+    stays-itself : image numbers (renaming_of t.types r) (type_part t s) (variable_part t s) (variable_of t.types v) ≡ Free (inst_var numbers (type_part t s) (variable_of t.types v))
+    stays-itself =
+        image-other t s ready.table.types (variable_part t s) v binder r ready.binders (not-renamed r v w unmet)
+        ∙ subst (λ z. term_for_variable numbers (variable_part t s) z ≡ Free z) instance (put-none t ready.table.types w new s.terms ready.subst.variables (none_from (term_for s w) no_term))
+
+    stays-apart : (x : Variable ℕ) → IsFreeIn numbers x (term_at t.terms body) → x ≢ variable_of t.types v → ¬ (IsFree numbers (inst_var numbers (type_part t s) (variable_of t.types v)) (image numbers (renaming_of t.types r) (type_part t s) (variable_part t s) x))
+    stays-apart x i d f = elim (image-cases (renaming_of t.types r) (type_part t s) (variable_part t s) x) [
+      | inl (p, j, e) ↦
+          let (q, m, c) = IsMember-map_back (λ (z : VarKey × VarKey). (variable_of t.types z.0, variable_of t.types z.1)) p r j in
+          let same : p.1 ≡ inst_var numbers (type_part t s) (variable_of t.types v) = subst (IsFree numbers (inst_var numbers (type_part t s) (variable_of t.types v))) e f in
+          not-new r v w unmet q m (variable-injective t.types ready.table.types q.1 w (ready.binders q m).to new (ap (λ (z : Variable ℕ × Variable ℕ). z.1) c ∙ same ∙ sym instance))
+      | inr e ↦ elim (term_at-cases numbers tells_numbers (variable_part t s) (inst_var numbers (type_part t s) x)) [
+        | inl (p, j, k) ↦
+            let m = free.back p j (inst_var numbers (type_part t s) (variable_of t.types v)) (subst (IsFree numbers (inst_var numbers (type_part t s) (variable_of t.types v))) (e ∙ k) f) in
+            let (y, n, c) = IsMember-map_back (variable_of t.types) (inst_var numbers (type_part t s) (variable_of t.types v)) frees m in
+            let same : y ≡ w = variable-injective t.types ready.table.types y w (All-member (λ (z : VarKey). z.ty < length t.types) frees free.inside y n) new (c ∙ sym instance) in
+            not_free (subst (λ z. IsMember z frees) same n)
+        | inr k ↦ d (alone x i (subst (IsFree numbers (inst_var numbers (type_part t s) (variable_of t.types v))) (e ∙ k) f))
+      ]
+    ]
+
+    pub may_stay : MayStay t s r v body
+    may_stay = record { itself = stays-itself; apart = stays-apart }
+
+  -- where no type changes
+  pub alone_untyped : s.types ≡ [] → IsAlone
+  alone_untyped none x i same = sym (unmoved x) ∙ same ∙ unmoved (variable_of t.types v)
+    where
+      unmoved : (y : Variable ℕ) → inst_var numbers (type_part t s) y ≡ y
+      unmoved y = ap (λ p. inst_var numbers (images t.types p) y) none ∙ (λ j. record { name = y.name; ty = inst-nothing y.ty j })
+
   module _ (xs : List VarKey) (inside : All (λ x. x.ty < length t.types) xs)
-      (free_here : (x : Variable ℕ) → (IsMember x (map (variable_of t.types) xs) → IsFree numbers x (nameless numbers (term_at t.terms body))) × (IsFree numbers x (nameless numbers (term_at t.terms body)) → IsMember x (map (variable_of t.types) xs))) where
+      (free_here : (x : Variable ℕ) → (IsMember x (map (variable_of t.types) xs) → (x.name ≡ v.name) × IsFree numbers x (nameless numbers (term_at t.terms body))) × ((x.name ≡ v.name) × IsFree numbers x (nameless numbers (term_at t.terms body)) → IsMember x (map (variable_of t.types) xs))) where
     pub clash-alone : (x : VarKey) → IsMember x xs → Coincides t s v w x → ¬ (IsUnclashing t s v body)
     clash-alone x m c apart =
-        let free_x = free-nameless numbers tells_numbers (variable_of t.types x) (term_at t.terms body) ((free_here (variable_of t.types x)).0 (IsMember-map (variable_of t.types) x xs m)) in
+        let free_x = free-nameless numbers tells_numbers (variable_of t.types x) (term_at t.terms body) ((free_here (variable_of t.types x)).0 (IsMember-map (variable_of t.types) x xs m)).1 in
         let one = apart.alone (variable_of t.types x) free_x (c.1 ∙ instance) in
         c.0 (variable-injective t.types ready.table.types x v (All-member (λ (y : VarKey). y.ty < length t.types) xs inside x m) binder one)
 
-    module _ (unmet : ¬ (Meets r v w)) (no_term : is_some (term_for s w) ≡ false) (not_free : ¬ (IsMember w frees)) (missed : (x : VarKey) → IsMember x xs → ¬ (Coincides t s v w x)) where
-      stays-itself : image numbers (renaming_of t.types r) (type_part t s) (variable_part t s) (variable_of t.types v) ≡ Free (inst_var numbers (type_part t s) (variable_of t.types v))
-      stays-itself =
-          image-other t s ready.table.types (variable_part t s) v binder r ready.binders (not-renamed r v w unmet)
-          ∙ subst (λ z. term_for_variable numbers (variable_part t s) z ≡ Free z) instance (put-none t ready.table.types w new s.terms ready.subst.variables (none_from (term_for s w) no_term))
-
-      stays-apart : (x : Variable ℕ) → IsFreeIn numbers x (term_at t.terms body) → x ≢ variable_of t.types v → ¬ (IsFree numbers (inst_var numbers (type_part t s) (variable_of t.types v)) (image numbers (renaming_of t.types r) (type_part t s) (variable_part t s) x))
-      stays-apart x i d f = elim (image-cases (renaming_of t.types r) (type_part t s) (variable_part t s) x) [
-        | inl (p, j, e) ↦
-            let (q, m, c) = IsMember-map_back (λ (z : VarKey × VarKey). (variable_of t.types z.0, variable_of t.types z.1)) p r j in
-            let same : p.1 ≡ inst_var numbers (type_part t s) (variable_of t.types v) = subst (IsFree numbers (inst_var numbers (type_part t s) (variable_of t.types v))) e f in
-            not-new r v w unmet q m (variable-injective t.types ready.table.types q.1 w (ready.binders q m).to new (ap (λ (z : Variable ℕ × Variable ℕ). z.1) c ∙ same ∙ sym instance))
-        | inr e ↦ elim (term_at-cases numbers tells_numbers (variable_part t s) (inst_var numbers (type_part t s) x)) [
-          | inl (p, j, k) ↦
-              let m = free.back p j (inst_var numbers (type_part t s) (variable_of t.types v)) (subst (IsFree numbers (inst_var numbers (type_part t s) (variable_of t.types v))) (e ∙ k) f) in
-              let (y, n, c) = IsMember-map_back (variable_of t.types) (inst_var numbers (type_part t s) (variable_of t.types v)) frees m in
-              let same : y ≡ w = variable-injective t.types ready.table.types y w (All-member (λ (z : VarKey). z.ty < length t.types) frees free.inside y n) new (c ∙ sym instance) in
-              not_free (subst (λ z. IsMember z frees) same n)
-          | inr k ↦
-              let same : inst_var numbers (type_part t s) x ≡ inst_var numbers (type_part t s) (variable_of t.types v) = subst (IsFree numbers (inst_var numbers (type_part t s) (variable_of t.types v))) (e ∙ k) f in
-              let (y, n, c) = IsMember-map_back (variable_of t.types) x xs ((free_here x).1 (nameless-free numbers tells_numbers x (term_at t.terms body) i)) in
-              missed y n (λ z. d (sym c ∙ ap (variable_of t.types) z), ap (inst_var numbers (type_part t s)) c ∙ same ∙ sym instance)
+    alone_from : ((x : VarKey) → IsMember x xs → ¬ (Coincides t s v w x)) → IsAlone
+    alone_from missed x i same =
+        let name : x.name ≡ v.name = ap (λ (z : Variable ℕ). z.name) same in
+        let (y, n, c) = IsMember-map_back (variable_of t.types) x xs ((free_here x).1 (name, nameless-free numbers tells_numbers x (term_at t.terms body) i)) in
+        elim (cases_of (same_key y v) (same_key-is y v)) [
+          | inl p ↦ sym c ∙ ap (variable_of t.types) p.1
+          | inr p ↦ absurd (missed y n (p.1, ap (inst_var numbers (type_part t s)) c ∙ same ∙ sym instance))
         ]
-      ]
-
-      may_stay : MayStay t s r v body
-      may_stay = record { itself = stays-itself; apart = stays-apart }
 
     pub clash_answer : {E : Type 0} (res : Result Bool E) → ¬ (Meets r v w) → is_some (term_for s w) ≡ false → ¬ (IsMember w frees) → IfOk res (λ b. MatchBool b ((x : VarKey) × IsMember x xs × Coincides t s v w x) ((x : VarKey) → IsMember x xs → ¬ (Coincides t s v w x))) → IfOk res (λ b. MatchBool b (r ≡ [] → ¬ (IsUnclashing t s v body)) (MayStay t s r v body))
     clash_answer (Ok true) unmet no_term not_free h = λ _. clash-alone h.0 h.1 h.2
-    clash_answer (Ok false) unmet no_term not_free h = may_stay unmet no_term not_free h
+    clash_answer (Ok false) unmet no_term not_free h = may_stay unmet no_term not_free (alone_from h)
     clash_answer (Err e) unmet no_term not_free h = tt

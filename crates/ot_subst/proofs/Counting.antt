@@ -20,10 +20,6 @@ use Rattle.ot_subst.specs.Memory.{keys, IsMemory, IsPartBelow, IsWalked, CountsP
 use Rattle.ot_subst.proofs.Growing.{term_at-Grows}
 use Rattle.ot_subst.proofs.Walked.{no_clash-Grows}
 
--- no step
-pub counts-none : (t : TermTable) (s : Substitution) (r : List (VarKey × VarKey)) (es : List (ℕ × ℕ)) (n : ℕ) (x : Named ℕ) (k : ℕ) → IsMemory t s r es → CountsParts t es n n x k
-counts-none t s r es n x k h = record { terms = keys es; distinct = h.distinct; known = λ i m. inl m; most = omega (arith, length-map es (λ (e : ℕ × ℕ). e.0)) }
-
 -- the steps of a walk that gave a result
 pub counts-walked : (t u : TermTable) (s : Substitution) (r : List (VarKey × VarKey)) (m0 m1 : List (ℕ × ℕ)) (n0 n1 : ℕ) (x : Named ℕ) (k q : ℕ) → IsWalked t u s r m0 m1 n0 n1 x k q → IsCounted t s r m0 n0 n1 x k
 counts-walked t u s r m0 m1 n0 n1 x k q a nil h = record {

@@ -22,9 +22,6 @@ pub record CollectsFrees (t : TermTable) (ps : List (VarKey × ℕ)) (frees : Li
   pub to : (y : VarKey) → IsMember y frees → (p : VarKey × ℕ) × IsMember p ps × IsFree numbers (variable_of t.types y) (nameless numbers (term_at t.terms p.1))
   pub back : (p : VarKey × ℕ) → IsMember p ps → (x : Variable ℕ) → IsFree numbers x (nameless numbers (term_at t.terms p.1)) → IsMember x (map (variable_of t.types) frees)
 
-pub collects-none : (t : TermTable) → CollectsFrees t [] []
-collects-none t = record { inside = All-nil (λ (y : VarKey). y.ty < length t.types); to = λ y m. absurd m; back = λ p m. absurd m }
-
 module _ (t : TermTable) (ps : List (VarKey × ℕ)) (frees : List VarKey) (before : CollectsFrees t ps frees) (p : VarKey × ℕ) (more : List VarKey) (inside : All (λ y. y.ty < length t.types) more)
     (free_here : (x : Variable ℕ) → (IsMember x (map (variable_of t.types) more) → IsFree numbers x (nameless numbers (term_at t.terms p.1))) × (IsFree numbers x (nameless numbers (term_at t.terms p.1)) → IsMember x (map (variable_of t.types) more))) where
   pub collects-more : CollectsFrees t (ps ++ p ∷ []) (frees ++ more)

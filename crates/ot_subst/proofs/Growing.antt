@@ -21,10 +21,10 @@ use Rattle.ot_subst.specs.Clash.{AreFrees}
 use Rattle.ot_subst.specs.Walk.{carried, becomes, HasForm, IsRenamed, AreReady, NamesBelow, IsSetUp, IsLater}
 
 pub Grows-refl : (t : TermTable) → Grows t t
-Grows-refl t = record { types = Extends-refl t.types; terms = Extends-refl t.terms }
+Grows-refl t = record { types = Extends-refl t.types; terms = Extends-refl t.terms; classes = Extends-refl t.classes }
 
 pub Grows-trans : {t u v : TermTable} → Grows t u → Grows u v → Grows t v
-Grows-trans g h = record { types = Extends-trans g.types h.types; terms = Extends-trans g.terms h.terms }
+Grows-trans g h = record { types = Extends-trans g.types h.types; terms = Extends-trans g.terms h.terms; classes = Extends-trans g.classes h.classes }
 
 pub term_at-Grows : (t u : TermTable) → Grows t u → (i : ℕ) → i < length t.terms → term_at u.terms i ≡ term_at t.terms i
 term_at-Grows t u g i h = get_or-Extends t.terms u.terms g.terms i (NConst 0 (TyVar 0)) h
@@ -117,9 +117,6 @@ below-UpTo j k t u h up le = record {
   types = omega (arith, h.types, up.types);
   terms = omega (arith, h.types, h.terms, up.terms);
 }
-
-pub IsLater-refl : (ns : List Name) (t : TermTable) → IsTermTable t → NamesBelow (length ns) t → IsLater ns ns t t
-IsLater-refl ns t table names = record { extends = Extends-refl ns; name_table = λ h. h; grows = Grows-refl t; table = table; names = names }
 
 pub IsLater-trans : (ns ms ls : List Name) (t u v : TermTable) → IsLater ns ms t u → IsLater ms ls u v → IsLater ns ls t v
 IsLater-trans ns ms ls t u v a b = record {

@@ -61,8 +61,5 @@ too_deep n h = grind (arith, nat_tests)
 pub deep-free : (v : Variable ℕ) → depth_limit < depth_ty numbers v.ty → is_shallow numbers (Free v) ≡ false
 deep-free v h = too_deep (depth_ty numbers v.ty) h
 
-pub deep-constant : (n : ℕ) (ty : Ty ℕ) → depth_limit < depth_ty numbers ty → is_shallow numbers (Con n ty) ≡ false
-deep-constant n ty h = too_deep (depth_ty numbers ty) h
-
 pub deep-binder : (a b : Ty ℕ) (t : Tm ℕ) → type_in numbers [] (Abs a t) ≡ Some (fun_ty numbers a b) → depth_limit < depth_ty numbers a → is_shallow numbers (Abs a t) ≡ false
 deep-binder a b t typed h = and_right (nat_le (depth_tm numbers (Abs a t)) depth_limit) _ (and_left (is_shallow_type numbers (type_in numbers [] (Abs a t))) (has_shallow_types numbers (a ∷ []) t) (ap (is_shallow_type numbers) typed ∙ too_deep (depth_ty numbers (fun_ty numbers a b)) (omega (arith, h))))

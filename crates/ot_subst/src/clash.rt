@@ -103,7 +103,11 @@ pub(crate) fn clashes<N: Nodes<L>, L>(
     if meets(work.renamed, v, w) || work.subst.get(w).is_some() || work.frees.contains(w) {
         return Ok(true);
     }
-    let xs = terms.free_vars(alloc, body)?;
+    // Where no type changes, no other variable becomes the binder; where one does, only one of its name can.
+    if work.subst.types().is_empty() {
+        return Ok(false);
+    }
+    let xs = terms.free_named(alloc, v.name, body)?;
     any_coincides(terms, work.subst, v, w, &xs)
 }
 

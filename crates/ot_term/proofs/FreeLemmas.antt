@@ -20,7 +20,6 @@ use Rattle.ot_laws.proofs.Sets.{IsMember-left, IsMember-right, IsMember-cases, I
 use Rattle.ot_term.specs.Term.{TermTable}
 use Rattle.ot_term.specs.TermTable.{term_at, variable_of}
 use Rattle.ot_term.specs.Gather.{IsSubterm}
-use Rattle.ot_term.specs.Walk.{AreFound}
 use Rattle.ot_term.specs.Free.{AreFree, IsFreeMemo, KnowsParts, same_key}
 use Rattle.ot_term.specs.declared.term.VarKey.{VarKey}
 use Rattle.ot_term.proofs.Walking.{member_last, member_push}
@@ -150,14 +149,6 @@ pub record IsFreeWalk (t : TermTable) (root : Named ℕ) (left : List ℕ) (es :
   pub each : (x : ℕ) → IsMember x left → (x < length t.terms) × IsSubterm (term_at t.terms x) root
   pub falling : IsFalling left
   pub all : (u : Named ℕ) → IsSubterm u root → IsKnown t es u ⊎ ((x : ℕ) × IsMember x left × (term_at t.terms x ≡ u))
-
-pub walk_start : (t : TermTable) (root : Named ℕ) (left : List ℕ) → AreFound (term_at t.terms) (length t.terms) (λ u. IsSubterm u root) left → IsFreeWalk t root left []
-walk_start t root left found = record {
-  memo = record { known = λ k vs p. absurd (none-some vs p) };
-  each = found.each;
-  falling = found.falling;
-  all = λ u s. inr (found.all u s);
-}
 
 -- the last number is the lowest
 falling_last : (ys : List ℕ) (y x : ℕ) → IsFalling (ys ++ y ∷ []) → IsMember x ys → y < x

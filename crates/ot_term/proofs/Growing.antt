@@ -1,5 +1,5 @@
 -- Tables that grow: trees stay at their numbers.
-use Rattle.std.proofs.Common.{◌≡◌, ℕ, ◌<◌, max, length, slice_get, Some, sym, ap, ◌∙◌, arith}
+use Rattle.std.proofs.Common.{◌≡◌, ℕ, ◌<◌, length, slice_get, Some, sym, ap, ◌∙◌}
 use Rattle.std.proofs.lemmas.Option.{get_or_from_slice_get}
 use Rattle.ot_plain.specs.Trees.{TyVar, NConst, NAbs}
 use Rattle.ot_plain.specs.Hol.{fun_ty, named_type}
@@ -7,15 +7,12 @@ use Rattle.ot_plain.specs.Naming.{numbers}
 use Rattle.ot_plain.proofs.TableLemmas.{Extends-trans, get_or-Extends}
 use Rattle.ot_type.specs.TypeTable.{type_at}
 use Rattle.ot_term.specs.Term.{TermTable}
-use Rattle.ot_term.specs.TermTable.{term_at, variable_of, Grows, NamesUpTo}
+use Rattle.ot_term.specs.TermTable.{term_at, variable_of, Grows}
 use Rattle.ot_term.specs.declared.term.VarKey.{VarKey}
 use Rattle.ot_term.proofs.NamesIn.{abs-typed}
 
 pub Grows-trans : (s t u : TermTable) → Grows s t → Grows t u → Grows s u
-Grows-trans s t u g h = record { types = Extends-trans g.types h.types; terms = Extends-trans g.terms h.terms }
-
-pub NamesUpTo-trans : (j k : ℕ) (s t u : TermTable) → NamesUpTo j s t → NamesUpTo k t u → NamesUpTo (max j k) s u
-NamesUpTo-trans j k s t u g h = record { types = omega (arith, g.types, h.types); terms = omega (arith, g.types, g.terms, h.terms) }
+Grows-trans s t u g h = record { types = Extends-trans g.types h.types; terms = Extends-trans g.terms h.terms; classes = Extends-trans g.classes h.classes }
 
 module _ (t u : TermTable) (g : Grows t u) where
   pub type_at-Grows : (i : ℕ) → i < length t.types → type_at u.types i ≡ type_at t.types i

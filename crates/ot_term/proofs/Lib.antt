@@ -1,5 +1,6 @@
 -- Lemmas on the table of terms.
 pub mod Limit
+pub mod Classing
 pub mod TermTableLemmas
 pub mod Suiting
 pub mod NamesIn
@@ -13,3 +14,4 @@ pub mod Gathering
 pub mod GatherLemmas
 pub mod Distinct
 pub mod FreeLemmas
+pub mod FreeNamed

@@ -20,8 +20,8 @@ bound_named-term_at (t ∷ ts) zero h = omega arith
 bound_named-term_at (t ∷ ts) (suc i) h = omega (arith, bound_named-term_at ts i (omega arith))
 
 -- the types grow by names below k, and the terms stay
-pub names-types : (k : ℕ) (tys us : List (Ty ℕ)) (ts vs : List (Named ℕ)) (old : TermTable) → ◌≡◌ {A = TermTable} (record { types = tys; terms = ts }) old → names_in us ≤ max (names_in tys) k → vs ≡ ts → NamesUpTo k old (record { types = us; terms = vs })
-names-types k tys us ts vs old view h same = record {
+pub names-types : (k : ℕ) (tys us : List (Ty ℕ)) (ts vs : List (Named ℕ)) (ks : List ℕ) (old : TermTable) → ◌≡◌ {A = TermTable} (record { types = tys; terms = ts; classes = ks }) old → names_in us ≤ max (names_in tys) k → vs ≡ ts → NamesUpTo k old (record { types = us; terms = vs; classes = ks })
+names-types k tys us ts vs ks old view h same = record {
   types = let e = ap (λ (t : TermTable). names_in t.types) view in omega (arith, h, e);
   terms = let e = ap (λ (t : TermTable). names_in_terms t.terms) view in let d = ap names_in_terms same in omega (arith, d, e);
 }

@@ -18,16 +18,16 @@ module _ (t : TermTable) (table : IsTermTable t) where
   pub limit_at : (i : ℕ) → i < length t.terms → is_within_limit (term_at t.terms i) ≡ true
   limit_at i h = table.limit i _ (slice_get-get_or t.terms i (NConst 0 (TyVar 0)) h)
 
-  pub suits-variable : (v : VarKey) → v.ty < length t.types → Suits t.types (NVar (variable_of t.types v)) (record { ty = v.ty; depth = 1 })
+  pub suits-variable : (v : VarKey) → v.ty < length t.types → Suits t.types (NVar (variable_of t.types v)) v.ty 1
   suits-variable v h = record { below = h; typed = refl; depth = refl; limit = limit-variable (variable_of t.types v) (shallow_at v.ty h) }
 
-  pub suits-constant : (n ty : ℕ) → ty < length t.types → Suits t.types (NConst n (type_at t.types ty)) (record { ty = ty; depth = 1 })
+  pub suits-constant : (n ty : ℕ) → ty < length t.types → Suits t.types (NConst n (type_at t.types ty)) ty 1
   suits-constant n ty h = record { below = h; typed = refl; depth = refl; limit = limit-constant n (type_at t.types ty) (shallow_at ty h) }
 
   pub suits-application : (f x ty depth : ℕ) → f < length t.terms → x < length t.terms → ty < length t.types
       → named_type numbers (NApp (term_at t.terms f) (term_at t.terms x)) ≡ Some (type_at t.types ty)
       → depth ≡ named_depth numbers (NApp (term_at t.terms f) (term_at t.terms x)) → depth ≤ depth_limit
-      → Suits t.types (NApp (term_at t.terms f) (term_at t.terms x)) (record { ty = ty; depth = depth })
+      → Suits t.types (NApp (term_at t.terms f) (term_at t.terms x)) ty depth
   suits-application f x ty depth hf hx hty typed is d = record {
     below = hty;
     typed = typed;
@@ -38,7 +38,7 @@ module _ (t : TermTable) (table : IsTermTable t) where
   pub suits-abstraction : (v : VarKey) (b ty depth : ℕ) → b < length t.terms → ty < length t.types
       → named_type numbers (NAbs (variable_of t.types v) (term_at t.terms b)) ≡ Some (type_at t.types ty)
       → depth ≡ named_depth numbers (NAbs (variable_of t.types v) (term_at t.terms b)) → depth ≤ depth_limit
-      → Suits t.types (NAbs (variable_of t.types v) (term_at t.terms b)) (record { ty = ty; depth = depth })
+      → Suits t.types (NAbs (variable_of t.types v) (term_at t.terms b)) ty depth
   suits-abstraction v b ty depth hb hty typed is d = record {
     below = hty;
     typed = typed;

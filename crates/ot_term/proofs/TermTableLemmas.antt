@@ -1,8 +1,9 @@
 -- Lemmas on the table of terms.
-use Rattle.std.proofs.Common.{◌≡◌, ℕ, suc, ◌<◌, ◌≤◌, Bool, true, false, ◌&&◌, nat_eq, eqb-true, eq-eqb, true≢false, position, None, List, [], ◌∷◌, ◌++◌, length, slice_get, Some, refl, sym, ap, subst, ◌∙◌, arith}
-use Rattle.std.proofs.lemmas.Option.{get_or_from_slice_get, same_Some}
+use Rattle.std.proofs.Common.{◌≡◌, ℕ, suc, ◌<◌, ◌≤◌, Bool, true, false, ◌&&◌, nat_eq, eqb-true, eq-eqb, true≢false, position, None, List, [], ◌∷◌, ◌++◌, length, slice_get, get_or, Some, refl, sym, ap, subst, ◌∙◌, arith}
+use Rattle.std.proofs.lemmas.List.{length-map}
+use Rattle.std.proofs.lemmas.Option.{get_or_from_slice_get, slice_get-get_or, same_Some}
 use Rattle.std.specs.Cmp.Derive.{both_true}
-use Rattle.ot_plain.specs.Trees.{Ty, TyVar, Named, NVar, NConst, NApp, NAbs}
+use Rattle.ot_plain.specs.Trees.{Ty, TyVar, Tm, Named, NVar, NConst, NApp, NAbs}
 use Rattle.ot_plain.specs.Hol.{depth_limit}
 use Rattle.ot_plain.specs.Table.{Extends, IsInjective}
 use Rattle.ot_plain.specs.Interned.{NodeLaws, grow}
@@ -13,7 +14,9 @@ use Rattle.ot_type.specs.TypeTable.{type_at, IsTypeTable}
 use Rattle.ot_type.proofs.TypeTableLemmas.{type_at-Extends}
 use Rattle.ot_term.specs.Term.{TermTable}
 use Rattle.ot_term.proofs.Limit.{limit_parts}
-use Rattle.ot_term.specs.TermTable.{variable_of, term_at, term_of, terms_of, AreBelow, Suits, IsBeside, AreTermNodes, IsTermTable, IsTermSound, Grows}
+use Rattle.ot_term.proofs.Classing.{class-types, class-grown, class_at-entry, are_alike, class_new, classes-push}
+use Rattle.ot_term.specs.Classing.{form_of, PartsBelow}
+use Rattle.ot_term.specs.TermTable.{variable_of, term_at, term_of, terms_of, AreBelow, classes_of, Suits, IsClassOf, IsBeside, AreTermNodes, IsTermTable, IsTermSound, Grows}
 use Rattle.ot_term.specs.declared.table.Beside.{Beside}
 use Rattle.ot_term.specs.declared.term.VarKey.{VarKey}
 use Rattle.ot_term.specs.declared.term.TermNode.{TermNode}
@@ -118,13 +121,17 @@ module _ (tys : List (Ty ℕ)) where
   same_tree types ts terms (Abs v x) (Const m u) a b p = cc
   same_tree types ts terms (Abs v x) (App g y) a b p = cc
 
-  pub laws : IsInjective tys → NodeLaws (term_of tys) (AreBelow (length tys)) (IsBeside tys) node_eq
-  laws types = record {
+  -- what stands beside a node, by its tree alone
+  beside_of : (cs : List (Tm ℕ)) (ts : List (Named ℕ)) (n : TermNode) (b : Beside) (t : Named ℕ) → t ≡ term_of tys ts n → Suits tys t b.ty b.depth → IsClassOf tys cs t b.class → IsBeside tys cs ts n b
+  beside_of cs ts n b t e s k = record { suits = subst (λ t. Suits tys t b.ty b.depth) e s; class = subst (λ t. IsClassOf tys cs t b.class) e k }
+
+  pub laws : IsInjective tys → (cs : List (Tm ℕ)) → NodeLaws (term_of tys) (AreBelow (length tys)) (IsBeside tys cs) node_eq
+  laws types cs = record {
     more_below = more_below;
     tree_stays = tree_stays;
-    fits_stays = λ ts us e n b below h. subst (λ t. Suits tys t b) (sym (tree_stays ts us e n below)) h;
+    fits_stays = λ ts us e n b below h. beside_of cs us n b (term_of tys ts n) (sym (tree_stays ts us e n below)) h.suits h.class;
     tree_same = tree_same;
-    same_tree = same_tree types;
+    same_tree = λ ts one m n d e below above fits also same. same_tree types ts one m n below above same;
   }
 
 -- ---- the types grow, and the terms stay
@@ -147,19 +154,19 @@ module _ (tys us : List (Ty ℕ)) (e : Extends tys us) where
   below-types k (App f x) h = h
   below-types k (Abs v b) h = (omega (arith, e.longer, h.0), h.1)
 
-  suits-types : (t : Named ℕ) (b : Beside) → Suits tys t b → Suits us t b
-  suits-types t b h = record {
+  suits-types : (t : Named ℕ) (ty depth : ℕ) → Suits tys t ty depth → Suits us t ty depth
+  suits-types t ty depth h = record {
     below = omega (arith, e.longer, h.below);
-    typed = h.typed ∙ ap Some (sym (type_at-Extends tys us e b.ty h.below));
+    typed = h.typed ∙ ap Some (sym (type_at-Extends tys us e ty h.below));
     depth = h.depth;
     limit = h.limit;
   }
 
-  pub terms_of-types : (es : List (TermNode × Beside)) (ts : List (Named ℕ)) → AreTermNodes tys es ts → terms_of us es ≡ terms_of tys es
-  terms_of-types es ts nodes = grow-types es (λ i n b p. (i, (nodes.entries i n b p).below)) []
+  pub terms_of-types : (cs : List (Tm ℕ)) (es : List (TermNode × Beside)) (ts : List (Named ℕ)) → AreTermNodes tys cs es ts → terms_of us es ≡ terms_of tys es
+  terms_of-types cs es ts nodes = grow-types es (λ i n b p. (i, (nodes.entries i n b p).below)) []
 
-  pub sound-types : (es : List (TermNode × Beside)) (ts : List (Named ℕ)) → IsTermSound tys es ts → IsTypeTable us → IsTermSound us es ts
-  sound-types es ts sound table = record {
+  pub sound-types : (cs : List (Tm ℕ)) (es : List (TermNode × Beside)) (ts : List (Named ℕ)) → IsTermSound tys cs es ts → IsTypeTable us → IsTermSound us cs es ts
+  sound-types cs es ts sound table = record {
     nodes = record {
       same_length = sound.nodes.same_length;
       entries = λ i n b p.
@@ -168,62 +175,120 @@ module _ (tys us : List (Ty ℕ)) (e : Extends tys us) where
           record {
             tree = d.tree ∙ ap Some (sym same);
             below = below-types i n d.below;
-            fits = subst (λ t. Suits us t b) (sym same) (suits-types (term_of tys ts n) b d.fits);
+            fits = beside_of us cs ts n b (term_of tys ts n) (sym same) (suits-types (term_of tys ts n) b.ty b.depth d.fits.suits) (class-types tys us e cs (term_of tys ts n) b.class d.fits.class);
           };
       injective = sound.nodes.injective;
     };
-    table = record { types = table; injective = sound.table.injective; typed = sound.table.typed; limit = sound.table.limit };
+    forms = sound.forms;
+    table = record { types = table; injective = sound.table.injective; typed = sound.table.typed; limit = sound.table.limit; classed = sound.table.classed; alike = sound.table.alike };
   }
 
-module _ (tys : List (Ty ℕ)) (es : List (TermNode × Beside)) (ts : List (Named ℕ)) (nodes : AreTermNodes tys es ts) where
-  -- what stands beside a node suits the term at its number
-  pub suits_at : (i : ℕ) (n : TermNode) (b : Beside) → slice_get es i ≡ Some (n, b) → Suits tys (term_at ts i) b
+-- ---- the nameless terms grow, and the terms stay
+pub sound-classes : (tys : List (Ty ℕ)) (cs ds : List (Tm ℕ)) (es : List (TermNode × Beside)) (ts : List (Named ℕ)) → Extends cs ds → IsInjective ds → IsTermSound tys cs es ts → IsTermSound tys ds es ts
+sound-classes tys cs ds es ts e one sound = record {
+  nodes = record {
+    same_length = sound.nodes.same_length;
+    entries = λ i n b p.
+        let d = sound.nodes.entries i n b p in
+        record { tree = d.tree; below = d.below; fits = record { suits = d.fits.suits; class = class-grown tys cs ds e (term_of tys ts n) b.class d.fits.class } };
+    injective = sound.nodes.injective;
+  };
+  forms = one;
+  table = sound.table;
+}
+
+module _ (tys : List (Ty ℕ)) (cs : List (Tm ℕ)) (es : List (TermNode × Beside)) (ts : List (Named ℕ)) (nodes : AreTermNodes tys cs es ts) where
+  -- what stands beside a node is of the term at its number
+  pub suits_at : (i : ℕ) (n : TermNode) (b : Beside) → slice_get es i ≡ Some (n, b) → Suits tys (term_at ts i) b.ty b.depth
   suits_at i n b p =
       let e = nodes.entries i n b p in
-      subst (λ t. Suits tys t b) (sym (get_or_from_slice_get ts i _ (NConst 0 (TyVar 0)) e.tree)) e.fits
+      subst (λ t. Suits tys t b.ty b.depth) (sym (get_or_from_slice_get ts i _ (NConst 0 (TyVar 0)) e.tree)) e.fits.suits
+
+  classed_at : (i : ℕ) (n : TermNode) (b : Beside) → slice_get es i ≡ Some (n, b) → IsClassOf tys cs (term_at ts i) b.class
+  classed_at i n b p =
+      let e = nodes.entries i n b p in
+      subst (λ t. IsClassOf tys cs t b.class) (sym (get_or_from_slice_get ts i _ (NConst 0 (TyVar 0)) e.tree)) e.fits.class
+
+  pub class_found : (i c : ℕ) → slice_get (classes_of es) i ≡ Some c → IsClassOf tys cs (term_at ts i) c
+  class_found i c p =
+      let e = class_at-entry es i c p in
+      subst (IsClassOf tys cs (term_at ts i)) e.3 (classed_at i e.0 e.1 e.2)
 
   -- what callers may know of the trees, from the facts of the nodes
-  table_from : IsInjective tys → IsTypeTable tys → IsTermTable (record { types = tys; terms = ts })
-  table_from one types = record {
+  table_from : IsInjective tys → IsInjective cs → IsTypeTable tys → IsTermTable (record { types = tys; terms = ts; classes = classes_of es })
+  table_from one forms types = record {
     types = types;
     injective = nodes.injective;
     typed = λ i u p. let s = suits i u p in (type_at tys s.0.ty, s.1.typed);
     limit = λ i u p. (suits i u p).1.limit;
+    classed = length-map es (λ (e : TermNode × Beside). e.1.class) ∙ sym nodes.same_length;
+    alike = λ i j c d p q. are_alike tys cs one forms (term_at ts i) (term_at ts j) c d (class_found i c p) (class_found j d q);
   }
     where
-      suits : (i : ℕ) (u : Named ℕ) → slice_get ts i ≡ Some u → (b : Beside) × Suits tys u b
+      suits : (i : ℕ) (u : Named ℕ) → slice_get ts i ≡ Some u → (b : Beside) × Suits tys u b.ty b.depth
       suits i u p =
-          let e = entry_at (term_of tys) (AreBelow (length tys)) (IsBeside tys) node_eq (laws tys one) es ts nodes i u p in
+          let e = entry_at (term_of tys) (AreBelow (length tys)) (IsBeside tys cs) node_eq (laws tys one cs) es ts nodes i u p in
           let d = nodes.entries i e.0 e.1 e.2 in
           let same : u ≡ term_of tys ts e.0 = same_Some _ _ (sym p ∙ d.tree) in
-          (e.1, subst (λ t. Suits tys t e.1) (sym same) d.fits)
+          (e.1, subst (λ t. Suits tys t e.1.ty e.1.depth) (sym same) d.fits.suits)
+
+-- what contracts see of the entries
+abbrev pub table_of : List (Ty ℕ) → List (TermNode × Beside) → TermTable
+table_of tys es = record { types = tys; terms = terms_of tys es; classes = classes_of es }
+
+only_parts : (j k : ℕ) (n : TermNode) → AreBelow j k n → PartsBelow k n
+only_parts j k (Var v) h = tt
+only_parts j k (Const n t) h = tt
+only_parts j k (App f x) h = h
+only_parts j k (Abs v b) h = h.1
+
+module _ (tys : List (Ty ℕ)) (cs : List (Tm ℕ)) (es : List (TermNode × Beside)) (sound : IsTermSound tys cs es (terms_of tys es)) where
+  -- the class of each number
+  pub class_at-number : (i : ℕ) → i < length es → IsClassOf tys cs (term_at (terms_of tys es) i) (get_or (classes_of es) i 0)
+  class_at-number i h = class_found tys cs es (terms_of tys es) sound.nodes i (get_or (classes_of es) i 0) (slice_get-get_or (classes_of es) i 0 (omega (arith, h, length-map es (λ (e : TermNode × Beside). e.1.class))))
+
+  pub classes_within : (i : ℕ) → i < length es → get_or (classes_of es) i 0 < length cs
+  classes_within i h = (class_at-number i h).within
+
+  pub parts_below : (t : TermTable) → table_of tys es ≡ t → (n : TermNode) → AreBelow (length t.types) (length t.terms) n → PartsBelow (length es) n
+  parts_below t view n h =
+      let same : length t.terms ≡ length es = ap (λ (t : TermTable). length t.terms) (sym view) ∙ sound.nodes.same_length in
+      subst (λ k. PartsBelow k n) same (only_parts (length t.types) (length t.terms) n h)
+
+  -- the class of a node whose nameless form was added
+  pub class_added : (t : TermTable) → table_of tys es ≡ t → (ds : List (Tm ℕ)) (n : TermNode) (c : ℕ) → AreBelow (length t.types) (length t.terms) n → slice_get ds c ≡ Some (form_of cs (classes_of es) n) → IsClassOf tys ds (term_of tys (terms_of tys es) n) c
+  class_added t view ds n c h p =
+      let below : AreBelow (length tys) (length (terms_of tys es)) n = subst (λ (t : TermTable). AreBelow (length t.types) (length t.terms) n) (sym view) h in
+      class_new tys sound.table.types.injective cs (classes_of es) (terms_of tys es) (λ i k. class_at-number i (omega (arith, k, sound.nodes.same_length))) ds n below c p
 
 -- a depth beside a node is within the limit
-pub depth-limit : (tys : List (Ty ℕ)) (t : Named ℕ) (b : Beside) → Suits tys t b → b.depth ≤ depth_limit
-depth-limit tys t b s = omega (arith, s.depth, (limit_parts t s.limit).0)
+pub depth-limit : (tys : List (Ty ℕ)) (t : Named ℕ) (ty depth : ℕ) → Suits tys t ty depth → depth ≤ depth_limit
+depth-limit tys t ty depth s = omega (arith, s.depth, (limit_parts t s.limit).0)
 
 -- what an insert of a new node leaves, of the table t
-pub record PushedTerm (tys : List (Ty ℕ)) (es : List (TermNode × Beside)) (t : TermTable) (n : TermNode) (new : List (TermNode × Beside)) : Type 0 where
-  pub sound : IsTermSound tys new (terms_of tys new)
+pub record PushedTerm (tys : List (Ty ℕ)) (cs : List (Tm ℕ)) (es : List (TermNode × Beside)) (t : TermTable) (n : TermNode) (new : List (TermNode × Beside)) : Type 0 where
+  pub sound : IsTermSound tys cs new (terms_of tys new)
   pub trees : terms_of tys new ≡ t.terms ++ term_of t.types t.terms n ∷ []
   pub last : slice_get (terms_of tys new) (length es) ≡ Some (term_of t.types t.terms n)
-  pub grows : Grows t (record { types = tys; terms = terms_of tys new })
+  pub grows : Grows t (record { types = tys; terms = terms_of tys new; classes = classes_of new })
 
-module _ {S : Type 0} (tys : List (Ty ℕ)) (m : IndexMap TermNode Beside S) (sound : IsTermSound tys m.entries (terms_of tys m.entries)) (n : TermNode) where
-  pub found_term : (t : TermTable) → ◌≡◌ {A = TermTable} (record { types = tys; terms = terms_of tys m.entries }) t → (i : ℕ) → position (node_eq n) (keys m) ≡ Some i → slice_get t.terms i ≡ Some (term_of t.types t.terms n)
+module _ {S : Type 0} (tys : List (Ty ℕ)) (cs : List (Tm ℕ)) (m : IndexMap TermNode Beside S) (sound : IsTermSound tys cs m.entries (terms_of tys m.entries)) (n : TermNode) where
+  pub found_term : (t : TermTable) → table_of tys m.entries ≡ t → (i : ℕ) → position (node_eq n) (keys m) ≡ Some i → slice_get t.terms i ≡ Some (term_of t.types t.terms n)
   found_term t view i p =
       subst (λ (t : TermTable). slice_get t.terms i ≡ Some (term_of t.types t.terms n)) view
-      (found (term_of tys) (AreBelow (length tys)) (IsBeside tys) node_eq (laws tys sound.table.types.injective) m.entries (terms_of tys m.entries) sound.nodes n i p)
+      (found (term_of tys) (AreBelow (length tys)) (IsBeside tys cs) node_eq (laws tys sound.table.types.injective cs) m.entries (terms_of tys m.entries) sound.nodes n i p)
 
   pub pushed_term : (b : Beside) (new : List (TermNode × Beside)) → position (node_eq n) (keys m) ≡ None → new ≡ insert_entry node_eq m.entries n b
-      → (t : TermTable) → ◌≡◌ {A = TermTable} (record { types = tys; terms = terms_of tys m.entries }) t → AreBelow (length t.types) (length t.terms) n → Suits t.types (term_of t.types t.terms n) b → PushedTerm tys m.entries t n new
-  pushed_term b new absent inserted t view =
-      let P : TermTable → Type 0 = λ t. AreBelow (length t.types) (length t.terms) n → Suits t.types (term_of t.types t.terms n) b → PushedTerm tys m.entries t n new in
-      subst P view (λ below fits.
-      let p = pushed (term_of tys) (AreBelow (length tys)) (IsBeside tys) node_eq (laws tys sound.table.types.injective) m (terms_of tys m.entries) refl sound.nodes n b below fits absent new inserted in
+      → IsClassOf tys cs (term_of tys (terms_of tys m.entries) n) b.class
+      → (t : TermTable) → table_of tys m.entries ≡ t → AreBelow (length t.types) (length t.terms) n → Suits t.types (term_of t.types t.terms n) b.ty b.depth → PushedTerm tys cs m.entries t n new
+  pushed_term b new absent inserted class t view =
+      let P : TermTable → Type 0 = λ t. AreBelow (length t.types) (length t.terms) n → Suits t.types (term_of t.types t.terms n) b.ty b.depth → PushedTerm tys cs m.entries t n new in
+      subst P view (λ below suits.
+      let fits : IsBeside tys cs (terms_of tys m.entries) n b = record { suits = suits; class = class } in
+      let p = pushed (term_of tys) (AreBelow (length tys)) (IsBeside tys cs) node_eq (laws tys sound.table.types.injective cs) m (terms_of tys m.entries) refl sound.nodes n b below fits absent new inserted in
       record {
-        sound = record { nodes = p.sound; table = table_from tys new (terms_of tys new) p.sound sound.table.types.injective sound.table.types };
+        sound = record { nodes = p.sound; forms = sound.forms; table = table_from tys cs new (terms_of tys new) p.sound sound.table.types.injective sound.forms sound.table.types };
         trees = p.trees;
         last = p.last;
-        grows = record { types = Extends-refl tys; terms = p.extends };
+        grows = record { types = Extends-refl tys; terms = p.extends; classes = classes-push node_eq m n b absent new inserted };
       })

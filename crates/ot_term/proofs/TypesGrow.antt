@@ -1,35 +1,35 @@
 -- A table whose types grow: its terms stay.
 use Rattle.std.specs.Prelude.{◌≡◌, ℕ, ◌≤◌, max, List}
 use Rattle.std.proofs.Common.{refl, sym, subst}
-use Rattle.ot_plain.specs.Trees.{Ty}
+use Rattle.ot_plain.specs.Trees.{Ty, Tm}
 use Rattle.ot_plain.specs.Table.{Extends}
 use Rattle.ot_plain.specs.Bounds.{names_in}
 use Rattle.ot_plain.proofs.TableLemmas.{Extends-refl}
 use Rattle.ot_type.specs.TypeTable.{IsTypeTable}
 use Rattle.ot_term.specs.Term.{TermTable}
-use Rattle.ot_term.specs.TermTable.{terms_of, IsTermTable, IsTermSound, Grows, NamesUpTo}
+use Rattle.ot_term.specs.TermTable.{terms_of, classes_of, IsTermTable, IsTermSound, Grows, NamesUpTo}
 use Rattle.ot_term.specs.declared.term.TermNode.{TermNode}
 use Rattle.ot_term.specs.declared.table.Beside.{Beside}
-use Rattle.ot_term.proofs.TermTableLemmas.{terms_of-types, sound-types}
+use Rattle.ot_term.proofs.TermTableLemmas.{terms_of-types, sound-types, table_of}
 use Rattle.ot_term.proofs.NamesIn.{names-types}
 
 -- what a call on types leaves of the table `old`, by what it leaves of the types
-pub record TypesGrown (tys : List (Ty ℕ)) (es : List (TermNode × Beside)) (old : TermTable) (us : List (Ty ℕ)) : Type 0 where
-  pub sound : IsTermSound us es (terms_of us es)
+pub record TypesGrown (tys : List (Ty ℕ)) (cs : List (Tm ℕ)) (es : List (TermNode × Beside)) (old : TermTable) (us : List (Ty ℕ)) : Type 0 where
+  pub sound : IsTermSound us cs es (terms_of us es)
   pub terms : terms_of us es ≡ old.terms
-  pub grows : Grows old (record { types = us; terms = terms_of us es })
-  pub table : IsTermTable (record { types = us; terms = terms_of us es })
-  pub names : (k : ℕ) → names_in us ≤ max (names_in tys) k → NamesUpTo k old (record { types = us; terms = terms_of us es })
+  pub grows : Grows old (table_of us es)
+  pub table : IsTermTable (table_of us es)
+  pub names : (k : ℕ) → names_in us ≤ max (names_in tys) k → NamesUpTo k old (table_of us es)
 
-pub types_grown : (tys us : List (Ty ℕ)) (es : List (TermNode × Beside)) (old : TermTable) → ◌≡◌ {A = TermTable} (record { types = tys; terms = terms_of tys es }) old → IsTermSound tys es (terms_of tys es) → Extends tys us → IsTypeTable us → TypesGrown tys es old us
-types_grown tys us es old view sound e types =
-    subst (λ (t : TermTable). TypesGrown tys es t us) view
-    (let kept = terms_of-types tys us e es (terms_of tys es) sound.nodes in
-    let now = subst (IsTermSound us es) (sym kept) (sound-types tys us e es (terms_of tys es) sound types) in
+pub types_grown : (tys us : List (Ty ℕ)) (cs : List (Tm ℕ)) (es : List (TermNode × Beside)) (old : TermTable) → table_of tys es ≡ old → IsTermSound tys cs es (terms_of tys es) → Extends tys us → IsTypeTable us → TypesGrown tys cs es old us
+types_grown tys us cs es old view sound e types =
+    subst (λ (t : TermTable). TypesGrown tys cs es t us) view
+    (let kept = terms_of-types tys us e cs es (terms_of tys es) sound.nodes in
+    let now = subst (IsTermSound us cs es) (sym kept) (sound-types tys us e cs es (terms_of tys es) sound types) in
     record {
       sound = now;
       terms = kept;
-      grows = record { types = e; terms = subst (Extends (terms_of tys es)) (sym kept) (Extends-refl (terms_of tys es)) };
+      grows = record { types = e; terms = subst (Extends (terms_of tys es)) (sym kept) (Extends-refl (terms_of tys es)); classes = Extends-refl (classes_of es) };
       table = now.table;
-      names = λ k h. names-types k tys us (terms_of tys es) (terms_of us es) (record { types = tys; terms = terms_of tys es }) refl h kept;
+      names = λ k h. names-types k tys us (terms_of tys es) (terms_of us es) (classes_of es) (table_of tys es) refl h kept;
     })

@@ -7,6 +7,7 @@ use Rattle.ot_plain.specs.Lists.{IsMember, AreDistinct}
 use Rattle.ot_plain.specs.Trees.{Ty, Variable, Named}
 use Rattle.ot_plain.specs.Hol.{IsFree, nameless}
 use Rattle.ot_plain.specs.Naming.{numbers}
+use Rattle.ot_type.specs.TypeTable.{type_at}
 use Rattle.ot_term.specs.Term.{TermTable}
 use Rattle.ot_term.specs.TermTable.{term_at, variable_of}
 use Rattle.ot_term.specs.Gather.{IsSubterm}
@@ -29,3 +30,14 @@ KnowsParts t id es = (k : ℕ) → k < id → IsSubterm (term_at t.terms k) (ter
 -- whether two keys are one
 abbrev pub same_key : VarKey → VarKey → Bool
 same_key v w = nat_eq v.name w.name && nat_eq v.ty w.ty
+
+-- the variable of a name at a type, by their numbers
+abbrev pub key_at : ℕ → ℕ → VarKey
+key_at n t = record { name = n; ty = t }
+
+-- the numbers of the types at which variables of the name are free in the term, each once
+pub record AreTypesOf (tys : List (Ty ℕ)) (n : ℕ) (t : Named ℕ) (ks : List ℕ) : Type 0 where
+  pub within : All (λ k. k < length tys) ks
+  pub to : (k : ℕ) → IsMember k ks → IsFree numbers (variable_of tys (key_at n k)) (nameless numbers t)
+  pub back : (w : Variable ℕ) → w.name ≡ n → IsFree numbers w (nameless numbers t) → (k : ℕ) × IsMember k ks × (type_at tys k ≡ w.ty)
+  pub once : AreDistinct ks

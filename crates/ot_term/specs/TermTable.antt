@@ -1,12 +1,14 @@
 -- The table of terms over the table of types.
-use Rattle.std.specs.Prelude.{◌≡◌, ℕ, ◌<◌, ◌≤◌, max, Bool, true, List, length, slice_get, slice_index_or, Some}
-use Rattle.ot_plain.specs.Trees.{Ty, TyVar, Variable, Named, NVar, NConst, NApp, NAbs}
+use Rattle.std.specs.Prelude.{◌≡◌, ◌↔◌, ℕ, ◌<◌, ◌≤◌, max, Bool, true, List, map, length, slice_get, slice_index_or, Some}
+use Rattle.ot_plain.specs.Trees.{Ty, TyVar, Variable, Tm, Named, NVar, NConst, NApp, NAbs}
 use Rattle.ot_plain.specs.Hol.{named_type, named_depth, nameless, is_shallow}
 use Rattle.ot_plain.specs.Naming.{numbers}
 use Rattle.ot_plain.specs.Bounds.{names_in, names_in_terms}
 use Rattle.ot_plain.specs.Table.{Extends, IsInjective}
 use Rattle.ot_plain.specs.Interned.{trees_of, IsSound}
 use Rattle.ot_type.specs.TypeTable.{type_at, IsTypeTable}
+use Rattle.ot_class.specs.Class.{class_at}
+use Rattle.ot_class.specs.Spelled.{spelled, IsOver}
 use Rattle.ot_term.specs.Term.{TermTable}
 use Rattle.ot_term.specs.declared.term.VarKey.{VarKey}
 use Rattle.ot_term.specs.declared.term.TermNode.{TermNode}
@@ -39,42 +41,59 @@ AreBelow types terms (Abs v b) = (v.ty < types) × (b < terms)
 abbrev pub is_within_limit : Named ℕ → Bool
 is_within_limit t = is_shallow numbers (nameless numbers t)
 
--- beside a node stand the number of its tree's type and its tree's depth; the tree is within the nesting limit
-pub record Suits (tys : List (Ty ℕ)) (t : Named ℕ) (b : Beside) : Type 0 where
-  pub below : b.ty < length tys
-  pub typed : named_type numbers t ≡ Some (type_at tys b.ty)
-  pub depth : b.depth ≡ named_depth numbers t
+-- k is the number of the tree's type and d the tree's depth; the tree is within the nesting limit
+pub record Suits (tys : List (Ty ℕ)) (t : Named ℕ) (k d : ℕ) : Type 0 where
+  pub below : k < length tys
+  pub typed : named_type numbers t ≡ Some (type_at tys k)
+  pub depth : d ≡ named_depth numbers t
   pub limit : is_within_limit t ≡ true
 
-abbrev pub IsBeside : List (Ty ℕ) → List (Named ℕ) → TermNode → Beside → Type 0
-IsBeside tys ts n b = Suits tys (term_of tys ts n) b
+-- c is the number of the tree's nameless form, which is kept over numbers of types
+pub record IsClassOf (tys : List (Ty ℕ)) (cs : List (Tm ℕ)) (t : Named ℕ) (c : ℕ) : Type 0 where
+  pub within : c < length cs
+  pub over : IsOver (length tys) (class_at cs c)
+  pub form : spelled tys (class_at cs c) ≡ nameless numbers t
+
+-- what stands beside a node
+pub record IsBeside (tys : List (Ty ℕ)) (cs : List (Tm ℕ)) (ts : List (Named ℕ)) (n : TermNode) (b : Beside) : Type 0 where
+  pub suits : Suits tys (term_of tys ts n) b.ty b.depth
+  pub class : IsClassOf tys cs (term_of tys ts n) b.class
 
 -- the trees of the entries
 abbrev pub terms_of : List (Ty ℕ) → List (TermNode × Beside) → List (Named ℕ)
 terms_of tys es = trees_of (term_of tys) es
 
--- each number of a type and of a term keeps its tree
+-- the numbers of the entries' classes
+abbrev pub classes_of : List (TermNode × Beside) → List ℕ
+classes_of = map (λ e. e.1.class)
+
+-- each number of a type and of a term keeps its tree, and each term its class
 pub record Grows (old new : TermTable) : Type 0 where
   pub types : Extends old.types new.types
   pub terms : Extends old.terms new.terms
+  pub classes : Extends old.classes new.classes
 
 -- no name from the number k on is new
 pub record NamesUpTo (k : ℕ) (old new : TermTable) : Type 0 where
   pub types : names_in new.types ≤ max (names_in old.types) k
   pub terms : names_in_terms new.terms ≤ max (max (names_in old.types) (names_in_terms old.terms)) k
 
--- what holds of each table: each type and each term once, each term well typed and within the nesting limit
+-- what holds of each table: each type and each term once, each term well typed and within the nesting limit, and the classes
+-- of two terms one exactly where their nameless forms are
 pub record IsTermTable (t : TermTable) : Type 0 where
   pub types : IsTypeTable t.types
   pub injective : IsInjective t.terms
   pub typed : (i : ℕ) (u : Named ℕ) → slice_get t.terms i ≡ Some u → (ty : Ty ℕ) × (named_type numbers u ≡ Some ty)
   pub limit : (i : ℕ) (u : Named ℕ) → slice_get t.terms i ≡ Some u → is_within_limit u ≡ true
+  pub classed : length t.classes ≡ length t.terms
+  pub alike : (i j c d : ℕ) → slice_get t.classes i ≡ Some c → slice_get t.classes j ≡ Some d → (c ≡ d) ↔ (nameless numbers (term_at t.terms i) ≡ nameless numbers (term_at t.terms j))
 
--- what the nodes keep, over the trees of the types
-abbrev pub AreTermNodes : List (Ty ℕ) → List (TermNode × Beside) → List (Named ℕ) → Type 0
-AreTermNodes tys es ts = IsSound (term_of tys) (AreBelow (length tys)) (IsBeside tys) es ts
+-- what the nodes keep, over the trees of the types and the nameless terms
+abbrev pub AreTermNodes : List (Ty ℕ) → List (Tm ℕ) → List (TermNode × Beside) → List (Named ℕ) → Type 0
+AreTermNodes tys cs es ts = IsSound (term_of tys) (AreBelow (length tys)) (IsBeside tys cs) es ts
 
 -- what the fields keep, with what callers may know of the trees
-pub record IsTermSound (tys : List (Ty ℕ)) (es : List (TermNode × Beside)) (ts : List (Named ℕ)) : Type 0 where
-  pub nodes : AreTermNodes tys es ts
-  pub table : IsTermTable (record { types = tys; terms = ts })
+pub record IsTermSound (tys : List (Ty ℕ)) (cs : List (Tm ℕ)) (es : List (TermNode × Beside)) (ts : List (Named ℕ)) : Type 0 where
+  pub nodes : AreTermNodes tys cs es ts
+  pub forms : IsInjective cs
+  pub table : IsTermTable (record { types = tys; terms = ts; classes = classes_of es })

@@ -43,6 +43,13 @@ pub trait Nodes<L> {
         ensures free { IfOk result (λ vars. (w : Variable ℕ) → IsMember w (map (variable_of (table self.now).types) vars.items) ↔ IsFree numbers w (nameless numbers (term_at (table self.now).terms id))) }
         ensures once { IfOk result (λ vars. AreDistinct vars.items) };
 
+    /// The free variables of a term that have a name, each once.
+    fn free_named(&self, alloc: Global, name: NameId, id: TermId) -> Result<Vec<VarKey>, Memory>
+        requires { id < length (table self.now).terms }
+        ensures within { IfOk result (λ vars. All (λ v. v.ty < length (table self.now).types) vars.items) }
+        ensures free { IfOk result (λ vars. (w : Variable ℕ) → IsMember w (map (variable_of (table self.now).types) vars.items) ↔ ((w.name ≡ name) × IsFree numbers w (nameless numbers (term_at (table self.now).terms id)))) }
+        ensures once { IfOk result (λ vars. AreDistinct vars.items) };
+
     /// The instance of a type: each variable that the substitution holds gives way to its type, all at once.
     fn type_inst(&mut self, s: &TypeSubst, id: TypeId) -> Result<TypeId, TableFault>
         requires id { id < length (table self.old).types }
@@ -117,6 +124,10 @@ impl<L> Nodes<L> for Terms {
 
     fn free_vars(&self, alloc: Global, id: TermId) -> Result<Vec<VarKey>, Memory> {
         self.free_vars(alloc, id)
+    }
+
+    fn free_named(&self, alloc: Global, name: NameId, id: TermId) -> Result<Vec<VarKey>, Memory> {
+        self.free_named(alloc, name, id)
     }
 
     fn type_inst(&mut self, s: &TypeSubst, id: TypeId) -> Result<TypeId, TableFault> {

@@ -1,9 +1,12 @@
 //! The table: its nodes, what stands beside them, and how they are read.
-ghost use Rattle.std.specs.Prelude.{◌≡◌, ℕ, ◌<◌, ◌≤◌, max, [], Some, slice_get, length, IfOk, OnErr};
+ghost use Rattle.std.specs.Prelude.{◌≡◌, ℕ, ◌<◌, ◌≤◌, max, [], Some, slice_get, slice_index_or, length, IfOk, IfSome, OnErr};
+ghost use Rattle.ot_plain.specs.Table.{Extends, IsInjective};
 ghost use Rattle.ot_plain.specs.Hol.{named_type, named_depth, depth_limit};
 ghost use Rattle.ot_plain.specs.Naming.{numbers};
 ghost use Rattle.ot_plain.specs.Bounds.{bound_named, names_in_terms};
 ghost use Rattle.ot_type.specs.TypeTable.{type_at};
+ghost use Rattle.ot_term.specs.TermTable.{classes_of};
+ghost use Rattle.ot_term.specs.Classing.{form_of, PartsBelow};
 
 mod build;
 mod equation;
@@ -14,22 +17,26 @@ mod walk;
 
 use crate::term::{TermId, TermNode};
 use indexmap::IndexMap;
+use ot_class::{ClassId, Classes};
 use ot_plain::Memory;
 use ot_type::{TypeId, Types};
 use std::alloc::Global;
 use std::marker::Model;
 
-/// What stands beside a node: the number of its type, and its depth.
+/// What stands beside a node: the number of its type, its depth, and the number of its nameless form.
 #[derive(Clone, Copy, Debug)]
 struct Beside {
     ty: TypeId,
     depth: u32,
+    class: ClassId,
 }
 
 /// Terms over types, each with a number that it keeps. A table owns its types and lends none of them for writing.
 #[derive(Drop)]
 pub struct Terms {
     types: Types,
+    // Nameless forms over the numbers of the types; there may be more than the terms have.
+    classes: Classes,
     nodes: IndexMap<TermNode, Beside>,
 }
 
@@ -40,11 +47,11 @@ impl Model for Terms {
 
     ghost coded = { coded_table };
 
-    ghost use Rattle.ot_term.specs.TermTable.{terms_of, IsTermSound};
+    ghost use Rattle.ot_term.specs.TermTable.{terms_of, classes_of, IsTermSound};
 
-    ghost view = { λ t. record { types = t.types; terms = terms_of t.types t.nodes.entries } };
+    ghost view = { λ t. record { types = t.types; terms = terms_of t.types t.nodes.entries; classes = classes_of t.nodes.entries } };
 
-    ghost invariant = { λ t. IsTermSound t.types t.nodes.entries (terms_of t.types t.nodes.entries) };
+    ghost invariant = { λ t. IsTermSound t.types t.classes t.nodes.entries (terms_of t.types t.nodes.entries) };
 }
 
 impl Terms {
@@ -52,10 +59,11 @@ impl Terms {
 
     /// A table with no types and no terms. It takes no memory.
     pub fn new(alloc: Global) -> Terms
-        ensures { result ≡ record { types = []; terms = [] } }
+        ensures { result ≡ record { types = []; terms = []; classes = [] } }
     {
         Terms {
             types: Types::new(alloc),
+            classes: Classes::new(alloc),
             nodes: IndexMap::new(alloc),
         }
     }
@@ -94,6 +102,19 @@ impl Terms {
         }
     }
 
+    /// The alpha class of a term: two terms have one class exactly where they differ at most in the names of their
+    /// binders. A term keeps its class.
+    pub fn class(&self, id: TermId) -> ClassId
+        requires { id < length self.now.terms }
+        ensures class { slice_get self.now.classes id ≡ Some result }
+        ensures table { IsTermTable self.now }
+    {
+        match self.nodes.get_index(id.0) {
+            Some((_, beside)) => beside.class,
+            None => unreachable!(),
+        }
+    }
+
     // How deep the term is.
     fn depth(&self, id: TermId) -> u32
         requires { id < length self.now.terms }
@@ -107,10 +128,21 @@ impl Terms {
         }
     }
 
-    // The number of a node, which is added where it is new.
-    fn intern(&mut self, node: TermNode, beside: Beside) -> Result<TermId, Memory>
+    // The number of a node that the table has.
+    fn find(&self, node: &TermNode) -> Option<TermId>
+        ensures found { IfSome result (λ id. slice_get self.now.terms id ≡ Some (term_of self.now.types self.now.terms node.now)) }
+        ensures table { IsTermTable self.now }
+    {
+        match self.nodes.get_index_of(node) {
+            Some(index) => Some(TermId(index)),
+            None => None,
+        }
+    }
+
+    // The number of a node, which is added where it is new. Its type and its depth are given.
+    fn intern(&mut self, node: TermNode, ty: TypeId, depth: u32) -> Result<TermId, Memory>
         requires below { AreBelow (length self.old.types) (length self.old.terms) node }
-        requires beside { Suits self.old.types (term_of self.old.types self.old.terms node) beside }
+        requires suits { Suits self.old.types (term_of self.old.types self.old.terms node) ty depth }
         ensures ok { IfOk result (λ id. slice_get self.new.terms id ≡ Some (term_of self.old.types self.old.terms node)) }
         ensures types { self.new.types ≡ self.old.types }
         ensures grows { Grows self.old self.new }
@@ -121,11 +153,43 @@ impl Terms {
         match self.nodes.get_index_of(&node) {
             Some(index) => Ok(TermId(index)),
             None => {
+                let class = class_of(&mut self.classes, &self.nodes, &node)?;
                 let index = self.nodes.len();
-                self.nodes.insert(node, beside)?;
+                self.nodes.insert(node, Beside { ty, depth, class })?;
                 Ok(TermId(index))
             }
         }
+    }
+}
+
+// The class of a node, by those of its parts.
+fn class_of(
+    classes: &mut Classes,
+    nodes: &IndexMap<TermNode, Beside>,
+    node: &TermNode,
+) -> Result<ClassId, Memory>
+    requires parts { PartsBelow (length nodes.now.entries) node.now }
+    requires classes { (i : ℕ) → i < length nodes.now.entries → slice_index_or (classes_of nodes.now.entries) i 0 < length classes.old }
+    ensures ok { IfOk result (λ c. slice_get classes.new c ≡ Some (form_of classes.old (classes_of nodes.now.entries) node.now)) }
+    ensures extends { Extends classes.old classes.new }
+    ensures once { IsInjective classes.new }
+{
+    match *node {
+        TermNode::Var(v) => classes.free(v.name, v.ty),
+        TermNode::Const(name, ty) => classes.constant(name, ty),
+        TermNode::App(f, x) => classes.app(class_beside(nodes, f), class_beside(nodes, x)),
+        TermNode::Abs(v, body) => classes.abs(v.name, v.ty, class_beside(nodes, body)),
+    }
+}
+
+// The class beside a node.
+fn class_beside(nodes: &IndexMap<TermNode, Beside>, id: TermId) -> ClassId
+    requires { id < length nodes.now.entries }
+    ensures { result ≡ slice_index_or (classes_of nodes.now.entries) id 0 }
+{
+    match nodes.get_index(id.0) {
+        Some((_, beside)) => beside.class,
+        None => unreachable!(),
     }
 }
 

@@ -34,6 +34,19 @@ pub appended : {S : Type 0} (m : IndexMap ℕ ℕ S) (old : List (ℕ × ℕ)) �
 appended m old view n t absent new entries =
     (entries ∙ insert_entry-new nat_eq m n t (none_from _ absent) ∙ ap (λ es. es ++ (n, t) ∷ []) view, subst (λ es. is_some (lookup (nat_eq n) es) ≡ false) view absent)
 
+-- ---- a substitution of no names
+mutual
+  pub inst-nothing : (t : Ty ℕ) → inst numbers [] t ≡ t
+  inst-nothing (TyVar n) = refl
+  inst-nothing (TyOp n ts) = ap (TyOp n) (all-nothing ts)
+
+  all-nothing : (ts : Tys ℕ) → inst_all numbers (image_of numbers []) ts ≡ ts
+  all-nothing NoTys = refl
+  all-nothing (MoreTys t ts) = λ i. MoreTys (inst-nothing t i) (all-nothing ts i)
+
+pub nothing_put : (ts : List (Ty ℕ)) (s : List (ℕ × ℕ)) (id : ℕ) → s ≡ [] → id < length ts → slice_get ts id ≡ Some (inst numbers (images ts s) (type_at ts id))
+nothing_put ts s id none h = slice_get-get_or ts id (TyVar 0) h ∙ ap Some (sym (ap (λ p. inst numbers (images ts p) (type_at ts id)) none ∙ inst-nothing (type_at ts id)))
+
 -- ---- what stays when the table grows
 pub images-Extends : (ts us : List (Ty ℕ)) → Extends ts us → (s : List (ℕ × ℕ)) → All (λ p. p.1 < length ts) s → images us s ≡ images ts s
 images-Extends ts us e [] h = refl

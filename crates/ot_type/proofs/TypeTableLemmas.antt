@@ -92,7 +92,7 @@ laws = record {
   tree_stays = tree_of-Extends;
   fits_stays = λ ts us e n d below h. (h.0 ∙ ap (depth_ty numbers) (sym (tree_of-Extends ts us e n below)), h.1);
   tree_same = tree_of-node_eq;
-  same_tree = tree_of-injective;
+  same_tree = λ ts one m n d e below above fits also same. tree_of-injective ts one m n below above same;
 }
 
 -- the fields' facts, from those of the nodes

@@ -5,7 +5,7 @@ ghost use Rattle.ot_plain.specs.Hol.{fun_ty, named_type};
 ghost use Rattle.ot_plain.specs.Naming.{numbers};
 ghost use Rattle.ot_type.specs.TypeTable.{type_at};
 
-use crate::table::{Beside, Terms};
+use crate::table::Terms;
 use crate::term::{TermFault, TermId, TermNode, VarKey};
 use ot_plain::{DEPTH_LIMIT, Memory, NameId};
 use ot_type::{TableFault, TypeId};
@@ -25,8 +25,8 @@ impl Terms {
     {
         // The table's types are within the limit.
         let _types = &self.types;
-        let beside = Beside { ty: v.ty, depth: 1 };
-        self.intern(TermNode::Var(v), beside)
+        let ty = v.ty;
+        self.intern(TermNode::Var(v), ty, 1)
     }
 
     /// A constant at a type. `Memory` leaves the table as it was.
@@ -41,7 +41,7 @@ impl Terms {
     {
         // The table's types are within the limit.
         let _types = &self.types;
-        self.intern(TermNode::Const(name, ty), Beside { ty, depth: 1 })
+        self.intern(TermNode::Const(name, ty), ty, 1)
     }
 
     // The application of a function to an argument that it takes, whose type is this one.
@@ -63,7 +63,7 @@ impl Terms {
             return Err(TableFault::Nesting);
         }
         let depth = deepest + 1;
-        Ok(self.intern(TermNode::App(f, x), Beside { ty, depth })?)
+        Ok(self.intern(TermNode::App(f, x), ty, depth)?)
     }
 
     /// The application of a function to an argument.
@@ -110,12 +110,16 @@ impl Terms {
         ensures err { OnErr result (self.new.terms ≡ self.old.terms) }
         ensures table { IsTermTable self.new }
     {
+        // What is there is within the limit, and its type is there.
+        if let Some(id) = self.find(&TermNode::Abs(v, body)) {
+            return Ok(id);
+        }
         let inner = self.depth(body);
         if inner >= DEPTH_LIMIT {
             return Err(TableFault::Nesting);
         }
         let depth = inner + 1;
         let ty = self.type_fun(v.ty, self.type_of(body))?;
-        Ok(self.intern(TermNode::Abs(v, body), Beside { ty, depth })?)
+        Ok(self.intern(TermNode::Abs(v, body), ty, depth)?)
     }
 }

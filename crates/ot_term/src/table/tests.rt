@@ -47,6 +47,23 @@ fn free_vars(rt: &impl Abort, terms: &Terms, id: TermId) -> Result<Vec<VarKey>, 
     terms.free_vars(*terms.nodes.allocator(), id)
 }
 
+fn free_named(
+    rt: &impl Abort,
+    terms: &Terms,
+    name: NameId,
+    id: TermId,
+) -> Result<Vec<VarKey>, Memory> {
+    assert!(rt; has(terms, id));
+    terms.free_named(*terms.nodes.allocator(), name, id)
+}
+
+fn is_free(rt: &impl Abort, terms: &Terms, v: VarKey, id: TermId) -> Result<bool, Memory>
+    requires { v.ty < length terms.now.types }
+{
+    assert!(rt; has(terms, id));
+    terms.is_free(*terms.nodes.allocator(), &v, id)
+}
+
 fn type_vars(rt: &impl Abort, terms: &Terms, id: TermId) -> Result<Vec<NameId>, Memory> {
     assert!(rt; has(terms, id));
     terms.type_vars(*terms.nodes.allocator(), id)
@@ -205,6 +222,12 @@ fn check_free(
         free_vars(rt, terms, kept)?.as_slice(),
         [key(NameId::A, s.truth)].as_slice()
     );
+    assert_eq!(rt;
+        free_named(rt, terms, NameId::A, kept)?.as_slice(),
+        [key(NameId::A, s.truth)].as_slice()
+    );
+    assert!(rt; is_free(rt, terms, key(NameId::R, s.a), applied)?);
+    assert!(rt; !is_free(rt, terms, key(NameId::A, s.a), kept)?);
     assert_eq!(rt;
         free_vars(rt, terms, over_x)?.as_slice(),
         [key(NameId::A, s.unary)].as_slice()

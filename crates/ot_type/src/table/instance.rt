@@ -33,6 +33,9 @@ impl Types {
         ensures table { IsTypeTable self.new }
     {
         let alloc = *self.nodes.allocator();
+        if s.is_empty() {
+            return Ok(id);
+        }
         let mut left = self.subtypes(alloc, id)?;
         let mut done = IndexMap::new(alloc);
         while let Some(part) = left.pop() {

@@ -1,6 +1,6 @@
 use Rattle.std.proofs.Common.{sym, subst, ap, ◌∙◌, is_some, true≢false}
 use Rattle.ot_subst.specs.Renamed.{Meets, pairs_of}
-use Rattle.ot_subst.proofs.Binders.{clash-put, clash-free, any-member, member-any, clash_answer}
+use Rattle.ot_subst.proofs.Binders.{clash-put, clash-free, any-member, member-any, may_stay, alone_untyped, clash_answer}
 use Rattle.ot_subst.proofs.clash.clashes.Goals as goal
 use Rattle.ot_subst.proofs.clash.clashes.Goals.{then-meets-via-then-meets, then-meets-via-else-meets+then-is_some, then-meets-via-else-meets+else-is_some+then-contains}
 
@@ -14,6 +14,15 @@ returns-then-meets-clause-ok g c nil = elim c.then-meets.branch [
       clash-free (g.N.Nodes.table c.args.terms.now) c.args.work.now.subst.now (pairs_of c.args.work.now.renamed.now) c.args.work.now.frees.now c.args.v.now c.args.w.now c.args.body c.requires.ready c.requires.frees c.requires.binder c.requires.new c.requires.instance
       (any-member c.args.w.now c.args.work.now.frees.now (sym w.contains.ensures.value ∙ w.if-contains.true))
 ]
+
+pub returns-then-is_empty-clause-ok : goal.returns-then-is_empty-clause-ok
+returns-then-is_empty-clause-ok g c =
+    may_stay (g.N.Nodes.table c.args.terms.now) c.args.work.now.subst.now (pairs_of c.args.work.now.renamed.now) c.args.work.now.frees.now c.args.v.now c.args.w.now c.args.body c.requires.ready c.requires.frees c.requires.binder c.requires.new c.requires.instance
+    (λ m. true≢false (sym (c.meets.ensures.1 m) ∙ c.if-meets.false))
+    (sym (c.is_some.ensures ∙ ap is_some c.get.ensures) ∙ c.if-is_some.false)
+    (λ m. true≢false (sym (member-any c.args.w.now c.args.work.now.frees.now m) ∙ sym c.contains.ensures.value ∙ c.if-contains.false))
+    (alone_untyped (g.N.Nodes.table c.args.terms.now) c.args.work.now.subst.now (pairs_of c.args.work.now.renamed.now) c.args.work.now.frees.now c.args.v.now c.args.w.now c.args.body c.requires.ready c.requires.frees c.requires.binder c.requires.new c.requires.instance
+    (sym c.types.ensures ∙ c.is_empty.ensures.0 c.if-is_empty.true))
 
 pub returns-clause-ok : goal.returns-clause-ok
 returns-clause-ok g c =

@@ -1,6 +1,5 @@
-use Rattle.std.proofs.Common.{◌≡◌, Some, slice_get, subst, sym, ap, ◌∙◌}
+use Rattle.std.proofs.Common.{Some, subst, sym, ap, ◌∙◌}
 use Rattle.std.specs.List.{IsDistinct}
-use Rattle.indexmap.specs.IndexSet.{insert_key}
 use Rattle.ot_plain.specs.Names.{IsName, same_name, same_name-Decides}
 use Rattle.ot_plain.specs.Naming.{IsNameTable}
 use Rattle.ot_plain.proofs.TableLemmas.{Extends-insert_key}

@@ -23,8 +23,8 @@ returns-in_err-ty-clause-nesting c =
     (abs-typed (variable_of c.args.self.now.types c.args.v) (term_at c.args.self.now.terms c.args.body) _ c.type_of.ensures.typed)
     (c.in_err-ty.ensures.nesting (ap Err (same_error c.from_residual.result _ _ c.from_residual.ensures.1 p)))
 
-pub intern-requires-clause-beside : goal.intern-requires-clause-beside
-intern-requires-clause-beside c =
+pub intern-requires-clause-suits : goal.intern-requires-clause-suits
+intern-requires-clause-suits c =
     let t = c.args.self.now in
     let u = c.type_fun.new.self in
     let g = c.type_fun.ensures.grows in

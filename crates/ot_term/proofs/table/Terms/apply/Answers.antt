@@ -13,8 +13,8 @@ pub returns-then-deepest-ge-DEPTH_LIMIT-clause-nesting : goal.returns-then-deepe
 returns-then-deepest-ge-DEPTH_LIMIT-clause-nesting c =
     λ _. past-depth (NApp (term_at c.args.self.now.terms c.args.f) (term_at c.args.self.now.terms c.args.x)) (omega (arith, c.depth.ensures.depth, c.depth-2.ensures.depth, c.max-deepest.ensures, c.if-deepest-ge-DEPTH_LIMIT.true))
 
-pub intern-requires-clause-beside : goal.intern-requires-clause-beside
-intern-requires-clause-beside c =
+pub intern-requires-clause-suits : goal.intern-requires-clause-suits
+intern-requires-clause-suits c =
     let depth : c.max-deepest.result + 1 ≡ named_depth numbers (NApp (term_at c.args.self.now.terms c.args.f) (term_at c.args.self.now.terms c.args.x)) = omega (arith, c.depth.ensures.depth, c.depth-2.ensures.depth, c.max-deepest.ensures) in
     suits-application c.args.self.now c.depth.ensures.table c.args.f c.args.x c.args.ty (c.max-deepest.result + 1) c.requires.f c.requires.x c.requires.ty c.requires.typed depth (omega arith)
 

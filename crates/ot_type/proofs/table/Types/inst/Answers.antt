@@ -1,7 +1,14 @@
 use Rattle.std.proofs.Common.{Err, ap, subst, arith}
 use Rattle.ot_plain.specs.Table.{IsInjective}
-use Rattle.ot_type.proofs.InstLemmas.{walk_memo, next_within, next_args, next_nesting, walk_step, walk_end, walk_result, same_error}
+use Rattle.ot_plain.proofs.TableLemmas.{Extends-refl}
+use Rattle.ot_type.proofs.InstLemmas.{nothing_put, walk_memo, next_within, next_args, next_nesting, walk_step, walk_end, walk_result, same_error}
 use Rattle.ot_type.proofs.table.Types.inst.Goals as goal
+
+pub returns-then-is_empty-clause-ok : goal.returns-then-is_empty-clause-ok
+returns-then-is_empty-clause-ok c = nothing_put c.args.self.now c.args.s.now c.args.id (c.is_empty.ensures.0 c.if-is_empty.true) c.requires.id
+
+pub returns-then-is_empty-clause-extends : goal.returns-then-is_empty-clause-extends
+returns-then-is_empty-clause-extends c = Extends-refl c.args.self.now
 
 pub instance_of-requires-clause-id : goal.instance_of-requires-clause-id
 instance_of-requires-clause-id c = next_within _ _ _ _ _ _ _ _ c.requires.pairs (subst IsInjective c.self.view_is c.self.invariant.table.injective) c.in-Some.ensures.items c.loop-part.invariant

@@ -1,2 +1,0 @@
--- The binders on the two sides of a comparison.
-pub mod Binders

@@ -1,0 +1,175 @@
+-- Lemmas on the table of nameless terms.
+use Rattle.std.proofs.Common.{◌≡◌, ℕ, ◌<◌, ◌≤◌, cond, inl, inr, Ordering, Less, Equal, Greater, nat_cmp, is_lt, Bool, true, false, ◌&&◌, nat_eq, eqb-true, eq-eqb, true≢false, List, length, slice_get, Some, refl, sym, ap, subst, arith}
+use Rattle.std.proofs.lemmas.Option.{get_or_from_slice_get}
+use Rattle.std.proofs.lemmas.Map.Keys.{ge_from_not_lt}
+use Rattle.std.specs.Cmp.Derive.{both_true}
+use Rattle.std.specs.Ordering.{ord_max}
+use Rattle.ot_type.proofs.SubtypeLemmas.{less_is}
+use Rattle.ot_plain.specs.Trees.{Ty, Variable, Tm, Free, Con, Bound, App, Abs}
+use Rattle.ot_plain.specs.Hol.{IsFree}
+use Rattle.ot_plain.specs.Naming.{numbers as alphabet}
+use Rattle.ot_plain.specs.Table.{Extends, IsInjective}
+use Rattle.ot_plain.specs.Interned.{NodeLaws}
+use Rattle.ot_plain.proofs.TableLemmas.{get_or-Extends, get_or-IsInjective}
+use Rattle.ot_class.specs.Class.{numbered, variable_by, class_at}
+use Rattle.ot_class.specs.Table.{tree_of, AreBelow, IsNewest, IsBeside, AreClassNodes}
+use Rattle.ot_class.specs.declared.node.ClassNode.{ClassNode}
+use Rattle.ot_class.specs.declared.node.ClassNode.TheVariants as node
+use Rattle.ot_class.specs.declared.table.Beside.{Beside}
+use Rattle.ot_class.specs.contracts.node.ClassNodePartialEq.TheImpl as derived
+
+pub less_than : (x y : ℕ) → is_lt (nat_cmp x y) ≡ true → x < y
+less_than x y p = by (nat_cmp x y) refl p
+  where
+    by : (o : Ordering) → nat_cmp x y ≡ o → is_lt o ≡ true → x < y
+    by Less e q = less_is x y e
+    by Equal e q = absurd (true≢false (sym q))
+    by Greater e q = absurd (true≢false (sym q))
+
+abbrev pub node_eq : ClassNode → ClassNode → Bool
+node_eq = derived.ghosts.eq
+
+both : (a b : Bool) → (a && b) ≡ true → (a ≡ true) × (b ≡ true)
+both true true p = (refl, refl)
+both true false p = absurd (true≢false (sym p))
+both false b p = absurd (true≢false (sym p))
+
+more_below : (j k : ℕ) → j ≤ k → (n : ClassNode) → AreBelow j n → AreBelow k n
+more_below j k le (node.Free v) h = h
+more_below j k le (node.Const n t) h = h
+more_below j k le (node.Bound i) h = h
+more_below j k le (node.App f x) h = (omega (arith, h.0), omega (arith, h.1))
+more_below j k le (node.Abs t b) h = omega (arith, h)
+
+tree_stays : (cs ds : List (Tm ℕ)) → Extends cs ds → (n : ClassNode) → AreBelow (length cs) n → tree_of ds n ≡ tree_of cs n
+tree_stays cs ds e (node.Free v) h = refl
+tree_stays cs ds e (node.Const n t) h = refl
+tree_stays cs ds e (node.Bound i) h = refl
+tree_stays cs ds e (node.App f x) h =
+    let left = get_or-Extends cs ds e f (Bound 0) h.0 in
+    let right = get_or-Extends cs ds e x (Bound 0) h.1 in
+    λ j. App (left j) (right j)
+tree_stays cs ds e (node.Abs t b) h = ap (Abs (numbered t)) (get_or-Extends cs ds e b (Bound 0) h)
+
+tree_same : (cs : List (Tm ℕ)) (m n : ClassNode) → node_eq m n ≡ true → tree_of cs m ≡ tree_of cs n
+tree_same cs (node.Free v) (node.Free w) p =
+    let parts = both (nat_eq v.name w.name) (nat_eq v.ty w.ty) p in
+    let name = eqb-true v.name w.name parts.0 in
+    let ty = eqb-true v.ty w.ty parts.1 in
+    λ j. Free (variable_by (name j) (ty j))
+tree_same cs (node.Const n t) (node.Const m u) p =
+    let parts = both (nat_eq n m) (nat_eq t u) p in
+    let name = eqb-true n m parts.0 in
+    let ty = eqb-true t u parts.1 in
+    λ j. Con (name j) (numbered (ty j))
+tree_same cs (node.Bound i) (node.Bound k) p = ap Bound (eqb-true i k p)
+tree_same cs (node.App f x) (node.App g y) p =
+    let parts = both (nat_eq f g) (nat_eq x y) p in
+    let left = eqb-true f g parts.0 in
+    let right = eqb-true x y parts.1 in
+    λ j. App (class_at cs (left j)) (class_at cs (right j))
+tree_same cs (node.Abs t b) (node.Abs u c) p =
+    let parts = both (nat_eq t u) (nat_eq b c) p in
+    let ty = eqb-true t u parts.0 in
+    let body = eqb-true b c parts.1 in
+    λ j. Abs (numbered (ty j)) (class_at cs (body j))
+tree_same cs (node.Free v) (node.Const m u) p = absurd (true≢false (sym p))
+tree_same cs (node.Free v) (node.Bound k) p = absurd (true≢false (sym p))
+tree_same cs (node.Free v) (node.App g y) p = absurd (true≢false (sym p))
+tree_same cs (node.Free v) (node.Abs u c) p = absurd (true≢false (sym p))
+tree_same cs (node.Const n t) (node.Free w) p = absurd (true≢false (sym p))
+tree_same cs (node.Const n t) (node.Bound k) p = absurd (true≢false (sym p))
+tree_same cs (node.Const n t) (node.App g y) p = absurd (true≢false (sym p))
+tree_same cs (node.Const n t) (node.Abs u c) p = absurd (true≢false (sym p))
+tree_same cs (node.Bound i) (node.Free w) p = absurd (true≢false (sym p))
+tree_same cs (node.Bound i) (node.Const m u) p = absurd (true≢false (sym p))
+tree_same cs (node.Bound i) (node.App g y) p = absurd (true≢false (sym p))
+tree_same cs (node.Bound i) (node.Abs u c) p = absurd (true≢false (sym p))
+tree_same cs (node.App f x) (node.Free w) p = absurd (true≢false (sym p))
+tree_same cs (node.App f x) (node.Const m u) p = absurd (true≢false (sym p))
+tree_same cs (node.App f x) (node.Bound k) p = absurd (true≢false (sym p))
+tree_same cs (node.App f x) (node.Abs u c) p = absurd (true≢false (sym p))
+tree_same cs (node.Abs t b) (node.Free w) p = absurd (true≢false (sym p))
+tree_same cs (node.Abs t b) (node.Const m u) p = absurd (true≢false (sym p))
+tree_same cs (node.Abs t b) (node.Bound k) p = absurd (true≢false (sym p))
+tree_same cs (node.Abs t b) (node.App g y) p = absurd (true≢false (sym p))
+
+same_tree : (cs : List (Tm ℕ)) → IsInjective cs → (m n : ClassNode) → AreBelow (length cs) m → AreBelow (length cs) n → tree_of cs m ≡ tree_of cs n → node_eq m n ≡ true
+same_tree cs one (node.Free v) (node.Free w) a b p =
+    let same : variable_by v.name v.ty ≡ variable_by w.name w.ty = cc in
+    let name : v.name ≡ w.name = ap (λ x. x.name) same in
+    let numbers : numbered v.ty ≡ numbered w.ty = ap (λ x. x.ty) same in
+    let ty : v.ty ≡ w.ty = cc in
+    both_true (eq-eqb v.name w.name name) (eq-eqb v.ty w.ty ty)
+same_tree cs one (node.Const n t) (node.Const m u) a b p =
+    let name : n ≡ m = cc in
+    let ty : t ≡ u = cc in
+    both_true (eq-eqb n m name) (eq-eqb t u ty)
+same_tree cs one (node.Bound i) (node.Bound k) a b p =
+    let place : i ≡ k = cc in
+    eq-eqb i k place
+same_tree cs one (node.App f x) (node.App g y) a b p =
+    let left : class_at cs f ≡ class_at cs g = cc in
+    let right : class_at cs x ≡ class_at cs y = cc in
+    both_true (eq-eqb f g (get_or-IsInjective cs one f g (Bound 0) a.0 b.0 left)) (eq-eqb x y (get_or-IsInjective cs one x y (Bound 0) a.1 b.1 right))
+same_tree cs one (node.Abs t x) (node.Abs u y) a b p =
+    let ty : t ≡ u = cc in
+    let body : class_at cs x ≡ class_at cs y = cc in
+    both_true (eq-eqb t u ty) (eq-eqb x y (get_or-IsInjective cs one x y (Bound 0) a b body))
+same_tree cs one (node.Free v) (node.Const m u) a b p = cc
+same_tree cs one (node.Free v) (node.Bound k) a b p = cc
+same_tree cs one (node.Free v) (node.App g y) a b p = cc
+same_tree cs one (node.Free v) (node.Abs u y) a b p = cc
+same_tree cs one (node.Const n t) (node.Free w) a b p = cc
+same_tree cs one (node.Const n t) (node.Bound k) a b p = cc
+same_tree cs one (node.Const n t) (node.App g y) a b p = cc
+same_tree cs one (node.Const n t) (node.Abs u y) a b p = cc
+same_tree cs one (node.Bound i) (node.Free w) a b p = cc
+same_tree cs one (node.Bound i) (node.Const m u) a b p = cc
+same_tree cs one (node.Bound i) (node.App g y) a b p = cc
+same_tree cs one (node.Bound i) (node.Abs u y) a b p = cc
+same_tree cs one (node.App f x) (node.Free w) a b p = cc
+same_tree cs one (node.App f x) (node.Const m u) a b p = cc
+same_tree cs one (node.App f x) (node.Bound k) a b p = cc
+same_tree cs one (node.App f x) (node.Abs u y) a b p = cc
+same_tree cs one (node.Abs t x) (node.Free w) a b p = cc
+same_tree cs one (node.Abs t x) (node.Const m u) a b p = cc
+same_tree cs one (node.Abs t x) (node.Bound k) a b p = cc
+same_tree cs one (node.Abs t x) (node.App g y) a b p = cc
+
+-- the greater of two numbers
+max_bounds : (a b : ℕ) → (a ≤ ord_max nat_cmp a b) × (b ≤ ord_max nat_cmp a b)
+max_bounds a b = by (is_lt (nat_cmp b a)) refl
+  where
+    by : (l : Bool) → is_lt (nat_cmp b a) ≡ l → (a ≤ cond l a b) × (b ≤ cond l a b)
+    by true e = let lt = less_than b a e in (omega arith, omega (arith, lt))
+    by false e = let le = ge_from_not_lt b a e in (le, omega arith)
+
+pub laws : NodeLaws tree_of AreBelow IsBeside node_eq
+laws = record {
+  more_below = more_below;
+  tree_stays = tree_stays;
+  fits_stays = λ cs ds e n b below h. subst (λ t. IsNewest t b) (sym (tree_stays cs ds e n below)) h;
+  tree_same = tree_same;
+  same_tree = λ cs one m n d e below above fits also same. same_tree cs one m n below above same;
+}
+
+-- what stands beside a number is of the tree at it
+pub newest_at : (es : List (ClassNode × Beside)) (cs : List (Tm ℕ)) → AreClassNodes es cs → (i : ℕ) (n : ClassNode) (b : Beside) → slice_get es i ≡ Some (n, b) → IsNewest (class_at cs i) b
+newest_at es cs nodes i n b p =
+    let e = nodes.entries i n b p in
+    subst (λ t. IsNewest t b) (sym (get_or_from_slice_get cs i _ (Bound 0) e.tree)) e.fits
+
+-- what stands beside an application and an abstraction, by their parts
+pub newest-application : (f x : Tm ℕ) (b c d : Beside) → d.newest ≡ ord_max nat_cmp b.newest c.newest → IsNewest f b → IsNewest x c → IsNewest (App f x) d
+newest-application f x b c d e g h = record { most = most }
+  where
+    bounds : (b.newest ≤ d.newest) × (c.newest ≤ d.newest)
+    bounds = subst (λ m. (b.newest ≤ m) × (c.newest ≤ m)) (sym e) (max_bounds b.newest c.newest)
+
+    most : (w : Variable ℕ) → IsFree alphabet w (App f x) → w.name ≤ d.newest
+    most w (inl i) = let le = g.most w i in omega (arith, le, bounds.0)
+    most w (inr i) = let le = h.most w i in omega (arith, le, bounds.1)
+
+pub newest-abstraction : (t : Ty ℕ) (f : Tm ℕ) (b d : Beside) → d.newest ≡ b.newest → IsNewest f b → IsNewest (Abs t f) d
+newest-abstraction t f b d e g = record { most = λ w i. let le = g.most w i in omega (arith, le, e) }

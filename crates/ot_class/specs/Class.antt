@@ -1,0 +1,15 @@
+-- Nameless terms over numbers of types: the type with the number k stands as the type variable k.
+use Rattle.std.specs.Prelude.{ℕ, List, slice_index_or}
+use Rattle.ot_plain.specs.Trees.{Ty, TyVar, Variable, Tm, Bound}
+
+-- the type with a number
+abbrev pub numbered : ℕ → Ty ℕ
+numbered t = TyVar t
+
+-- the variable with a name and a type, by their numbers
+abbrev pub variable_by : ℕ → ℕ → Variable ℕ
+variable_by n t = record { name = n; ty = numbered t }
+
+-- the nameless term of a number of the table
+abbrev pub class_at : List (Tm ℕ) → ℕ → Tm ℕ
+class_at cs i = slice_index_or cs i (Bound 0)

@@ -1,0 +1,6 @@
+-- What a reader of the contracts has to believe of the table of nameless terms.
+pub mod Class
+pub mod Spelled
+pub mod Table
+pub mod Closing
+pub mod Gathering

@@ -1,0 +1,41 @@
+-- The table of nameless terms.
+use Rattle.std.specs.Prelude.{ℕ, ◌<◌, ◌≤◌, List}
+use Rattle.ot_plain.specs.Trees.{Variable, Tm, Free, Con, Bound, App, Abs}
+use Rattle.ot_plain.specs.Hol.{IsFree}
+use Rattle.ot_plain.specs.Naming.{numbers as alphabet}
+use Rattle.ot_plain.specs.Interned.{trees_of, IsSound}
+use Rattle.ot_class.specs.Class.{numbered, variable_by, class_at}
+use Rattle.ot_class.specs.declared.node.ClassNode.{ClassNode}
+use Rattle.ot_class.specs.declared.node.ClassNode.TheVariants as node
+use Rattle.ot_class.specs.declared.table.Beside.{Beside}
+
+-- the tree of a node
+abbrev pub tree_of : List (Tm ℕ) → ClassNode → Tm ℕ
+tree_of cs (node.Free v) = Free (variable_by v.name v.ty)
+tree_of cs (node.Const n t) = Con n (numbered t)
+tree_of cs (node.Bound k) = Bound k
+tree_of cs (node.App f x) = App (class_at cs f) (class_at cs x)
+tree_of cs (node.Abs t b) = Abs (numbered t) (class_at cs b)
+
+-- the node's parts have numbers below k
+abbrev pub AreBelow : ℕ → ClassNode → Type 0
+AreBelow k (node.Free v) = Unit {0}
+AreBelow k (node.Const n t) = Unit {0}
+AreBelow k (node.Bound j) = Unit {0}
+AreBelow k (node.App f x) = (f < k) × (x < k)
+AreBelow k (node.Abs t b) = b < k
+
+-- no free variable of the tree has a newer name
+pub record IsNewest (t : Tm ℕ) (b : Beside) : Type 0 where
+  pub most : (w : Variable ℕ) → IsFree alphabet w t → w.name ≤ b.newest
+
+abbrev pub IsBeside : List (Tm ℕ) → ClassNode → Beside → Type 0
+IsBeside cs n b = IsNewest (tree_of cs n) b
+
+-- the trees of the entries
+abbrev pub class_trees : List (ClassNode × Beside) → List (Tm ℕ)
+class_trees es = trees_of tree_of es
+
+-- what the nodes keep
+abbrev pub AreClassNodes : List (ClassNode × Beside) → List (Tm ℕ) → Type 0
+AreClassNodes es cs = IsSound tree_of AreBelow IsBeside es cs
