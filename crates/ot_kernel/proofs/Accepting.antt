@@ -159,7 +159,7 @@ defined_from ns t held ths c defs uses k p = record { kernel = kernel; state = s
     new_held : IsHeld (adding s ths) c
     new_held = record {
       within = subst (λ n. IsDefinitionIn (length s.names) (length s.types) n c) (ap (λ n. length qs + n) (sym (length-map f ths)) ∙ sym (length-append qs (map f ths))) p.within;
-      theorems = p.numbered ∙ p.made;
+      theorems = p.numbered;
     }
 
     new : definition_at u c ≡ d
@@ -176,10 +176,13 @@ defined_from ns t held ths c defs uses k p = record { kernel = kernel; state = s
     premise (ListDef ps q) fine = accepted-sound names tells_names s.assumptions s.definitions (λ i r h. subst (IsSequent names) (get_or_from_slice_get s.assumptions i r r h) (k.sound.assumptions i r (slice_get_within s.assumptions i r h))) k.sound.accepted q fine.derivable
     premise (TyDef n abs rep vs q) fine = accepted-sound names tells_names s.assumptions s.definitions (λ i r h. subst (IsSequent names) (get_or_from_slice_get s.assumptions i r r h) (k.sound.assumptions i r (slice_get_within s.assumptions i r h))) k.sound.accepted q fine.derivable
 
+    own_theorems : All (IsTheorem names s.assumptions (s.definitions ++ d ∷ [])) (theorems names d)
+    own_theorems i e h = defined-theorem names tells_names s.assumptions s.definitions d p.next.fine (premise d p.next.fine) i _ (slice_get-get_or (theorems names d) i e h)
+
     new_theorems : All (IsTheorem names s.assumptions (s.definitions ++ d ∷ [])) (map f ths)
     new_theorems =
         subst (All (IsTheorem names s.assumptions (s.definitions ++ d ∷ []))) (sym p.made)
-        (λ i e h. defined-theorem names tells_names s.assumptions s.definitions d p.next.fine (premise d p.next.fine) i _ (slice_get-get_or (theorems names d) i e h))
+        (All-append (IsTheorem names s.assumptions (s.definitions ++ d ∷ [])) (theorems names d) p.further own_theorems (p.follow own_theorems))
 
     sound : IsSoundState (accepting s ths c)
     sound = record {
@@ -190,6 +193,7 @@ defined_from ns t held ths c defs uses k p = record { kernel = kernel; state = s
       assumptions = k.sound.assumptions;
       accepted = accepted-push names s.assumptions s.definitions d k.sound.accepted p.next;
       names = k.sound.names;
+      apart = k.sound.apart;
     }
 
     signature : IsSignature ns (s.definitions ++ d ∷ []) more.signature

@@ -1,9 +1,8 @@
 -- The theorem that a term follows from itself.
-use Rattle.std.specs.Prelude.{Ok, Err}
-use Rattle.std.proofs.Common.{◌≡◌, ℕ, ◌<◌, true, false, [], ◌∷◌, List, map, length, refl, ◌∙◌}
+use Rattle.std.specs.Prelude.{Ok}
+use Rattle.std.proofs.Common.{◌≡◌, ℕ, ◌<◌, true, [], ◌∷◌, List, map, length, refl, ◌∙◌}
 use Rattle.ot_plain.specs.Names.{Name}
 use Rattle.ot_plain.specs.Trees.{Tm, Sequent, Definition}
-use Rattle.ot_plain.specs.Faults.{NotBool}
 use Rattle.ot_plain.specs.Hol.{bool_ty, nameless}
 use Rattle.ot_plain.specs.Rules.{has_type, assume_rule}
 use Rattle.ot_plain.specs.Naming.{names}
@@ -22,9 +21,6 @@ by_itself p = record { hyps = p ∷ []; concl = p }
 
 pub assumed : (p : Tm Name) → has_type names p (bool_ty names) ≡ true → assume_rule names p ≡ Ok (by_itself p)
 assumed p h = rw h refl
-
-pub not_assumed : (p : Tm Name) → has_type names p (bool_ty names) ≡ false → assume_rule names p ≡ Err NotBool
-not_assumed p h = rw h refl
 
 pub assumed_follows : (al : List (Sequent Name)) (dl : List (Definition Name)) (p : Tm Name) → has_type names p (bool_ty names) ≡ true → IsTheorem names al dl (by_itself p)
 assumed_follows al dl p h = assume_rule-sound names tells_names al dl p (by_itself p) (assumed p h)

@@ -1,5 +1,5 @@
 -- The checks of definitions, carried from numbers to names.
-use Rattle.std.specs.Prelude.{◌≡◌, ℕ, ◌<◌, List, [], ◌∷◌, map, length, Some, Result, Ok, Err}
+use Rattle.std.specs.Prelude.{◌≡◌, ◌≢◌, ℕ, ◌<◌, List, [], ◌∷◌, map, length, Some, Result, Ok, Err}
 use Rattle.std.specs.List.{All}
 use Rattle.std.proofs.Common.{refl, sym, ap, ◌∙◌}
 use Rattle.std.proofs.lemmas.List.Elements.{All-head, All-tail}
@@ -90,9 +90,9 @@ none_named n definitions.BadDefinitionList r h = tt
 none_named n definitions.HypothesesPresent r h = tt
 none_named n definitions.NotApplication r h = tt
 none_named n definitions.BadTypeVars r h = tt
-none_named n (definitions.Primitive c) r h = absurd (apart c.kind c.name (ap number_in (sym (h (λ _. 0) _ refl) ∙ h (λ _. 1) _ refl)))
-none_named n (definitions.AlreadyDefined c) r h = absurd (apart c.kind c.name (ap number_in (sym (h (λ _. 0) _ refl) ∙ h (λ _. 1) _ refl)))
-none_named n (definitions.SymbolInUse c) r h = absurd (apart c.kind c.name (ap number_in (sym (h (λ _. 0) _ refl) ∙ h (λ _. 1) _ refl)))
+none_named n (definitions.Primitive c) r h = absurd (apart c.kind c.name (ap number_in (sym ((h (λ _. 0)).1 _ refl) ∙ (h (λ _. 1)).1 _ refl)))
+none_named n (definitions.AlreadyDefined c) r h = absurd (apart c.kind c.name (ap number_in (sym ((h (λ _. 0)).1 _ refl) ∙ (h (λ _. 1)).1 _ refl)))
+none_named n (definitions.SymbolInUse c) r h = absurd (apart c.kind c.name (ap number_in (sym ((h (λ _. 0)).1 _ refl) ∙ (h (λ _. 1)).1 _ refl)))
 none_named n definitions.NotClosed r h = tt
 none_named n definitions.TypeVarEscapes r h = tt
 none_named n definitions.Memory r h = tt
@@ -108,6 +108,19 @@ names_no_symbol n rules.NotRedex r h = tt
 names_no_symbol n rules.Nesting r h = tt
 names_no_symbol n (rules.Define e) r h = none_named n e r h
 names_no_symbol n rules.Memory r h = tt
+
+-- want of memory is told as the rule's own
+never_memory : (e : DefineFault) → of_define e ≢ rules.Define definitions.Memory
+never_memory definitions.BadDefinitionList q = cc
+never_memory definitions.HypothesesPresent q = cc
+never_memory definitions.NotApplication q = cc
+never_memory definitions.BadTypeVars q = cc
+never_memory (definitions.Primitive c) q = cc
+never_memory (definitions.AlreadyDefined c) q = cc
+never_memory (definitions.SymbolInUse c) q = cc
+never_memory definitions.NotClosed q = cc
+never_memory definitions.TypeVarEscapes q = cc
+never_memory definitions.Memory q = cc
 
 -- a rule hands the refusal on
 handed : {N : Type 0} (read : ℕ → N) (e : DefineFault) → rule_fault read (of_define e) ≡ definition_fault read e
@@ -169,6 +182,9 @@ module _ {ns : List Name} {t : TermTable} {held : Held} {now : State} (l : Later
     check-passed u h = carried (Ok u) h
 
     pub check-refused : {X : Type 0} (e : DefineFault) → RefusesOnly Below (check ℕ numbers ds us x) → Checks (Err e) (check ℕ numbers ds us x) → (rule : Unit {0} → Result X (Fault Name)) → RefusesBy (name_at now) (of_define e) (stated >>= rule)
-    check-refused e only h rule f q =
-        let known : definition_fault (name_of ns) e ≡ Some f = real_fault e (λ g d. only g (h g d)) ∙ sym (handed (name_at now) e) ∙ q in
-        ap (λ (r : Result (Unit {0}) (Fault Name)). r >>= rule) (carried (Err e) h f known)
+    check-refused e only h rule = (
+      never_memory e,
+      λ f q.
+          let known : definition_fault (name_of ns) e ≡ Some f = real_fault e (λ g d. only g (h g d)) ∙ sym (handed (name_at now) e) ∙ q in
+          ap (λ (r : Result (Unit {0}) (Fault Name)). r >>= rule) (carried (Err e) h f known),
+    )

@@ -1,5 +1,5 @@
 -- Tests on terms by number, one term after another.
-use Rattle.std.specs.Prelude.{◌↔◌, ◌||◌, ◌&&◌, IsTrue, IfOk, Result, Ok, Err}
+use Rattle.std.specs.Prelude.{◌↔◌, ◌||◌, ◌&&◌, IsTrue}
 use Rattle.std.proofs.Common.{◌≡◌, ℕ, ◌+◌, ◌-◌, ◌<◌, Bool, true, false, cond, List, ◌∷◌, length, get_or, take, drop, refl, sym, ap, ◌∙◌, arith}
 use Rattle.std.proofs.lemmas.List.{take_all, length-drop}
 use Rattle.std.proofs.lemmas.Bool.Decides.{same_from_decides}
@@ -41,10 +41,9 @@ other_conclusion true b p = sym p
 other_conclusion false b p = refl
 
 -- with one conclusion, and the hypotheses of the first among those of the second
-pub other_inclusion : {E : Type 0} (r : Result Bool E) (a x c : Bool) → a ≡ true → c ≡ true → IfOk r (λ b. b ≡ x) → IfOk r (λ b. b ≡ ((a && x) && c))
-other_inclusion (Ok b) a x c p q h = h ∙ both x ∙ (λ i. (sym p i && x) && sym q i)
+pub other_inclusion : (b a x c : Bool) → a ≡ true → c ≡ true → b ≡ x → b ≡ ((a && x) && c)
+other_inclusion b a x c p q h = h ∙ both x ∙ (λ i. (sym p i && x) && sym q i)
   where
     both : (y : Bool) → y ≡ ((true && y) && true)
     both true = refl
     both false = refl
-other_inclusion (Err e) a x c p q h = h

@@ -3,6 +3,7 @@ use Rattle.std.specs.Prelude.{◌≡◌, ℕ, ◌<◌, ◌&&◌, Bool, true, fal
 use Rattle.std.specs.List.{All}
 use Rattle.std.proofs.Common.{sym, ap, ◌∙◌, subst, arith}
 use Rattle.std.proofs.Math.Seq.{get_or-append_seam}
+use Rattle.std.proofs.lemmas.List.{append-nil}
 use Rattle.std.proofs.lemmas.List.Elements.{All-nil, All-cons}
 use mathlib.Core.Path.{PathP}
 use Rattle.ot_plain.specs.Names.{Name}
@@ -38,10 +39,11 @@ use Rattle.ot_kernel.specs.Refusals.{of_define}
 use Rattle.ot_kernel.specs.Answers.{RefusesBy, RefusesRule, IsSymbolIn, Defines}
 use Rattle.ot_kernel.specs.Defining.{all_defined, all_used, const_definition, limited_definition}
 use Rattle.ot_kernel.specs.Definitions.{right_side, number_of}
-use Rattle.ot_kernel.specs.Accepting.{adding, added_definition, accepting, defining, IsAcceptable}
+use Rattle.ot_kernel.specs.Accepting.{adding, added_definition, defining, defining_more, IsAcceptable}
 use Rattle.ot_kernel.proofs.Checked.{check-passed, check-refused, symbol_below}
 use Rattle.ot_kernel.proofs.Conditions.{const_only, symbols-same, all_defined-same, all_used-same}
 use Rattle.ot_kernel.proofs.Derived.{Made, made}
+use Rattle.ot_kernel.proofs.EquationRules.{memory_refuses}
 use Rattle.ot_kernel.proofs.Growth.{named_at-Extends}
 use Rattle.ot_kernel.proofs.Later.{Later, Between, spelled_name, over-term, term_typed}
 
@@ -125,8 +127,10 @@ module _ (now : State) (n i : ℕ) (th : Theorem) (uses : List (Symbol ℕ)) (na
   constant_acceptable = record {
     inside = All-cons (IsInside (length now.terms)) th [] inside (All-nil (IsInside (length now.terms)));
     within = (name_in, omega arith);
-    numbered = ap (λ q. q ∷ []) last;
-    made = is ∙ ap (theorems names) (sym reads);
+    further = [];
+    numbered = ap (λ q. q ∷ []) last ∙ (is ∙ ap (theorems names) (sym reads));
+    made = is ∙ ap (theorems names) (sym reads) ∙ sym (append-nil (theorems names (added_definition now (th ∷ []) coded)));
+    follow = λ _. All-nil _;
     next = subst (IsNext names now.assumptions now.definitions) (sym reads) next;
     symbols_defined = subst (λ d. IsSameSet (ConSymbol (name_at now n) ∷ []) (defined names d)) (sym reads) (record { to = λ x m. m; back = λ x m. m });
     symbols_used =
@@ -136,10 +140,18 @@ module _ (now : State) (n i : ℕ) (th : Theorem) (uses : List (Symbol ℕ)) (na
     used_below = below;
   }
 
-  pub constant_accepted : accepting now (th ∷ []) coded ≡ defining now constant
-  constant_accepted = λ j. record now { theorems = now.theorems ++ is j; definitions = now.definitions ++ reads j ∷ [] }
-
 -- ---- the whole call
+-- further theorems may stand behind those of the definition
+pub accepted_more_keeps : {ns ms : List Name} {t u : TermTable} {held : Held} {now mid : State} (l : Later ns ms t u held now mid) (d : Definition Name) (more : List (Sequent Name)) → Keeps now (defining_more mid d more)
+accepted_more_keeps {mid = mid} l d more = record {
+  names = l.keeps.names;
+  types = l.keeps.types;
+  terms = l.keeps.terms;
+  theorems = Extends-trans l.keeps.theorems (Extends-append mid.theorems (theorems names d ++ more));
+  assumptions = l.keeps.assumptions;
+  definitions = Extends-trans l.keeps.definitions (Extends-append mid.definitions (d ∷ []));
+}
+
 -- what a call answers that accepts a definition after its tables have grown
 module _ {ns ms : List Name} {t u : TermTable} {held : Held} {now mid : State} (l : Later ns ms t u held now mid) (d e : Definition Name) (same : e ≡ d) where
   pub accepted_keeps : (new : State) → new ≡ defining mid e → Keeps now new
@@ -165,7 +177,7 @@ module _ {ns ms : List Name} {t u : TermTable} {held : Held} {now mid : State} (
   pub defines : (stated : Result (Definition Name) (Fault Name)) (r : Result ℕ RuleFault) (new : State) → stated ≡ Ok d → IfOk r (λ id. (id ≡ length mid.theorems) × (new ≡ defining mid e)) → IfErr r (λ f. (new ≡ mid) × (f ≡ Memory)) → Defines r stated now new × Keeps now new
   defines stated (Ok id) new s ok err =
       ((d, s, accepted_definitions new ok.1, accepted_theorems new ok.1, ok.0 ∙ ap length l.same.theorems, accepted_assumptions new ok.1), accepted_keeps new ok.1)
-  defines stated (Err Memory) new s ok err = ((subst (SameTheorems now) (sym err.0) l.same, λ f p. cc), subst (Keeps now) (sym err.0) l.keeps)
+  defines stated (Err Memory) new s ok err = ((subst (SameTheorems now) (sym err.0) l.same, memory_refuses stated (name_at new)), subst (Keeps now) (sym err.0) l.keeps)
   defines stated (Err f) new s ok err = cc
 
 -- the theorem of a constant, over the terms that there are by then
@@ -190,12 +202,6 @@ module _ {ns : List Name} {t u : TermTable} {held : Held} {now mid : State} (l :
       let b = named_at-Extends now.terms mid.terms l.keeps.terms i term_in in
       λ j. ConDef (a j) (nameless names (b j))
 
-  pub names_mid : n < length mid.names
-  names_mid = omega (arith, l.keeps.names.longer, name_in)
-
-  pub term_mid : i < length mid.terms
-  term_mid = omega (arith, l.keeps.terms.longer, term_in)
-
   pub next_mid : IsNext names now.assumptions now.definitions (ConDef (name_at now n) (term_at now i)) → IsNext names mid.assumptions mid.definitions (ConDef (name_at mid n) (term_at mid i))
   next_mid h =
       let a = l.same.basis.assumptions in
@@ -205,9 +211,6 @@ module _ {ns : List Name} {t u : TermTable} {held : Held} {now mid : State} (l :
   -- what the theorem states
   abbrev sequent : Sequent Name
   sequent = sequent_of names (equation names (type_of names (term_at now i)) (Con (name_at now n) (type_of names (term_at now i))) (term_at now i))
-
-  pub theorem_inside : (th : Theorem) → Derives (Ok th) (rule ℕ numbers (n, tm_at t.terms i)) u.terms → IsInside (length mid.terms) th
-  theorem_inside th d = (derived (Ok th) d).0
 
   pub theorem_is : (th : Theorem) → Derives (Ok th) (rule ℕ numbers (n, tm_at t.terms i)) u.terms → spelled.sequent_of mid.terms th ∷ [] ≡ theorems names (ConDef (name_at mid n) (term_at mid i))
   theorem_is th d =
@@ -225,7 +228,7 @@ module _ {ns : List Name} {t u : TermTable} {held : Held} {now mid : State} (l :
 
   -- the nesting limit refuses the theorem
   pub theorem_refused : checked_const names (all_defined names now.definitions) (all_used names now.definitions) (name_at now n) (term_at now i) ≡ Ok tt → (e : RuleFault) → Derives (Err e) (rule ℕ numbers (n, tm_at t.terms i)) u.terms → RefusesRule e stated
-  theorem_refused h e d read f p = checked_then h ∙ past (is_shallow_sequent names sequent) f (derived (Err e) d read f p)
+  theorem_refused h e d read = let r = derived (Err e) d read in (r.0, λ f p. checked_then h ∙ past (is_shallow_sequent names sequent) f (r.1 f p))
     where
       past : (b : Bool) (f : Fault Name) → ◌≡◌ {A = Result (Sequent Name) (Fault Name)} (if b then Ok sequent else Err Nesting) (Err f) → ◌≡◌ {A = Result (Definition Name) (Fault Name)} (unless Nesting (b && true) >>= λ _. Ok (ConDef (name_at now n) (term_at now i))) (Err f)
       past true f k = cc

@@ -27,7 +27,7 @@ use Rattle.ot_kernel.specs.Answers.{RefusesRule}
 use Rattle.ot_kernel.specs.Equating.{equation_rule, Makes}
 use Rattle.ot_kernel.specs.Numbered.{tm_at, tms_at, Derives}
 use Rattle.ot_kernel.specs.Refusals.{of_subst}
-use Rattle.ot_kernel.proofs.EquationRules.{refuses_rule}
+use Rattle.ot_kernel.proofs.EquationRules.{refuses_rule, memory_refuses}
 use Rattle.ot_kernel.proofs.Equating.{tm_at-Grows, equated_derives, equated_refused}
 use Rattle.ot_kernel.proofs.ByNumber.{deep_conclusion}
 
@@ -82,7 +82,7 @@ beta_refused x faults.NotRedex none deep = refuses_rule rules.NotRedex NotRedex 
 beta_refused x faults.Nesting none deep =
     let (y, p, q) = deep refl in
     refuses_rule rules.Nesting Nesting (beta_conv_rule numbers x) (λ _. refl) (deep_redex x y p (deep-right (App (Con numbers.equals (fun_ty numbers (type_of numbers x) (fun_ty numbers (type_of numbers x) (bool_ty numbers)))) x) y q))
-beta_refused x faults.Memory none deep = λ r f p. cc
+beta_refused x faults.Memory none deep = memory_refuses _
 
 -- ---- the equation over the table, which has what beta made
 module _ (t u : TermTable) (g : Grows t u) (table : IsTermTable u) (i : ℕ) (h : i < length t.terms) (id : ℕ) (made : (y : Tm ℕ) × (contracted (tm_at t.terms i) ≡ Some y) × HasForm u id y) where

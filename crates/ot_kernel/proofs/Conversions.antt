@@ -2,7 +2,7 @@
 use Rattle.std.proofs.Common.{◌≡◌, ℕ, ◌<◌, [], length, Some, Ok, sym, ap, ◌∙◌, arith}
 use Rattle.ot_plain.specs.Trees.{Ty, Tm, Free, Con, App}
 use Rattle.ot_plain.specs.Faults.{Nesting}
-use Rattle.ot_plain.specs.Hol.{fun_ty, bool_ty, type_in, HasType, equation, is_shallow}
+use Rattle.ot_plain.specs.Hol.{fun_ty, bool_ty, type_in, HasType, equation, sequent_of, is_shallow}
 use Rattle.ot_plain.specs.Naming.{numbers}
 use Rattle.ot_plain.specs.Rules.{within_limit}
 use Rattle.ot_laws.proofs.Steps.{limit-ok}
@@ -13,6 +13,7 @@ use Rattle.ot_term.specs.declared.term.VarKey.{VarKey}
 use Rattle.ot_term.proofs.Growing.{Grows-trans, type_at-Grows}
 use Rattle.ot_kernel.specs.Numbered.{tm_at}
 use Rattle.ot_kernel.specs.Equating.{limited, Makes}
+use Rattle.ot_kernel.specs.Opening.{beta_over}
 use Rattle.ot_kernel.specs.Proved.{IsNumberOf, equal_functions, trip, TurnsBack}
 use Rattle.ot_kernel.proofs.Equating.{tm_at-Grows}
 use Rattle.ot_kernel.proofs.NewTypes as new
@@ -97,6 +98,15 @@ module _ (T U : Ty ℕ) (abs rep : ℕ) (P : Tm ℕ) (m : TermTable) (ty u to fr
         let back = k.to_is in
         λ i. within_limit numbers (equal_functions (binder i) (new_type i) (trip (there i) (back i) (binder i)) (Free (binder i)))
 
+    -- the open theorem
+    pub open_first_is : within_limit numbers (sequent_of numbers (equation numbers (type_at m.types v.ty) (trip (tm_at m.terms from) (tm_at m.terms to) (variable_of m.types v)) (Free (variable_of m.types v))))
+        ≡ within_limit numbers (sequent_of numbers (equation numbers T (trip (new.from T U abs rep P) (new.to T U abs rep P) (new.new_variable T U abs rep P)) (Free (new.new_variable T U abs rep P))))
+    open_first_is =
+        let binder : variable_of m.types v ≡ new.new_variable T U abs rep P = λ i. record { name = name i; ty = new_type i } in
+        let there = k.from_is in
+        let back = k.to_is in
+        λ i. within_limit numbers (sequent_of numbers (equation numbers (new_type i) (trip (there i) (back i) (binder i)) (Free (binder i))))
+
   module _ (name : v.name ≡ 4) (at : v.ty ≡ u) where
     old_type : type_at m.types v.ty ≡ U
     old_type = ap (type_at m.types) at ∙ k.old_is
@@ -119,3 +129,18 @@ module _ (T U : Ty ℕ) (abs rep : ℕ) (P : Tm ℕ) (m : TermTable) (ty u to fr
         let there = k.to_is in
         let back = k.from_is in
         λ i. within_limit numbers (equal_functions (binder i) (bool_ty numbers) (equation numbers (old_type i) (trip (there i) (back i) (binder i)) (Free (binder i))) (App (same i) (Free (binder i))))
+
+    -- the open theorem, and the deepest term on the way
+    pub open_second_is : (p : ℕ) → tm_at m.terms p ≡ P
+        → within_limit numbers (sequent_of numbers (equation numbers (bool_ty numbers) (App (tm_at m.terms p) (Free (variable_of m.types v))) (equation numbers (type_at m.types v.ty) (trip (tm_at m.terms to) (tm_at m.terms from) (variable_of m.types v)) (Free (variable_of m.types v)))))
+        ≡ within_limit numbers (sequent_of numbers (equation numbers (bool_ty numbers) (App P (Free (new.old_variable T U abs rep P))) (equation numbers U (trip (new.to T U abs rep P) (new.from T U abs rep P) (new.old_variable T U abs rep P)) (Free (new.old_variable T U abs rep P)))))
+    open_second_is p same =
+        let binder : variable_of m.types v ≡ new.old_variable T U abs rep P = λ i. record { name = name i; ty = old_type i } in
+        let there = k.to_is in
+        let back = k.from_is in
+        λ i. within_limit numbers (sequent_of numbers (equation numbers (bool_ty numbers) (App (same i) (Free (binder i))) (equation numbers (old_type i) (trip (there i) (back i) (binder i)) (Free (binder i)))))
+
+    pub deepest_is : (p : ℕ) → tm_at m.terms p ≡ P → within_limit numbers (sequent_of numbers (beta_over numbers (variable_of m.types v) (tm_at m.terms p))) ≡ within_limit numbers (sequent_of numbers (beta_over numbers (new.old_variable T U abs rep P) P))
+    deepest_is p same =
+        let binder : variable_of m.types v ≡ new.old_variable T U abs rep P = λ i. record { name = name i; ty = old_type i } in
+        λ i. within_limit numbers (sequent_of numbers (beta_over numbers (binder i) (same i)))

@@ -5,12 +5,13 @@ use Rattle.std.proofs.Math.Bool.{and-false}
 use Rattle.std.proofs.lemmas.Option.{same_Some}
 use Rattle.ot_plain.specs.Trees.{Alphabet, Ty, Variable, Tm, App, Abs, Sequent}
 use Rattle.ot_plain.specs.Hol.{same_ty, fun_ty, as_fun_ty, HasType, close, is_shallow, is_shallow_sequent, same_tm, equation, as_equation, union, is_free_in_some}
-use Rattle.ot_plain.specs.Faults.{Fault, NotFunction, ArgumentType, NotAlphaEqual, VarFreeInHyps, Nesting}
+use Rattle.ot_plain.specs.Faults.{Fault, NotFunction, ArgumentType, NotAlphaEqual, Nesting}
 use Rattle.ot_plain.specs.Rules.{has_type, within_limit, app_rule, abs_rule, eq_mp_rule, abs_thm_rule, app_thm_rule, sym_rule, trans_rule}
 use Rattle.ot_laws.proofs.Tests.{Tells, cases_of, same_ty-is, has_type-is}
 use Rattle.ot_laws.proofs.Typing.{as_fun_ty-some, as_fun_ty-fun, type_of-is, app-typed, type-close_at}
 use Rattle.ot_laws.proofs.Steps.{limit-ok, app_rule-ok}
 use Rattle.ot_kernel.specs.declared.fault.RuleFault.{RuleFault}
+use Rattle.ot_kernel.specs.declared.fault.RuleFault.TheVariants as rules
 use Rattle.ot_kernel.specs.Answers.{rule_fault, RefusesRule}
 use Rattle.ot_kernel.specs.Equating.{limited, equation_rule}
 use Rattle.ot_kernel.proofs.EquationLimits.{shallow-left, shallow-right}
@@ -18,14 +19,21 @@ use Rattle.ot_kernel.proofs.EquationLimits.{shallow-left, shallow-right}
 -- ---- refusals
 -- a refusal is the stated one
 pub refuses_rule : {X N : Type 0} (e : RuleFault) (f : Fault N) (stated : Result X (Fault N)) → ((read : ℕ → N) → rule_fault read e ≡ Some f) → stated ≡ Err f → RefusesRule e stated
-refuses_rule e f stated p s read g q = s ∙ ap Err (same_Some f g (sym (p read) ∙ q))
+refuses_rule {N = N} e f stated p s read = (
+  λ q. let no : ◌≡◌ {A = Option (Fault N)} None (Some f) = subst (λ d. rule_fault read d ≡ Some f) q (p read) in cc,
+  λ g q. s ∙ ap Err (same_Some f g (sym (p read) ∙ q)),
+)
+
+-- want of memory is free
+pub memory_refuses : {X N : Type 0} (stated : Result X (Fault N)) → RefusesRule rules.Memory stated
+memory_refuses stated read = (λ q. cc, λ f p. cc)
 
 -- two rules with one refusal
 refused-same : {X Y N : Type 0} (e : RuleFault) (f : Fault N) (r : Result X (Fault N)) (s : Result Y (Fault N)) → r ≡ Err f → s ≡ Err f → RefusesRule e r → RefusesRule e s
-refused-same {X = X} {N = N} e f r s p q h read g k =
-    let first : ◌≡◌ {A = Result X (Fault N)} (Err f) (Err g) = sym p ∙ h read g k in
-    let same : f ≡ g = cc in
-    q ∙ ap Err same
+refused-same {X = X} {N = N} e f r s p q h read = ((h read).0, λ g k. q ∙ ap Err (same g (sym p ∙ (h read).1 g k)))
+  where
+    same : (g : Fault N) → ◌≡◌ {A = Result X (Fault N)} (Err f) (Err g) → f ≡ g
+    same g first = cc
 
 limit-err : {A E : Type 0} (b : Bool) (e f : E) (x : A) → ◌≡◌ {A = Result A E} (if b then Ok x else Err e) (Err f) → (b ≡ false) × (e ≡ f)
 limit-err true e f x h = cc
@@ -39,19 +47,24 @@ module _ {N : Type 0} (alphabet : Alphabet N) where
   -- ---- the limit
   -- what has a part that passes the limit passes it
   pub limited-refused : (e : RuleFault) (part t : Tm N) → (is_shallow alphabet t ≡ true → is_shallow alphabet part ≡ true) → RefusesRule e (limited alphabet part) → RefusesRule e (limited alphabet t)
-  limited-refused e part t inside h read f p =
-      let (off, same) = limit-err (is_shallow alphabet part) Nesting f part (h read f p) in
-      rw (off_back (is_shallow alphabet part) (is_shallow alphabet t) inside off) (ap Err same)
+  limited-refused e part t inside h read = ((h read).0, λ f p. past f (limit-err (is_shallow alphabet part) Nesting f part ((h read).1 f p)))
+    where
+      past : (f : Fault N) → (is_shallow alphabet part ≡ false) × (Nesting ≡ f) → limited alphabet t ≡ Err f
+      past f (off, same) = rw (off_back (is_shallow alphabet part) (is_shallow alphabet t) inside off) (ap Err same)
 
   -- what is within the limit is not refused
   pub limited-never : {X : Type 0} (e : RuleFault) (t : Tm N) (stated : Result X (Fault N)) → is_shallow alphabet t ≡ true → RefusesRule e (limited alphabet t) → RefusesRule e stated
-  limited-never e t stated on h read f p = let (off, same) = limit-err (is_shallow alphabet t) Nesting f t (h read f p) in cc
+  limited-never {X} e t stated on h read = ((h read).0, λ f p. never f (limit-err (is_shallow alphabet t) Nesting f t ((h read).1 f p)))
+    where
+      never : (f : Fault N) → (is_shallow alphabet t ≡ false) × (Nesting ≡ f) → stated ≡ Err f
+      never f (off, same) = let no : true ≡ false = sym on ∙ off in cc
 
   -- a conclusion that passes the limit
   pub within-refused : (e : RuleFault) (g : List (Tm N)) (t : Tm N) → RefusesRule e (limited alphabet t) → RefusesRule e (within_limit alphabet (record { hyps = g; concl = t }))
-  within-refused e g t h read f p =
-      let (off, same) = limit-err (is_shallow alphabet t) Nesting f t (h read f p) in
-      rw (off, and-false (list_all (is_shallow alphabet) g)) (ap Err same)
+  within-refused e g t h read = ((h read).0, λ f p. past f (limit-err (is_shallow alphabet t) Nesting f t ((h read).1 f p)))
+    where
+      past : (f : Fault N) → (is_shallow alphabet t ≡ false) × (Nesting ≡ f) → within_limit alphabet (record { hyps = g; concl = t }) ≡ Err f
+      past f (off, same) = rw (off, and-false (list_all (is_shallow alphabet) g)) (ap Err same)
 
   -- one within it, under hypotheses within it
   pub within-made : (g : List (Tm N)) (t u : Tm N) → list_all (is_shallow alphabet) g ≡ true → limited alphabet t ≡ Ok u → within_limit alphabet (record { hyps = g; concl = t }) ≡ Ok (record { hyps = g; concl = u })
@@ -68,9 +81,6 @@ module _ {N : Type 0} (alphabet : Alphabet N) where
   module _ (th : Sequent N) (ty : Ty N) (a b : Tm N) (h : as_equation alphabet th.concl ≡ Some (ty, a, b)) where
     pub sym-is : sym_rule alphabet th ≡ within_limit alphabet (record { hyps = th.hyps; concl = equation alphabet ty b a })
     sym-is = rw h refl
-
-    pub abs_thm-free : (v : Variable N) → is_free_in_some alphabet v th.hyps ≡ true → abs_thm_rule alphabet v th ≡ Err VarFreeInHyps
-    abs_thm-free v f = rw (h, f) refl
 
     pub abs_thm-is : (v : Variable N) → is_free_in_some alphabet v th.hyps ≡ false → abs_thm_rule alphabet v th
         ≡ within_limit alphabet (record { hyps = th.hyps; concl = equation alphabet (fun_ty alphabet v.ty ty) (Abs v.ty (close alphabet v a)) (Abs v.ty (close alphabet v b)) })

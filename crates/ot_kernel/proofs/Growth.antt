@@ -15,7 +15,7 @@ use Rattle.ot_plain.proofs.TableLemmas.{Extends-refl}
 use Rattle.ot_term.specs.Term.{TermTable}
 use Rattle.ot_term.specs.TermTable.{Grows, NamesUpTo, IsTermTable}
 use Rattle.ot_kernel.specs.declared.theorem.Theorem.{Theorem}
-use Rattle.ot_kernel.specs.State.{State, named_at, Keeps, SameTheorems}
+use Rattle.ot_kernel.specs.State.{State, named_at, Keeps, SameTheorems, AreApart}
 use Rattle.ot_laws.specs.Theorem.{IsTheorem}
 use Rattle.ot_kernel.specs.Spelled.{Held, sequent_of, sequents_at, undefined_state, state_of, IsInside, IsKernel}
 use Rattle.ot_kernel.proofs.Accepted.{held_stay, definitions_kept, signature_kept}
@@ -66,6 +66,7 @@ grown_from ns ms t u held k more first g table a b = record {
       assumptions = subst (λ qs. All (IsSequent names) (sequents_at qs held.assumptions)) (sym sequents) k.sound.assumptions;
       accepted = subst (λ (z : List (Sequent Name) × List (Definition Name)). Accepted names (sequents_at z.0 held.assumptions) z.1) (λ i. (sym sequents i, sym defined i)) k.sound.accepted;
       names = first;
+      apart = subst (λ qs. AreApart (sequents_at qs held.assumptions)) (sym sequents) k.sound.apart;
     };
   };
   keeps = record {
@@ -119,7 +120,7 @@ grown ns ms t u held now view k more first g table a b = subst (λ s. Grown s ms
 -- a new name
 pub names_grown : (ns ms : List Name) (t : TermTable) (held : Held) (now : State) → state_of ns t held ≡ now → IsKernel ns t held → Extends ns ms → IsNameTable ms → Grown now ms t held
 names_grown ns ms t held now view k more first =
-    grown ns ms t t held now view k more first (record { types = Extends-refl t.types; terms = Extends-refl t.terms }) k.table (omega (arith, k.types, more.longer)) (omega (arith, k.terms, more.longer))
+    grown ns ms t t held now view k more first (record { types = Extends-refl t.types; terms = Extends-refl t.terms; classes = Extends-refl t.classes }) k.table (omega (arith, k.types, more.longer)) (omega (arith, k.terms, more.longer))
 
 -- new types or terms, of names of the table
 pub terms_grown : (j : ℕ) (ns : List Name) (t u : TermTable) (held : Held) (now : State) → state_of ns t held ≡ now → IsKernel ns t held → Grows t u → IsTermTable u → NamesUpTo j t u → j ≤ length now.names → Grown now ns u held

@@ -83,7 +83,7 @@ pub unchanged : (ns : List Name) (t : TermTable) (held : Held) (now : State) →
 unchanged ns t held now view k =
     let g = names_grown ns ns t held now view k (Extends-refl ns) k.names in
     let p = subst (λ s. Keeps now s × SameTheorems now s) view (g.keeps, g.same) in
-    record { before = view; after = view; old = k; kernel = k; grows = record { types = Extends-refl t.types; terms = Extends-refl t.terms }; keeps = p.0; same = p.1 }
+    record { before = view; after = view; old = k; kernel = k; grows = record { types = Extends-refl t.types; terms = Extends-refl t.terms; classes = Extends-refl t.classes }; keeps = p.0; same = p.1 }
 
 module _ {ns ms : List Name} {t u : TermTable} {held : Held} {now mid : State} (l : Later ns ms t u held now mid) where
   -- ---- lengths

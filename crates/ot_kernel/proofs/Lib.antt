@@ -31,9 +31,13 @@ pub mod Constants
 pub mod Lists
 pub mod NewFunctions
 pub mod RoundTrips
+pub mod BetaTheorem
 pub mod NewTypes
 pub mod Conversions
 pub mod Leaves
 pub mod PutConstants
 pub mod Premises
 pub mod Operators
+pub mod OpenDerivable
+pub mod OpenLimits
+pub mod OpenTypes

@@ -4,6 +4,7 @@ use Rattle.std.specs.List.{All}
 use Rattle.std.proofs.Common.{refl, sym, ap, ◌∙◌, subst, arith, ◌+◌}
 use Rattle.std.proofs.Math.Seq.{get_or-append_seam}
 use Rattle.std.proofs.lemmas.List.{get_or_append_left}
+use Rattle.std.proofs.lemmas.List.{append-nil}
 use Rattle.std.proofs.lemmas.List.Elements.{All-head, All-tail, All-nil, All-cons}
 use mathlib.Core.Path.{PathP}
 use Rattle.ot_plain.specs.Names.{Name}
@@ -185,8 +186,10 @@ module _ (now : State) (is : List ℕ) (vs : List VarKey) (i : ℕ) (th : Theore
   constants_acceptable = record {
     inside = All-cons (IsInside (length now.terms)) th [] inside (All-nil (IsInside (length now.terms)));
     within = within;
-    numbered = at_end (adding now (th ∷ [])) ∙ ap (λ q. q ∷ []) (get_or-append_seam now.theorems (spelled.sequent_of now.terms th) [] (record { hyps = []; concl = Bound 0 }));
-    made = states ∙ ap (theorems names) (sym reads);
+    further = [];
+    numbered = at_end (adding now (th ∷ [])) ∙ ap (λ q. q ∷ []) (get_or-append_seam now.theorems (spelled.sequent_of now.terms th) [] (record { hyps = []; concl = Bound 0 })) ∙ (states ∙ ap (theorems names) (sym reads));
+    made = states ∙ ap (theorems names) (sym reads) ∙ sym (append-nil (theorems names (added_definition now (th ∷ []) c)));
+    follow = λ _. All-nil _;
     next = subst (IsNext names now.assumptions now.definitions) (sym reads) next;
     symbols_defined =
         let same = length_map (name_at now) is ∙ pairs ∙ sym (length_map (variable_at now) vs) in
@@ -228,9 +231,6 @@ module _ {ns ms : List Name} {t u : TermTable} {held : Held} {now mid : State} (
       → Made (Ok new) (rule Name names (map (name_at now) is, map (variable_at now) vs, theorem_at now i)) mid
   derived new inside e = made l (λ L c. List L × List (Variable L) × Sequent L) rule (is, map (variable_of t.types) vs, numbered_sequent t.terms th) (map (name_at now) is, map (variable_at now) vs, theorem_at now i) over_all (Ok new) (inside, ap Ok (sym e))
 
-  pub list_inside : (new : Theorem) → IsInside (length u.terms) new → numbered_sequent u.terms new ≡ sequent_of numbers (subst_tm numbers [] (constants_for numbers (zipped numbers is (map (variable_of t.types) vs))) (tm_at t.terms th.concl)) → IsInside (length mid.terms) new
-  list_inside new inside e = (derived new inside e).0
-
   pub list_states : (new : Theorem) → IsInside (length u.terms) new → numbered_sequent u.terms new ≡ sequent_of numbers (subst_tm numbers [] (constants_for numbers (zipped numbers is (map (variable_of t.types) vs))) (tm_at t.terms th.concl)) → spelled.sequent_of mid.terms new ∷ [] ≡ theorems names (list_at mid)
   list_states new inside e = ap (λ q. q ∷ []) (sym (same_Ok _ _ (derived new inside e).1)) ∙ ap (theorems names) (sym same_list)
 
@@ -239,15 +239,6 @@ module _ {ns ms : List Name} {t u : TermTable} {held : Held} {now mid : State} (
       let a = l.same.basis.assumptions in
       let b = l.same.basis.definitions in
       subst (λ (z : List (Sequent Name) × List (Definition Name) × Definition Name). IsNext names z.0 z.1 z.2) (λ j. (sym a j, sym b j, sym same_list j)) h
-
-  pub names_mid : All (λ n. n < length mid.names) is
-  names_mid = λ k d m. let w = names_in k d m in omega (arith, w, l.keeps.names.longer)
-
-  pub vars_mid : All (λ v. (v.name < length mid.names) × (v.ty < length mid.types)) vs
-  vars_mid = λ k d m. let w = vars_in k d m in (omega (arith, w.0, l.keeps.names.longer), omega (arith, w.1, l.keeps.types.longer))
-
-  pub premise_mid : i < length mid.theorems
-  premise_mid = omega (arith, premise.within, l.keeps.theorems.longer)
 
   pub list_stated : checked_list names (all_defined names now.definitions) (all_used names now.definitions) (map (name_at now) is) (map (variable_at now) vs) (theorem_at now i) ≡ Ok tt → list_definition names now.definitions (map (name_at now) is) (map (variable_at now) vs) (theorem_at now i) ≡ Ok (list_at now)
   list_stated h = ap (λ (r : Result (Unit {0}) (Fault Name)). r >>= λ _. Ok (list_at now)) h

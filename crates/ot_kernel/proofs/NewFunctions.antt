@@ -84,9 +84,6 @@ module _ (t m : TermTable) (g : Grows t m) (i name k ty : ℕ) (h : i < length t
   pub constant_typed : HasType numbers (tm_at m.terms k) term_ty
   constant_typed = ap (type_in numbers []) constant_is
 
-  abbrev statement : Tm ℕ → Tm ℕ → Sequent ℕ
-  statement a b = sequent_of numbers (equation numbers (type_of numbers b) a b)
-
   pub constant_sides : HasType numbers (tm_at t.terms i) term_ty → type_in numbers [] (tm_at m.terms k) ≡ type_in numbers [] (tm_at m.terms i)
   constant_sides typed = constant_typed ∙ sym (ap (type_in numbers []) (tm_at-Grows t m g i h) ∙ typed)
 

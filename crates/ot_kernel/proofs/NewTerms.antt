@@ -21,7 +21,7 @@ use Rattle.ot_kernel.specs.Answers.{RefusesRule}
 use Rattle.ot_kernel.specs.Refusals.{of_table, of_term}
 use Rattle.ot_kernel.specs.Equating.{limited, equation_rule, Makes}
 use Rattle.ot_kernel.proofs.TermRules.{app-made, app-not_function, app-argument_type, app-nesting, abs-made, abs-nesting}
-use Rattle.ot_kernel.proofs.EquationRules.{refuses_rule, equation_rule-at}
+use Rattle.ot_kernel.proofs.EquationRules.{refuses_rule, memory_refuses, equation_rule-at}
 
 -- the term of a new number
 pub new_at : (u : TermTable) (id : ℕ) (x : Named ℕ) → slice_get u.terms id ≡ Some x → (id < length u.terms) × (term_at u.terms id ≡ x)
@@ -56,7 +56,7 @@ equation_refused a b of_terms.ArgumentType same function argument nesting = absu
 equation_refused a b of_terms.Nesting same function argument nesting =
     let (ty, p, q, past) = nesting refl in
     refuses_rule rules.Nesting Nesting _ (λ _. refl) (equation_rule-at numbers (nameless numbers a) (nameless numbers b) ty (has a ty p) ∙ limited-past (nameless numbers (named_equation ty a b)) past)
-equation_refused a b of_terms.Memory same function argument nesting = λ r f p. cc
+equation_refused a b of_terms.Memory same function argument nesting = memory_refuses _
 
 -- ---- applications
 pub makes_application : (u : TermTable) (f x : Named ℕ) (id : ℕ) → IsTermTable u → slice_get u.terms id ≡ Some (NApp f x) → Makes (Ok id) (app_rule numbers (nameless numbers f) (nameless numbers x)) u.terms
@@ -77,7 +77,7 @@ application_refused f x of_terms.ArgumentType function argument nesting =
 application_refused f x of_terms.Nesting function argument nesting =
     let (b, p, q) = nesting refl in
     refuses_rule rules.Nesting Nesting _ (λ _. refl) (app-nesting numbers tells_numbers f x b p q)
-application_refused f x of_terms.Memory function argument nesting = λ r g p. cc
+application_refused f x of_terms.Memory function argument nesting = memory_refuses _
 
 -- ---- abstractions
 pub makes_abstraction : (u : TermTable) (v : Variable ℕ) (b : Named ℕ) (id : ℕ) → IsTermTable u → slice_get u.terms id ≡ Some (NAbs v b) → Makes (Ok id) (abs_rule numbers v (nameless numbers b)) u.terms
@@ -87,4 +87,4 @@ makes_abstraction u v b id table made =
 
 pub abstraction_refused : (v : Variable ℕ) (b : Named ℕ) (e : TableFault) → (e ≡ of_types.Nesting → is_within_limit (NAbs v b) ≡ false) → RefusesRule (of_table e) (abs_rule numbers v (nameless numbers b))
 abstraction_refused v b of_types.Nesting nesting = refuses_rule rules.Nesting Nesting _ (λ _. refl) (abs-nesting numbers tells_numbers v b (nesting refl))
-abstraction_refused v b of_types.Memory nesting = λ r f p. cc
+abstraction_refused v b of_types.Memory nesting = memory_refuses _

@@ -24,6 +24,7 @@ use Rattle.ot_kernel.specs.declared.theorem.Theorem.{Theorem}
 use Rattle.ot_kernel.specs.declared.fault.RuleFault.{RuleFault}
 use Rattle.ot_kernel.specs.Answers.{RefusesRule}
 use Rattle.ot_kernel.specs.Numbered.{numbered_sequent, Derives, IsGrownBy}
+use Rattle.ot_kernel.specs.Spelled.{IsInside}
 use Rattle.ot_kernel.specs.Equating.{limited, Makes}
 use Rattle.ot_kernel.specs.Proved.{bound_of_names, IsGrownTo, IsNumberOf, equal_functions, trip, DerivesBoth}
 use Rattle.ot_type.specs.declared.fault.TableFault.{TableFault}
@@ -147,10 +148,24 @@ second_off true false q f h = let same : Nesting ≡ f = cc in ap Err same
 second_off false false q f h = let same : Nesting ≡ f = cc in ap Err same
 
 pub first_refused : (e : RuleFault) (q r : Sequent ℕ) → RefusesRule e (within_limit numbers q) → RefusesRule e (unless {E = Fault ℕ} Nesting (list_all (is_shallow_sequent numbers) (q ∷ r ∷ [])))
-first_refused e q r h read f p = first_off (is_shallow_sequent numbers q) (is_shallow_sequent numbers r && true) q f (h read f p)
+first_refused e q r h read = ((h read).0, λ f p. first_off (is_shallow_sequent numbers q) (is_shallow_sequent numbers r && true) q f ((h read).1 f p))
 
 pub second_refused : (e : RuleFault) (q r : Sequent ℕ) → RefusesRule e (within_limit numbers r) → RefusesRule e (unless {E = Fault ℕ} Nesting (list_all (is_shallow_sequent numbers) (q ∷ r ∷ [])))
-second_refused e q r h read f p = second_off (is_shallow_sequent numbers q) (is_shallow_sequent numbers r) r f (h read f p)
+second_refused e q r h read = ((h read).0, λ f p. second_off (is_shallow_sequent numbers q) (is_shallow_sequent numbers r) r f ((h read).1 f p))
+
+-- two theorems, one made after the other
+pub two_derived : (q r : Sequent ℕ) (m n : TermTable) → Grows m n → (th ts : Theorem) → Derives (Ok th) (within_limit numbers q) m.terms → Derives (Ok ts) (within_limit numbers r) n.terms
+    → IsInside (length n.terms) th × IsInside (length n.terms) ts × (q ∷ r ∷ [] ≡ numbered_sequent n.terms th ∷ numbered_sequent n.terms ts ∷ [])
+two_derived q r m n g th ts h k =
+    let hyps = tms_at-Grows m n g th.hyps.items h.0.hyps in
+    let concl = tm_at-Grows m n g th.concl h.0.concl in
+    let kept : numbered_sequent n.terms th ≡ numbered_sequent m.terms th = λ i. record { hyps = hyps i; concl = concl i } in
+    let one = (within_limit-ok numbers tells_numbers q (numbered_sequent m.terms th) h.1).1 ∙ sym kept in
+    let two = (within_limit-ok numbers tells_numbers r (numbered_sequent n.terms ts) k.1).1 in (
+      record { hyps = λ i x d. let below = h.0.hyps i x d in omega (arith, below, g.terms.longer); concl = let below = h.0.concl in omega (arith, below, g.terms.longer) },
+      k.0,
+      λ i. one i ∷ two i ∷ [],
+    )
 
 module _ (T U : Ty ℕ) (abs rep : ℕ) (P : Tm ℕ) where
   abbrev pub to : Tm ℕ
@@ -211,13 +226,4 @@ module _ (T U : Ty ℕ) (abs rep : ℕ) (P : Tm ℕ) where
     from_refused e h = trip_refused e (right_part_refused e to (App from (Free new_variable)) (left_part_refused e from (Free new_variable) h))
 
     pub both_derived : (m n : TermTable) → Grows m n → (th ts : Theorem) → Derives (Ok th) (within_limit numbers first) m.terms → Derives (Ok ts) (within_limit numbers second) n.terms → DerivesBoth (Ok (th, ts)) (type_theorems numbers T U abs rep P) n.terms
-    both_derived m n g th ts h k =
-        let hyps = tms_at-Grows m n g th.hyps.items h.0.hyps in
-        let concl = tm_at-Grows m n g th.concl h.0.concl in
-        let kept : numbered_sequent n.terms th ≡ numbered_sequent m.terms th = λ i. record { hyps = hyps i; concl = concl i } in
-        let one = (within_limit-ok numbers tells_numbers first (numbered_sequent m.terms th) h.1).1 ∙ sym kept in
-        let two = (within_limit-ok numbers tells_numbers second (numbered_sequent n.terms ts) k.1).1 in (
-          record { hyps = λ i x q. let below = h.0.hyps i x q in omega (arith, below, g.terms.longer); concl = let below = h.0.concl in omega (arith, below, g.terms.longer) },
-          k.0,
-          theorems_are closed ∙ (λ i. one i ∷ two i ∷ []),
-        )
+    both_derived m n g th ts h k = let d = two_derived first second m n g th ts h k in (d.0, d.1, theorems_are closed ∙ d.2)

@@ -28,7 +28,6 @@ use Rattle.ot_kernel.specs.Answers.{table_fault, term_fault, MakesType, MakesTer
 use Rattle.ot_kernel.proofs.Carried.{carry-op, carry-terms, carry-binder}
 use Rattle.ot_kernel.proofs.TermRules.{op-made, op-nesting, app-made, app-not_function, app-argument_type, app-nesting, abs-made, abs-nesting}
 use Rattle.ot_kernel.proofs.Refusals.{refuses}
-use Rattle.ot_kernel.proofs.Growth.{Grown, named_at-Extends}
 use Rattle.ot_kernel.proofs.Namings.{slice_get-map, length-map, index-map, table_names, name_of-index}
 
 -- ---- a new number
@@ -83,6 +82,23 @@ module _ (ns : List Name) (t : TermTable) (held : Held) (now : State) (view : st
       let b = real_type ty g in
       ap (nameless names) ((new_term ns u held id (NConst n (types.type_at t.types ty)) p).1) ∙ (λ i. Con (a i) (b i))
   constant-ok u (Err e) n ty h g p = p
+
+  -- the named trees of applications and abstractions
+  pub app-named : {E : Type 0} (u : TermTable) (r : Result ℕ E) (f x : ℕ) → f < length now.terms → x < length now.terms → IfOk r (λ id. slice_get u.terms id ≡ Some (NApp (terms.term_at t.terms f) (terms.term_at t.terms x)))
+      → IfOk r (λ id. slice_get (state_of ns u held).terms id ≡ Some (NApp (named_at now.terms f) (named_at now.terms x)))
+  app-named u (Ok id) f x h g p =
+      let a = real_term f h in
+      let b = real_term x g in
+      slice_get-map (map_named (name_of ns)) u.terms id (NApp (terms.term_at t.terms f) (terms.term_at t.terms x)) p ∙ (λ i. Some (NApp (a i) (b i)))
+  app-named u (Err e) f x h g p = p
+
+  pub abs-named : {E : Type 0} (u : TermTable) (r : Result ℕ E) (v : VarKey) (b : ℕ) → v.name < length now.names → v.ty < length now.types → b < length now.terms → IfOk r (λ id. slice_get u.terms id ≡ Some (NAbs (terms.variable_of t.types v) (terms.term_at t.terms b)))
+      → IfOk r (λ id. slice_get (state_of ns u held).terms id ≡ Some (NAbs (variable_at now v) (named_at now.terms b)))
+  abs-named u (Ok id) v b h g l p =
+      let a = real_variable v h g in
+      let d = real_term b l in
+      slice_get-map (map_named (name_of ns)) u.terms id (NAbs (terms.variable_of t.types v) (terms.term_at t.terms b)) p ∙ (λ i. Some (NAbs (a i) (d i)))
+  abs-named u (Err e) v b h g l p = p
 
   -- a new number of a term is of the table
   pub within-ok : {E : Type 0} (u : TermTable) (r : Result ℕ E) (x : Named ℕ) → IfOk r (λ id. slice_get u.terms id ≡ Some x) → IfOk r (λ id. id < length (state_of ns u held).terms)
@@ -176,5 +192,3 @@ module _ (ns : List Name) (t : TermTable) (held : Held) (now : State) (view : st
   makes_abs u (Err of_types.Memory) v b h g l ok nesting table = λ f p. cc
 
 -- ---- a number that was there before terms grew
-pub kept_term : (ns : List Name) (u : TermTable) (held : Held) (now : State) → Grown now ns u held → (i : ℕ) → i < length now.terms → map_named (name_of ns) (terms.term_at u.terms i) ≡ named_at now.terms i
-kept_term ns u held now g i h = real_term ns u held (state_of ns u held) refl g.kernel i (omega (arith, h, g.keeps.terms.longer)) ∙ named_at-Extends now.terms (state_of ns u held).terms g.keeps.terms i h

@@ -4,6 +4,7 @@ use Rattle.std.specs.List.{All, list_all}
 use Rattle.std.proofs.Common.{refl, sym, ap, ◌∙◌, subst, arith, ◌+◌, length-append, slice_index_or}
 use Rattle.std.proofs.Math.Seq.{get_or-append_seam}
 use Rattle.std.proofs.lemmas.List.{append_assoc, get_or_append_left}
+use Rattle.std.proofs.lemmas.List.{append-nil}
 use Rattle.std.proofs.lemmas.List.Elements.{All-nil, All-cons}
 use mathlib.Core.Path.{PathP}
 use Rattle.ot_plain.specs.Names.{Name}
@@ -16,6 +17,7 @@ use Rattle.ot_plain.specs.Renamed.{map_symbol}
 use Rattle.ot_plain.specs.Answers.{◌>>=◌, unless}
 use Rattle.ot_plain.proofs.Line.{over_sequent}
 use Rattle.ot_plain.proofs.Naming.{naming}
+use Rattle.ot_laws.specs.Theorem.{IsTheorem}
 use Rattle.ot_laws.proofs.Definitions.{no_hyps-theorems}
 use Rattle.ot_laws.proofs.Tests.{tells_names}
 use Rattle.ot_term.specs.Term.{TermTable}
@@ -37,13 +39,14 @@ use Rattle.ot_kernel.specs.Refusals.{of_define}
 use Rattle.ot_kernel.specs.Answers.{RefusesRule, RefusesBy, DefinesType, IsSymbolIn}
 use Rattle.ot_kernel.specs.Defining.{Defining, all_defined, all_used, type_definition, limited_definition}
 use Rattle.ot_kernel.specs.Definitions.{definition_at, theorems_at as theorems_held, IsDefinitionIn, number_of}
-use Rattle.ot_kernel.specs.Accepting.{adding, added_definition, accepting, defining, IsAcceptable}
+use Rattle.ot_kernel.specs.Accepting.{adding, added_definition, accepting, defining, defining_more, IsAcceptable}
 use Rattle.ot_kernel.proofs.Accepted.{name_stays, names_stay, theorem_stays}
 use Rattle.ot_kernel.proofs.ByNumber.{sequent-shallow}
 use Rattle.ot_kernel.proofs.Checked.{check-passed, check-refused, symbol_below}
 use Rattle.ot_kernel.proofs.Conditions.{RefusesOnly, type_only, type-same, all_defined-same, all_used-same}
 use Rattle.ot_kernel.proofs.Constants.{over-name, accepted_keeps, accepted_definitions, accepted_theorems, accepted_assumptions}
 use Rattle.ot_kernel.proofs.Derived.{inside_after}
+use Rattle.ot_kernel.proofs.EquationRules.{memory_refuses}
 use Rattle.ot_kernel.proofs.Later.{Later, Between, alphabet_at, over-term, over-theorem, IsHeld, theorem_sound, held_sound}
 use Rattle.ot_kernel.proofs.Lists.{over-names}
 use Rattle.ot_kernel.proofs.NewTypes.{bound-below}
@@ -129,9 +132,10 @@ module _ {ns : List Name} {t : TermTable} {held : Held} {now : State} (l : Later
       subst (λ r. RefusesBy (name_at now) (of_define e) (r >>= rest)) same_check (check-refused l Operands check held.signature.defined held.signature.used by_number by_name operands e only h rest)
 
 -- ---- the theorems, as the next ones
-module _ (now : State) (n abs rep : ℕ) (vars : List ℕ) (i : ℕ) (one two : Theorem) (c : kind.Definition) (uses : List (Symbol ℕ)) (names_in : AreNames (length now.names) n abs rep vars) (premise_in : i < length now.theorems) (one_in : IsInside (length now.terms) one) (two_in : IsInside (length now.terms) two)
-    (coded : (s : State) → definition_at s c ≡ operator_at s n abs rep vars i) (at_end : (s : State) → theorems_held s c ≡ theorem_at s (length now.theorems) ∷ theorem_at s (length now.theorems + 1) ∷ []) (within : IsDefinitionIn (length now.names) (length now.types) (length now.theorems + 2) c) (next : IsNext names now.assumptions now.definitions (operator_at now n abs rep vars i))
+module _ (now : State) (n abs rep : ℕ) (vars : List ℕ) (i : ℕ) (one two : Theorem) (rest : List Theorem) (c : kind.Definition) (uses : List (Symbol ℕ)) (names_in : AreNames (length now.names) n abs rep vars) (premise_in : i < length now.theorems) (one_in : IsInside (length now.terms) one) (two_in : IsInside (length now.terms) two) (rest_in : All (IsInside (length now.terms)) rest)
+    (coded : (s : State) → definition_at s c ≡ operator_at s n abs rep vars i) (at_end : (s : State) → theorems_held s c ≡ theorem_at s (length now.theorems) ∷ theorem_at s (length now.theorems + 1) ∷ []) (within : IsDefinitionIn (length now.names) (length now.types) (length now.theorems + length (one ∷ two ∷ rest)) c) (next : IsNext names now.assumptions now.definitions (operator_at now n abs rep vars i))
     (states : spelled.sequent_of now.terms one ∷ spelled.sequent_of now.terms two ∷ [] ≡ theorems names (operator_at now n abs rep vars i))
+    (follow : All (IsTheorem names now.assumptions (now.definitions ++ operator_at now n abs rep vars i ∷ [])) (theorems names (operator_at now n abs rep vars i)) → All (IsTheorem names now.assumptions (now.definitions ++ operator_at now n abs rep vars i ∷ [])) (map (spelled.sequent_of now.terms) rest))
     (occurring : IsSameSet (map (map_symbol (name_at now)) uses) (symbols_of names (theorem_at now i) ++ symbols_all names (terms_at now (one.concl ∷ two.concl ∷ [])))) (below : All (λ x. number_of x < length now.names) uses) where
   abbrev definition : Definition Name
   definition = operator_at now n abs rep vars i
@@ -142,19 +146,22 @@ module _ (now : State) (n abs rep : ℕ) (vars : List ℕ) (i : ℕ) (one two : 
   abbrev second : Sequent Name
   second = spelled.sequent_of now.terms two
 
-  reads : added_definition now (one ∷ two ∷ []) c ≡ definition
-  reads =
-      let same = get_or_append_left now.theorems (first ∷ second ∷ []) (record { hyps = []; concl = Bound 0 }) i premise_in in
-      coded (adding now (one ∷ two ∷ [])) ∙ ap (TyDef (name_at now n) (name_at now abs) (name_at now rep) (map (name_at now) vars)) same
+  abbrev more : List (Sequent Name)
+  more = map (spelled.sequent_of now.terms) rest
 
-  both_held : theorems_held (adding now (one ∷ two ∷ [])) c ≡ first ∷ second ∷ []
+  reads : added_definition now (one ∷ two ∷ rest) c ≡ definition
+  reads =
+      let same = get_or_append_left now.theorems (first ∷ second ∷ more) (record { hyps = []; concl = Bound 0 }) i premise_in in
+      coded (adding now (one ∷ two ∷ rest)) ∙ ap (TyDef (name_at now n) (name_at now abs) (name_at now rep) (map (name_at now) vars)) same
+
+  both_held : theorems_held (adding now (one ∷ two ∷ rest)) c ≡ first ∷ second ∷ []
   both_held =
       let none : Sequent Name = record { hyps = []; concl = Bound 0 } in
-      let a = get_or-append_seam now.theorems first (second ∷ []) none in
-      let b = get_or-append_seam (now.theorems ++ first ∷ []) second [] none in
-      let split = append_assoc now.theorems (first ∷ []) (second ∷ []) in
+      let a = get_or-append_seam now.theorems first (second ∷ more) none in
+      let b = get_or-append_seam (now.theorems ++ first ∷ []) second more none in
+      let split = append_assoc now.theorems (first ∷ []) (second ∷ more) in
       let place = length-append now.theorems (first ∷ []) in
-      at_end (adding now (one ∷ two ∷ [])) ∙ (λ j. a j ∷ slice_index_or (sym split j) (sym place j) none ∷ []) ∙ ap (λ q. first ∷ q ∷ []) b
+      at_end (adding now (one ∷ two ∷ rest)) ∙ (λ j. a j ∷ slice_index_or (sym split j) (sym place j) none ∷ []) ∙ ap (λ q. first ∷ q ∷ []) b
 
   no_hyps : (j : ℕ) (q : Sequent Name) → slice_get (first ∷ second ∷ []) j ≡ Some q → q.hyps ≡ []
   no_hyps j q e = no_hyps-theorems names definition j q (ap (λ l. slice_get l j) (sym states) ∙ e)
@@ -166,12 +173,14 @@ module _ (now : State) (n abs rep : ℕ) (vars : List ℕ) (i : ℕ) (one two : 
       let premise = symbols_of names (theorem_at now i) in
       (λ j. premise ++ ((symbols_all names (sym a j) ++ symbols_tm names first.concl) ++ ((symbols_all names (sym b j) ++ symbols_tm names second.concl) ++ []))) ∙ ap (λ ts. premise ++ symbols_in names ts) states
 
-  pub operator_acceptable : IsAcceptable now (one ∷ two ∷ []) c (OpSymbol n ∷ ConSymbol abs ∷ ConSymbol rep ∷ []) uses
+  pub operator_acceptable : IsAcceptable now (one ∷ two ∷ rest) c (OpSymbol n ∷ ConSymbol abs ∷ ConSymbol rep ∷ []) uses
   operator_acceptable = record {
-    inside = All-cons (IsInside (length now.terms)) one (two ∷ []) one_in (All-cons (IsInside (length now.terms)) two [] two_in (All-nil (IsInside (length now.terms))));
+    inside = All-cons (IsInside (length now.terms)) one (two ∷ rest) one_in (All-cons (IsInside (length now.terms)) two rest two_in rest_in);
     within = within;
-    numbered = both_held;
-    made = states ∙ ap (theorems names) (sym reads);
+    further = more;
+    numbered = both_held ∙ (states ∙ ap (theorems names) (sym reads));
+    made = ap (λ l. l ++ more) (states ∙ ap (theorems names) (sym reads));
+    follow = subst (λ d. All (IsTheorem names now.assumptions (now.definitions ++ d ∷ [])) (theorems names d) → All (IsTheorem names now.assumptions (now.definitions ++ d ∷ [])) more) (sym reads) follow;
     next = subst (IsNext names now.assumptions now.definitions) (sym reads) next;
     symbols_defined =
         subst (λ d. IsSameSet (OpSymbol (name_at now n) ∷ ConSymbol (name_at now abs) ∷ ConSymbol (name_at now rep) ∷ []) (defined names d)) (sym reads) (record { to = λ x m. m; back = λ x m. m });
@@ -182,8 +191,13 @@ module _ (now : State) (n abs rep : ℕ) (vars : List ℕ) (i : ℕ) (one two : 
     used_below = below;
   }
 
-  pub operator_accepted : accepting now (one ∷ two ∷ []) c ≡ defining now definition
-  operator_accepted = λ j. record now { theorems = now.theorems ++ states j; definitions = now.definitions ++ reads j ∷ [] }
+  pub operator_accepted : accepting now (one ∷ two ∷ rest) c ≡ defining_more now definition more
+  operator_accepted = λ j. record now { theorems = now.theorems ++ (states j ++ more); definitions = now.definitions ++ reads j ∷ [] }
+
+-- no further theorem
+pub none_further : (r : Result (ℕ × ℕ) RuleFault) (k : ℕ) (mid new : State) (d : Definition Name) (qs : List (Sequent Name)) → qs ≡ [] → IfOk r (λ ids. (ids.0 ≡ k) × (ids.1 ≡ suc k) × (new ≡ defining_more mid d qs)) → IfOk r (λ ids. (ids.0 ≡ k) × (ids.1 ≡ suc k) × (new ≡ defining mid d))
+none_further (Ok ids) k mid new d qs none h = (h.0, h.1, h.2 ∙ ap (defining_more mid d) none ∙ ap (λ l. record mid { theorems = mid.theorems ++ l; definitions = mid.definitions ++ d ∷ [] }) (append-nil (theorems names d)))
+none_further (Err e) k mid new d qs none h = h
 
 -- ---- the whole call
 -- the premise, over numbers
@@ -223,7 +237,7 @@ module _ {ns ms : List Name} {t u : TermTable} {held : Held} {now mid : State} (
       let e = subst (PathP (λ j. Tm (Between l j)) (tm_at t.terms concl)) is (over-term l concl concl_in) in
       λ j. (a j, b j, c j, d j, e j)
 
-  real : (th : Theorem) → IsInside (length u.terms) th → PathP (λ j. Sequent (Between l j)) (numbered_sequent u.terms th) (spelled.sequent_of mid.terms th)
+  pub real : (th : Theorem) → IsInside (length u.terms) th → PathP (λ j. Sequent (Between l j)) (numbered_sequent u.terms th) (spelled.sequent_of mid.terms th)
   real th h =
       let inside = inside_after l th h in
       subst (PathP (λ j. Sequent (Between l j)) (numbered_sequent u.terms th)) (real_sequent ms u held mid l.after l.kernel th.hyps.items th.concl inside.hyps inside.concl) (over_sequent (naming ms) (numbered_sequent u.terms th))
@@ -253,19 +267,6 @@ module _ {ns ms : List Name} {t u : TermTable} {held : Held} {now mid : State} (
       let e = theorem_stays now mid l.keeps.names l.keeps.types l.keeps.theorems i premise_in in
       λ j. TyDef (a j) (b j) (c j) (d j) (e j)
 
-  pub names_mid : AreNames (length mid.names) n abs rep vars
-  names_mid =
-      let more = l.keeps.names.longer in
-      record {
-        operator = omega (arith, names_in.operator, more);
-        to = omega (arith, names_in.to, more);
-        from = omega (arith, names_in.from, more);
-        variables = λ k d m. let w = names_in.variables k d m in omega (arith, w, more);
-      }
-
-  pub premise_mid : i < length mid.theorems
-  premise_mid = omega (arith, premise_in, l.keeps.theorems.longer)
-
   pub next_mid : IsNext names now.assumptions now.definitions (operator_at now n abs rep vars i) → IsNext names mid.assumptions mid.definitions (operator_at mid n abs rep vars i)
   next_mid h =
       let a = l.same.basis.assumptions in
@@ -292,7 +293,7 @@ module _ {ns ms : List Name} {t u : TermTable} {held : Held} {now mid : State} (
 
   -- the nesting limit refuses one of the theorems
   pub both_refused : passes → (e : RuleFault) → DerivesBoth (Err e) (rule ℕ numbers numbered) u.terms → (read : ℕ → Name) → RefusesBy read e stated
-  both_refused h e d read f p = checked_then h ∙ ap (λ (r : Result (Unit {0}) (Fault Name)). r >>= λ _. Ok (operator_at now n abs rep vars i)) (derived (Err e) d read f p)
+  both_refused h e d read = let refused = derived (Err e) d read in (refused.0, λ f p. checked_then h ∙ ap (λ (r : Result (Unit {0}) (Fault Name)). r >>= λ _. Ok (operator_at now n abs rep vars i)) (refused.1 f p))
 
   pub both_made : passes → (p : Theorem × Theorem) → DerivesBoth (Ok p) (rule ℕ numbers numbered) u.terms → stated ≡ Ok (operator_at now n abs rep vars i)
   both_made h p d = checked_then h ∙ ap limited (derived (Ok p) d).3
@@ -305,5 +306,5 @@ module _ {ns ms : List Name} {t u : TermTable} {held : Held} {now mid : State} (
         (d, s, accepted_definitions l d e same_operator new ok.2, accepted_theorems l d e same_operator new ok.2, ok.0 ∙ ap length l.same.theorems, ok.1 ∙ ap (λ (qs : List (Sequent Name)). suc (length qs)) l.same.theorems, accepted_assumptions l d e same_operator new ok.2),
         accepted_keeps l d e same_operator new ok.2,
       )
-  operator_defines (Err Memory) new s ok err = ((subst (SameTheorems now) (sym err.0) l.same, λ f p. cc), subst (Keeps now) (sym err.0) l.keeps)
+  operator_defines (Err Memory) new s ok err = ((subst (SameTheorems now) (sym err.0) l.same, memory_refuses stated (name_at new)), subst (Keeps now) (sym err.0) l.keeps)
   operator_defines (Err f) new s ok err = cc

@@ -11,6 +11,7 @@ use Rattle.ot_term.specs.Term.{TermTable}
 use Rattle.ot_term.specs.TermTable.{term_at}
 use Rattle.ot_kernel.specs.Numbered.{tm_at}
 use Rattle.ot_kernel.specs.Proved.{IsPremise, ArePartsOf}
+use Rattle.ot_kernel.specs.Opening.{open_theorems, open_theorems_at, beta_over, beta_at}
 
 -- the parts of the node, and the type of the argument
 pub parts_are : (m : TermTable) (i p x u : ℕ) → slice_get m.terms i ≡ Some (NApp (term_at m.terms p) (term_at m.terms x)) → IsPremise numbers (tm_at m.terms i) → p < length m.terms → u < length m.types → named_type numbers (term_at m.terms x) ≡ Some (type_at m.types u) → ArePartsOf m (tm_at m.terms i) p u
@@ -37,3 +38,11 @@ parts_are m i p x u node h below within named =
 pub theorems_from : (m : TermTable) (t : Tm ℕ) (p u : ℕ) → ArePartsOf m t p u → (n abs rep : ℕ) (vars : List ℕ) → theorems_at numbers n abs rep vars t ≡ type_theorems numbers (TyOp n (tys_of_vars numbers vars)) (type_at m.types u) abs rep (tm_at m.terms p)
 theorems_from m t p u h n abs rep vars =
     ap (theorems_at numbers n abs rep vars) h.parts ∙ ap (λ z. type_theorems numbers (TyOp n (tys_of_vars numbers vars)) z abs rep (tm_at m.terms p)) (type_of-is numbers h.argument (type_at m.types u) h.own)
+
+-- their open theorems, and the deepest term on the way
+pub open_from : (m : TermTable) (t : Tm ℕ) (p u : ℕ) → ArePartsOf m t p u → (a r n abs rep : ℕ) (vars : List ℕ) → open_theorems_at numbers a r n abs rep vars t ≡ open_theorems numbers a r (TyOp n (tys_of_vars numbers vars)) (type_at m.types u) abs rep (tm_at m.terms p)
+open_from m t p u h a r n abs rep vars =
+    ap (open_theorems_at numbers a r n abs rep vars) h.parts ∙ ap (λ z. open_theorems numbers a r (TyOp n (tys_of_vars numbers vars)) z abs rep (tm_at m.terms p)) (type_of-is numbers h.argument (type_at m.types u) h.own)
+
+pub deepest_from : (m : TermTable) (t : Tm ℕ) (p u : ℕ) → ArePartsOf m t p u → (r : ℕ) → beta_at numbers r t ≡ beta_over numbers (record { name = r; ty = type_at m.types u }) (tm_at m.terms p)
+deepest_from m t p u h r = ap (beta_at numbers r) h.parts ∙ ap (λ z. beta_over numbers (record { name = r; ty = z }) (tm_at m.terms p)) (type_of-is numbers h.argument (type_at m.types u) h.own)

@@ -1,13 +1,13 @@
 -- The constants of a list in the place of its variables, pair by pair, while the table grows.
 use Rattle.std.specs.List.{All}
-use Rattle.std.proofs.Common.{◌≡◌, ℕ, zero, suc, ◌+◌, ◌<◌, ◌≤◌, Bool, true, false, List, [], ◌∷◌, ◌++◌, map, length, get_or, take, drop, slice_get, append_assoc, is_some, add-one, Some, refl, sym, ap, subst, ◌∙◌, inl, inr, arith}
+use Rattle.std.proofs.Common.{◌≡◌, ℕ, zero, suc, ◌+◌, ◌<◌, Bool, true, false, List, [], ◌∷◌, ◌++◌, map, length, get_or, take, drop, slice_get, append_assoc, is_some, add-one, Some, refl, sym, ap, subst, ◌∙◌, inl, inr, arith}
 use Rattle.std.proofs.Math.Seq.{drop-cons}
-use Rattle.std.proofs.lemmas.List.{map-append, append-nil, drop_all, take_more}
+use Rattle.std.proofs.lemmas.List.{map-append, take_more}
 use Rattle.std.proofs.lemmas.List.Elements.{All-nil}
 use Rattle.ot_plain.specs.Lists.{IsMember, AreDistinct}
 use Rattle.ot_plain.specs.Names.{Name}
 use Rattle.ot_plain.specs.Trees.{Variable, Tm, Con, Named, NConst}
-use Rattle.ot_plain.specs.Hol.{named_type, nameless, is_shallow, subst_tm, constants_for, sequent_of}
+use Rattle.ot_plain.specs.Hol.{nameless, is_shallow, subst_tm, constants_for, sequent_of}
 use Rattle.ot_plain.specs.Naming.{numbers}
 use Rattle.ot_plain.proofs.TableLemmas.{Extends-refl}
 use Rattle.ot_laws.specs.Walk.{nameless_map}
@@ -69,15 +69,6 @@ module _ (t u : TermTable) (cs : List ℕ) (vars : List VarKey) (k : ℕ) (s : S
   now_below = let h = old in omega (arith, h, a.grown.grows.types.longer)
 
   module _ (w : TermTable) (id : ℕ) (g : Grows u w) (names : NamesUpTo (name + 1) u w) (table : IsTermTable w) (same_types : w.types ≡ u.types) (made : slice_get w.terms id ≡ Some (NConst name (type_at u.types v.ty))) where
-    pub constant_below : id < length w.terms
-    constant_below = (new_at w id (NConst name (type_at u.types v.ty)) made).0
-
-    pub then_below : v.ty < length w.types
-    then_below = let h = now_below in omega (arith, h, g.types.longer)
-
-    pub constant_named_type : named_type numbers (term_at w.terms id) ≡ Some (type_at w.types v.ty)
-    constant_named_type = ap (named_type numbers) (new_at w id (NConst name (type_at u.types v.ty)) made).1 ∙ ap (λ ts. Some (type_at ts v.ty)) (sym same_types)
-
     pub fits_then : IsSubstOf w s
     fits_then = IsSubstOf-Grows u w g s a.fits
 
@@ -123,13 +114,6 @@ module _ (t u : TermTable) (cs : List ℕ) (vars : List VarKey) (k : ℕ) (s : S
 
     pub constant_added : (new : Substitution) → new ≡ with_pair s v id → IsSubstOf w new → AreDistinct (map (variable_of t.types) vars) → PutsConstants t w cs vars (k + 1) new
     constant_added new e fits distinct = subst (PutsConstants t w cs vars (k + 1)) (sym e) (added (subst (IsSubstOf w) e fits) distinct)
-
--- after the last pair
-pub all_constants : (t u : TermTable) (cs : List ℕ) (vars : List VarKey) (k : ℕ) (s : Substitution) → PutsConstants t u cs vars k s → length cs ≤ k → variable_part u s ≡ constants_for numbers (zipped numbers cs (map (variable_of t.types) vars))
-all_constants t u cs vars k s a h =
-    sym (append-nil (variable_part u s))
-    ∙ ap (λ ns. variable_part u s ++ constants_for numbers (zipped numbers ns (map (variable_of t.types) (drop k vars)))) (sym (drop_all k cs h))
-    ∙ a.made
 
 -- ---- the theorem
 -- no name is new

@@ -2,7 +2,7 @@
 use Rattle.std.proofs.Common.{◌≡◌, ℕ, ◌<◌, [], length, slice_get, Some, Result, Ok, refl, sym, ap, subst, ◌∙◌, arith}
 use Rattle.ot_plain.specs.Trees.{Variable, Tm, Free, Con, App, NVar, NApp, Sequent}
 use Rattle.ot_plain.specs.Faults.{Fault, Nesting}
-use Rattle.ot_plain.specs.Hol.{fun_ty, bool_ty, type_in, type_of, HasType, nameless, is_shallow, equation}
+use Rattle.ot_plain.specs.Hol.{fun_ty, bool_ty, type_in, type_of, HasType, nameless, is_shallow, equation, sequent_of}
 use Rattle.ot_plain.specs.Naming.{numbers}
 use Rattle.ot_plain.specs.Rules.{within_limit, app_rule}
 use Rattle.ot_laws.proofs.Equations.{equation-typed}
@@ -11,31 +11,39 @@ use Rattle.ot_laws.proofs.Tests.{tells_numbers}
 use Rattle.ot_laws.proofs.Typing.{type_of-is, app-typed}
 use Rattle.ot_type.specs.TypeTable.{type_at}
 use Rattle.ot_term.specs.Term.{TermTable}
-use Rattle.ot_term.specs.TermTable.{term_at, variable_of, Grows}
+use Rattle.ot_term.specs.TermTable.{term_at, variable_of, Grows, IsTermTable}
+use Rattle.ot_kernel.specs.declared.theorem.Theorem.{Theorem}
+use Rattle.std.specs.List.{All}
+use Rattle.std.proofs.lemmas.List.Elements.{All-nil}
 use Rattle.ot_term.specs.declared.term.VarKey.{VarKey}
 use Rattle.ot_term.specs.Equality.{named_equation}
 use Rattle.ot_term.proofs.Growing.{Grows-trans, variable_of-Grows}
 use Rattle.ot_kernel.specs.declared.fault.RuleFault.{RuleFault}
 use Rattle.ot_kernel.specs.Answers.{RefusesRule}
-use Rattle.ot_kernel.specs.Numbered.{tm_at}
+use Rattle.ot_kernel.specs.Numbered.{tm_at, tms_at, Derives}
 use Rattle.ot_kernel.specs.Equating.{limited, equation_rule, Makes}
 use Rattle.ot_kernel.specs.Proved.{equal_functions, trip, TurnsBack, MakesTrip}
 use Rattle.ot_kernel.proofs.NewTerms.{new_at}
-use Rattle.ot_kernel.proofs.EquationRules.{equation_rule-at}
-use Rattle.ot_kernel.proofs.Equating.{tm_at-Grows}
+use Rattle.ot_kernel.proofs.EquationRules.{equation_rule-at, within-refused}
+use Rattle.ot_kernel.proofs.Equating.{tm_at-Grows, derives_within}
 use Rattle.ot_kernel.proofs.NewFunctions.{app_rule-is, left_part_refused, right_part_refused, left_function_refused, right_function_refused}
 
 -- a refusal by another rule that answers the same
-same_refusal : {X : Type 0} (e : RuleFault) (r s : Result X (Fault ℕ)) → r ≡ s → RefusesRule e r → RefusesRule e s
+pub same_refusal : {X : Type 0} (e : RuleFault) (r s : Result X (Fault ℕ)) → r ≡ s → RefusesRule e r → RefusesRule e s
 same_refusal {X = X} e r s p h = subst (λ (z : Result X (Fault ℕ)). RefusesRule e z) p h
 
 -- an application that was made
-applied_is : (f x z : Tm ℕ) → app_rule numbers f x ≡ Ok z → z ≡ App f x
+pub applied_is : (f x z : Tm ℕ) → app_rule numbers f x ≡ Ok z → z ≡ App f x
 applied_is f x z h = (app_rule-ok numbers tells_numbers f x z h).0
 
 -- g (f v) has the type of v
 trip_typed : (f g : Tm ℕ) (v : Variable ℕ) → TurnsBack v.ty f g → HasType numbers (trip f g v) v.ty
 trip_typed f g v h = app-typed numbers tells_numbers [] g (App f (Free v)) h.other v.ty h.back (app-typed numbers tells_numbers [] f (Free v) v.ty h.other h.there refl)
+
+-- a theorem without hypotheses whose conclusion was made
+pub no_hyps_derive : (t u : TermTable) → IsTermTable t → Grows t u → (th : Theorem) (p : Tm ℕ) → th.hyps.items ≡ [] → Makes (Ok th.concl) (limited numbers p) u.terms → Derives (Ok th) (within_limit numbers (sequent_of numbers p)) u.terms
+no_hyps_derive t u table grows th p none made =
+    derives_within t u table grows th p (within_limit numbers (sequent_of numbers p)) (subst (All (λ i. i < length t.terms)) (sym none) (All-nil (λ i. i < length t.terms))) made (ap (λ is. within_limit numbers (record { hyps = tms_at t.terms is; concl = p })) (sym none))
 
 -- ---- v, f v and g (f v), one after the other
 module _ (t : TermTable) (key : VarKey) (f g : ℕ) (hf : f < length t.terms) (hg : g < length t.terms) (turns : TurnsBack (type_at t.types key.ty) (tm_at t.terms f) (tm_at t.terms g)) where
@@ -115,6 +123,13 @@ module _ (t : TermTable) (key : VarKey) (f g : ℕ) (hf : f < length t.terms) (h
         let right = made.2 in
         (λ i. equation_rule numbers (left i) (right i)) ∙ equation_rule-at numbers (trip F G var) (Free var) var.ty (trip_typed F G var turns)
 
+    -- ---- |- g (f v) = v
+    pub open_test_refused : (e : RuleFault) → RefusesRule e (equation_rule numbers (tm_at m.terms image) (tm_at m.terms x)) → RefusesRule e (within_limit numbers (sequent_of numbers test))
+    open_test_refused e r = within-refused numbers e [] test (same_refusal e _ _ test_rule r)
+
+    pub open_test_derived : (u : TermTable) → IsTermTable m → Grows m u → (th : Theorem) → th.hyps.items ≡ [] → Makes (Ok th.concl) (equation_rule numbers (tm_at m.terms image) (tm_at m.terms x)) u.terms → Derives (Ok th) (within_limit numbers (sequent_of numbers test)) u.terms
+    open_test_derived u table grows th none made_concl = no_hyps_derive m u table grows th test none (made_concl.0, sym test_rule ∙ made_concl.1)
+
     module _ (p : ℕ) (hp : p < length t.terms) (predicate : HasType numbers (tm_at t.terms p) (fun_ty numbers var.ty (bool_ty numbers))) where
       abbrev holds_tree : Tm ℕ
       holds_tree = App (tm_at t.terms p) (Free var)
@@ -162,6 +177,44 @@ module _ (t : TermTable) (key : VarKey) (f g : ℕ) (hf : f < length t.terms) (h
               let binder = variable_of-Grows t o (Grows-trans t n o (Grows-trans t m n first second) third) key below in
               let at = type_of-is numbers (tm_at o.terms same) (bool_ty numbers) test_typed in
               λ i. within_limit numbers (equal_functions (binder i) (at i) (same_later i) (holds_is i))
+
+          -- ---- |- p v = (g (f v) = v)
+          abbrev open_concl : Tm ℕ
+          open_concl = equation numbers (bool_ty numbers) holds_tree test
+
+          open_rule : equation_rule numbers (tm_at o.terms holds) (tm_at o.terms same) ≡ limited numbers open_concl
+          open_rule = (λ i. equation_rule numbers (holds_is i) (same_later i)) ∙ equation_rule-at numbers holds_tree test (bool_ty numbers) (app-typed numbers tells_numbers [] (tm_at t.terms p) (Free var) var.ty (bool_ty numbers) predicate refl)
+
+          pub open_concl_refused : (e : RuleFault) → RefusesRule e (equation_rule numbers (tm_at o.terms holds) (tm_at o.terms same)) → RefusesRule e (within_limit numbers (sequent_of numbers open_concl))
+          open_concl_refused e r = within-refused numbers e [] open_concl (same_refusal e _ _ open_rule r)
+
+          pub open_concl_derived : (u : TermTable) → IsTermTable o → Grows o u → (th : Theorem) → th.hyps.items ≡ [] → Makes (Ok th.concl) (equation_rule numbers (tm_at o.terms holds) (tm_at o.terms same)) u.terms → Derives (Ok th) (within_limit numbers (sequent_of numbers open_concl)) u.terms
+          open_concl_derived u table grows th none made_concl = no_hyps_derive o u table grows th open_concl none (made_concl.0, sym open_rule ∙ made_concl.1)
+
+        pub open_holds_refused : (e : RuleFault) → RefusesRule e (app_rule numbers (tm_at n.terms p) (tm_at n.terms x)) → RefusesRule e (within_limit numbers (sequent_of numbers (equation numbers (bool_ty numbers) holds_tree test)))
+        open_holds_refused e r =
+            let equals = Con numbers.equals (fun_ty numbers (bool_ty numbers) (fun_ty numbers (bool_ty numbers) (bool_ty numbers))) in
+            within-refused numbers e [] (equation numbers (bool_ty numbers) holds_tree test) (left_part_refused e (App equals holds_tree) test (right_part_refused e equals holds_tree (same_refusal e _ _ holds_rule r)))
+
+      pub open_same_refused : (e : RuleFault) → RefusesRule e (equation_rule numbers (tm_at m.terms image) (tm_at m.terms x)) → RefusesRule e (within_limit numbers (sequent_of numbers (equation numbers (bool_ty numbers) holds_tree test)))
+      open_same_refused e r =
+          let equals = Con numbers.equals (fun_ty numbers (bool_ty numbers) (fun_ty numbers (bool_ty numbers) (bool_ty numbers))) in
+          within-refused numbers e [] (equation numbers (bool_ty numbers) holds_tree test) (right_part_refused e (App equals holds_tree) test (same_refusal e _ _ test_rule r))
+
+  -- where g (f v) is refused, so are the open theorems
+  deep_test_refused : (e : RuleFault) → RefusesRule e (limited numbers (trip F G var)) → RefusesRule e (limited numbers (equation numbers var.ty (trip F G var) (Free var)))
+  deep_test_refused e r =
+      let equals = Con numbers.equals (fun_ty numbers var.ty (fun_ty numbers var.ty (bool_ty numbers))) in
+      left_part_refused e (App equals (trip F G var)) (Free var) (right_part_refused e equals (trip F G var) r)
+
+  pub open_trip_refused : (e : RuleFault) → RefusesRule e (limited numbers (trip F G var)) → RefusesRule e (within_limit numbers (sequent_of numbers (equation numbers var.ty (trip F G var) (Free var))))
+  open_trip_refused e r = within-refused numbers e [] (equation numbers var.ty (trip F G var) (Free var)) (deep_test_refused e r)
+
+  pub open_deep_refused : (e : RuleFault) (holds : Tm ℕ) → RefusesRule e (limited numbers (trip F G var)) → RefusesRule e (within_limit numbers (sequent_of numbers (equation numbers (bool_ty numbers) holds (equation numbers var.ty (trip F G var) (Free var)))))
+  open_deep_refused e holds r =
+      let equals = Con numbers.equals (fun_ty numbers (bool_ty numbers) (fun_ty numbers (bool_ty numbers) (bool_ty numbers))) in
+      let right = equation numbers var.ty (trip F G var) (Free var) in
+      within-refused numbers e [] (equation numbers (bool_ty numbers) holds right) (right_part_refused e (App equals holds) right (deep_test_refused e r))
 
   -- where g (f v) is refused, so is the second theorem
   pub deep_trip_refused : (e : RuleFault) (holds : Tm ℕ) → RefusesRule e (limited numbers (trip F G var)) → RefusesRule e (within_limit numbers (equal_functions var (bool_ty numbers) (equation numbers var.ty (trip F G var) (Free var)) holds))

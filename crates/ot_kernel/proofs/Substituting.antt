@@ -27,7 +27,7 @@ use Rattle.ot_kernel.specs.Numbered.{tm_at, tms_at, numbered_sequent, Derives}
 use Rattle.ot_kernel.specs.Spelled.{IsInside}
 use Rattle.ot_kernel.specs.Refusals.{of_subst}
 use Rattle.ot_kernel.specs.declared.fault.RuleFault.TheVariants as rules
-use Rattle.ot_kernel.proofs.EquationRules.{refuses_rule}
+use Rattle.ot_kernel.proofs.EquationRules.{refuses_rule, memory_refuses}
 use Rattle.ot_kernel.proofs.Equating.{tms_at-Grows}
 use Rattle.ot_kernel.proofs.ByNumber.{within-derives, deep_conclusion, deep_hypotheses, deep_member}
 use Rattle.ot_kernel.proofs.Namings.{map-drop}
@@ -84,7 +84,7 @@ module _ (ns ms : List Name) (t u : TermTable) (s : Substitution) (ids : List �
       refuses_rule rules.Nesting Nesting (subst_rule numbers (type_part t s) (variable_part t s) (record { hyps = tms_at t.terms ids; concl = concl })) (λ _. refl)
       (too_deep t s (tms_at t.terms ids) concl (F (tm_at t.terms i)) member (ap (is_shallow numbers) (sym same_image) ∙ deep refl))
   image_refused concl faults.NotRedex deep never = absurd (never refl)
-  image_refused concl faults.Memory deep never = λ r f p. cc
+  image_refused concl faults.Memory deep never = memory_refuses _
 
 -- ---- the theorem
 module _ (t u : TermTable) (g : Grows t u) (s : Substitution) (subst_of : IsSubstOf t s) (th : Theorem) (inside : IsInside (length t.terms) th) where
@@ -107,4 +107,4 @@ module _ (t u : TermTable) (g : Grows t u) (s : Substitution) (subst_of : IsSubs
       refuses_rule rules.Nesting Nesting (subst_rule numbers (type_part t s) (variable_part t s) (numbered_sequent t.terms th)) (λ _. refl)
       (deep_conclusion (record { hyps = once_each numbers (map (substituted t s) (tms_at t.terms th.hyps.items)); concl = substituted t s (tm_at t.terms th.concl) }) (ap (is_shallow numbers) (sym same_conclusion) ∙ deep refl))
   conclusion_refused faults.NotRedex deep never = absurd (never refl)
-  conclusion_refused faults.Memory deep never = λ r f p. cc
+  conclusion_refused faults.Memory deep never = memory_refuses _

@@ -1,11 +1,10 @@
 -- A sequent that becomes an assumption.
-use Rattle.std.specs.Prelude.{◌≡◌, ℕ, ◌<◌, Bool, true, false, cond, if◌then◌else◌, is_ok, is_err, find, List, [], ◌∷◌, ◌++◌, map, length, slice_index_or, Some, None, Result, Ok, Err, IfOk, IfErr}
+use Rattle.std.specs.Prelude.{◌≡◌, ℕ, ◌<◌, Bool, true, false, cond, if◌then◌else◌, is_ok, is_err, find, List, [], ◌∷◌, ◌++◌, map, length, slice_index_or, Option, Some, None, Result, Ok, Err, IfOk, IfErr}
 use Rattle.std.specs.List.{All, AllByRecursion, list_all}
-use Rattle.std.specs.Option.{option_map}
-use Rattle.std.proofs.Common.{◌+◌, get_or, drop, refl, sym, ap, ◌∙◌, subst, arith, length-append, ◌⊎◌, inl, inr}
+use Rattle.std.proofs.Common.{◌+◌, zero, suc, get_or, drop, refl, sym, ap, ◌∙◌, subst, arith, length-append, ◌⊎◌, inl, inr}
 use Rattle.std.proofs.Math.Seq.{get_or-append_seam}
-use Rattle.std.proofs.lemmas.Option.{same_Some}
 use Rattle.std.proofs.lemmas.List.Elements.{All-push}
+use Rattle.std.proofs.lemmas.List.Quantifiers.{all_pairs_push}
 use Rattle.ot_plain.specs.Lists.{AreDistinct}
 use Rattle.ot_plain.specs.Names.{Name}
 use Rattle.ot_plain.specs.Trees.{Ty, Tm, Bound, Sequent, Definition}
@@ -16,7 +15,7 @@ use Rattle.ot_plain.specs.Renamed.{map_named}
 use Rattle.ot_plain.specs.Rules.{has_type}
 use Rattle.ot_plain.proofs.InternedLemmas.{slice_get-last}
 use Rattle.ot_plain.specs.Table.{Extends}
-use Rattle.ot_plain.proofs.TableLemmas.{Extends-refl, Extends-trans, Extends-append}
+use Rattle.ot_plain.proofs.TableLemmas.{Extends-refl, Extends-append}
 use Rattle.ot_term.specs.Term.{TermTable}
 use Rattle.ot_laws.specs.Theorem.{IsTheorem}
 use Rattle.ot_laws.proofs.Grown.{grown-accepted}
@@ -28,33 +27,21 @@ use Rattle.ot_kernel.specs.declared.theorem.Theorem.{Theorem}
 use Rattle.ot_kernel.specs.declared.fault.RuleFault.{RuleFault}
 use Rattle.ot_kernel.specs.declared.fault.RuleFault.TheVariants.{Memory}
 use Rattle.ot_kernel.specs.declared.fault.RuleFault.TheVariants as rules
-use Rattle.ot_kernel.specs.State.{State, type_at, term_at, terms_at, theorem_at, Keeps, SameTheorems, IsSoundState}
+use Rattle.ot_kernel.specs.State.{State, type_at, term_at, terms_at, Keeps, SameTheorems, IsSoundState}
 use Rattle.ot_kernel.specs.Definitions.{IsSignature}
 use Rattle.ot_kernel.specs.Spelled.{Held, sequent_of, sequents_at, undefined_state, state_of, IsInside, IsKernel}
 use Rattle.ot_kernel.specs.Numbered.{tms_at}
 use Rattle.ot_kernel.specs.Axioms.{axiom_rule, known, with_sequent, with_theorem}
-use Rattle.ot_kernel.specs.Answers.{Assumes}
+use Rattle.ot_kernel.specs.Answers.{Assumes, RefusesRule}
 use Rattle.ot_kernel.specs.Supposed.{IsProposed, IsSupposed, supposing}
 use Rattle.ot_kernel.proofs.Accepted.{held_stay, definitions_kept}
+use Rattle.ot_kernel.proofs.EquationRules.{refuses_rule, memory_refuses}
 use Rattle.ot_kernel.proofs.Growth.{named_at-Extends, hyps-Extends}
 use Rattle.ot_kernel.proofs.Later.{Later, now_within, alphabet_at, over-terms}
 use Rattle.ot_kernel.proofs.Namings.{length-map, map-push, map-drop}
 use Rattle.ot_kernel.proofs.Theorems.{sequents_at-push}
 
 -- ---- growth
-pub Keeps-refl : (s : State) → Keeps s s
-Keeps-refl s = record { names = Extends-refl _; types = Extends-refl _; terms = Extends-refl _; theorems = Extends-refl _; assumptions = Extends-refl _; definitions = Extends-refl _ }
-
-pub Keeps-trans : {a b c : State} → Keeps a b → Keeps b c → Keeps a c
-Keeps-trans p q = record {
-  names = Extends-trans p.names q.names;
-  types = Extends-trans p.types q.types;
-  terms = Extends-trans p.terms q.terms;
-  theorems = Extends-trans p.theorems q.theorems;
-  assumptions = Extends-trans p.assumptions q.assumptions;
-  definitions = Extends-trans p.definitions q.definitions;
-}
-
 -- ---- a new assumption
 -- what the tables keep, and what they stand for
 pub record Assumed (now : State) (ns : List Name) (t : TermTable) (more : Held) (th : Theorem) : Type 0 where
@@ -67,9 +54,26 @@ sequents_at-last qs q is h =
     let old = sequents_at-push qs q is h in
     map-push (λ i. slice_index_or (qs ++ q ∷ []) i (record { hyps = []; concl = Bound 0 })) is (length qs) ∙ (λ j. old j ++ last j ∷ [])
 
-assumed_from : (ns : List Name) (t : TermTable) (held : Held) (th : Theorem) → IsKernel ns t held → IsProposed (state_of ns t held) th
+-- a sequent that no assumption is
+abbrev IsNew : State → Theorem → Type 0
+IsNew s th = find (λ r. same_sequent names r (sequent_of s.terms th)) s.assumptions ≡ None
+
+-- what is found nowhere passes nowhere
+none-passes : {X : Type 0} (p : X → Bool) (xs : List X) → find p xs ≡ None → (k : ℕ) (d : X) → k < length xs → p (get_or xs k d) ≡ false
+none-passes p [] h k d l = absurd (omega (arith, l))
+none-passes {X} p (x ∷ xs) h k d l = by (p x) refl (none-passes p xs) k l
+  where
+    found : (b : Bool) → p x ≡ b → ◌≡◌ {A = Option X} (cond b (Some x) (find p xs)) None
+    found b e = sym (ap (λ c. cond c (Some x) (find p xs)) e) ∙ h
+
+    by : (b : Bool) → p x ≡ b → (find p xs ≡ None → (j : ℕ) (c : X) → j < length xs → p (get_or xs j c) ≡ false) → (j : ℕ) → j < length (x ∷ xs) → p (get_or (x ∷ xs) j d) ≡ false
+    by true e rest j m = let no : ◌≡◌ {A = Option X} (Some x) None = found true e in cc
+    by false e rest zero m = e
+    by false e rest (suc j) m = rest (found false e) j d (omega (arith, m))
+
+assumed_from : (ns : List Name) (t : TermTable) (held : Held) (th : Theorem) → IsKernel ns t held → IsProposed (state_of ns t held) th → IsNew (state_of ns t held) th
     → Assumed (state_of ns t held) ns t (record held { theorems = held.theorems ++ th ∷ []; assumptions = held.assumptions ++ length held.theorems ∷ [] }) th
-assumed_from ns t held th k p = record { kernel = kernel; state = state }
+assumed_from ns t held th k p new = record { kernel = kernel; state = state }
   where
     f : Theorem → Sequent Name
     f = sequent_of (state_of ns t held).terms
@@ -118,6 +122,7 @@ assumed_from ns t held th k p = record { kernel = kernel; state = state }
       assumptions = All-push (IsSequent names) al q k.sound.assumptions p.sequent;
       accepted = grown-accepted names al (al ++ q ∷ []) dl (Extends-append al (q ∷ [])) k.sound.accepted;
       names = k.sound.names;
+      apart = all_pairs_push (λ r s. same_sequent names r s ≡ false) al q k.sound.apart (none-passes (λ r. same_sequent names r q) al new);
     }
 
     kernel : IsKernel ns t more
@@ -135,10 +140,10 @@ assumed_from ns t held th k p = record { kernel = kernel; state = state }
 
 -- the same from the state that contracts see
 pub assumed : (ns : List Name) (t : TermTable) (held : Held) (now : State) (th : Theorem) (ths : List Theorem) (taken : List ℕ) (n : ℕ) → state_of ns t held ≡ now → IsKernel ns t held → ths ≡ held.theorems ++ th ∷ [] → n ≡ length held.theorems → taken ≡ held.assumptions ++ n ∷ []
-    → IsProposed now th → Assumed now ns t (record held { theorems = ths; assumptions = taken }) th
-assumed ns t held now th ths taken n view k e len d p =
+    → IsProposed now th → IsNew now th → Assumed now ns t (record held { theorems = ths; assumptions = taken }) th
+assumed ns t held now th ths taken n view k e len d p new =
     let after : taken ≡ held.assumptions ++ length held.theorems ∷ [] = d ∙ ap (λ m. held.assumptions ++ m ∷ []) len in
-    let start = subst (λ s. IsProposed s th → Assumed s ns t (record held { theorems = held.theorems ++ th ∷ []; assumptions = held.assumptions ++ length held.theorems ∷ [] }) th) view (assumed_from ns t held th k) p in
+    let start = subst (λ s. IsProposed s th → IsNew s th → Assumed s ns t (record held { theorems = held.theorems ++ th ∷ []; assumptions = held.assumptions ++ length held.theorems ∷ [] }) th) view (assumed_from ns t held th k) p new in
     subst (λ (z : List Theorem × List ℕ). Assumed now ns t (record held { theorems = z.0; assumptions = z.1 }) th) (λ i. (sym e i, sym after i)) start
 
 -- what was pushed, where memory allowed
@@ -150,31 +155,6 @@ pushed_items (Err f) xs ys new h e = cc
 -- the next one of a list
 pub find-next : {X Y : Type 0} (f : X → Y) (p : Y → Bool) (xs : List X) (k : ℕ) (x : X) (b : Bool) → k < length xs → x ≡ get_or xs k x → b ≡ p (f x) → find p (map f (drop k xs)) ≡ cond b (Some (f x)) (find p (map f (drop (k + 1) xs)))
 find-next f p xs k x b h e d = ap (find p) (map-drop f xs k x h e) ∙ ap (λ c. cond c (Some (f x)) (find p (map f (drop (k + 1) xs)))) (sym d)
-
--- one that is there
-pub supposed-known : (id : ℕ) (q : Sequent Name) (s : State) → id < length s.theorems → option_map (theorem_at s) (Some id) ≡ find (λ r. same_sequent names r q) s.assumptions → IsSupposed id q s s
-supposed-known id q s within found = record { within = within; theorem = rw (← found) refl; assumptions = rw (← found) refl; definitions = refl; theorems = rw (← found) refl; keeps = Keeps-refl s }
-
--- a new one
-pub supposed-new : (id : ℕ) (q : Sequent Name) (s new : State) → None ≡ find (λ r. same_sequent names r q) s.assumptions → id ≡ length s.theorems → new ≡ supposing s q → IsSupposed id q s new
-supposed-new id q s new none at is = subst (IsSupposed id q s) (sym is) (record {
-  within = omega (arith, at, length-append s.theorems (q ∷ []));
-  theorem = ap (theorem_at (supposing s q)) at ∙ get_or-append_seam s.theorems q [] (record { hyps = []; concl = Bound 0 }) ∙ first;
-  assumptions = rw (← none) refl;
-  definitions = refl;
-  theorems = rw (← none) refl;
-  keeps = record {
-    names = Extends-refl _;
-    types = Extends-refl _;
-    terms = Extends-refl _;
-    theorems = Extends-append s.theorems (q ∷ []);
-    assumptions = Extends-append s.assumptions (q ∷ []);
-    definitions = Extends-refl _;
-  };
-})
-  where
-    first : q ≡ known s.assumptions q
-    first = rw (← none) refl
 
 -- ---- the checks of an axiom
 -- p is no proposition, or one of the hypotheses is none
@@ -205,8 +185,8 @@ kept_axiom now mid keeps hs p h g =
 pub refused_axiom : (now mid : State) → Keeps now mid → SameTheorems now mid → (hs : List ℕ) (p : ℕ) → All (λ i. i < length now.terms) hs → p < length now.terms
     → (has_type names (term_at mid p) (bool_ty names) ≡ false) ⊎ ((has_type names (term_at mid p) (bool_ty names) ≡ true) × (list_all (λ h. has_type names h (bool_ty names)) (terms_at mid hs) ≡ false))
     → Assumes (Err rules.NotBool) (axiom_rule (terms_at now hs) (term_at now p)) now mid
-refused_axiom now mid keeps same hs p h g (inl e) = (same, λ r f q. kept_axiom now mid keeps hs p h g ∙ not_axiom-conclusion (terms_at mid hs) (term_at mid p) e ∙ ap Err (same_Some NotBool f q))
-refused_axiom now mid keeps same hs p h g (inr e) = (same, λ r f q. kept_axiom now mid keeps hs p h g ∙ not_axiom-hypothesis (terms_at mid hs) (term_at mid p) e.0 e.1 ∙ ap Err (same_Some NotBool f q))
+refused_axiom now mid keeps same hs p h g (inl e) = (same, refuses_rule rules.NotBool NotBool _ (λ _. refl) (kept_axiom now mid keeps hs p h g ∙ not_axiom-conclusion (terms_at mid hs) (term_at mid p) e))
+refused_axiom now mid keeps same hs p h g (inr e) = (same, refuses_rule rules.NotBool NotBool _ (λ _. refl) (kept_axiom now mid keeps hs p h g ∙ not_axiom-hypothesis (terms_at mid hs) (term_at mid p) e.0 e.1))
 
 -- propositions, by the test
 propositions : (hs : List (Tm Name)) → list_all (λ h. has_type names h (bool_ty names)) hs ≡ true → AllByRecursion (λ h. HasType names h (bool_ty names)) hs
@@ -244,4 +224,4 @@ pub assumes : (result : Result ℕ RuleFault) (stated : Result (Sequent Name) (F
 assumes (Ok id) stated now mid new q same s ok err =
     let e = same.basis.assumptions in
     (q, s, ok.within, ok.theorem ∙ ap (λ al. known al q) e, ok.assumptions ∙ ap (λ al. with_sequent al q) e, ok.definitions ∙ same.basis.definitions, ok.theorems ∙ (λ i. with_theorem (same.theorems i) (e i) q))
-assumes (Err e) stated now mid new q same s ok err = (subst (SameTheorems now) (sym err.0) same, λ r f p. cc)
+assumes (Err e) stated now mid new q same s ok err = (subst (SameTheorems now) (sym err.0) same, subst (λ f. RefusesRule f stated) (sym err.1) (memory_refuses stated))

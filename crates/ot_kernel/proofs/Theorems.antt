@@ -27,6 +27,7 @@ use Rattle.ot_kernel.proofs.Accepted.{held_stay, definitions_kept}
 use Rattle.ot_kernel.specs.Numbered.{tm_at, tms_at, numbered_sequent}
 use Rattle.ot_kernel.specs.Answers.{Concludes}
 use Rattle.ot_kernel.proofs.Carried.{carry-sequents}
+use Rattle.ot_kernel.proofs.EquationRules.{memory_refuses}
 use Rattle.ot_kernel.proofs.Numbers.{real_term}
 use Rattle.ot_kernel.proofs.Namings.{index-map, length-map, map-push, table_names}
 
@@ -57,10 +58,10 @@ module _ (ns : List Name) (t : TermTable) (held : Held) (now : State) (view : st
       → ◌≡◌ {A = Sequent Name} (map_sequent (name_of ns) (record { hyps = tms_at t.terms hyps; concl = tm_at t.terms concl })) (record { hyps = terms_at now hyps; concl = term_at now concl })
   real_sequent hyps concl h g = let a = real_tms hyps h in let b = real_tm concl g in λ j. record { hyps = a j; concl = b j }
 
-  pub same-real : {E : Type 0} (i : ℕ) (th : Theorem) (hyps : List ℕ) (concl : ℕ) (r : Result Bool E) → i < length now.theorems → th ≡ slice_index_or held.theorems i th → All (λ i. i < length now.terms) hyps → concl < length now.terms
-      → IfOk r (λ b. b ≡ same_sequent numbers (numbered_sequent t.terms th) (record { hyps = tms_at t.terms hyps; concl = tm_at t.terms concl }))
-      → IfOk r (λ b. b ≡ same_sequent names (theorem_at now i) (record { hyps = terms_at now hyps; concl = term_at now concl }))
-  same-real i th hyps concl (Ok b) h p g l q =
+  pub same-real : (i : ℕ) (th : Theorem) (hyps : List ℕ) (concl : ℕ) (b : Bool) → i < length now.theorems → th ≡ slice_index_or held.theorems i th → All (λ i. i < length now.terms) hyps → concl < length now.terms
+      → b ≡ same_sequent numbers (numbered_sequent t.terms th) (record { hyps = tms_at t.terms hyps; concl = tm_at t.terms concl })
+      → b ≡ same_sequent names (theorem_at now i) (record { hyps = terms_at now hyps; concl = term_at now concl })
+  same-real i th hyps concl b h p g l q =
       let e = ap (λ (s : State). length s.theorems) view in
       let d = ap (λ (s : State). length s.terms) view in
       let f = length-map (sequent_of (state_of ns t held).terms) held.theorems in
@@ -71,7 +72,6 @@ module _ (ns : List Name) (t : TermTable) (held : Held) (now : State) (view : st
       let right = real_sequent hyps concl g l in
       carry-sequents (naming ns) numbers names (lettering ns (table_names ns k.names)) (λ L c y z. b ≡ same_sequent c y z) (numbered_sequent t.terms th) (record { hyps = tms_at t.terms hyps; concl = tm_at t.terms concl }) q
       ∙ (λ j. same_sequent names (left j) (right j))
-  same-real i th hyps concl (Err e) h p g l q = q
 
 -- ---- one theorem more
 pub sequents_at-push : (qs : List (Sequent Name)) (q : Sequent Name) (is : List ℕ) → All (λ i. i < length qs) is → sequents_at (qs ++ q ∷ []) is ≡ sequents_at qs is
@@ -125,6 +125,7 @@ pushed_from ns t held ths th k e inside follows = subst (λ l. Pushed (state_of 
       assumptions = k.sound.assumptions;
       accepted = k.sound.accepted;
       names = k.sound.names;
+      apart = k.sound.apart;
     }
 
     kernel : IsKernel ns t more
@@ -167,5 +168,5 @@ concluded (Ok id) stated now mid new q keeps same s ok err = subst (λ n. Conclu
   };
   same = record { assumptions = same.basis.assumptions; definitions = same.basis.definitions };
 })
-concluded (Err Memory) stated now mid new q keeps same s ok err = subst (λ n. Concluded (Err Memory) stated now n) (sym err.0) (record { concludes = (same.theorems, λ r f p. cc); keeps = keeps; same = same.basis })
+concluded (Err Memory) stated now mid new q keeps same s ok err = subst (λ n. Concluded (Err Memory) stated now n) (sym err.0) (record { concludes = (same.theorems, memory_refuses stated); keeps = keeps; same = same.basis })
 concluded (Err e) stated now mid new q keeps same s ok err = cc

@@ -1,5 +1,5 @@
 -- What the kernel's calls answer, against the rules of the logic.
-use Rattle.std.specs.Prelude.{◌≡◌, ◌<◌, ℕ, suc, [], ◌∷◌, ◌++◌, length, Result, Ok, Err, Option, Some, None}
+use Rattle.std.specs.Prelude.{◌≡◌, ◌≢◌, ◌<◌, ℕ, suc, [], ◌∷◌, ◌++◌, length, Result, Ok, Err, Option, Some, None}
 use Rattle.ot_plain.specs.Names.{Name}
 use Rattle.ot_plain.specs.Trees.{Ty, Tm, Sequent, Definition}
 use Rattle.ot_plain.specs.Hol.{theorems}
@@ -61,9 +61,9 @@ rule_fault read rules.Memory = None
 abbrev pub Refuses : {X E : Type 0} → (E → Option (Fault Name)) → E → Result X (Fault Name) → Type 0
 Refuses fault_of e stated = (f : Fault Name) → fault_of e ≡ Some f → stated ≡ Err f
 
--- a rule's refusal is the stated one, where numbers stand for these names
+-- a rule's refusal is the stated one, where numbers stand for these names; want of memory never comes as a definition's refusal
 abbrev pub RefusesBy : {X N : Type 0} → (ℕ → N) → RuleFault → Result X (Fault N) → Type 0
-RefusesBy {X} {N} read e stated = (f : Fault N) → rule_fault read e ≡ Some f → stated ≡ Err f
+RefusesBy {X} {N} read e stated = (e ≢ rules.Define definitions.Memory) × ((f : Fault N) → rule_fault read e ≡ Some f → stated ≡ Err f)
 
 -- the same whatever numbers stand for: no rule but a definition names a symbol
 abbrev pub RefusesRule : {X N : Type 0} → RuleFault → Result X (Fault N) → Type 0

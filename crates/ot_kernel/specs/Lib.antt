@@ -13,3 +13,4 @@ pub mod Supposed
 pub mod Accepting
 pub mod Equating
 pub mod Proved
+pub mod Opening

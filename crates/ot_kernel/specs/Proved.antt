@@ -1,10 +1,10 @@
 -- The theorems of definitions as they are made over the table.
-use Rattle.std.specs.Prelude.{◌≡◌, ℕ, suc, ◌<◌, max, List, [], ◌∷◌, length, Result, Ok, Err}
+use Rattle.std.specs.Prelude.{◌≡◌, ℕ, suc, ◌<◌, max, true, List, [], ◌∷◌, length, Result, Ok, Err}
 use Rattle.std.specs.List.{list_all}
 use Rattle.ot_plain.specs.Trees.{Alphabet, Ty, Variable, Tm, Free, App, Abs, Named, Sequent}
 use Rattle.ot_plain.specs.Faults.{Fault, Nesting}
 use Rattle.ot_plain.specs.Answers.{unless}
-use Rattle.ot_plain.specs.Hol.{fun_ty, bool_ty, HasType, close, equation, sequent_of, is_shallow_sequent, IsClosed}
+use Rattle.ot_plain.specs.Hol.{fun_ty, bool_ty, HasType, close, equation, sequent_of, is_shallow, is_shallow_sequent, IsClosed}
 use Rattle.ot_plain.specs.Naming.{numbers}
 use Rattle.ot_type.specs.TypeTable.{type_at}
 use Rattle.ot_term.specs.Term.{TermTable}
@@ -55,6 +55,12 @@ MakesTrip (Err e) f g v ts = RefusesRule e (limited numbers (trip f g v))
 abbrev pub DerivesBoth : Result (Theorem × Theorem) RuleFault → List (Sequent ℕ) → List (Named ℕ) → Type 0
 DerivesBoth (Ok p) stated ts = IsInside (length ts) p.0 × IsInside (length ts) p.1 × (stated ≡ numbered_sequent ts p.0 ∷ numbered_sequent ts p.1 ∷ [])
 DerivesBoth (Err e) stated ts = RefusesRule e (unless {E = Fault ℕ} Nesting (list_all (is_shallow_sequent numbers) stated))
+
+-- two theorems, whose sequents are the stated ones, and the deepest term on the way to them is within the nesting limit; a
+-- refusal is that of the limit, where this term passes it
+abbrev pub DerivesOpen : Result (Theorem × Theorem) RuleFault → Tm ℕ → List (Sequent ℕ) → List (Named ℕ) → Type 0
+DerivesOpen (Ok p) deepest stated ts = IsInside (length ts) p.0 × IsInside (length ts) p.1 × (stated ≡ numbered_sequent ts p.0 ∷ numbered_sequent ts p.1 ∷ []) × (is_shallow numbers deepest ≡ true)
+DerivesOpen (Err e) deepest stated ts = RefusesRule e (unless {E = Fault ℕ} Nesting (is_shallow numbers deepest))
 
 -- ---- the premise of a type operator
 -- the term is p x, of the type of propositions, and no variable is free in p

@@ -1,10 +1,10 @@
 -- What contracts see of a kernel: real names, types, terms and sequents, each in the order of its numbers.
-use Rattle.std.specs.Prelude.{◌≡◌, ℕ, List, [], ◌∷◌, map, slice_index_or, refl}
+use Rattle.std.specs.Prelude.{◌≡◌, ℕ, false, List, [], ◌∷◌, map, slice_index_or, AllPairs, refl}
 use Rattle.std.specs.List.{All}
 use Rattle.std.specs.Coded.{Coded, code_by, coded×, coded_list}
 use Rattle.ot_plain.specs.Names.{Name}
 use Rattle.ot_plain.specs.Trees.{Ty, Tys, TyVar, NoTys, MoreTys, Variable, Named, NConst, Tm, Bound, Sequent, Definition}
-use Rattle.ot_plain.specs.Hol.{nameless, IsSequent, Accepted}
+use Rattle.ot_plain.specs.Hol.{nameless, same_sequent, IsSequent, Accepted}
 use Rattle.ot_plain.specs.Naming.{names, IsNameTable}
 use Rattle.ot_plain.specs.Codes.{coded_name, coded_ty, coded_named, coded_sequent, coded_definition}
 use Rattle.ot_plain.specs.Table.{Extends}
@@ -77,9 +77,14 @@ pub record SameTheorems (old new : State) : Type 0 where
 
 -- ---- soundness
 
--- each theorem is derivable from the assumptions under the definitions, and these are accepted
+-- no two of the sequents are one
+abbrev pub AreApart : List (Sequent Name) → Type 0
+AreApart qs = AllPairs (λ q r. same_sequent names q r ≡ false) qs
+
+-- each theorem is derivable from the assumptions under the definitions, these are accepted, and no two assumptions are one
 pub record IsSoundState (s : State) : Type 0 where
   pub theorems : All (IsTheorem names s.assumptions s.definitions) s.theorems
   pub assumptions : All (IsSequent names) s.assumptions
   pub accepted : Accepted names s.assumptions s.definitions
   pub names : IsNameTable s.names
+  pub apart : AreApart s.assumptions

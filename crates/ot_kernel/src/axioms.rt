@@ -1,5 +1,5 @@
 //! Assumptions: sequents that are taken as they are.
-ghost use Rattle.std.specs.Prelude.{◌≡◌, ◌<◌, map, length, find, IfOk, IfErr, IfSome};
+ghost use Rattle.std.specs.Prelude.{◌≡◌, ◌<◌, map, length, find, None, IfOk, IfErr, IfSome};
 ghost use Rattle.std.specs.List.{All, list_all};
 ghost use Rattle.std.specs.Option.{option_map};
 ghost use Rattle.ot_plain.specs.Hol.{same_sequent};
@@ -15,7 +15,6 @@ use crate::fault::RuleFault;
 use crate::hypotheses::once_each;
 use crate::kernel::Kernel;
 use crate::theorem::{Theorem, ThmId};
-use ot_plain::Memory;
 use ot_term::TermId;
 use ot_type::TypeId;
 
@@ -56,29 +55,30 @@ impl Kernel {
         ensures ok { IfOk result (λ id. IsSupposed id (sequent_of self.old.terms theorem) self.old self.new) }
         ensures err { IfErr result (λ e. (self.new ≡ self.old) × (e ≡ RuleFault.Memory)) }
     {
-        if let Some(known) = self.assumption_of(&theorem)? {
+        if let Some(known) = self.assumption_of(&theorem) {
             return Ok(known);
         }
         self.suppose(theorem)
     }
 
     // The first assumption that is this sequent.
-    fn assumption_of(&self, theorem: &Theorem) -> Result<Option<ThmId>, Memory>
+    fn assumption_of(&self, theorem: &Theorem) -> Option<ThmId>
         requires { IsInside (length self.now.terms) theorem.now }
-        ensures within { IfOk result (λ found. IfSome found (λ id. id < length self.now.theorems)) }
-        ensures first { IfOk result (λ found. option_map (theorem_at self.now) found ≡ find (λ r. same_sequent names r (sequent_of self.now.terms theorem.now)) self.now.assumptions) }
+        ensures within { IfSome result (λ id. id < length self.now.theorems) }
+        ensures first { option_map (theorem_at self.now) result ≡ find (λ r. same_sequent names r (sequent_of self.now.terms theorem.now)) self.now.assumptions }
     {
         for id in self.assumptions() {
-            if self.same(self.alloc, *id, &theorem.hyps, theorem.concl)? {
-                return Ok(Some(*id));
+            if self.same(*id, &theorem.hyps, theorem.concl) {
+                return Some(*id);
             }
         }
-        Ok(None)
+        None
     }
 
     // A sequent of propositions as a new assumption, whose theorem takes the next place.
     fn suppose(&mut self, theorem: Theorem) -> Result<ThmId, RuleFault>
-        requires { IsProposed self.old theorem }
+        requires proposed { IsProposed self.old theorem }
+        requires new { find (λ r. same_sequent names r (sequent_of self.old.terms theorem)) self.old.assumptions ≡ None }
         ensures ok { IfOk result (λ id. (id ≡ length self.old.theorems) × (self.new ≡ supposing self.old (sequent_of self.old.terms theorem))) }
         ensures err { IfErr result (λ e. (self.new ≡ self.old) × (e ≡ RuleFault.Memory)) }
     {

@@ -15,6 +15,7 @@ ghost use Rattle.ot_kernel.specs.Numbered.{tm_at, numbered_sequent, Derives, IsG
 ghost use Rattle.ot_kernel.specs.Equating.{limited, Makes};
 ghost use Rattle.ot_kernel.specs.Spelled.{IsInside};
 ghost use Rattle.ot_kernel.specs.Defining.{zipped};
+ghost use Rattle.ot_kernel.specs.Opening.{beta_over};
 ghost use Rattle.ot_kernel.specs.Proved.{bound_of_names, IsGrownTo, IsNumberOf, equal_functions, trip, TurnsBack, MakesTrip, DerivesBoth};
 
 use crate::equations::{abstract_from, apply, equate};
@@ -94,7 +95,7 @@ pub(crate) fn type_theorems(
 }
 
 // The type of an operator over type variables, which is never nested too deep.
-fn new_type(
+pub(crate) fn new_type(
     alloc: Global,
     terms: &mut Terms,
     op: NameId,
@@ -123,7 +124,7 @@ fn type_variables(alloc: Global, terms: &mut Terms, vars: &[NameId]) -> Result<V
 }
 
 // The constant of this name from one type to another.
-fn constant_between(
+pub(crate) fn constant_between(
     terms: &mut Terms,
     name: NameId,
     from: TypeId,
@@ -185,7 +186,7 @@ fn rep_theorem(
 }
 
 // A variable, and g (f v).
-fn round_trip(
+pub(crate) fn round_trip(
     terms: &mut Terms,
     v: &VarKey,
     f: TermId,
@@ -282,4 +283,29 @@ fn constants(
         s.add(terms, *v, constant)?;
     }
     Ok(s)
+}
+
+// |- (\v. p v) v = p v.
+pub(crate) fn beta_theorem(
+    alloc: Global,
+    terms: &mut Terms,
+    v: &VarKey,
+    p: TermId,
+) -> Result<Theorem, RuleFault>
+    requires ty { v.now.ty < length terms.old.types }
+    requires p { p < length terms.old.terms }
+    requires predicate { HasType numbers (tm_at terms.old.terms p) (fun_ty numbers (type_at terms.old.types v.now.ty) (bool_ty numbers)) }
+    requires closed { IsClosed numbers (tm_at terms.old.terms p) }
+    ensures derives { Derives result (within_limit numbers (sequent_of numbers (beta_over numbers (variable_of terms.old.types v.now) (tm_at terms.old.terms p)))) terms.new.terms }
+    ensures grown { IsGrownBy v.now.name terms.old terms.new }
+{
+    let x = terms.var(*v)?;
+    let holds = apply(terms, p, x)?;
+    let function = abstract_from(terms, v, holds)?;
+    let redex = apply(terms, function, x)?;
+    let concl = equate(terms, redex, holds)?;
+    Ok(Theorem {
+        hyps: Vec::new(alloc),
+        concl,
+    })
 }

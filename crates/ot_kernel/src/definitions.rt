@@ -53,10 +53,8 @@ impl Kernel {
         ensures refused { IfErr result (λ e. RefusesBy (name_at self.now) e (const_definition name_alphabet self.now.definitions (name_at self.now name) (term_at self.now t))) }
         ensures symbols { IfErr result (IsSymbolIn (length self.now.names)) }
     {
-        Ok(
-            self.signature
-                .check_const(self.alloc, &self.terms, name, t)?,
-        )
+        let checked = self.signature.check_const(self.alloc, &self.terms, name, t);
+        Ok(checked?)
     }
 
     // The number of the theorem of a constant that may be defined.

@@ -47,7 +47,7 @@ pub(crate) fn prove_hyp(
     requires top { IsInside (length terms.now.terms) top.now }
     ensures derives { Derives result (prove_hyp_rule numbers (numbered_sequent terms.now.terms lower.now) (numbered_sequent terms.now.terms top.now)) terms.now.terms }
 {
-    if is_lemma(alloc, terms, lower, top)? {
+    if is_lemma(terms, lower, top) {
         Ok(proved_hyp(alloc, terms, lower, top)?)
     } else {
         Ok(proved_hyp(alloc, terms, top, lower)?)
@@ -55,16 +55,16 @@ pub(crate) fn prove_hyp(
 }
 
 // Whether the lower theorem alone is a lemma for the other.
-fn is_lemma(alloc: Global, terms: &Terms, lower: &Theorem, top: &Theorem) -> Result<bool, Memory>
+fn is_lemma(terms: &Terms, lower: &Theorem, top: &Theorem) -> bool
     requires lower { IsInside (length terms.now.terms) lower.now }
     requires top { IsInside (length terms.now.terms) top.now }
-    ensures { IfOk result (λ b. b ≡ (not (is_in numbers (tm_at terms.now.terms top.now.concl) (tms_at terms.now.terms lower.now.hyps.items))
-        && is_in numbers (tm_at terms.now.terms lower.now.concl) (tms_at terms.now.terms top.now.hyps.items))) }
+    ensures { result ≡ (not (is_in numbers (tm_at terms.now.terms top.now.concl) (tms_at terms.now.terms lower.now.hyps.items))
+        && is_in numbers (tm_at terms.now.terms lower.now.concl) (tms_at terms.now.terms top.now.hyps.items)) }
 {
-    if has_term(alloc, terms, &lower.hyps, top.concl)? {
-        return Ok(false);
+    if has_term(terms, &lower.hyps, top.concl) {
+        return false;
     }
-    has_term(alloc, terms, &top.hyps, lower.concl)
+    has_term(terms, &top.hyps, lower.concl)
 }
 
 // The other theorem with the lemma's hypotheses in the place of the lemma's conclusion.

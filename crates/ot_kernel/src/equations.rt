@@ -101,7 +101,7 @@ pub(crate) fn eq_mp(
     ensures derives { Derives result (eq_mp_rule numbers (numbered_sequent terms.now.terms lower.now) (numbered_sequent terms.now.terms top.now)) terms.now.terms }
 {
     let (p, q) = sides(terms, lower.concl)?;
-    if !alpha_eq(alloc, terms, p, top.concl)? {
+    if !alpha_eq(terms, p, top.concl) {
         return Err(RuleFault::NotAlphaEqual);
     }
     let hyps = union(alloc, terms, &lower.hyps, &top.hyps)?;
@@ -167,29 +167,24 @@ pub(crate) fn trans(
     ensures grown { IsGrown terms.old terms.new }
 {
     let _types = terms.types();
-    let (left, right) = outer_sides(alloc, terms, lower, top)?;
+    let (left, right) = outer_sides(terms, lower, top)?;
     let hyps = union(alloc, terms, &lower.hyps, &top.hyps)?;
     let concl = equate(terms, left, right)?;
     Ok(Theorem { hyps, concl })
 }
 
 // The sides that two equations with one side in common don't share. The inner sides are compared first.
-fn outer_sides(
-    alloc: Global,
-    terms: &Terms,
-    lower: &Theorem,
-    top: &Theorem,
-) -> Result<(TermId, TermId), RuleFault>
+fn outer_sides(terms: &Terms, lower: &Theorem, top: &Theorem) -> Result<(TermId, TermId), RuleFault>
     requires lower { IsInside (length terms.now.terms) lower.now }
     requires top { IsInside (length terms.now.terms) top.now }
     ensures { GivesOuter result terms.now.terms lower.now top.now }
 {
     let (a, b) = sides(terms, lower.concl)?;
     let (c, d) = sides(terms, top.concl)?;
-    if alpha_eq(alloc, terms, b, c)? {
+    if alpha_eq(terms, b, c) {
         return Ok((a, d));
     }
-    if alpha_eq(alloc, terms, d, a)? {
+    if alpha_eq(terms, d, a) {
         return Ok((c, b));
     }
     Err(RuleFault::NotAlphaEqual)

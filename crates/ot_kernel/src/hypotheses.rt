@@ -12,41 +12,31 @@ use ot_term::{TermId, Terms, VarKey};
 use std::alloc::Global;
 
 // Whether a term is among these.
-pub(crate) fn has_term(
-    alloc: Global,
-    terms: &Terms,
-    among: &[TermId],
-    t: TermId,
-) -> Result<bool, Memory>
+pub(crate) fn has_term(terms: &Terms, among: &[TermId], t: TermId) -> bool
     requires among { All (λ i. i < length terms.now.terms) among.now }
     requires t { t < length terms.now.terms }
-    ensures { IfOk result (λ b. b ≡ is_in numbers (tm_at terms.now.terms t) (tms_at terms.now.terms among.now)) }
+    ensures { result ≡ is_in numbers (tm_at terms.now.terms t) (tms_at terms.now.terms among.now) }
 {
     for u in among {
-        if alpha_eq(alloc, terms, *u, t)? {
-            return Ok(true);
+        if alpha_eq(terms, *u, t) {
+            return true;
         }
     }
-    Ok(false)
+    false
 }
 
 // Whether all the terms are among these.
-pub(crate) fn has_terms(
-    alloc: Global,
-    terms: &Terms,
-    among: &[TermId],
-    ts: &[TermId],
-) -> Result<bool, Memory>
+pub(crate) fn has_terms(terms: &Terms, among: &[TermId], ts: &[TermId]) -> bool
     requires among { All (λ i. i < length terms.now.terms) among.now }
     requires ts { All (λ i. i < length terms.now.terms) ts.now }
-    ensures { IfOk result (λ b. b ≡ all_in numbers (tms_at terms.now.terms ts.now) (tms_at terms.now.terms among.now)) }
+    ensures { result ≡ all_in numbers (tms_at terms.now.terms ts.now) (tms_at terms.now.terms among.now) }
 {
     for t in ts {
-        if !has_term(alloc, terms, among, *t)? {
-            return Ok(false);
+        if !has_term(terms, among, *t) {
+            return false;
         }
     }
-    Ok(true)
+    true
 }
 
 // Those of the first list, and then those of the second that the first lacks.
@@ -63,7 +53,7 @@ pub(crate) fn union(
 {
     let mut all = Vec::from_slice(alloc, g)?;
     for t in h {
-        if !has_term(alloc, terms, g, *t)? {
+        if !has_term(terms, g, *t) {
             all.push(*t)?;
         }
     }
@@ -84,7 +74,7 @@ pub(crate) fn minus(
 {
     let mut left = Vec::new(alloc);
     for u in g {
-        if !alpha_eq(alloc, terms, *u, t)? {
+        if !alpha_eq(terms, *u, t) {
             left.push(*u)?;
         }
     }
@@ -99,7 +89,7 @@ pub(crate) fn once_each(alloc: Global, terms: &Terms, g: &[TermId]) -> Result<Ve
 {
     let mut once = Vec::new(alloc);
     for (i, t) in g.iter().enumerate() {
-        if !has_term(alloc, terms, &g[i + 1..], *t)? {
+        if !has_term(terms, &g[i + 1..], *t) {
             once.push(*t)?;
         }
     }

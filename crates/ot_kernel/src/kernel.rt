@@ -1,12 +1,12 @@
 ghost use Rattle.std.specs.Prelude.{◌≡◌, ◌<◌, ◌++◌, [], ◌∷◌, Some, map, slice_get, length, IfOk, IfErr};
 ghost use Rattle.std.specs.List.{All};
-ghost use Rattle.ot_plain.specs.Trees.{TyVar, Free, Con};
+ghost use Rattle.ot_plain.specs.Trees.{TyVar, Free, Con, NApp, NAbs};
 ghost use Rattle.ot_plain.specs.Naming.{names, first_names};
 ghost use Rattle.ot_plain.specs.Hol.{bool_ty, same_sequent};
 ghost use Rattle.ot_plain.specs.Rules.{has_type, op_rule, app_rule, abs_rule, assume_rule};
 ghost use Rattle.ot_laws.specs.Theorem.{IsTheorem};
 ghost use Rattle.ot_kernel.specs.Spelled.{sequent_of, IsInside, IsSpelled};
-ghost use Rattle.ot_kernel.specs.State.{State, name_at, type_at, types_at, variable_at, term_at, terms_at, theorem_at, Keeps, SameBasis, SameTheorems, IsSoundState};
+ghost use Rattle.ot_kernel.specs.State.{State, name_at, type_at, types_at, variable_at, named_at, term_at, terms_at, theorem_at, Keeps, SameBasis, SameTheorems, IsSoundState};
 ghost use Rattle.ot_kernel.specs.Definitions.{definition_at, IsHeld};
 ghost use Rattle.ot_kernel.specs.Answers.{MakesType, MakesTerm, MakesAbstraction, Concludes};
 ghost use Rattle.ot_kernel.specs.Derived.{Follows, Adds};
@@ -68,7 +68,8 @@ impl Kernel {
         })
     }
 
-    /// A law: each theorem is derivable from the assumptions under the definitions, which are accepted.
+    /// A law: each theorem is derivable from the assumptions under the definitions, which are
+    /// accepted, and no two assumptions are the same sequent.
     pub fn sound(&self)
         ensures { IsSoundState self.now }
     {
@@ -143,23 +144,28 @@ impl Kernel {
         self.terms.constant(name, ty)
     }
 
-    /// The application of a function to an argument. The first refusal counts: `NotFunction`, `ArgumentType`, `Nesting`.
+    /// The application of a function to an argument, as a named tree.
+    ///
+    /// The first refusal counts: `NotFunction`, `ArgumentType`, `Nesting`.
     pub fn app(&mut self, f: TermId, x: TermId) -> Result<TermId, TermFault>
         requires f { f < length self.old.terms }
         requires x { x < length self.old.terms }
         ensures made { MakesTerm result (app_rule names (term_at self.old f) (term_at self.old x)) self.new }
+        ensures named { IfOk result (λ id. slice_get self.new.terms id ≡ Some (NApp (named_at self.old.terms f) (named_at self.old.terms x))) }
         ensures keeps { Keeps self.old self.new }
         ensures same { SameTheorems self.old self.new }
     {
         self.terms.app(f, x)
     }
 
-    /// The abstraction of a variable from a body. `Nesting` where it would pass the limit.
+    /// The abstraction of a variable from a body, as a named tree. `Nesting` where it would pass
+    /// the limit.
     pub fn abs(&mut self, v: VarKey, body: TermId) -> Result<TermId, TableFault>
         requires name { v.name < length self.old.names }
         requires ty { v.ty < length self.old.types }
         requires body { body < length self.old.terms }
         ensures made { MakesAbstraction result (abs_rule names (variable_at self.old v) (term_at self.old body)) self.new }
+        ensures named { IfOk result (λ id. slice_get self.new.terms id ≡ Some (NAbs (variable_at self.old v) (named_at self.old.terms body))) }
         ensures keeps { Keeps self.old self.new }
         ensures same { SameTheorems self.old self.new }
     {
@@ -255,19 +261,13 @@ impl Kernel {
 
     /// Whether a theorem is this sequent: whether the set of its hypotheses and its conclusion are these, up to the names
     /// of binders.
-    pub fn same(
-        &self,
-        alloc: Global,
-        th: ThmId,
-        hyps: &[TermId],
-        concl: TermId,
-    ) -> Result<bool, Memory>
+    pub fn same(&self, th: ThmId, hyps: &[TermId], concl: TermId) -> bool
         requires th { th < length self.now.theorems }
         requires hyps { All (λ i. i < length self.now.terms) hyps.now }
         requires concl { concl < length self.now.terms }
-        ensures { IfOk result (λ b. b ≡ same_sequent names (theorem_at self.now th) (record { hyps = terms_at self.now hyps.now; concl = term_at self.now concl })) }
+        ensures { result ≡ same_sequent names (theorem_at self.now th) (record { hyps = terms_at self.now hyps.now; concl = term_at self.now concl }) }
     {
-        self.theorems[th.0].states(alloc, &self.terms, hyps, concl)
+        self.theorems[th.0].states(&self.terms, hyps, concl)
     }
 
     /// The definitions, in the order in which they were accepted.

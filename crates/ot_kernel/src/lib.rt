@@ -11,14 +11,14 @@ mod fault;
 mod hypotheses;
 mod instances;
 mod kernel;
+mod open_types;
 mod pairs;
 mod rules;
-#[cfg(test)]
-mod tests;
 mod theorem;
 mod type_operators;
 
 pub use definition::Definition;
 pub use fault::RuleFault;
 pub use kernel::Kernel;
+pub use open_types::Type5;
 pub use theorem::ThmId;

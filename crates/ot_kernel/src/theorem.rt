@@ -1,13 +1,11 @@
-ghost use Rattle.std.specs.Prelude.{◌≡◌, ◌<◌, length, IfOk};
+ghost use Rattle.std.specs.Prelude.{◌≡◌, ◌<◌, length};
 ghost use Rattle.std.specs.List.{All};
 ghost use Rattle.ot_plain.specs.Hol.{same_sequent};
 ghost use Rattle.ot_plain.specs.Naming.{numbers};
 
 use crate::hypotheses::has_terms;
 use ot_alpha::alpha_eq;
-use ot_plain::Memory;
 use ot_term::{TermId, Terms};
-use std::alloc::Global;
 use std::marker::Model;
 
 /// A theorem: hypotheses, no two of them alike up to the names of binders, and a conclusion.
@@ -22,26 +20,20 @@ impl Theorem {
     ghost use Rattle.ot_kernel.specs.Spelled.{IsInside};
 
     // Whether this is the theorem's sequent.
-    pub(crate) fn states(
-        &self,
-        alloc: Global,
-        terms: &Terms,
-        hyps: &[TermId],
-        concl: TermId,
-    ) -> Result<bool, Memory>
+    pub(crate) fn states(&self, terms: &Terms, hyps: &[TermId], concl: TermId) -> bool
         requires inside { IsInside (length terms.now.terms) self.now }
         requires hyps { All (λ i. i < length terms.now.terms) hyps.now }
         requires concl { concl < length terms.now.terms }
-        ensures { IfOk result (λ b. b ≡ same_sequent numbers (numbered_sequent terms.now.terms self.now)
-            (record { hyps = tms_at terms.now.terms hyps.now; concl = tm_at terms.now.terms concl })) }
+        ensures { result ≡ same_sequent numbers (numbered_sequent terms.now.terms self.now)
+            (record { hyps = tms_at terms.now.terms hyps.now; concl = tm_at terms.now.terms concl }) }
     {
-        if !alpha_eq(alloc, terms, self.concl, concl)? {
-            return Ok(false);
+        if !alpha_eq(terms, self.concl, concl) {
+            return false;
         }
-        if !has_terms(alloc, terms, hyps, &self.hyps)? {
-            return Ok(false);
+        if !has_terms(terms, hyps, &self.hyps) {
+            return false;
         }
-        has_terms(alloc, terms, &self.hyps, hyps)
+        has_terms(terms, &self.hyps, hyps)
     }
 }
 

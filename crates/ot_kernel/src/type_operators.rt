@@ -1,15 +1,16 @@
 //! Type operators: types that are taken from the elements of others.
-ghost use Rattle.std.specs.Prelude.{◌≡◌, ◌<◌, suc, ◌∷◌, [], map, length, Ok, IfOk, IfErr, OnOk};
+ghost use Rattle.std.specs.Prelude.{◌≡◌, ◌<◌, suc, ◌∷◌, ◌++◌, [], map, length, Ok, IfOk, IfErr, OnOk};
 ghost use Rattle.std.specs.List.{All};
 ghost use Rattle.ot_plain.specs.Trees.{TyDef};
 ghost use Rattle.ot_plain.specs.Hol.{theorems, theorems_at, IsNext};
 ghost use Rattle.ot_plain.specs.Naming.{names as name_alphabet, numbers};
+ghost use Rattle.ot_laws.specs.Theorem.{IsTheorem};
 ghost use Rattle.ot_term.specs.declared.term.SymbolKind.TheVariants.{TyOp};
 ghost use Rattle.ot_define.specs.Conditions.{checked_type};
 ghost use Rattle.ot_kernel.specs.State.{name_at, theorem_at, Keeps};
 ghost use Rattle.ot_kernel.specs.Spelled.{sequent_of, IsInside};
 ghost use Rattle.ot_kernel.specs.Numbered.{tm_at};
-ghost use Rattle.ot_kernel.specs.Accepting.{defining};
+ghost use Rattle.ot_kernel.specs.Accepting.{defining_more};
 ghost use Rattle.ot_kernel.specs.Defining.{all_defined, all_used, type_definition};
 ghost use Rattle.ot_kernel.specs.Proved.{bound_of_names, IsGrownTo, DerivesBoth, IsPremise, ArePartsOf};
 ghost use Rattle.ot_kernel.specs.Answers.{RefusesBy, IsSymbolIn, DefinesType};
@@ -20,7 +21,7 @@ use crate::definitions::constant_symbol;
 use crate::fault::RuleFault;
 use crate::kernel::Kernel;
 use crate::theorem::{Theorem, ThmId};
-use ot_plain::NameId;
+use ot_plain::{Memory, NameId};
 use ot_term::{Symbol, SymbolKind, TermId, TermNode, Terms};
 use ot_type::TypeId;
 use std::alloc::Global;
@@ -51,11 +52,12 @@ impl Kernel {
         self.check_operator(name, abs, rep, vars, th)?;
         let concl = self.concl(th);
         let theorems = operator_theorems(self.alloc, &mut self.terms, name, abs, rep, vars, concl)?;
-        self.accept_operator(name, abs, rep, vars, th, theorems)
+        let further = Vec::new(self.alloc);
+        self.accept_operator(name, abs, rep, vars, th, theorems, further)
     }
 
     // Whether a type operator may be defined from a theorem.
-    fn check_operator(
+    pub(crate) fn check_operator(
         &self,
         name: NameId,
         abs: NameId,
@@ -88,8 +90,9 @@ impl Kernel {
         )
     }
 
-    // The numbers of the two theorems of a type operator that may be defined.
-    fn accept_operator(
+    // The numbers of the two theorems of a type operator that may be defined. Further theorems that
+    // follow from these take the places behind them.
+    pub(crate) fn accept_operator(
         &mut self,
         name: NameId,
         abs: NameId,
@@ -97,6 +100,7 @@ impl Kernel {
         vars: &[NameId],
         premise: ThmId,
         both: (Theorem, Theorem),
+        mut further: Vec<Theorem>,
     ) -> Result<(ThmId, ThmId), RuleFault>
         requires name { name < length self.old.names }
         requires abs { abs < length self.old.names }
@@ -108,8 +112,12 @@ impl Kernel {
         requires next { IsNext name_alphabet self.old.assumptions self.old.definitions (TyDef (name_at self.old name) (name_at self.old abs) (name_at self.old rep) (map (name_at self.old) vars.now) (theorem_at self.old premise)) }
         requires theorems { sequent_of self.old.terms both.0 ∷ sequent_of self.old.terms both.1 ∷ []
             ≡ theorems name_alphabet (TyDef (name_at self.old name) (name_at self.old abs) (name_at self.old rep) (map (name_at self.old) vars.now) (theorem_at self.old premise)) }
+        requires further { All (IsInside (length self.old.terms)) further.items }
+        requires follow { let d = TyDef (name_at self.old name) (name_at self.old abs) (name_at self.old rep) (map (name_at self.old) vars.now) (theorem_at self.old premise) in
+            All (IsTheorem name_alphabet self.old.assumptions (self.old.definitions ++ d ∷ [])) (theorems name_alphabet d)
+            → All (IsTheorem name_alphabet self.old.assumptions (self.old.definitions ++ d ∷ [])) (map (sequent_of self.old.terms) further.items) }
         ensures ok { IfOk result (λ ids. (ids.0 ≡ length self.old.theorems) × (ids.1 ≡ suc (length self.old.theorems))
-            × (self.new ≡ defining self.old (TyDef (name_at self.old name) (name_at self.old abs) (name_at self.old rep) (map (name_at self.old) vars.now) (theorem_at self.old premise)))) }
+            × (self.new ≡ defining_more self.old (TyDef (name_at self.old name) (name_at self.old abs) (name_at self.old rep) (map (name_at self.old) vars.now) (theorem_at self.old premise)) (map (sequent_of self.old.terms) further.items))) }
         ensures err { IfErr result (λ e. (self.new ≡ self.old) × (e ≡ RuleFault.Memory)) }
     {
         let abs_th = ThmId(self.theorems.len());
@@ -125,9 +133,8 @@ impl Kernel {
             abs_th,
             rep_th,
         };
-        let mut theorems = Vec::new(self.alloc);
-        theorems.push(first)?;
-        theorems.push(second)?;
+        let mut theorems = listed(self.alloc, (first, second))?;
+        theorems.append(&mut further)?;
         let defined = [
             operator_symbol(name),
             constant_symbol(abs),
@@ -138,8 +145,19 @@ impl Kernel {
     }
 }
 
+// Two theorems as a list.
+pub(crate) fn listed(alloc: Global, both: (Theorem, Theorem)) -> Result<Vec<Theorem>, Memory>
+    ensures { IfOk result (λ v. v.items ≡ both.0 ∷ both.1 ∷ []) }
+{
+    let (first, second) = both;
+    let mut theorems = Vec::new(alloc);
+    theorems.push(first)?;
+    theorems.push(second)?;
+    Ok(theorems)
+}
+
 // The theorems of a type operator from a premise p t, over the tables.
-fn operator_theorems(
+pub(crate) fn operator_theorems(
     alloc: Global,
     terms: &mut Terms,
     op: NameId,
@@ -158,7 +176,7 @@ fn operator_theorems(
 }
 
 // The predicate p of a premise p t, and the type of t.
-fn parts(terms: &Terms, premise: TermId) -> (TermId, TypeId)
+pub(crate) fn parts(terms: &Terms, premise: TermId) -> (TermId, TypeId)
     requires inside { premise < length terms.now.terms }
     requires premise { IsPremise numbers (tm_at terms.now.terms premise) }
     ensures { ArePartsOf terms.now (tm_at terms.now.terms premise) result.0 result.1 }

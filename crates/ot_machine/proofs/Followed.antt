@@ -8,6 +8,8 @@ use Rattle.ot_scan.specs.declared.fault.ScanFault.{ScanFault}
 use Rattle.ot_scan.specs.declared.fault.ScanFault.TheVariants as scan
 use Rattle.ot_kernel.specs.State as kernel
 use Rattle.ot_machine.specs.declared.fault.Fault.{Fault}
+use Rattle.ot_machine.specs.declared.fault.Fault.TheVariants as code
+use Rattle.ot_machine.specs.declared.fault.ArticleFault.TheVariants as article
 use Rattle.ot_machine.specs.Conversions.{article_fault, refusal}
 use Rattle.ot_machine.specs.States.{State, Context}
 use Rattle.ot_machine.specs.Run.{line_step, run}
@@ -64,3 +66,13 @@ module _ (c : Context) (max : ℕ) (start : State) where
   follows-stopped k e now old new (Some bytes) None left' f t = absurd f
   follows-stopped k e now old new (Some bytes) (Some l) None f t = absurd t
   follows-stopped k e now old new (Some bytes) (Some l) (Some l') f t = runs-broken k e _ now _ _ f t.line
+
+-- a fault with a line is never want of memory
+pub refused-apart : (number line : ℕ) (f : Fault) → refusal number f ≡ article.At line code.Memory → ⊥
+refused-apart number line code.Memory e = cc
+refused-apart number line f e = cc
+
+pub stopped-apart : (line : ℕ) (f : ScanFault) → article_fault f ≡ article.At line code.Memory → ⊥
+stopped-apart line (scan.LineTooLong number) e = cc
+stopped-apart line (scan.ArticleTooLong number) e = cc
+stopped-apart line scan.ReadFault e = cc

@@ -14,3 +14,4 @@ pub mod Defined
 pub mod Taken
 pub mod Reached
 pub mod Followed
+pub mod Commanded

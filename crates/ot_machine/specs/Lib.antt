@@ -13,3 +13,4 @@ pub mod Conversions
 pub mod Meaning
 pub mod Contexts
 pub mod Answers
+pub mod Commanded

@@ -72,24 +72,18 @@ impl Session {
     }
 
     /// The first theorem of the context that is this sequent.
-    pub(crate) fn given(
-        &self,
-        alloc: Global,
-        ctx: &Context<'_>,
-        hyps: &[TermId],
-        concl: TermId,
-    ) -> Result<Option<ThmId>, Memory>
+    pub(crate) fn given(&self, ctx: &Context<'_>, hyps: &[TermId], concl: TermId) -> Option<ThmId>
         requires context { IsContextOf self.now.kernel ctx.now }
         requires hyps { All (λ t. t < length self.now.kernel.terms) hyps.now }
         requires concl { concl < length self.now.kernel.terms }
-        ensures within { IfOk result (λ found. IfSome found (λ th. th < length self.now.kernel.theorems)) }
-        ensures first { IfOk result (λ found. option_map (theorem_at self.now.kernel) found ≡ find (λ r. same_sequent names r (record { hyps = map (term_at self.now.kernel) hyps.now; concl = term_at self.now.kernel concl })) (sequents_of (context_of self.now.kernel ctx.now).theorems)) }
+        ensures within { IfSome result (λ th. th < length self.now.kernel.theorems) }
+        ensures first { option_map (theorem_at self.now.kernel) result ≡ find (λ r. same_sequent names r (record { hyps = map (term_at self.now.kernel) hyps.now; concl = term_at self.now.kernel concl })) (sequents_of (context_of self.now.kernel ctx.now).theorems) }
     {
         for given in ctx.theorems {
-            if self.kernel.same(alloc, given.th, hyps, concl)? {
-                return Ok(Some(given.th));
+            if self.kernel.same(given.th, hyps, concl) {
+                return Some(given.th);
             }
         }
-        Ok(None)
+        None
     }
 }

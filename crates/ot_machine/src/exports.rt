@@ -1,5 +1,5 @@
 // The exports of a machine of this session.
-ghost use Rattle.std.specs.Prelude.{◌≡◌, ◌<◌, ◌≤◌, length, map, IfOk, OnOk, OnErr, vec_len};
+ghost use Rattle.std.specs.Prelude.{◌≡◌, ◌<◌, ◌≤◌, length, map, OnOk, OnErr, vec_len};
 ghost use Rattle.std.specs.List.{All};
 ghost use Rattle.ot_plain.specs.Hol.{same_sequent};
 ghost use Rattle.ot_plain.specs.Naming.{names};
@@ -11,16 +11,10 @@ use crate::machine::{Export, Machine};
 use crate::session::Session;
 use ot_kernel::ThmId;
 use ot_plain::Memory;
-use std::alloc::Global;
 
 impl Session {
     /// Exports a theorem, where its sequent isn't exported already.
-    pub(crate) fn export(
-        &self,
-        alloc: Global,
-        machine: &mut Machine,
-        theorem: ThmId,
-    ) -> Result<(), Memory>
+    pub(crate) fn export(&self, machine: &mut Machine, theorem: ThmId) -> Result<(), Memory>
         requires of { IsOf self.now.kernel machine.old }
         requires inside { theorem < length self.now.kernel.theorems }
         ensures ok { OnOk result (article_of self.now.kernel machine.new ≡ (let s = article_of self.now.kernel machine.old in record s { exports = exported (theorem_at self.now.kernel theorem) s.exports })) }
@@ -28,35 +22,36 @@ impl Session {
         ensures of { IsOf self.now.kernel machine.new }
         ensures stack { vec_len machine.new.stack ≡ vec_len machine.old.stack }
     {
-        if self.is_exported(alloc, &machine.exports, theorem)? {
+        if self.is_exported(&machine.exports, theorem) {
             return Ok(());
         }
         machine.exports.push(Export { th: theorem })?;
         Ok(())
     }
 
-    /// Whether one of the exports is the theorem's sequent.
-    fn is_exported(&self, alloc: Global, exports: &[Export], theorem: ThmId) -> Result<bool, Memory>
+    /// Whether one of these exports is the theorem's sequent: the same set of hypotheses and the same conclusion, up to the
+    /// names of binders. All numbers have to be of this session.
+    pub fn is_exported(&self, exports: &[Export], theorem: ThmId) -> bool
         requires exports { All (λ e. e.th < length self.now.kernel.theorems) exports.now }
         requires inside { theorem < length self.now.kernel.theorems }
-        ensures { IfOk result (λ b. b ≡ is_exported (theorem_at self.now.kernel theorem) (map (export_of self.now.kernel) exports.now)) }
+        ensures { result ≡ is_exported (theorem_at self.now.kernel theorem) (map (export_of self.now.kernel) exports.now) }
     {
         for export in exports {
-            if self.is_same(alloc, theorem, export.th)? {
-                return Ok(true);
+            if self.is_same(theorem, export.th) {
+                return true;
             }
         }
-        Ok(false)
+        false
     }
 
     /// Whether two theorems are one sequent.
-    fn is_same(&self, alloc: Global, theorem: ThmId, other: ThmId) -> Result<bool, Memory>
+    fn is_same(&self, theorem: ThmId, other: ThmId) -> bool
         requires theorem { theorem < length self.now.kernel.theorems }
         requires other { other < length self.now.kernel.theorems }
-        ensures { IfOk result (λ b. b ≡ same_sequent names (theorem_at self.now.kernel theorem) (theorem_at self.now.kernel other)) }
+        ensures { result ≡ same_sequent names (theorem_at self.now.kernel theorem) (theorem_at self.now.kernel other) }
     {
         let hyps = self.kernel.hyps(other);
         let concl = self.kernel.concl(other);
-        self.kernel.same(alloc, theorem, hyps, concl)
+        self.kernel.same(theorem, hyps, concl)
     }
 }

@@ -20,6 +20,3 @@ pub use context::{Context, Given};
 pub use fault::{ArticleFault, Fault};
 pub use machine::{Export, Machine};
 pub use session::Session;
-
-#[cfg(test)]
-mod tests;

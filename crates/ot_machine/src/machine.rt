@@ -1,4 +1,4 @@
-ghost use Rattle.std.specs.Prelude.{◌≡◌, ◌<◌, ◌≤◌, ◌^◌, [], length, Err, IfSome, IfErr, OnOk};
+ghost use Rattle.std.specs.Prelude.{◌≡◌, ◌≢◌, ◌<◌, ◌≤◌, ◌^◌, ℕ, [], length, Err, IfSome, IfErr, OnOk};
 ghost use Rattle.ot_io.specs.Causes.{Rose};
 ghost use Rattle.ot_kernel.specs.State.{State, Keeps};
 ghost use Rattle.ot_scan.specs.Lines.{lines_of};
@@ -8,6 +8,7 @@ ghost use Rattle.ot_machine.specs.Meaning.{article_of, state_of, command_at, IsO
 ghost use Rattle.ot_machine.specs.Contexts.{context_of, IsContextOf};
 ghost use Rattle.ot_machine.specs.Step.{step, row, word_row, version_rule};
 ghost use Rattle.ot_machine.specs.Run.{line_step};
+ghost use Rattle.ot_machine.specs.Commanded.{LeadsTo};
 ghost use Rattle.ot_machine.specs.Answers.{Makes, Moves, Turns, Runs, NamesSymbolIn};
 
 use crate::context::Context;
@@ -84,9 +85,9 @@ impl Machine {
     }
 
     /// Runs the lines of an article, up to the first fault, in one pass over a source. The fault has the line at which it stands,
-    /// and the state is as before that line. `ReadFault` comes only where the source failed in this call. After it, and after
-    /// want of memory, the state is that of some number of the first lines. The machine's numbers, and the context's names and
-    /// theorems, have to be of this session.
+    /// and the state is as before that line; it is never want of memory, which is an answer of its own. `ReadFault` comes only
+    /// where the source failed in this call. After it, and after want of memory, the state is that of some number of the first
+    /// lines. The machine's numbers, and the context's names and theorems, have to be of this session.
     pub fn run_article<S: Source>(
         &mut self,
         session: &mut Session,
@@ -98,11 +99,12 @@ impl Machine {
         requires context { IsContextOf session.old.kernel ctx.now }
         requires max_bytes { max_bytes ≤ 2 ^ 32 }
         ensures runs { IfSome (S.left source.old) (λ bytes. Runs session.new.kernel result (context_of session.old.kernel ctx.now) (lines_of max_bytes bytes) (state_of session.old.kernel self.old) (state_of session.new.kernel self.new)) }
+        ensures led { LeadsTo (context_of session.old.kernel ctx.now) (state_of session.old.kernel self.old) (state_of session.new.kernel self.new) }
         ensures of { IsOf session.new.kernel self.new }
         ensures grown { Keeps session.old.kernel session.new.kernel }
         ensures symbols { IfErr result (NamesSymbolIn session.new.kernel) }
+        ensures apart { (line : ℕ) → result ≢ Err (ArticleFault.At line Fault.Memory) }
         ensures spent { OnOk result (IfSome (S.left source.old) (λ _. IfSome (S.left source.new) (λ bytes. bytes ≡ []))) }
-
         ensures cause { result ≡ Err ArticleFault.ReadFault → Rose (S.faults source.old) (S.faults source.new) }
         ensures later { S.faults source.old ≤ S.faults source.new }
         ensures folder { S.folder source.new ≡ S.folder source.old }

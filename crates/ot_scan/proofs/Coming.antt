@@ -14,10 +14,6 @@ use Rattle.ot_scan.proofs.Limits.{limit-front, limit-found}
 
 -- ---- the same lines
 
-pub keeps-none : (scan : Scan) (left : Option (List ℕ)) → KeepsLines scan scan left left
-keeps-none scan None = tt
-keeps-none scan (Some bytes) = refl
-
 pub keeps-more : (old mid new : Scan) (left left' left'' : Option (List ℕ)) → KeepsLines old mid left left' → KeepsLines mid new left' left'' → KeepsLines old new left left''
 keeps-more old mid new None left' left'' p q = tt
 keeps-more old mid new (Some bs) None left'' p q = absurd p

@@ -6,9 +6,6 @@ use Rattle.std.proofs.lemmas.Bool.Decides.{nat_tests}
 use Rattle.std.proofs.lemmas.Int.Digits.{digits_value_more}
 use Rattle.std.proofs.lemmas.List.Recursion.{and_at}
 
-digit_low : (d : ℕ) → is_ascii_digit d ≡ true → 48 ≤ d
-digit_low d h = grind (arith, nat_tests)
-
 digit_is : (d : ℕ) → is_ascii_digit d ≡ true → digit_value d ≡ d - 48
 digit_is d h = grind (arith, nat_tests)
 

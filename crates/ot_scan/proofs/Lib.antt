@@ -4,3 +4,4 @@ pub mod Limits
 pub mod Taking
 pub mod Held
 pub mod Coming
+pub mod Fitting

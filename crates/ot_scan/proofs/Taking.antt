@@ -31,20 +31,3 @@ seen scan view held e h = ap (λ (s : Scan). with_held s held) e ∙ ap (with_he
 -- so the limits that were checked are kept
 pub limits-kept : (scan view : Scan) (held : List ℕ) (len : ℕ) → view ≡ scan → held ≡ scan.held → limit_fault view.max view.before (take len held) ≡ None → limit_fault scan.max scan.before (take len scan.held) ≡ None
 limits-kept scan view held len e h kept = subst (λ (s : Scan). limit_fault s.max s.before (take len s.held) ≡ None) (seen scan view held e h) kept
-
-pub reads-nothing : (scan : Scan) (left : Option (List ℕ)) → Reads scan scan left left
-reads-nothing scan left = record {
-  bytes = [];
-  lost = Consumes-nothing left;
-  held = ap (with_held scan) (sym (append-nil scan.held));
-}
-
--- what was read before, and by one more read
-pub reads-more : (old mid new : Scan) (left left' left'' : Option (List ℕ)) → Reads old mid left left' → Reads mid new left' left'' → Reads old new left left''
-reads-more old mid new left left' left'' p q = record {
-  bytes = p.bytes ++ q.bytes;
-  lost = Consumes-trans left left' left'' p.bytes q.bytes p.lost q.lost;
-  held =
-      q.held ∙ ap (λ (s : Scan). with_held s (s.held ++ q.bytes)) p.held
-      ∙ ap (with_held old) (append_assoc old.held p.bytes q.bytes);
-}

@@ -2,6 +2,7 @@
 use Rattle.std.specs.Prelude.{◌≡◌, ◌<◌, ◌≤◌, ◌+◌, ℕ, ◌⊎◌, if◌then◌else◌, nat_lt, nat_le, List, [], ◌∷◌, ◌++◌, length, Option, Some, None, Result, Ok, Err, IfOk, IfSome, IfNone}
 use Rattle.ot_io.specs.Causes.{Rose}
 use Rattle.ot_lines.specs.Pieces.{pieces, without_last, text_of, is_skipped}
+use Rattle.ot_plain.specs.Lists.{IsMember}
 use Rattle.ot_plain.specs.Faults.{Fault, LineTooLong, ArticleTooLong}
 use Rattle.ot_plain.specs.Names.{Name}
 use Rattle.ot_scan.specs.declared.lines.Line.{Line}
@@ -50,6 +51,13 @@ lines_after max before number (p ∷ ps) = with_piece (number + 1) (text_of p) (
 -- the lines of an article
 abbrev pub lines_of : ℕ → List ℕ → Lines
 lines_of max bytes = lines_after max 0 0 (pieces bytes)
+
+-- ---- the text of a line
+
+-- a text that a line can hold: at most 65,535 bytes, and no newline
+pub record IsLineText (text : List ℕ) : Type 0 where
+  pub short : length text ≤ 65535
+  pub one : ¬ (IsMember 10 text)
 
 -- ---- the lines to come
 

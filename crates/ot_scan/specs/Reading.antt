@@ -4,7 +4,7 @@ use Rattle.std.specs.Io.KnownBytes.{Consumes, IsAtEnd}
 use Rattle.ot_lines.specs.Pieces.{IsOpenTo, EndsAt, text_of, is_skipped}
 use Rattle.ot_plain.specs.Faults.{Fault, LineTooLong, ArticleTooLong}
 use Rattle.ot_plain.specs.Names.{Name}
-use Rattle.ot_scan.specs.Lines.{Scan, Lines, Broken, Next, lines_to_come}
+use Rattle.ot_scan.specs.Lines.{Scan, Lines, Broken, Next, IsLineText, lines_to_come}
 use Rattle.ot_scan.specs.declared.fault.ScanFault.{ScanFault}
 use Rattle.ot_scan.specs.declared.fault.ScanFault.TheVariants as code
 
@@ -63,6 +63,7 @@ pub record IsCommandLine (len : ℕ) (scan : Scan) (left : Option (List ℕ)) : 
   pub within : len ≤ length scan.held
   pub limited : scan.before + len ≤ scan.max
   pub holds : is_skipped (text_of (take len scan.held)) ≡ false
+  pub fits : IsLineText (text_of (take len scan.held))
   pub next : IfSome left (λ bytes. lines_to_come scan bytes ≡ Next (scan.number + 1) (text_of (take len scan.held)) (lines_to_come (taken len scan) bytes))
 
 -- the length of the next line that holds a command, or 0 at the end

@@ -3,7 +3,7 @@ ghost use Rattle.std.specs.Borrow.{sem};
 ghost use Rattle.std.specs.Io.BufRead.{Rests};
 ghost use Rattle.std.specs.Io.KnownBytes.{IsAtEnd};
 ghost use Rattle.ot_io.specs.Causes.{HasCause};
-ghost use Rattle.ot_scan.specs.Lines.{TakesFrom, Counts, HasReadCause};
+ghost use Rattle.ot_scan.specs.Lines.{TakesFrom, Counts, HasReadCause, IsLineText};
 ghost use Rattle.ot_scan.specs.Reading.{Reads, IsFirst, KeepsLines, GoesOn, Finds, taken};
 ghost use Rattle.ot_scan.specs.contracts.lines.Lines.{the_row};
 
@@ -84,6 +84,7 @@ impl Lines {
             TakesFrom result self.old new (S.left source.old) (S.left source.new)
             × Counts result self.old new)) }
         ensures not_empty { IfOk result (λ o. IfSome o (λ line. 0 < length line.text.now)) }
+        ensures fits { IfOk result (λ o. IfSome o (λ line. IsLineText line.text.now)) }
 
         ensures cause { IfErr result (λ fault.
             HasReadCause fault (S.faults source.old) (S.faults source.new)) }

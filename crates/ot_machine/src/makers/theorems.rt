@@ -224,7 +224,6 @@ impl Session {
     /// The theorem of a sequent: the first of the context that is it, else the assumption of it, which the run has from then on.
     pub(crate) fn axiom(
         &mut self,
-        alloc: Global,
         machine: &Machine,
         ctx: &Context<'_>,
         hyps: &[TermId],
@@ -239,7 +238,7 @@ impl Session {
         ensures inside { IfOk result (λ th. th < length self.new.kernel.theorems) }
         ensures kept { Carries self.old.kernel self.new.kernel machine.now }
     {
-        if let Some(given) = self.given(alloc, ctx, hyps, concl)? {
+        if let Some(given) = self.given(ctx, hyps, concl) {
             self.kernel.sound();
             return Ok(given);
         }

@@ -156,7 +156,7 @@ pub fn axiom(
 {
     let concl = session.term_on(machine, 0)?;
     let hyps = session.terms_on(alloc, machine, 1)?;
-    let theorem = session.axiom(alloc, machine, ctx, &hyps, concl)?;
+    let theorem = session.axiom(machine, ctx, &hyps, concl)?;
     session.replace(machine, 2, Object::Theorem(theorem));
     Ok(())
 }
@@ -169,10 +169,10 @@ pub fn thm(alloc: Global, session: &mut Session, machine: &mut Machine) -> Resul
     let concl = session.term_on(machine, 0)?;
     let hyps = session.terms_on(alloc, machine, 1)?;
     let theorem = session.theorem_on(machine, 2)?;
-    if !session.kernel.same(alloc, theorem, &hyps, concl)? {
+    if !session.kernel.same(theorem, &hyps, concl) {
         return Err(Fault::ExportMismatch);
     }
-    session.export(alloc, machine, theorem)?;
+    session.export(machine, theorem)?;
     session.drop_top(machine, 3);
     Ok(())
 }

@@ -10,4 +10,4 @@ pub loop-t-preserved : goal.loop-t-preserved
 loop-t-preserved c =
     let us = tms_at c.args.terms.now.terms c.args.among.now in
     let rest = all_in numbers (tms_at c.args.terms.now.terms (drop (c.loop-t.t-index + 1) c.args.ts.now)) us in
-    c.loop-t.invariant ∙ all_next c.args.terms.now.terms us c.args.ts.now c.loop-t.t-index c.t-item.result c.in_ok-has_term.field-0 c.loop-t-test.true c.t-item.is c.in_ok-has_term.ensures ∙ ap (λ b. b && rest) c.if-not-branch.false
+    c.loop-t.invariant ∙ all_next c.args.terms.now.terms us c.args.ts.now c.loop-t.t-index c.t-item.result c.has_term.result c.loop-t-test.true c.t-item.is c.has_term.ensures ∙ ap (λ b. b && rest) c.if-not-has_term.false

@@ -1,7 +1,8 @@
-use Rattle.std.proofs.Common.{Err, ap}
+use Rattle.std.proofs.Common.{Err, ap, arith}
 use Rattle.std.proofs.lemmas.Result.{err_from_is_err_and}
 use Rattle.ot_plain.specs.Naming.{numbers}
 use Rattle.ot_plain.specs.Rules.{beta_conv_rule}
+use Rattle.ot_subst.proofs.Growing.{Grows-trans}
 use Rattle.ot_kernel.specs.Numbered.{tm_at}
 use Rattle.ot_kernel.specs.Refusals.{of_subst}
 use Rattle.ot_kernel.proofs.Refusals.{none_derived}
@@ -28,3 +29,16 @@ pub returns-clause-derives : goal.returns-clause-derives
 returns-clause-derives c =
     let was = c.in_ok-contracted.ensures in
     redex_equated c.args.terms.now c.beta.new.terms was.grows was.table c.args.t c.requires.inside c.in_ok-contracted.contracted was.ok c.equate.new.terms c.in_ok-concl.ensures.grown.grows (record { hyps = c.new.result; concl = c.in_ok-concl.concl }) c.new.ensures.items c.in_ok-concl.ensures.makes
+
+pub returns-clause-later : goal.returns-clause-later
+returns-clause-later c =
+    let was = c.in_ok-contracted.ensures in
+    let now = c.in_ok-concl.ensures.grown in
+    let first = was.name_table.first.longer in
+    record {
+      extends = was.extends;
+      name_table = λ _. was.name_table;
+      grows = Grows-trans was.grows now.grows;
+      table = now.table;
+      names = record { types = omega (arith, was.below.types, now.names.types, first); terms = omega (arith, was.below.types, was.below.terms, now.names.terms, first) };
+    }

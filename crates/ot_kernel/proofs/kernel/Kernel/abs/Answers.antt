@@ -1,6 +1,6 @@
 use Rattle.std.proofs.Common.{◌+◌, arith, max}
 use Rattle.ot_kernel.proofs.Growth.{Grown, terms_grown}
-use Rattle.ot_kernel.proofs.Numbers.{makes_abs}
+use Rattle.ot_kernel.proofs.Numbers.{makes_abs, abs-named}
 use Rattle.ot_kernel.proofs.kernel.Kernel.abs.Goals as goal
 
 grown : (c : goal.After-abs) → Grown c.args.self.now c.self.inside.names c.abs.new.self (record { theorems = c.self.inside.theorems.items; assumptions = c.self.inside.assumptions.items; definitions = c.self.inside.definitions.items; signature = c.self.inside.signature })
@@ -18,3 +18,6 @@ returns-clause-same c = (grown c).same
 pub returns-clause-made : goal.returns-clause-made
 returns-clause-made c =
     makes_abs _ _ _ _ c.self.view_is c.self.invariant c.abs.new.self _ _ _ c.requires.name c.requires.ty c.requires.body c.abs.ensures.ok c.abs.ensures.nesting c.abs.ensures.table
+
+pub returns-clause-named : goal.returns-clause-named
+returns-clause-named c = abs-named _ _ _ _ c.self.view_is c.self.invariant c.abs.new.self _ _ _ c.requires.name c.requires.ty c.requires.body c.abs.ensures.ok

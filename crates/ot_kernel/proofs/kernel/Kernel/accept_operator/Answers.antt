@@ -24,8 +24,8 @@ count c =
 abbrev definition : After-as_slice → kind.Definition
 definition c = code.TyOp c.args.name c.args.abs c.args.rep c.in_ok-from_slice.field-0 c.args.premise c.len.result (c.len-2.result + 1)
 
-added : (c : After-as_slice) → c.push-2.new.self.items ≡ c.args.both.0 ∷ c.args.both.1 ∷ []
-added c = c.in_ok-push-2.ensures.items ∙ ap (λ (l : List Theorem). l ++ c.args.both.1 ∷ []) (c.in_ok-push.ensures.items ∙ ap (λ (l : List Theorem). l ++ c.args.both.0 ∷ []) c.new-theorems.ensures.items)
+added : (c : After-as_slice) → c.append.new.self.items ≡ c.args.both.0 ∷ c.args.both.1 ∷ c.args.further.items
+added c = c.in_ok-append.ensures.items ∙ ap (λ (l : List Theorem). l ++ c.args.further.items) c.in_ok-theorems.ensures
 
 coded : (c : After-as_slice) (s : State) → definition_at s (definition c) ≡ operator_at s c.args.name c.args.abs c.args.rep c.args.vars.now c.args.premise
 coded c s = ap (λ (l : List ℕ). TyDef (name_at s c.args.name) (name_at s c.args.abs) (name_at s c.args.rep) (map (name_at s) l) (theorem_at s c.args.premise)) c.in_ok-from_slice.ensures.items
@@ -38,15 +38,15 @@ at_end c s =
 named : (c : After-as_slice) → AreNames (length c.args.self.now.names) c.args.name c.args.abs c.args.rep c.args.vars.now
 named c = record { operator = c.requires.name; to = c.requires.abs; from = c.requires.rep; variables = c.requires.vars }
 
-within : (c : After-as_slice) → IsDefinitionIn (length c.args.self.now.names) (length c.args.self.now.types) (length c.args.self.now.theorems + 2) (definition c)
+within : (c : After-as_slice) → IsDefinitionIn (length c.args.self.now.names) (length c.args.self.now.types) (length c.args.self.now.theorems + length (c.args.both.0 ∷ c.args.both.1 ∷ c.args.further.items)) (definition c)
 within c =
     let n = length c.args.self.now.names in
     let k = count c in
     (c.requires.name, c.requires.abs, c.requires.rep, subst (All (λ i. i < n)) (sym c.in_ok-from_slice.ensures.items) c.requires.vars, omega (arith, c.requires.premise), omega (arith, k.0), omega (arith, k.1))
 
-acceptable : (c : After-as_slice) → IsAcceptable c.args.self.now (c.args.both.0 ∷ c.args.both.1 ∷ []) (definition c) (OpSymbol c.args.name ∷ ConSymbol c.args.abs ∷ ConSymbol c.args.rep ∷ []) (map symbol_of c.in_ok-used.used.items)
+acceptable : (c : After-as_slice) → IsAcceptable c.args.self.now (c.args.both.0 ∷ c.args.both.1 ∷ c.args.further.items) (definition c) (OpSymbol c.args.name ∷ ConSymbol c.args.abs ∷ ConSymbol c.args.rep ∷ []) (map symbol_of c.in_ok-used.used.items)
 acceptable c =
-    operator_acceptable c.args.self.now c.args.name c.args.abs c.args.rep c.args.vars.now c.args.premise c.args.both.0 c.args.both.1 (definition c) (map symbol_of c.in_ok-used.used.items) (named c) c.requires.premise c.requires.first c.requires.second (coded c) (at_end c) (within c) c.requires.next c.requires.theorems c.in_ok-used.ensures.symbols c.in_ok-used.ensures.below
+    operator_acceptable c.args.self.now c.args.name c.args.abs c.args.rep c.args.vars.now c.args.premise c.args.both.0 c.args.both.1 c.args.further.items (definition c) (map symbol_of c.in_ok-used.used.items) (named c) c.requires.premise c.requires.first c.requires.second c.requires.further (coded c) (at_end c) (within c) c.requires.next c.requires.theorems c.requires.follow c.in_ok-used.ensures.symbols c.in_ok-used.ensures.below
 
 pub accept-requires : goal.accept-requires
 accept-requires c =
@@ -62,5 +62,5 @@ pub returns-clause-ok : goal.returns-clause-ok
 returns-clause-ok c =
     let d = (goal.at.returns-clause-ok c).After-as_slice in
     let k = count d in
-    let made = operator_accepted c.args.self.now c.args.name c.args.abs c.args.rep c.args.vars.now c.args.premise c.args.both.0 c.args.both.1 (definition d) (map symbol_of c.in_ok-used.used.items) (named d) c.requires.premise c.requires.first c.requires.second (coded d) (at_end d) (within d) c.requires.next c.requires.theorems c.in_ok-used.ensures.symbols c.in_ok-used.ensures.below in
+    let made = operator_accepted c.args.self.now c.args.name c.args.abs c.args.rep c.args.vars.now c.args.premise c.args.both.0 c.args.both.1 c.args.further.items (definition d) (map symbol_of c.in_ok-used.used.items) (named d) c.requires.premise c.requires.first c.requires.second c.requires.further (coded d) (at_end d) (within d) c.requires.next c.requires.theorems c.requires.follow c.in_ok-used.ensures.symbols c.in_ok-used.ensures.below in
     (k.0, omega (arith, k.1), c.in_ok-accept.ensures.ok ∙ ap (λ (ths : List Theorem). accepting c.args.self.now ths (definition d)) (added d) ∙ made)

@@ -6,6 +6,7 @@ use Rattle.ot_kernel.specs.Defining.{list_definition}
 use Rattle.ot_kernel.specs.Spelled.{state_of}
 use Rattle.ot_kernel.specs.State.{State, name_at, variable_at, theorem_at}
 use Rattle.ot_kernel.proofs.Constants.{defines}
+use Rattle.ot_kernel.proofs.EquationRules.{memory_refuses}
 use Rattle.ot_kernel.proofs.Later.{Later, later_names, unchanged, held_of, held_at, IsHeld}
 use Rattle.ot_kernel.proofs.Lists.{same_list, list_states, list_next, list_stated, distinct_numbers}
 use Rattle.ot_kernel.proofs.kernel.Kernel.define_list.Goals as goal
@@ -38,7 +39,7 @@ returns-in_err-theorem-clause-defines c =
     let s = c.args.self.now in
     let d = (goal.at.returns-in_err-theorem-clause-defines c).After-list_theorem in
     let stated = list_definition names s.definitions (map (name_at s) c.args.names.now) (map (variable_at s) c.args.vars.now) (theorem_at s c.args.th) in
-    rw (p.1, p.2) ((later d).same, subst (λ e. RefusesBy (name_at (mid d)) e stated) (sym c.in_err-theorem.ensures.err) (λ f q. cc))
+    rw (p.1, p.2) ((later d).same, subst (λ e. RefusesBy (name_at (mid d)) e stated) (sym c.in_err-theorem.ensures.err) (memory_refuses stated (name_at (mid d))))
 
 pub returns-in_err-theorem-clause-keeps : goal.returns-in_err-theorem-clause-keeps
 returns-in_err-theorem-clause-keeps c = (later (goal.at.returns-in_err-theorem-clause-keeps c).After-list_theorem).keeps

@@ -1,10 +1,17 @@
-use Rattle.std.proofs.Common.{length, ap, arith}
+use Rattle.std.proofs.Common.{List, [], ◌∷◌, ◌++◌, map, length, sym, ap, subst, arith}
+use Rattle.std.specs.List.{All}
 use Rattle.std.proofs.lemmas.Result.{err_from_is_err_and}
-use Rattle.ot_kernel.specs.Spelled.{state_of}
+use Rattle.std.proofs.lemmas.List.Elements.{All-nil}
+use Rattle.ot_plain.specs.Names.{Name}
+use Rattle.ot_plain.specs.Naming.{names}
+use Rattle.ot_plain.specs.Trees.{Sequent}
+use Rattle.ot_laws.specs.Theorem.{IsTheorem}
+use Rattle.ot_kernel.specs.declared.theorem.Theorem.{Theorem}
+use Rattle.ot_kernel.specs.Spelled.{sequent_of, state_of, IsInside}
 use Rattle.ot_kernel.specs.State.{State, name_at}
 use Rattle.ot_kernel.proofs.Later.{Later, later_to, unchanged, held_of}
 use Rattle.ot_kernel.proofs.Checked.{names_no_symbol}
-use Rattle.ot_kernel.proofs.Operators.{AreNames, names-bound, premise_is, next_mid, both_are, both_refused, both_made, operator_defines}
+use Rattle.ot_kernel.proofs.Operators.{AreNames, operator_at, names-bound, premise_is, next_mid, both_are, both_refused, both_made, none_further, operator_defines}
 use Rattle.ot_kernel.proofs.kernel.Kernel.define_type.Goals as goal
 use Rattle.ot_kernel.proofs.kernel.Kernel.define_type.Goals.{After-operator_theorems}
 
@@ -54,14 +61,28 @@ accept_operator-requires-clause-theorems c =
     let d = (goal.at.accept_operator-requires-clause-theorems c).After-operator_theorems in
     both_are (later d) c.args.name c.args.abs c.args.rep c.args.vars.now c.args.th c.concl-concl.result (named d) c.requires.th c.concl-concl.ensures.inside c.concl-concl.ensures.concl c.in_ok-theorems.theorems c.in_ok-theorems.ensures.derives
 
+pub accept_operator-requires-clause-further : goal.accept_operator-requires-clause-further
+accept_operator-requires-clause-further c = subst (All (IsInside _)) (sym c.new-further.ensures.items) (All-nil (IsInside _))
+
+pub accept_operator-requires-clause-follow : goal.accept_operator-requires-clause-follow
+accept_operator-requires-clause-follow c =
+    let d = (goal.at.accept_operator-requires-clause-follow c).After-operator_theorems in
+    let e = operator_at (mid d) c.args.name c.args.abs c.args.rep c.args.vars.now c.args.th in
+    let Holds : Sequent Name → Type 0 = IsTheorem names (mid d).assumptions ((mid d).definitions ++ e ∷ []) in
+    λ _. subst (λ (ths : List Theorem). All Holds (map (sequent_of (mid d).terms) ths)) (sym c.new-further.ensures.items) (All-nil Holds)
+
 pub returns-clause-defines : goal.returns-clause-defines
 returns-clause-defines c =
     let d = (goal.at.returns-clause-defines c).After-operator_theorems in
     let made = both_made (later d) c.args.name c.args.abs c.args.rep c.args.vars.now c.args.th c.concl-concl.result (named d) c.requires.th c.concl-concl.ensures.inside c.concl-concl.ensures.concl c.in_ok-check_operator.ensures.passed c.in_ok-theorems.theorems c.in_ok-theorems.ensures.derives in
-    (operator_defines (later d) c.args.name c.args.abs c.args.rep c.args.vars.now c.args.th c.concl-concl.result (named d) c.requires.th c.concl-concl.ensures.inside c.concl-concl.ensures.concl c.accept_operator.result c.accept_operator.new.self made c.accept_operator.ensures.ok c.accept_operator.ensures.err).0
+    let further = ap (map (sequent_of (mid d).terms)) c.new-further.ensures.items in
+    let plain = none_further c.accept_operator.result (length (mid d).theorems) (mid d) c.accept_operator.new.self (operator_at (mid d) c.args.name c.args.abs c.args.rep c.args.vars.now c.args.th) _ further c.accept_operator.ensures.ok in
+    (operator_defines (later d) c.args.name c.args.abs c.args.rep c.args.vars.now c.args.th c.concl-concl.result (named d) c.requires.th c.concl-concl.ensures.inside c.concl-concl.ensures.concl c.accept_operator.result c.accept_operator.new.self made plain c.accept_operator.ensures.err).0
 
 pub returns-clause-keeps : goal.returns-clause-keeps
 returns-clause-keeps c =
     let d = (goal.at.returns-clause-keeps c).After-operator_theorems in
     let made = both_made (later d) c.args.name c.args.abs c.args.rep c.args.vars.now c.args.th c.concl-concl.result (named d) c.requires.th c.concl-concl.ensures.inside c.concl-concl.ensures.concl c.in_ok-check_operator.ensures.passed c.in_ok-theorems.theorems c.in_ok-theorems.ensures.derives in
-    (operator_defines (later d) c.args.name c.args.abs c.args.rep c.args.vars.now c.args.th c.concl-concl.result (named d) c.requires.th c.concl-concl.ensures.inside c.concl-concl.ensures.concl c.accept_operator.result c.accept_operator.new.self made c.accept_operator.ensures.ok c.accept_operator.ensures.err).1
+    let further = ap (map (sequent_of (mid d).terms)) c.new-further.ensures.items in
+    let plain = none_further c.accept_operator.result (length (mid d).theorems) (mid d) c.accept_operator.new.self (operator_at (mid d) c.args.name c.args.abs c.args.rep c.args.vars.now c.args.th) _ further c.accept_operator.ensures.ok in
+    (operator_defines (later d) c.args.name c.args.abs c.args.rep c.args.vars.now c.args.th c.concl-concl.result (named d) c.requires.th c.concl-concl.ensures.inside c.concl-concl.ensures.concl c.accept_operator.result c.accept_operator.new.self made plain c.accept_operator.ensures.err).1

@@ -13,7 +13,7 @@ count c = omega (arith, c.len.ensures, c.self.inside.theorems.ok.0)
 added : (c : Else-is_err) → Assumed c.args.self.now c.self.inside.names c.self.inside.terms (record { theorems = c.push.new.self.items; assumptions = c.push-2.new.self.items; definitions = c.self.inside.definitions.items; signature = c.self.inside.signature }) c.args.theorem
 added c =
     let pushed = pushed_items c.push-2.result _ _ _ (sym c.is_err.ensures.value ∙ c.if-is_err.false) c.push-2.ensures.items in
-    assumed _ _ _ _ c.args.theorem _ _ c.len.result c.self.view_is c.self.invariant c.in_ok-push.ensures.items (count c) pushed c.requires
+    assumed _ _ _ _ c.args.theorem _ _ c.len.result c.self.view_is c.self.invariant c.in_ok-push.ensures.items (count c) pushed c.requires.proposed c.requires.new
 
 pub invariant_of-self-else-is_err : goal.invariant_of-self-else-is_err
 invariant_of-self-else-is_err c = (added c).kernel

@@ -1,13 +1,17 @@
-use Rattle.std.specs.Prelude.{Ok}
+use Rattle.std.specs.Prelude.{Ok, IfOk, IfSome}
 use Rattle.std.proofs.Common.{◌≡◌, ◌∙◌, sym, ap, subst, arith}
-use Rattle.ot_scan.specs.Lines.{TakesFrom}
+use Rattle.ot_scan.specs.Lines.{TakesFrom, IsLineText}
 use Rattle.ot_machine.specs.Meaning.{state_of}
 use Rattle.ot_machine.specs.Contexts.{context_of}
 use Rattle.ot_machine.specs.Run.{line_step}
+use Rattle.ot_machine.specs.Commanded.{LeadsTo}
+use Rattle.ot_machine.proofs.Commanded.{leads-none, leads-line}
 use Rattle.ot_machine.specs.Answers.{Refuses}
+use Rattle.ot_machine.specs.declared.fault.Fault.TheVariants.{Memory}
+use Rattle.ot_machine.specs.declared.fault.ArticleFault.TheVariants.{At}
 use Rattle.ot_machine.proofs.Kept.{keeps-on}
 use Rattle.ot_machine.proofs.InContext.{context-kept, of_context-kept}
-use Rattle.ot_machine.proofs.Followed.{follows-end, follows-spent, follows-line, follows-refused, follows-stopped}
+use Rattle.ot_machine.proofs.Followed.{follows-end, follows-spent, follows-line, follows-refused, follows-stopped, refused-apart, stopped-apart}
 use Rattle.ot_machine.proofs.machine.Machine.run_article.Goals as goal
 
 pub returns-in-Ok-None-clause-runs : goal.returns-in-Ok-None-clause-runs
@@ -42,6 +46,9 @@ lines-preserved g c =
     let same = context-kept c.args.session.now.kernel c.lines.session.kernel c.lines.invariant.grown c.args.ctx.now c.requires.context in
     record {
       so_far = follows-line (context_of c.args.session.now.kernel c.args.ctx.now) c.args.max_bytes (state_of c.args.session.now.kernel c.args.self.now) (state_of c.lines.session.kernel c.lines.self) (state_of c.line.new.session.kernel c.line.new.self) c.lines.lines c.next.follows.lender-at-none c.in-Ok-Some.line (g.S.Source.left c.args.source.now) before after c.lines.invariant.so_far taken (ap (λ x. line_step x (state_of c.lines.session.kernel c.lines.self) c.in-Ok-Some.line.text.now) (sym same) ∙ c.in_default.ensures.moves);
+      led = leads-line (context_of c.args.session.now.kernel c.args.ctx.now) (state_of c.args.session.now.kernel c.args.self.now) (state_of c.lines.session.kernel c.lines.self) (state_of c.line.new.session.kernel c.line.new.self) c.in-Ok-Some.line.text.now
+          (subst (λ r. IfOk r (λ o. IfSome o (λ line. IsLineText line.text.now))) (c.in-Ok-Some.is ∙ ap Ok c.in-Ok-Some.field-0-is) c.next.ensures.fits)
+          c.lines.invariant.led (ap (λ x. line_step x (state_of c.lines.session.kernel c.lines.self) c.in-Ok-Some.line.text.now) (sym same) ∙ c.in_default.ensures.moves);
       of = c.line.ensures.of;
       grown = keeps-on c.lines.invariant.grown c.line.ensures.grown;
       later = omega (arith, c.lines.invariant.later, c.next.ensures.later);
@@ -62,3 +69,19 @@ line-requires-clause-context g c = of_context-kept c.args.session.now.kernel c.l
 
 pub returns-in-Err-line-clause-grown : goal.returns-in-Err-line-clause-grown
 returns-in-Err-line-clause-grown g c = keeps-on c.lines.invariant.grown c.in-Err-line.ensures.grown
+
+pub returns-in-Err-line-clause-led : goal.returns-in-Err-line-clause-led
+returns-in-Err-line-clause-led g c =
+    subst (LeadsTo (context_of c.args.session.now.kernel c.args.ctx.now) (state_of c.args.session.now.kernel c.args.self.now)) (sym c.in-Err-line.ensures.moves.0) c.lines.invariant.led
+
+pub returns-in-Err-line-clause-apart : goal.returns-in-Err-line-clause-apart
+returns-in-Err-line-clause-apart g c =
+    λ line e.
+    let is : c.refusal.result ≡ At line Memory = cc in
+    refused-apart c.in-Ok-Some.line.number line c.in-Err-line.fault (sym c.refusal.ensures ∙ is)
+
+pub returns-in-Err-clause-apart : goal.returns-in-Err-clause-apart
+returns-in-Err-clause-apart g c =
+    λ line e.
+    let is : c.from.result ≡ At line Memory = cc in
+    stopped-apart line c.in-Err.fault (sym c.from.ensures ∙ is)

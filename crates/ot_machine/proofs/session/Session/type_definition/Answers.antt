@@ -10,7 +10,7 @@ use Rattle.ot_machine.proofs.session.Session.type_definition.Goals as goal
 pub returns-in-Err-clause-made : goal.returns-in-Err-clause-made
 returns-in-Err-clause-made c =
     let k = c.args.self.now.kernel in
-    rw c.from.ensures (refuses-definition c.define_type.new.self _ _ (λ f q. defined-refused k (λ ds. type_definition names ds (name_at k c.args.name) (name_at k c.args.abs) (name_at k c.args.rep) (map (name_at k) c.args.variables.now) (theorem_at k c.args.theorem)) f (c.in-Err.ensures.defines.1 f q)) c.in-Err.ensures.symbols)
+    rw c.from.ensures (refuses-definition c.define_type.new.self _ _ (c.in-Err.ensures.defines.1.0, λ f q. defined-refused k (λ ds. type_definition names ds (name_at k c.args.name) (name_at k c.args.abs) (name_at k c.args.rep) (map (name_at k) c.args.variables.now) (theorem_at k c.args.theorem)) f (c.in-Err.ensures.defines.1.1 f q)) c.in-Err.ensures.symbols)
 
 pub returns-in-Err-clause-refused : goal.returns-in-Err-clause-refused
 returns-in-Err-clause-refused c = run-same _ _ c.in-Err.ensures.defines.0.basis

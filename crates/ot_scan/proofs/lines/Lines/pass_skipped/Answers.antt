@@ -7,6 +7,7 @@ use Rattle.ot_scan.specs.Lines.{Scan, limit_fault}
 use Rattle.ot_scan.specs.Reading.{KeepsLines, ChecksLimits}
 use Rattle.ot_scan.proofs.Taking.{seen, limits-kept}
 use Rattle.ot_scan.proofs.Coming.{keeps-more, keeps-reads, keeps-skipped, next-found, stop-found}
+use Rattle.ot_scan.proofs.Fitting.{line-fits}
 use Rattle.ot_scan.proofs.lines.Lines.pass_skipped.Goals as goal
 
 pub returns-in_err-len-clause-found : goal.returns-in_err-len-clause-found
@@ -35,6 +36,7 @@ returns-then-not-is_skipped-clause-found g c =
         within = c.in_ok-len.ensures.first.within;
         limited = omega (arith, subst (λ (s : Scan). s.before + length (take len s.held) ≤ s.max) (seen scan _ _ c.self.view_is c.held.ensures) c.in_ok-check_limits.ensures.within, length-take-le len scan.held c.in_ok-len.ensures.first.within);
         holds = holds;
+        fits = line-fits scan.max scan.before len scan.held _ c.in_ok-len.ensures.first limits;
         next = next-found scan len _ c.in_ok-len.ensures.first some limits holds;
       };
       end = λ none. absurd (omega (arith, none, some));
