@@ -1,15 +1,5 @@
--- The law: a text, followed by further bytes, gives back what it is the text of. And what the printers put on a page.
-pub mod Spelling
-pub mod TypeLaw
-pub mod Numbers
-pub mod Forms
-pub mod TermLaw
-pub mod Ascending
-pub mod SequentLaw
-pub mod Decimals
-pub mod Putting
+-- The pieces of texts that the printers put on a page.
 pub mod Separating
 pub mod Spelled
 pub mod Pieces
-pub mod Gathering
 pub mod Sections

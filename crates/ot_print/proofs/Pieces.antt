@@ -9,10 +9,10 @@ use Rattle.ot_laws.proofs.Tests.{tells_names}
 use Rattle.ot_laws.proofs.Typing.{as_fun_ty-fun}
 use Rattle.ot_laws.proofs.Equations.{as_equation-equation}
 use Rattle.ot_kernel.specs.State.{State, type_at, types_at}
-use Rattle.ot_print.specs.Texts.{name_text, is_function, is_equation, ty_text, spaced_text, tm_text}
+use Rattle.ot_text.specs.Texts.{name_text, is_function, is_equation, ty_text, spaced_text, tm_text}
 use Rattle.ot_print.specs.Nodes.{equation_of}
-use Rattle.ot_print.specs.Pages.{Printed, IsPut}
-use Rattle.ot_print.proofs.Putting.{Puts, puts-more, same-text}
+use Rattle.ot_text.specs.Pages.{Printed, IsPut}
+use Rattle.ot_text.proofs.Putting.{Puts, puts-more, same-text}
 
 cond-true : (e : Bool) (x y : List ℕ) → e ≡ true → x ≡ cond e x y
 cond-true true x y p = refl

@@ -1,11 +1,19 @@
 -- The sections of a summary, piece by piece.
-use Rattle.std.specs.Prelude.{◌≡◌, ℕ, ◌+◌, ◌<◌, Bool, true, false, List, [], ◌∷◌, ◌++◌, map, length, codes}
+use Rattle.std.specs.Prelude.{◌≡◌, ℕ, suc, ◌+◌, ◌<◌, ◌≤◌, Bool, true, false, List, [], ◌∷◌, ◌++◌, map, length, codes}
 use Rattle.std.proofs.Common.{refl, sym, ◌∙◌, ap, append_assoc, arith, length-append, get_or}
-use Rattle.ot_print.specs.Texts.{number_text, items_text, section_text}
-use Rattle.ot_print.specs.Gathered.{bytes_in}
-use Rattle.ot_print.specs.Pages.{Printed, IsPut}
-use Rattle.ot_print.proofs.Gathering.{items-bytes}
-use Rattle.ot_print.proofs.Putting.{Puts, puts-more, same-text}
+use Rattle.ot_text.specs.Texts.{number_text}
+use Rattle.ot_print.specs.Texts.{items_text, section_text}
+use Rattle.ot_text.specs.Gathered.{bytes_in}
+use Rattle.ot_text.specs.Pages.{Printed, IsPut}
+use Rattle.ot_text.proofs.Putting.{Puts, puts-more, same-text}
+
+-- a section has at least the bytes of its items
+pub items-bytes : (xs : List (List ℕ)) → bytes_in xs ≤ length (items_text xs)
+items-bytes [] = omega arith
+items-bytes (x ∷ xs) =
+    let more = items-bytes xs in
+    let n : length (codes "  " ++ x ++ 10 ∷ items_text xs) ≡ suc (suc (length x + suc (length (items_text xs)))) = ap (λ k. suc (suc k)) (length-append x (10 ∷ items_text xs)) in
+    omega arith
 
 -- an item's line, followed by those of the others
 pub items-first : (x y : List ℕ) (xs : List (List ℕ)) → y ≡ x → items_text (x ∷ xs) ≡ codes "  " ++ y ++ codes "\n" ++ items_text xs

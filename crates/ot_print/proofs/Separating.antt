@@ -7,12 +7,9 @@ use Rattle.ot_plain.specs.Trees.{Variable, Sequent, TyDef}
 use Rattle.ot_term.specs.declared.term.VarKey.{VarKey}
 use Rattle.ot_kernel.specs.State.{State, name_at, variable_at}
 use Rattle.ot_kernel.specs.Definitions.{pairs_at}
-use Rattle.ot_print.specs.Texts.{name_text, pair_text, pairs_text, further_pairs, names_text, further_names, further_hyps, sequent_text, head_text}
-use Rattle.ot_print.specs.Separated.{separator, hyps_from}
-
-pub hyps-first : (b : Bool) (x y : List ℕ) (xs : List (List ℕ)) → y ≡ x → hyps_from b (x ∷ xs) ≡ separator b (codes ", ") ++ y ++ further_hyps xs
-hyps-first true x y xs p = ap (λ z. z ++ further_hyps xs) (sym p)
-hyps-first false x y xs p = ap (λ z. codes ", " ++ z ++ further_hyps xs) (sym p)
+use Rattle.ot_text.specs.Texts.{name_text, sequent_text}
+use Rattle.ot_print.specs.Texts.{pair_text, pairs_text, further_pairs, names_text, further_names, head_text}
+use Rattle.ot_text.specs.Separated.{separator}
 
 -- the pairs from the first or from a further one on
 abbrev pub pairs_from : Bool → List (Name × Variable Name) → List ℕ

@@ -29,7 +29,7 @@ use Rattle.ot_kernel.specs.State.{State, name_at, type_at, types_at, variable_at
 use Rattle.ot_kernel.specs.Spelled.{IsSpelled}
 use Rattle.ot_kernel.proofs.Carried.{carry-term}
 use Rattle.ot_kernel.proofs.Namings.{length-map, index-map, name_of-index, table_names, bound_ty-get, bound_named-get}
-use Rattle.ot_print.specs.Texts.{is_function, is_equation}
+use Rattle.ot_text.specs.Texts.{is_function, is_equation}
 use Rattle.ot_print.specs.Nodes.{type_tree, IsTypeNode, IsKey, term_tree, IsTermNode, equation_of}
 
 -- ---- over any alphabet

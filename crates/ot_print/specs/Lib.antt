@@ -1,7 +1,3 @@
--- What a reader has to believe of the printed texts, and the law that a text names one thing.
+-- What a reader has to believe of the texts of definitions and of the summary, and what a kernel's numbers stand for.
 pub mod Texts
-pub mod Laws
-pub mod Pages
 pub mod Nodes
-pub mod Separated
-pub mod Gathered

@@ -3,18 +3,19 @@ ghost use Rattle.std.specs.Prelude.{◌≡◌, ◌<◌, ◌++◌, codes, length,
 ghost use Rattle.std.specs.List.{All};
 ghost use Rattle.ot_kernel.specs.State.{name_at, variable_at, theorem_at};
 ghost use Rattle.ot_kernel.specs.Definitions.{definition_at, theorems_at, pairs_at, IsDefinitionIn, IsHeld, ArePairsIn};
-ghost use Rattle.ot_print.specs.Texts.{sequent_text, pair_text, pairs_text, names_text, head_text, theorems_text, definition_text};
+ghost use Rattle.ot_text.specs.Texts.{sequent_text};
+ghost use Rattle.ot_print.specs.Texts.{pair_text, pairs_text, names_text, head_text, theorems_text, definition_text};
 ghost use Rattle.ot_print.specs.Nodes.{IsKey};
-ghost use Rattle.ot_print.specs.Pages.{IsPut, printed};
+ghost use Rattle.ot_text.specs.Pages.{IsPut, printed};
 
 use crate::nodes::put_name;
-use crate::page::Page;
 use crate::printable::Printable;
 use crate::sequents::put_sequent;
 use crate::terms::put_typed;
 use ot_kernel::{Definition, Kernel, ThmId};
 use ot_plain::NameId;
 use ot_term::VarKey;
+use ot_text::Page;
 use std::alloc::Global;
 
 impl Printable for Definition {

@@ -1,13 +1,12 @@
 //! Texts in the order of their bytes, each once.
-ghost use Rattle.std.specs.Prelude.{◌≡◌, ◌<◌, ◌+◌, map, IfOk, OnOk, Err};
-ghost use Rattle.std.specs.BTreeSet.{insert_key};
+ghost use Rattle.std.specs.Prelude.{◌≡◌, ◌<◌, map, IfOk, Err};
 ghost use Rattle.std.specs.List.{All};
-ghost use Rattle.ot_print.specs.Texts.{order, ascending};
-ghost use Rattle.ot_print.specs.Gathered.{texts_of, bytes_in};
+ghost use Rattle.ot_text.specs.Texts.{ascending};
+ghost use Rattle.ot_text.specs.Gathered.{texts_of, bytes_in};
 
-use crate::fault::PrintFault;
 use crate::printable::{Printable, append};
 use ot_kernel::Kernel;
+use ot_text::{PrintFault, add_text};
 use std::alloc::Global;
 use std::collections::BTreeSet;
 
@@ -30,25 +29,4 @@ pub(crate) fn gathered<T: Printable>(
         add_text(&mut texts, &mut room, text)?;
     }
     Ok(texts)
-}
-
-// Puts a text among the others, if it isn't there, and takes its bytes off the room.
-fn add_text(
-    texts: &mut BTreeSet<Vec<u8>>,
-    room: &mut usize,
-    text: Vec<u8>,
-) -> Result<(), PrintFault>
-    ensures ok { OnOk result (texts_of texts.new ≡ insert_key order (texts_of texts.old) text.items) }
-    ensures room { OnOk result (room.new + bytes_in (insert_key order (texts_of texts.old) text.items) ≡ room.old + bytes_in (texts_of texts.old)) }
-    ensures too_large { result ≡ Err PrintFault.TooLarge → room.old + bytes_in (texts_of texts.old) < bytes_in (insert_key order (texts_of texts.old) text.items) }
-{
-    let len = text.len();
-    if !texts.insert(text)? {
-        return Ok(());
-    }
-    if len > *room {
-        return Err(PrintFault::TooLarge);
-    }
-    *room -= len;
-    Ok(())
 }

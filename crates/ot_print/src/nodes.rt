@@ -5,14 +5,14 @@ ghost use Rattle.ot_plain.specs.Naming.{names};
 ghost use Rattle.ot_plain.specs.Trees.{Ty, Variable};
 ghost use Rattle.ot_plain.specs.Hol.{fun_ty, nameless_in, same_var};
 ghost use Rattle.ot_kernel.specs.State.{name_at, type_at, variable_at, named_at};
-ghost use Rattle.ot_print.specs.Texts.{name_text, is_function, is_equation};
+ghost use Rattle.ot_text.specs.Texts.{name_text, is_function, is_equation};
 ghost use Rattle.ot_print.specs.Nodes.{type_tree, IsTypeNode, term_tree, IsTermNode, IsKey, equation_of};
-ghost use Rattle.ot_print.specs.Pages.{IsPut, printed};
+ghost use Rattle.ot_text.specs.Pages.{IsPut, printed};
 
-use crate::page::Page;
 use ot_kernel::Kernel;
 use ot_plain::NameId;
 use ot_term::{TermId, TermNode, VarKey};
+use ot_text::Page;
 use ot_type::{TypeId, TypeNode};
 
 /// The spelling of a name.

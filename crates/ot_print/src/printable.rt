@@ -1,11 +1,10 @@
 //! What has a text under a kernel.
 ghost use Rattle.std.specs.Prelude.{◌≡◌, ◌<◌, ℕ, List, length, OnOk, OnErr, Err};
 ghost use Rattle.ot_kernel.specs.State.{State};
-ghost use Rattle.ot_print.specs.Pages.{IsPut, printed, Appended};
+ghost use Rattle.ot_text.specs.Pages.{IsPut, printed, Appended};
 
-use crate::fault::PrintFault;
-use crate::page::Page;
 use ot_kernel::Kernel;
+use ot_text::{Page, PrintFault};
 use std::alloc::Global;
 
 /// What has a text under a kernel.

@@ -1,19 +1,15 @@
 //! The texts of sequents.
-ghost use Rattle.std.specs.Prelude.{◌≡◌, ◌<◌, [], length, OnOk, OnErr, Err};
+ghost use Rattle.std.specs.Prelude.{◌≡◌, ◌<◌, length, OnOk, OnErr, Err};
 ghost use Rattle.ot_kernel.specs.State.{theorem_at};
-ghost use Rattle.ot_print.specs.Texts.{hyps_text, sequent_text as text_of};
-ghost use Rattle.ot_print.specs.Gathered.{texts_of};
-ghost use Rattle.ot_print.specs.Separated.{hyps_from};
-ghost use Rattle.ot_print.specs.Pages.{IsPut, printed, Appended};
+ghost use Rattle.ot_text.specs.Texts.{sequent_text as text_of};
+ghost use Rattle.ot_text.specs.Pages.{IsPut, printed, Appended};
 
-use crate::fault::PrintFault;
 use crate::gather::gathered;
-use crate::page::Page;
 use crate::printable::{Printable, append};
 use crate::terms::put_whole;
 use ot_kernel::{Kernel, ThmId};
+use ot_text::{Page, PrintFault, put_hyps};
 use std::alloc::Global;
-use std::collections::BTreeSet;
 
 /// Appends the text of a theorem's sequent. `TooLarge` exactly where it has more than `max` bytes. After a refusal `out`
 /// is as it was.
@@ -56,29 +52,5 @@ pub(crate) fn put_sequent(page: &mut Page, alloc: Global, kernel: &Kernel, th: T
             put_whole(page, kernel, kernel.concl(th));
         }
         Err(fault) => page.stop(fault),
-    }
-}
-
-// The hypotheses' texts and the turnstile.
-fn put_hyps(page: &mut Page, texts: &BTreeSet<Vec<u8>>)
-    ensures { IsPut (hyps_text (texts_of texts.now)) (printed page.old) (printed page.new) }
-{
-    let mut is_first = true;
-    for text in texts {
-        page.separate(is_first, b", ");
-        page.put(text.as_slice());
-        is_first = false;
-    }
-    put_turnstile(page, is_first);
-}
-
-// The turnstile, behind a space where hypotheses stand before it.
-fn put_turnstile(page: &mut Page, is_first: bool)
-    ensures { IsPut (hyps_from is_first []) (printed page.old) (printed page.new) }
-{
-    if is_first {
-        page.put(b"|- ");
-    } else {
-        page.put(b" |- ");
     }
 }

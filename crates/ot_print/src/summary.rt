@@ -2,17 +2,16 @@
 ghost use Rattle.std.specs.Prelude.{◌≡◌, ◌<◌, ◌++◌, codes, ◌∷◌, [], true, length, map, OnOk, OnErr, Err};
 ghost use Rattle.std.specs.List.{All};
 ghost use Rattle.ot_kernel.specs.State.{theorem_at};
-ghost use Rattle.ot_print.specs.Texts.{number_text, ascending, sequent_text, items_text, section_text, summary_text as text_of};
-ghost use Rattle.ot_print.specs.Gathered.{texts_of};
-ghost use Rattle.ot_print.specs.Pages.{IsPut, printed, Appended};
+ghost use Rattle.ot_text.specs.Texts.{number_text, ascending, sequent_text};
+ghost use Rattle.ot_print.specs.Texts.{items_text, section_text, summary_text as text_of};
+ghost use Rattle.ot_text.specs.Gathered.{texts_of};
+ghost use Rattle.ot_text.specs.Pages.{IsPut, printed, Appended};
 
-use crate::fault::PrintFault;
 use crate::gather::gathered;
-use crate::page::Page;
 use crate::printable::Printable;
-use crate::terms::put_number;
 use ot_args::Sections;
 use ot_kernel::{Kernel, ThmId};
+use ot_text::{Page, PrintFault};
 use std::alloc::Global;
 use std::collections::BTreeSet;
 
@@ -125,6 +124,6 @@ fn put_title(page: &mut Page, title: &[u8], count: usize)
 {
     page.put(title);
     page.put(b": ");
-    put_number(page, count);
+    page.put_number(count);
     page.put(b"\n");
 }

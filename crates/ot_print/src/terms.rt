@@ -3,19 +3,17 @@ ghost use Rattle.std.specs.Prelude.{◌≡◌, ◌<◌, ◌+◌, ◌^◌, ◌++�
 ghost use Rattle.ot_plain.specs.Naming.{names};
 ghost use Rattle.ot_plain.specs.Hol.{nameless_in, at_place, place as place_of};
 ghost use Rattle.ot_kernel.specs.State.{name_at, type_at, variable_at, named_at, term_at};
-ghost use Rattle.ot_print.specs.Texts.{name_text, number_text, ty_text, tm_text};
+ghost use Rattle.ot_text.specs.Texts.{name_text, ty_text, tm_text};
 ghost use Rattle.ot_print.specs.Nodes.{IsKey, AreKeys, binders_at};
-ghost use Rattle.ot_print.specs.Pages.{IsPut, printed, Appended};
+ghost use Rattle.ot_text.specs.Pages.{IsPut, printed, Appended};
 
-use crate::fault::PrintFault;
 use crate::nodes::{equation_sides, is_same, put_name, term_node};
-use crate::page::Page;
 use crate::printable::{Printable, append};
 use crate::types::put_type;
-use itoa::Buffer;
 use ot_kernel::Kernel;
 use ot_plain::NameId;
 use ot_term::{TermId, TermNode, VarKey};
+use ot_text::{Page, PrintFault};
 use ot_type::TypeId;
 use std::alloc::Global;
 
@@ -112,7 +110,7 @@ fn put_variable(page: &mut Page, kernel: &Kernel, binders: &Binders<'_>, v: &Var
     match place(kernel, binders, v) {
         Some(number) => {
             page.put(b"#");
-            put_number(page, number);
+            page.put_number(number);
         }
         None => put_typed(page, kernel, v.name, v.ty),
     }
@@ -138,14 +136,6 @@ fn place(kernel: &Kernel, binders: &Binders<'_>, v: &VarKey) -> Option<usize>
             }
         }
     }
-}
-
-/// A number in decimal digits.
-pub(crate) fn put_number(page: &mut Page, number: usize)
-    ensures { IsPut (number_text number) (printed page.old) (printed page.new) }
-{
-    let mut buffer = Buffer::new();
-    page.put(buffer.format(number).as_bytes());
 }
 
 /// A name and a type.

@@ -2,13 +2,12 @@
 ghost use Rattle.std.specs.Prelude.{◌≡◌, ◌<◌, length, OnOk, OnErr, Err};
 ghost use Rattle.std.specs.List.{All};
 ghost use Rattle.ot_kernel.specs.State.{type_at, types_at};
-ghost use Rattle.ot_print.specs.Texts.{ty_text, spaced_text};
-ghost use Rattle.ot_print.specs.Pages.{IsPut, printed, Appended};
+ghost use Rattle.ot_text.specs.Texts.{ty_text, spaced_text};
+ghost use Rattle.ot_text.specs.Pages.{IsPut, printed, Appended};
 
-use crate::fault::PrintFault;
 use crate::nodes::{function_parts, put_name, type_node};
-use crate::page::Page;
 use ot_kernel::Kernel;
+use ot_text::{Page, PrintFault};
 use ot_type::{TypeId, TypeNode};
 
 /// Appends the text of a type. `TooLarge` exactly where it has more than `max` bytes. After a refusal `out` is as it was.

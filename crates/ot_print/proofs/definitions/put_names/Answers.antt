@@ -1,5 +1,5 @@
 use Rattle.std.proofs.Common.{◌∙◌, ap, arith}
-use Rattle.ot_print.proofs.Putting.{then, leaves-more, leaves-all, nothing}
+use Rattle.ot_text.proofs.Putting.{then, leaves-more, leaves-all, nothing}
 use Rattle.ot_print.proofs.Separating.{names_from, names-first, names-none, names-rest, names-end}
 use Rattle.ot_print.proofs.definitions.put_names.Goals as goal
 

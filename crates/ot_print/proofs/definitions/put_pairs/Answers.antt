@@ -1,5 +1,5 @@
 use Rattle.std.proofs.Common.{◌∙◌, ap, arith}
-use Rattle.ot_print.proofs.Putting.{then, leaves-more, leaves-all, nothing}
+use Rattle.ot_text.proofs.Putting.{then, leaves-more, leaves-all, nothing}
 use Rattle.ot_print.proofs.Separating.{pairs_from, pairs-first, pairs-none, pairs-rest, pairs-end}
 use Rattle.ot_print.proofs.definitions.put_pairs.Goals as goal
 

@@ -1,7 +1,7 @@
 use Rattle.std.specs.Prelude.{Result, Ok, Err, IsErrAnd}
 use Rattle.std.proofs.Common.{◌≡◌, ap, sym, ◌∙◌, ◌++◌}
-use Rattle.ot_print.specs.Gathered.{texts_of}
-use Rattle.ot_print.proofs.Gathering.{one-kept, one-too_large, together-too_large}
+use Rattle.ot_text.specs.Gathered.{texts_of}
+use Rattle.ot_text.proofs.Gathering.{one-kept, one-too_large, together-too_large}
 use Rattle.ot_print.proofs.gather.gathered.Goals as goal
 
 -- a fault that is handed on

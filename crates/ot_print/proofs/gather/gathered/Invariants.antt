@@ -1,6 +1,6 @@
 use Rattle.std.proofs.Common.{◌≡◌, ◌+◌, map, take}
-use Rattle.ot_print.specs.Texts.{ascending}
-use Rattle.ot_print.specs.Gathered.{texts_of, bytes_in}
+use Rattle.ot_text.specs.Texts.{ascending}
+use Rattle.ot_text.specs.Gathered.{texts_of, bytes_in}
 use Rattle.ot_print.proofs.gather.gathered.Given as goal
 
 abbrev pub invariant-loop-item : goal.invariant-loop-item

@@ -7,7 +7,7 @@ use Rattle.ot_type.specs.TypeTable.{type_at}
 use Rattle.ot_term.specs.Term.{TermTable}
 use Rattle.ot_kernel.specs.State as state
 use Rattle.ot_kernel.specs.Spelled.{IsSpelled}
-use Rattle.ot_print.specs.Texts.{is_function}
+use Rattle.ot_text.specs.Texts.{is_function}
 use Rattle.ot_print.proofs.Spelled.{function-none, function-parts}
 use Rattle.ot_print.proofs.nodes.function_parts.Goals as goal
 

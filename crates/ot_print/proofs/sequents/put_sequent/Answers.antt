@@ -1,9 +1,9 @@
 use Rattle.std.proofs.Common.{Err, ◌<◌, ◌++◌, sym, ap, ◌∙◌, subst}
 use Rattle.ot_kernel.specs.State.{term_at, theorem_at}
-use Rattle.ot_print.specs.Texts.{tm_text, ascending, hyps_text}
-use Rattle.ot_print.specs.Gathered.{bytes_in}
-use Rattle.ot_print.proofs.Putting.{then, same-text, gives-up}
-use Rattle.ot_print.proofs.Gathering.{texts-through, sequent-bytes}
+use Rattle.ot_text.specs.Texts.{tm_text, ascending, hyps_text}
+use Rattle.ot_text.specs.Gathered.{bytes_in}
+use Rattle.ot_text.proofs.Putting.{then, same-text, gives-up}
+use Rattle.ot_text.proofs.Gathering.{texts-through, sequent-bytes}
 use Rattle.ot_print.proofs.sequents.put_sequent.Goals as goal
 
 pub returns-in-Ok : goal.returns-in-Ok

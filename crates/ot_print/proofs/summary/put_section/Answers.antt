@@ -1,8 +1,8 @@
 use Rattle.std.proofs.Common.{map, sym, arith}
 use Rattle.ot_kernel.proofs.Namings.{length-map}
 use Rattle.ot_print.specs.Texts.{items_text}
-use Rattle.ot_print.specs.Pages.{printed}
-use Rattle.ot_print.proofs.Putting.{then, same-text, puts-all, nothing}
+use Rattle.ot_text.specs.Pages.{printed}
+use Rattle.ot_text.proofs.Putting.{then, same-text, puts-all, nothing}
 use Rattle.ot_print.proofs.Sections.{items-more, section-pieces}
 use Rattle.ot_print.proofs.summary.put_section.Goals as goal
 

@@ -2,9 +2,10 @@ use Rattle.std.proofs.Common.{◌++◌, map, refl}
 use Rattle.std.specs.Prelude.{codes}
 use Rattle.ot_kernel.specs.State.{theorem_at}
 use Rattle.ot_kernel.specs.Definitions.{definition_at}
-use Rattle.ot_print.specs.Texts.{ascending, sequent_text, definition_text, section_text}
-use Rattle.ot_print.proofs.Putting.{then, same-text}
-use Rattle.ot_print.proofs.Gathering.{texts-through}
+use Rattle.ot_text.specs.Texts.{ascending, sequent_text}
+use Rattle.ot_print.specs.Texts.{definition_text, section_text}
+use Rattle.ot_text.proofs.Putting.{then, same-text}
+use Rattle.ot_text.proofs.Gathering.{texts-through}
 use Rattle.ot_print.proofs.summary.put_summary.Goals as goal
 
 pub returns : goal.returns

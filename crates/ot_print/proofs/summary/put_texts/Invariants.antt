@@ -1,8 +1,8 @@
 use Rattle.std.proofs.Common.{map}
 use Rattle.ot_print.specs.Texts.{items_text}
-use Rattle.ot_print.specs.Pages.{printed}
-use Rattle.ot_print.specs.Gathered.{texts_of}
-use Rattle.ot_print.proofs.Putting.{Leaves}
+use Rattle.ot_text.specs.Pages.{printed}
+use Rattle.ot_text.specs.Gathered.{texts_of}
+use Rattle.ot_text.proofs.Putting.{Leaves}
 use Rattle.ot_print.proofs.summary.put_texts.Given as goal
 
 abbrev pub invariant-loop-text : goal.invariant-loop-text

@@ -2,8 +2,8 @@ use Rattle.std.proofs.Common.{sym, ap}
 use Rattle.ot_plain.specs.Hol.{nameless_in}
 use Rattle.ot_plain.specs.Naming.{names}
 use Rattle.ot_print.specs.Nodes.{binders_at}
-use Rattle.ot_print.specs.Texts.{tm_text}
-use Rattle.ot_print.proofs.Putting.{then, same-text}
+use Rattle.ot_text.specs.Texts.{tm_text}
+use Rattle.ot_text.proofs.Putting.{then, same-text}
 use Rattle.ot_print.proofs.Pieces.{equation-pieces, application-pieces}
 use Rattle.ot_print.proofs.terms.+put_term.Goals as goal
 

@@ -3,8 +3,8 @@ use Rattle.ot_plain.specs.Naming.{names}
 use Rattle.ot_laws.proofs.Tests.{tells_names}
 use Rattle.ot_laws.proofs.Named.{nameless_in-nil}
 use Rattle.ot_kernel.specs.State.{named_at}
-use Rattle.ot_print.specs.Texts.{tm_text}
-use Rattle.ot_print.proofs.Putting.{same-text}
+use Rattle.ot_text.specs.Texts.{tm_text}
+use Rattle.ot_text.proofs.Putting.{same-text}
 use Rattle.ot_print.proofs.terms.put_whole.Goals as goal
 
 pub returns : goal.returns

@@ -1,9 +1,9 @@
 use Rattle.std.proofs.Common.{arith, sym, ◌∙◌}
 use Rattle.std.proofs.lemmas.Bool.Decides.{nat_tests}
 use Rattle.ot_kernel.specs.State.{types_at}
-use Rattle.ot_print.specs.Texts.{spaced_text}
-use Rattle.ot_print.specs.Pages.{printed}
-use Rattle.ot_print.proofs.Putting.{then, stays, same-text, puts-all, nothing}
+use Rattle.ot_text.specs.Texts.{spaced_text}
+use Rattle.ot_text.specs.Pages.{printed}
+use Rattle.ot_text.proofs.Putting.{then, stays, same-text, puts-all, nothing}
 use Rattle.ot_print.proofs.Pieces.{function-pieces, operator-pieces, spaced-more}
 use Rattle.ot_print.proofs.types.+types_text.Goals as goal
 

@@ -1,8 +1,8 @@
 use Rattle.std.proofs.Common.{◌+◌, ◌*◌}
 use Rattle.ot_kernel.specs.State.{types_at}
-use Rattle.ot_print.specs.Texts.{spaced_text}
-use Rattle.ot_print.specs.Pages.{printed}
-use Rattle.ot_print.proofs.Putting.{Puts}
+use Rattle.ot_text.specs.Texts.{spaced_text}
+use Rattle.ot_text.specs.Pages.{printed}
+use Rattle.ot_text.proofs.Putting.{Puts}
 use Rattle.ot_print.proofs.types.+types_text.Given as goal
 
 abbrev pub decreases-put_type : goal.decreases-put_type
