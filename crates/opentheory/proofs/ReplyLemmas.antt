@@ -1,81 +1,175 @@
 -- How a verdict, and the way the program ends with it, stand to the stated reply.
-use Rattle.std.proofs.Common.{◌≡◌, ℕ, List, refl, ap, sym, subst, inr, ◌⊎◌}
-use Rattle.std.specs.Prelude.{Bool, true, false, MatchBool, Option, Some, None, IfSome}
+use Rattle.std.proofs.Common.{◌≡◌, ℕ, List, refl, ap, sym, subst, inl, inr, ◌⊎◌, ◌∙◌}
+use Rattle.std.specs.Prelude.{Bool, true, false, MatchBool, Option, Some, None, Ok, Err, IfSome}
+use Rattle.std.specs.Option.{option_map}
 use Rattle.std.specs.Io.KnownBytes.{Appends}
 use Rattle.ot_io.specs.Causes.{Rose}
 use Rattle.ot_io.specs.Folder.{Folder}
 use Rattle.ot_io.specs.Sinks.{AppendsFront}
-use Rattle.ot_args.specs.Grammar.{CommandValue, Check, Info, command_of}
-use Rattle.opentheory.specs.Reply.{Reply, input_of, is_standard, article_at, answer}
-use Rattle.opentheory.specs.Answer.{Answers, IsSilent, Says, FailedAt, Informs, Writes}
-use Rattle.opentheory.specs.Verdicts.{IsReply, IsVerdict, Shows, Ends, status_of, text_of, error_line}
+use Rattle.ot_args.specs.Grammar.{CommandValue, command_of}
+use Rattle.ot_link.specs.Stops.{Linked}
+use Rattle.ot_link.specs.Blocks.{Ran}
+use Rattle.opentheory.specs.Texts.{write_fault_line}
+use Rattle.opentheory.specs.Reply.{Reply, accepted, fails, input_of, is_standard, run_of, reply_to, answer}
+use Rattle.opentheory.specs.Answer.{MatchesReply, IsVerdict, IsReport, IsStopLine, IsLargeLine, Says, Writes, WritesLine, WritesSome, IsLine, FailedAt}
+use Rattle.opentheory.specs.Verdicts.{IsReplyOf, Ends, error_line}
 use Rattle.opentheory.specs.declared.status.Status.{Status}
-use Rattle.opentheory.specs.declared.status.Status.TheVariants as statuses
-use Rattle.opentheory.specs.declared.report.Verdict.{Verdict}
-use Rattle.opentheory.specs.declared.report.Verdict.TheVariants as verdicts
+use Rattle.opentheory.specs.declared.status.Status.TheVariants.{Accepted, Refused, Usage, NoFile, ReadFault, WriteFault, Memory}
 
 if_some : {X : Type 0} (P Q : X → Type 0) (o : Option X) → ((x : X) → P x → Q x) → IfSome o P → IfSome o Q
 if_some P Q None then holds = tt
 if_some P Q (Some x) then holds = then x holds
 
--- ---- one verdict and one reply
+mapped : {X Y : Type 0} (f : X → Y) (P : Y → Type 0) (o : Option X) → IfSome o (λ x. P (f x)) → IfSome (option_map f o) P
+mapped f P None h = tt
+mapped f P (Some x) h = h
 
-answers_reply : (v : Verdict) (status : Status) (old new : Option (List ℕ)) → Ends v status → Writes status old new (text_of v) → (reply : Reply) → IsReply v reply → Answers status reply old new
-answers_reply (verdicts.Accepted text) statuses.Accepted old new ends writes reply is = (ap (λ r. r.status) is, subst (λ r. Appends old new r.output) (sym is) writes)
-answers_reply (verdicts.Accepted text) statuses.WriteFault old new ends writes reply is = (ap (λ r. r.status) is, subst (λ r. AppendsFront old new r.output) (sym is) writes)
-answers_reply (verdicts.Refused text) statuses.Refused old new ends writes reply is = ap (λ r. r.status) is
-answers_reply (verdicts.NoFile text) statuses.NoFile old new ends writes reply is = ap (λ r. r.status) is
-answers_reply (verdicts.ReadFault text) statuses.ReadFault old new ends writes reply is = tt
-answers_reply _ _ old new ends writes reply is = absurd ends
+-- ---- a verdict and the stated reply
 
-says_error : (v : Verdict) (status : Status) (old new : Option (List ℕ)) (before now : ℕ) → Ends v status → IfSome (error_line v status) (λ line. Says old new before now line) → status ≡ statuses.Refused → (reply : Reply) → IsReply v reply → Says old new before now reply.error
-says_error (verdicts.Refused text) statuses.Refused old new before now ends says refused reply is = subst (λ r. Says old new before now r.error) (sym is) says
-says_error (verdicts.Accepted text) statuses.Accepted old new before now ends says refused reply is = absurd cc
-says_error (verdicts.Accepted text) statuses.WriteFault old new before now ends says refused reply is = absurd cc
-says_error (verdicts.NoFile text) statuses.NoFile old new before now ends says refused reply is = absurd cc
-says_error (verdicts.ReadFault text) statuses.ReadFault old new before now ends says refused reply is = absurd cc
-says_error _ _ old new before now ends says refused reply is = absurd ends
+report_reply : (c : CommandValue) (told : Option (Linked Ran)) (text : List ℕ) → IsReport c told text → IfSome told (λ l. IsReplyOf Accepted text (reply_to c l.answer))
+report_reply c told text report =
+    if_some (λ l. l.answer ≡ Ok report.ran) (λ l. IsReplyOf Accepted text (reply_to c l.answer)) told (λ l is. ap (reply_to c) is ∙ rw report.fits_is (ap accepted (sym report.text_is))) report.ended
+
+stop_reply : (c : CommandValue) (status : Status) (path : List ℕ) (told : Option (Linked Ran)) (line : List ℕ) → IsStopLine status path told line → IfSome told (λ l. reply_to c l.answer ≡ fails status line)
+stop_reply c status path told line stop =
+    if_some (λ l. l.answer ≡ Err stop.stop) (λ l. reply_to c l.answer ≡ fails status line) told (λ l is. ap (reply_to c) is ∙ (λ i. fails (stop.status_is i) (sym stop.line_is i))) stop.stopped
+
+large_reply : (c : CommandValue) (told : Option (Linked Ran)) (line : List ℕ) → IsLargeLine c told line → IfSome told (λ l. reply_to c l.answer ≡ fails Refused line)
+large_reply c told line large =
+    if_some (λ l. l.answer ≡ Ok large.ran) (λ l. reply_to c l.answer ≡ fails Refused line) told (λ l is. ap (reply_to c) is ∙ rw large.large (ap (fails Refused) (sym large.line_is))) large.ended
+
+unread : {X : Type 0} (o : Option X) → IfSome o (λ _. Unit {0})
+unread None = tt
+unread (Some x) = tt
+
+replies : (c : CommandValue) (folder : Option Folder) (input at : Option (List ℕ)) (status : Status) (text : List ℕ) → Says status c folder input at text → IfSome (run_of c folder input) (λ l. IsReplyOf status text (reply_to c l.answer))
+replies c folder input at Accepted text says = report_reply c (run_of c folder input) text says
+replies c folder input at Refused text (inl stop) = stop_reply c Refused (input_of c) (run_of c folder input) text stop
+replies c folder input at Refused text (inr large) = large_reply c (run_of c folder input) text large
+replies c folder input at NoFile text says = stop_reply c NoFile (input_of c) (run_of c folder input) text says
+replies c folder input at ReadFault text says = unread (run_of c folder input)
+replies c folder input at Usage text says = absurd says
+replies c folder input at WriteFault text says = absurd says
+replies c folder input at Memory text says = absurd says
+
+-- what holds of the verdict's reply holds of the answer to the words
+replied : (words : List (List ℕ)) (c : CommandValue) (folder : Option Folder) (input at : Option (List ℕ)) (status : Status) (text : List ℕ) (P : Reply → Type 0) → command_of words ≡ Some c → Says status c folder input at text → ((reply : Reply) → IsReplyOf status text reply → P reply) → IfSome (answer words folder input) P
+replied words c folder input at status text P read says then =
+    rw read (mapped (λ l. reply_to c l.answer) P (run_of c folder input) (if_some (λ l. IsReplyOf status text (reply_to c l.answer)) (λ l. P (reply_to c l.answer)) (run_of c folder input) (λ l is. then (reply_to c l.answer) is) (replies c folder input at status text says)))
+
+-- ---- status and output
+
+same_matches : (status : Status) (text : List ℕ) (old new : Option (List ℕ)) → Writes status old new text → (reply : Reply) → IsReplyOf status text reply → MatchesReply status reply old new
+same_matches Accepted text old new writes reply is = (ap (λ r. r.status) is, subst (λ (r : Reply). Appends old new r.output) (sym is) writes)
+same_matches Refused text old new writes reply is = ap (λ r. r.status) is
+same_matches NoFile text old new writes reply is = ap (λ r. r.status) is
+same_matches ReadFault text old new writes reply is = tt
+same_matches Usage text old new writes reply is = absurd is
+same_matches WriteFault text old new writes reply is = absurd is
+same_matches Memory text old new writes reply is = absurd is
+
+front_matches : (text : List ℕ) (old new : Option (List ℕ)) → AppendsFront old new text → (reply : Reply) → reply ≡ accepted text → MatchesReply WriteFault reply old new
+front_matches text old new writes reply is = (ap (λ r. r.status) is, subst (λ (r : Reply). AppendsFront old new r.output) (sym is) writes)
+
+matches : (verdict status : Status) (text : List ℕ) (old new : Option (List ℕ)) → Ends verdict status → Writes status old new text → (reply : Reply) → IsReplyOf verdict text reply → MatchesReply status reply old new
+matches verdict status text old new (inl same) writes reply is =
+    subst (λ (s : Status). MatchesReply s reply old new) (sym same) (same_matches verdict text old new (subst (λ (s : Status). Writes s old new text) same writes) reply is)
+matches verdict status text old new (inr failed) writes reply is =
+    subst (λ (s : Status). MatchesReply s reply old new) (sym failed.1) (front_matches text old new (subst (λ (s : Status). Writes s old new text) failed.1 writes) reply (subst (λ (s : Status). IsReplyOf s text reply) failed.0 is))
+
+pub answers : (words : List (List ℕ)) (c : CommandValue) (folder : Option Folder) (input at : Option (List ℕ)) (verdict status : Status) (text : List ℕ) (old new : Option (List ℕ)) → command_of words ≡ Some c → Says verdict c folder input at text → Ends verdict status → Writes status old new text → IfSome (answer words folder input) (λ reply. MatchesReply status reply old new)
+answers words c folder input at verdict status text old new read says ends writes =
+    replied words c folder input at verdict text (λ reply. MatchesReply status reply old new) read says (matches verdict status text old new ends writes)
+
+-- ---- the line on standard error
+
+same_error : {E : Type 0} (written : E → Option (List ℕ)) (faults : E → ℕ) (old new : E) (status : Status) (text : List ℕ) → IsVerdict status → IfSome (error_line text status) (WritesLine written faults old new) → (reply : Reply) → IsReplyOf status text reply → WritesLine written faults old new reply.error
+same_error written faults old new Refused text verdict line reply is = subst (λ (r : Reply). WritesLine written faults old new r.error) (sym is) line
+same_error written faults old new NoFile text verdict line reply is = subst (λ (r : Reply). WritesLine written faults old new r.error) (sym is) line
+same_error written faults old new Accepted text verdict line reply is = absurd verdict
+same_error written faults old new ReadFault text verdict line reply is = absurd verdict
+same_error written faults old new Usage text verdict line reply is = absurd verdict
+same_error written faults old new WriteFault text verdict line reply is = absurd verdict
+same_error written faults old new Memory text verdict line reply is = absurd verdict
+
+pub error_is : {E : Type 0} (written : E → Option (List ℕ)) (faults : E → ℕ) (old new : E) (words : List (List ℕ)) (c : CommandValue) (folder : Option Folder) (input at : Option (List ℕ)) (verdict status : Status) (text : List ℕ) → command_of words ≡ Some c → Says verdict c folder input at text → Ends verdict status → IfSome (error_line text status) (WritesLine written faults old new) → IsVerdict status → IfSome (answer words folder input) (λ reply. WritesLine written faults old new reply.error)
+error_is written faults old new words c folder input at verdict status text read says (inl same) line refuses =
+    replied words c folder input at verdict text (λ reply. WritesLine written faults old new reply.error) read says
+    (same_error written faults old new verdict text (subst IsVerdict same refuses) (subst (λ (s : Status). IfSome (error_line text s) (WritesLine written faults old new)) same line))
+error_is written faults old new words c folder input at verdict status text read says (inr failed) line refuses =
+    absurd (subst IsVerdict failed.1 refuses)
+
+-- a line on standard error, where the words are this command
+abbrev Lined : {E : Type 0} → (E → Option (List ℕ)) → (E → ℕ) → E → E → Option CommandValue → Option Folder → Option (List ℕ) → Option (List ℕ) → Status → Type 0
+Lined written faults old new command folder input at status = WritesSome (IsLine status command folder input at) written faults old new
+
+same_line : {E : Type 0} (written : E → Option (List ℕ)) (faults : E → ℕ) (old new : E) (c : CommandValue) (folder : Option Folder) (input at : Option (List ℕ)) (status : Status) (text : List ℕ) → Says status c folder input at text → IfSome (error_line text status) (WritesLine written faults old new) → ¬ (status ≡ Accepted) → Lined written faults old new (Some c) folder input at status
+same_line written faults old new c folder input at Accepted text says line loud = absurd (loud refl)
+same_line written faults old new c folder input at Refused text says line loud = record { line = text; is_one = says; writes = line }
+same_line written faults old new c folder input at NoFile text says line loud = record { line = text; is_one = says; writes = line }
+same_line written faults old new c folder input at ReadFault text says line loud = record { line = text; is_one = says; writes = line }
+same_line written faults old new c folder input at Usage text says line loud = absurd says
+same_line written faults old new c folder input at WriteFault text says line loud = absurd says
+same_line written faults old new c folder input at Memory text says line loud = absurd says
+
+front_line : {E : Type 0} (written : E → Option (List ℕ)) (faults : E → ℕ) (old new : E) (c : CommandValue) (folder : Option Folder) (input at : Option (List ℕ)) → WritesLine written faults old new write_fault_line → Lined written faults old new (Some c) folder input at WriteFault
+front_line written faults old new c folder input at line = record { line = write_fault_line; is_one = refl; writes = line }
+
+ends_line : {E : Type 0} (written : E → Option (List ℕ)) (faults : E → ℕ) (old new : E) (c : CommandValue) (folder : Option Folder) (input at : Option (List ℕ)) (verdict status : Status) (text : List ℕ) → Says verdict c folder input at text → Ends verdict status → IfSome (error_line text status) (WritesLine written faults old new) → ¬ (status ≡ Accepted) → Lined written faults old new (Some c) folder input at status
+ends_line written faults old new c folder input at verdict status text says (inl same) line loud =
+    subst (Lined written faults old new (Some c) folder input at) (sym same) (same_line written faults old new c folder input at verdict text says (subst (λ (s : Status). IfSome (error_line text s) (WritesLine written faults old new)) same line) (λ is. loud (same ∙ is)))
+ends_line written faults old new c folder input at verdict status text says (inr failed) line loud =
+    subst (Lined written faults old new (Some c) folder input at) (sym failed.1) (front_line written faults old new c folder input at (subst (λ (s : Status). IfSome (error_line text s) (WritesLine written faults old new)) failed.1 line))
+
+pub line_is : {E : Type 0} (written : E → Option (List ℕ)) (faults : E → ℕ) (old new : E) (words : List (List ℕ)) (c : CommandValue) (folder : Option Folder) (input at : Option (List ℕ)) (verdict status : Status) (text : List ℕ) → command_of words ≡ Some c → Says verdict c folder input at text → Ends verdict status → IfSome (error_line text status) (WritesLine written faults old new) → ¬ (status ≡ Accepted) → WritesSome (IsLine status (command_of words) folder input at) written faults old new
+line_is written faults old new words c folder input at verdict status text read says ends line loud =
+    rw read (ends_line written faults old new c folder input at verdict status text says ends line loud)
+
+-- ---- completeness
 
 -- with this status some count rose
 abbrev pub IsTold : Status → Status → Type 0
-IsTold status told = (status ≡ statuses.Memory) ⊎ (status ≡ told)
+IsTold status told = (status ≡ Memory) ⊎ (status ≡ told)
 
-completes : (v : Verdict) (status : Status) → Ends v status → ¬ (status ≡ statuses.WriteFault) → ¬ (status_of v ≡ statuses.ReadFault) → (reply : Reply) → IsReply v reply → IsTold status reply.status
-completes (verdicts.Accepted text) statuses.Accepted ends written read reply is = inr (sym (ap (λ r. r.status) is))
-completes (verdicts.Accepted text) statuses.WriteFault ends written read reply is = absurd (written refl)
-completes (verdicts.Refused text) statuses.Refused ends written read reply is = inr (sym (ap (λ r. r.status) is))
-completes (verdicts.NoFile text) statuses.NoFile ends written read reply is = inr (sym (ap (λ r. r.status) is))
-completes (verdicts.ReadFault text) statuses.ReadFault ends written read reply is = absurd (read refl)
-completes _ _ ends written read reply is = absurd ends
+same_told : (verdict : Status) (text : List ℕ) → ¬ (verdict ≡ ReadFault) → (reply : Reply) → IsReplyOf verdict text reply → verdict ≡ reply.status
+same_told Accepted text read reply is = sym (ap (λ r. r.status) is)
+same_told Refused text read reply is = sym (ap (λ r. r.status) is)
+same_told NoFile text read reply is = sym (ap (λ r. r.status) is)
+same_told ReadFault text read reply is = absurd (read refl)
+same_told Usage text read reply is = absurd is
+same_told WriteFault text read reply is = absurd is
+same_told Memory text read reply is = absurd is
+
+completes : (verdict status : Status) (text : List ℕ) → Ends verdict status → ¬ (status ≡ WriteFault) → ¬ (verdict ≡ ReadFault) → (reply : Reply) → IsReplyOf verdict text reply → IsTold status reply.status
+completes verdict status text (inl same) written read reply is = inr (same ∙ same_told verdict text read reply is)
+completes verdict status text (inr failed) written read reply is = absurd (written failed.1)
 
 neither : (b : Bool) (P Q : Type 0) → ¬ P → ¬ Q → ¬ MatchBool b P Q
 neither true P Q p q held = p held
 neither false P Q p q held = q held
 
--- ---- the reply to words
+pub complete : (words : List (List ℕ)) (c : CommandValue) (folder : Option Folder) (input at : Option (List ℕ)) (verdict status : Status) (text : List ℕ) (i j f g o p : ℕ) → command_of words ≡ Some c → Says verdict c folder input at text → Ends verdict status → (verdict ≡ ReadFault → FailedAt (input_of c) i j f g) → (status ≡ WriteFault → Rose o p) → IfSome (answer words folder input) (λ reply. ¬ Rose i j → ¬ Rose f g → ¬ Rose o p → IsTold status reply.status)
+complete words c folder input at verdict status text i j f g o p read says ends failed unwritten =
+    replied words c folder input at verdict text (λ reply. ¬ Rose i j → ¬ Rose f g → ¬ Rose o p → IsTold status reply.status) read says
+    (λ reply is input files out. completes verdict status text ends (λ w. out (unwritten w)) (λ r. neither (is_standard (input_of c)) (Rose i j) (Rose f g) input files (failed r)) reply is)
 
-pub answers : (words : List (List ℕ)) (c : CommandValue) (folder : Option Folder) (left : Option (List ℕ)) (v : Verdict) (status : Status) (old new : Option (List ℕ)) → command_of words ≡ Some c → IsVerdict c (article_at (input_of c) folder left) v → Ends v status → Writes status old new (text_of v) → IfSome (answer words folder left) (λ reply. Answers status reply old new)
-answers words c folder left v status old new read verdict ends writes =
-    rw read (if_some (IsReply v) (λ reply. Answers status reply old new) _ (answers_reply v status old new ends writes) verdict.reply)
+-- ---- other statuses
 
-pub refused_line : (words : List (List ℕ)) (c : CommandValue) (folder : Option Folder) (left : Option (List ℕ)) (v : Verdict) (status : Status) (old new : Option (List ℕ)) (before now : ℕ) → command_of words ≡ Some c → IsVerdict c (article_at (input_of c) folder left) v → Ends v status → IfSome (error_line v status) (λ line. Says old new before now line) → status ≡ statuses.Refused → IfSome (answer words folder left) (λ reply. Says old new before now reply.error)
-refused_line words c folder left v status old new before now read verdict ends says refused =
-    rw read (if_some (IsReply v) (λ reply. Says old new before now reply.error) _ (says_error v status old new before now ends says refused) verdict.reply)
+-- what another status than these two writes
+pub writes_nothing : (status : Status) (old new : Option (List ℕ)) (text : List ℕ) → ¬ (status ≡ Accepted) → ¬ (status ≡ WriteFault) → Writes status old new text
+writes_nothing Accepted old new text loud written = absurd (loud refl)
+writes_nothing WriteFault old new text loud written = absurd (written refl)
+writes_nothing Refused old new text loud written = tt
+writes_nothing Usage old new text loud written = tt
+writes_nothing NoFile old new text loud written = tt
+writes_nothing ReadFault old new text loud written = tt
+writes_nothing Memory old new text loud written = tt
 
-pub complete : (words : List (List ℕ)) (c : CommandValue) (folder : Option Folder) (left : Option (List ℕ)) (v : Verdict) (status : Status) (i j f g o p : ℕ) → command_of words ≡ Some c → IsVerdict c (article_at (input_of c) folder left) v → Ends v status → (status_of v ≡ statuses.ReadFault → FailedAt (input_of c) i j f g) → (status ≡ statuses.WriteFault → Rose o p) → IfSome (answer words folder left) (λ reply. ¬ Rose i j → ¬ Rose f g → ¬ Rose o p → IsTold status reply.status)
-complete words c folder left v status i j f g o p read verdict ends failed unwritten =
-    rw read (if_some (IsReply v) (λ reply. ¬ Rose i j → ¬ Rose f g → ¬ Rose o p → IsTold status reply.status) _ (λ reply is input files out. completes v status ends (λ w. out (unwritten w)) (λ r. neither (is_standard (input_of c)) (Rose i j) (Rose f g) input files (failed r)) reply is) verdict.reply)
-
-informs_of : (c : CommandValue) (folder : Option Folder) (left : Option (List ℕ)) (v : Verdict) (status : Status) (old new : Option (List ℕ)) → Shows c (article_at (input_of c) folder left) v → Ends v status → Writes status old new (text_of v) → ¬ IsSilent status → Informs status (Some c) folder left old new
-informs_of (Check packages path) folder left v status old new shows ends writes loud = tt
-informs_of (Info packages path sections) folder left (verdicts.Accepted text) statuses.Accepted old new shows ends writes loud =
-    record { state = shows.state; ended = shows.ended; proved = shows.proved; text = subst (λ xs. Writes statuses.Accepted old new xs) shows.text_is writes }
-informs_of (Info packages path sections) folder left (verdicts.Accepted text) statuses.WriteFault old new shows ends writes loud =
-    record { state = shows.state; ended = shows.ended; proved = shows.proved; text = subst (λ xs. Writes statuses.WriteFault old new xs) shows.text_is writes }
-informs_of (Info packages path sections) folder left (verdicts.Refused text) statuses.Refused old new shows ends writes loud = absurd (loud tt)
-informs_of (Info packages path sections) folder left (verdicts.NoFile text) statuses.NoFile old new shows ends writes loud = absurd (loud tt)
-informs_of (Info packages path sections) folder left (verdicts.ReadFault text) statuses.ReadFault old new shows ends writes loud = absurd (loud tt)
-informs_of (Info packages path sections) folder left _ _ old new shows ends writes loud = absurd ends
-
-pub informs : (words : List (List ℕ)) (c : CommandValue) (folder : Option Folder) (left : Option (List ℕ)) (v : Verdict) (status : Status) (old new : Option (List ℕ)) → command_of words ≡ Some c → IsVerdict c (article_at (input_of c) folder left) v → Ends v status → Writes status old new (text_of v) → ¬ IsSilent status → Informs status (command_of words) folder left old new
-informs words c folder left v status old new read verdict ends writes loud = rw read (informs_of c folder left v status old new verdict.shows ends writes loud)
+pub other_line : {E : Type 0} (written : E → Option (List ℕ)) (faults : E → ℕ) (old new : E) (status : Status) (text : List ℕ) → ¬ (status ≡ Accepted) → ¬ (status ≡ WriteFault) → WritesLine written faults old new text → IfSome (error_line text status) (WritesLine written faults old new)
+other_line written faults old new Accepted text loud unwritten line = absurd (loud refl)
+other_line written faults old new WriteFault text loud unwritten line = absurd (unwritten refl)
+other_line written faults old new Refused text loud unwritten line = line
+other_line written faults old new Usage text loud unwritten line = line
+other_line written faults old new NoFile text loud unwritten line = line
+other_line written faults old new ReadFault text loud unwritten line = line
+other_line written faults old new Memory text loud unwritten line = line

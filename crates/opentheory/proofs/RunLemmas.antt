@@ -1,6 +1,9 @@
--- What a kernel and a machine say of their run.
+-- What a kernel and the numbers of exports say of their run.
 use Rattle.std.proofs.Common.{◌≡◌, ℕ, ◌<◌, ◌≤◌, List, [], ◌++◌, length, map, refl, ap, ◌∙◌, arith}
+use Rattle.std.specs.Prelude.{false, nat_le}
 use Rattle.std.specs.List.{All}
+use Rattle.std.proofs.lemmas.Bool.{le-leb}
+use Rattle.std.proofs.lemmas.Bool.Decides.{nat_tests}
 use Rattle.std.proofs.lemmas.List.{map-id}
 use Rattle.std.proofs.lemmas.List.Elements.{All-map}
 use Rattle.std.proofs.lemmas.Simd.{map-map}
@@ -8,48 +11,59 @@ use Rattle.ot_plain.specs.Naming.{names}
 use Rattle.ot_laws.specs.Theorem.{IsTheorem}
 use Rattle.ot_args.specs.declared.sections.Sections.{Sections}
 use Rattle.ot_kernel.specs.State.{State, theorem_at, IsSoundState}
-use Rattle.ot_machine.specs.Meaning.{state_of, IsOf}
-use Rattle.ot_machine.specs.declared.machine.Machine.{Machine}
+use Rattle.ot_machine.specs.declared.machine.Export.{Export}
 use Rattle.ot_print.specs.Texts.{summary_text}
-use Rattle.ot_print.specs.Pages.{Appended}
+use Rattle.ot_text.specs.Pages.{Appended}
+use Rattle.opentheory.specs.Texts.{large_line}
 use Rattle.opentheory.specs.Reply.{assumptions_of, definitions_of, exports_of, summary, summary_limit}
 use Rattle.opentheory.specs.Answer.{IsProved}
+use Rattle.opentheory.specs.Verdicts.{ran_from, IsSaid, SummaryEndsAs}
+use Rattle.opentheory.specs.declared.report.Verdict.{Verdict}
+use Rattle.opentheory.specs.declared.status.Status.TheVariants.{Accepted, Refused}
 
 -- the run's lists are those of the kernel
 
-assumptions_are : (k : State) (m : Machine) → assumptions_of (state_of k m) ≡ k.assumptions
-assumptions_are k m = map-map _ _ k.assumptions ∙ map-id k.assumptions
+assumptions_are : (k : State) (es : List Export) → assumptions_of (ran_from k es) ≡ k.assumptions
+assumptions_are k es = map-map _ _ k.assumptions ∙ map-id k.assumptions
 
-definitions_are : (k : State) (m : Machine) → definitions_of (state_of k m) ≡ k.definitions
-definitions_are k m = map-map _ _ k.definitions ∙ map-id k.definitions
+definitions_are : (k : State) (es : List Export) → definitions_of (ran_from k es) ≡ k.definitions
+definitions_are k es = map-map _ _ k.definitions ∙ map-id k.definitions
 
-exports_are : (k : State) (m : Machine) → exports_of (state_of k m) ≡ map (λ e. theorem_at k e.th) m.exports.items
-exports_are k m = map-map _ _ m.exports.items
+exports_are : (k : State) (es : List Export) → exports_of (ran_from k es) ≡ map (λ e. theorem_at k e.th) es
+exports_are k es = map-map _ _ es
 
 -- the theorems that are exported are among the kernel's, which are derivable
-pub is_proved : (k : State) (m : Machine) → IsSoundState k → IsOf k m → IsProved (state_of k m)
-is_proved k m sound of = record {
-  accepted = rw (assumptions_are k m, definitions_are k m) sound.accepted;
-  theorems = rw (assumptions_are k m, definitions_are k m, exports_are k m) (All-map (IsTheorem names k.assumptions k.definitions) (λ e. theorem_at k e.th) m.exports.items (λ i d here. sound.theorems _ _ (of.exports i d here)));
+pub is_proved : (k : State) (es : List Export) → IsSoundState k → All (λ e. e.th < length k.theorems) es → IsProved (ran_from k es)
+is_proved k es sound within = record {
+  accepted = rw (assumptions_are k es, definitions_are k es) sound.accepted;
+  theorems = rw (assumptions_are k es, definitions_are k es, exports_are k es) (All-map (IsTheorem names k.assumptions k.definitions) (λ e. theorem_at k e.th) es (λ i d here. sound.theorems _ _ (within i d here)));
 }
 
 -- the numbers of the exports are of the kernel
-pub exported_within : (k : State) (m : Machine) (ths : List ℕ) → ths ≡ map (λ e. e.th) m.exports.items → IsOf k m → All (λ i. i < length k.theorems) ths
-exported_within k m ths are of = rw are (All-map (λ i. i < length k.theorems) (λ e. e.th) m.exports.items of.exports)
+pub exported_within : (k : State) (es : List Export) (ths : List ℕ) → ths ≡ map (λ e. e.th) es → All (λ e. e.th < length k.theorems) es → All (λ i. i < length k.theorems) ths
+exported_within k es ths are within = rw are (All-map (λ i. i < length k.theorems) (λ e. e.th) es within)
 
 -- the printed text of a kernel's lists and of the exports' numbers is the summary
-summary_is : (sections : Sections) (k seen : State) (m : Machine) (ths : List ℕ) → seen ≡ k → ths ≡ map (λ e. e.th) m.exports.items → summary_text sections seen.assumptions seen.definitions (map (theorem_at seen) ths) ≡ summary sections (state_of k m)
-summary_is sections k seen m ths same are =
-    rw (same, are, assumptions_are k m, definitions_are k m, exports_are k m, map-map (theorem_at k) (λ e. e.th) m.exports.items) refl
+summary_is : (sections : Sections) (k seen : State) (es : List Export) (ths : List ℕ) → seen ≡ k → ths ≡ map (λ e. e.th) es → summary_text sections seen.assumptions seen.definitions (map (theorem_at seen) ths) ≡ summary sections (ran_from k es)
+summary_is sections k seen es ths same are =
+    rw (same, are, assumptions_are k es, definitions_are k es, exports_are k es, map-map (theorem_at k) (λ e. e.th) es) refl
 
--- where it was printed it is within the limit
-pub summary_within : (sections : Sections) (k seen : State) (m : Machine) (ths : List ℕ) (max : ℕ) (old new : List ℕ) → seen ≡ k → ths ≡ map (λ e. e.th) m.exports.items → max ≡ summary_limit → old ≡ [] → Appended (summary_text sections seen.assumptions seen.definitions (map (theorem_at seen) ths)) max old new → (new ≡ summary sections (state_of k m)) × (length (summary sections (state_of k m)) ≤ summary_limit)
-summary_within sections k seen m ths max old new same are limit empty printed =
-    let e = summary_is sections k seen m ths same are in
-    (printed.bytes ∙ ap (λ xs. xs ++ summary_text sections seen.assumptions seen.definitions (map (theorem_at seen) ths)) empty ∙ e, rw (← e, ← limit) printed.within)
+-- where it was printed it is accepted
+pub summary_printed : (path : List ℕ) (sections : Sections) (k seen : State) (es : List Export) (ths : List ℕ) (max : ℕ) (old : List ℕ) (v : Verdict) → seen ≡ k → ths ≡ map (λ e. e.th) es → max ≡ summary_limit → old ≡ [] → v.status ≡ Accepted → Appended (summary_text sections seen.assumptions seen.definitions (map (theorem_at seen) ths)) max old v.text.items → SummaryEndsAs path sections (ran_from k es) v
+summary_printed path sections k seen es ths max old v same are limit empty status printed =
+    let e = summary_is sections k seen es ths same are in
+    let within : length (summary sections (ran_from k es)) ≤ summary_limit = rw (← e, ← limit) printed.within in
+    rw (le-leb (length (summary sections (ran_from k es))) summary_limit within) (record {
+      status_is = status;
+      text_is = printed.bytes ∙ ap (λ xs. xs ++ summary_text sections seen.assumptions seen.definitions (map (theorem_at seen) ths)) empty ∙ e;
+    })
 
--- and where its bytes are past the limit, so is it
-pub summary_too_large : (sections : Sections) (k seen : State) (m : Machine) (ths : List ℕ) (max : ℕ) → seen ≡ k → ths ≡ map (λ e. e.th) m.exports.items → max ≡ summary_limit → max < length (summary_text sections seen.assumptions seen.definitions (map (theorem_at seen) ths)) → summary_limit < length (summary sections (state_of k m))
-summary_too_large sections k seen m ths max same are limit past =
-    let longer : length (summary_text sections seen.assumptions seen.definitions (map (theorem_at seen) ths)) ≡ length (summary sections (state_of k m)) = ap length (summary_is sections k seen m ths same are) in
-    omega arith
+too_long : (n limit : ℕ) → limit < n → nat_le n limit ≡ false
+too_long n limit h = grind (arith, nat_tests)
+
+-- and where its bytes are past the limit it is refused
+pub summary_too_large : (path : List ℕ) (sections : Sections) (k seen : State) (es : List Export) (ths : List ℕ) (max : ℕ) (v : Verdict) → seen ≡ k → ths ≡ map (λ e. e.th) es → max ≡ summary_limit → max < length (summary_text sections seen.assumptions seen.definitions (map (theorem_at seen) ths)) → IsSaid v Refused (large_line path) → SummaryEndsAs path sections (ran_from k es) v
+summary_too_large path sections k seen es ths max v same are limit past said =
+    let longer : length (summary_text sections seen.assumptions seen.definitions (map (theorem_at seen) ths)) ≡ length (summary sections (ran_from k es)) = ap length (summary_is sections k seen es ths same are) in
+    let large : summary_limit < length (summary sections (ran_from k es)) = omega arith in
+    rw (too_long (length (summary sections (ran_from k es))) summary_limit large) said

@@ -1,6 +1,6 @@
 -- How lines are put together.
 use Rattle.std.proofs.Common.{◌≡◌, ℕ, List, [], ◌++◌, codes, refl, sym, ap, ◌∙◌, append_assoc}
-use Rattle.std.specs.Prelude.{slice_get, Option, Some, None, IfSome, Result, Ok, Err, OnOk}
+use Rattle.std.specs.Prelude.{slice_get, Option, Some, None, IsSomeAnd, Result, Ok, Err, OnOk}
 use Rattle.std.proofs.lemmas.Option.{get_or_from_slice_get}
 use Rattle.ot_plain.specs.Names.{Name, spelled}
 use Rattle.ot_plain.specs.Renamed.{map_symbol}
@@ -24,8 +24,8 @@ symbol_added (Ok u) k kind n m old mid new word name all =
     let whole : mid ++ spelled m ≡ old ++ (kind_word kind ++ spelled m) = ap (λ xs. xs ++ spelled m) word ∙ append_assoc old (kind_word kind) (spelled m) in
     all ∙ whole ∙ ap (λ xs. old ++ (kind_word kind ++ spelled xs)) (sym read) ∙ ap (λ xs. old ++ xs) (symbol_text_is kind n (name_at k))
 
--- a line's start, the text of its fault where that is told, and the end of the line
-pub fault_line_is : (o : Option (Fault Name)) (path : List ℕ) (number : ℕ) (start mid line : List ℕ) → start ≡ line_start path number → IfSome o (λ f. mid ≡ start ++ fault_text f) → line ≡ mid ++ codes "\n" → IfSome o (λ f. line ≡ fault_line path number f)
-fault_line_is None path number start mid line begins told ends = tt
+-- a line's start, the text of its fault, and the end of the line
+pub fault_line_is : (o : Option (Fault Name)) (path : List ℕ) (number : ℕ) (start mid line : List ℕ) → start ≡ line_start path number → IsSomeAnd o (λ f. mid ≡ start ++ fault_text f) → line ≡ mid ++ codes "\n" → IsSomeAnd o (λ f. line ≡ fault_line path number f)
+fault_line_is None path number start mid line begins told ends = absurd told
 fault_line_is (Some f) path number start mid line begins told ends =
     ends ∙ ap (λ xs. xs ++ codes "\n") (told ∙ ap (λ xs. xs ++ fault_text f) begins) ∙ simp append_assoc

@@ -1,86 +1,95 @@
--- The verdict on a command, by what the run of its input came to.
-use Rattle.std.proofs.Common.{◌≡◌, ℕ, ◌<◌, length, ap, sym, arith}
-use Rattle.std.specs.Prelude.{false, nat_le, IfSome, Result, Ok, Err, IfOk}
-use Rattle.std.proofs.lemmas.Bool.{le-leb}
-use Rattle.std.proofs.lemmas.Bool.Decides.{nat_tests}
-use Rattle.std.specs.Prelude.{Vec}
-use Rattle.std.specs.Global.{Global}
-use Rattle.ot_args.specs.Grammar.{CommandValue, Check, Info}
-use Rattle.ot_kernel.specs.State as kernel
-use Rattle.ot_machine.specs.States.{State}
-use Rattle.ot_machine.specs.Meaning.{state_of}
-use Rattle.ot_machine.specs.declared.machine.Machine.{Machine}
-use Rattle.ot_machine.specs.Run.{Ended}
-use Rattle.opentheory.specs.Texts.{missing_line, read_fault_line}
-use Rattle.opentheory.specs.Reply.{Article, Untold, Missing, Told, input_of, summary, summary_limit, accepted, refused, reply_of}
-use Rattle.opentheory.specs.Answer.{IsEndOf, IsProved, own_line}
-use Rattle.opentheory.specs.Verdicts.{ComesTo, EndsAs, IsReply, IsVerdict, MayLack, Shows, status_of, text_of}
-use Rattle.opentheory.specs.declared.input.InputFault.{InputFault}
+-- The verdict on a command, by how the run of its input ended.
+use Rattle.std.proofs.Common.{◌≡◌, ℕ, List, refl, sym, subst, ◌∙◌, ◌⊎◌, inl, inr}
+use Rattle.std.specs.Prelude.{Bool, true, false, MatchBool, Option, Some, None, IfSome, Result, Ok, Err, IfOk}
+use Rattle.ot_args.specs.Grammar.{CommandValue, is_theory}
+use Rattle.ot_io.specs.Folder.{Folder}
+use Rattle.ot_link.specs.Stops.{Stop, InArticle, InTheory, InStructure, TooLarge, Missing}
+use Rattle.ot_link.specs.Blocks.{Ran}
+use Rattle.opentheory.specs.Texts.{stop_line, large_line}
+use Rattle.opentheory.specs.Reply.{input_of, packages_of, run_of, text_of, fits, stop_status}
+use Rattle.opentheory.specs.Answer.{FailedAt, IsOwnStop, LastPath, Says}
+use Rattle.opentheory.specs.Verdicts.{End, Finished, Stopped, Failed, IsEnd, IsPlace, HasCause, IsSaid, IsFinal, IsVerdictOn, IsVerdictOf}
 use Rattle.opentheory.specs.declared.report.Verdict.{Verdict}
-use Rattle.opentheory.specs.declared.report.Verdict.TheVariants as verdicts
+use Rattle.opentheory.specs.declared.status.Status.{Status}
+use Rattle.opentheory.specs.declared.status.Status.TheVariants.{Accepted, Refused, NoFile, ReadFault}
 
-too_long : (n limit : ℕ) → limit < n → nat_le n limit ≡ false
-too_long n limit h = grind (arith, nat_tests)
+-- ---- what the text of a verdict says
 
--- the reply to a run that ended so
-end_reply : (c : CommandValue) (s : State) (v : Verdict) → EndsAs c s v → IsReply v (reply_of c (Ended s))
-end_reply (Check folder path) s (verdicts.Accepted text) ends = ap accepted (sym ends)
-end_reply (Check folder path) s (verdicts.Refused text) ends = absurd ends
-end_reply (Check folder path) s (verdicts.NoFile text) ends = absurd ends
-end_reply (Check folder path) s (verdicts.ReadFault text) ends = absurd ends
-end_reply (Info folder path sections) s (verdicts.Accepted text) ends =
-    rw (le-leb (length (summary sections s)) summary_limit ends.1) (ap accepted (sym ends.0))
-end_reply (Info folder path sections) s (verdicts.Refused text) ends =
-    rw (too_long (length (summary sections s)) summary_limit ends.1) (ap refused (sym ends.0))
-end_reply (Info folder path sections) s (verdicts.NoFile text) ends = absurd ends
-end_reply (Info folder path sections) s (verdicts.ReadFault text) ends = absurd ends
+-- the line of a stop
+stop_says : (c : CommandValue) (folder : Option Folder) (input at : Option (List ℕ)) (s : Stop) (line : List ℕ) → line ≡ stop_line s → IfSome (run_of c folder input) (λ l. l.answer ≡ Err s) → MatchBool (is_theory (input_of c)) (Unit {0}) (IsOwnStop (input_of c) s) → Says (stop_status s) c folder input at line
+stop_says c folder input at (InArticle path number fault) line is told own = inl (record { stop = InArticle path number fault; stopped = told; own = own; status_is = refl; line_is = is })
+stop_says c folder input at (InTheory path number fault) line is told own = inl (record { stop = InTheory path number fault; stopped = told; own = own; status_is = refl; line_is = is })
+stop_says c folder input at (InStructure path number fault) line is told own = inl (record { stop = InStructure path number fault; stopped = told; own = own; status_is = refl; line_is = is })
+stop_says c folder input at (TooLarge path) line is told own = inl (record { stop = TooLarge path; stopped = told; own = own; status_is = refl; line_is = is })
+stop_says c folder input at (Missing path) line is told own = record { stop = Missing path; stopped = told; own = own; status_is = refl; line_is = is }
 
--- the sections of a summary that is accepted are those of a run whose theorems are proved
-end_shows : (c : CommandValue) (article : Article) (s : State) (v : Verdict) → IsProved s → IsEndOf article s → EndsAs c s v → Shows c article v
-end_shows (Check folder path) article s (verdicts.Accepted text) proved ended ends = tt
-end_shows (Info folder path sections) article s (verdicts.Accepted text) proved ended ends =
-    record { state = s; ended = ended; proved = proved; text_is = ends.0 }
-end_shows c article s (verdicts.Refused text) proved ended ends = tt
-end_shows c article s (verdicts.NoFile text) proved ended ends = tt
-end_shows c article s (verdicts.ReadFault text) proved ended ends = tt
+-- the text of a run that ended, by whether it is within the limit
+final_says : (c : CommandValue) (folder : Option Folder) (input at : Option (List ℕ)) (r : Ran) (v : Verdict) (b : Bool) → fits c r ≡ b → MatchBool b (IsSaid v Accepted (text_of c r)) (IsSaid v Refused (large_line (input_of c))) → IsFinal c r v → IfSome (run_of c folder input) (λ l. l.answer ≡ Ok r) → Says v.status c folder input at v.text.items
+final_says c folder input at r v true fit said final told =
+    let P : Status → Type 0 = λ s. Says s c folder input at v.text.items in
+    subst P (sym said.status_is) (record { ran = r; ended = told; proved = final.proved; one_text = final.one_text; one_in_front = final.one_in_front; fits_is = fit; text_is = said.text_is })
+final_says c folder input at r v false fit said final told =
+    let P : Status → Type 0 = λ s. Says s c folder input at v.text.items in
+    subst P (sym said.status_is) (inr (record { ran = r; ended = told; large = fit; line_is = said.text_is }))
 
--- a run that ended has no line of its own
-end_line : (c : CommandValue) (s : State) (v : Verdict) → EndsAs c s v → IfSome (own_line (input_of c) (status_of v)) (λ line. text_of v ≡ line)
-end_line c s (verdicts.Accepted text) ends = tt
-end_line c s (verdicts.Refused text) ends = tt
-end_line (Check folder path) s (verdicts.NoFile text) ends = absurd ends
-end_line (Info folder path sections) s (verdicts.NoFile text) ends = absurd ends
-end_line (Check folder path) s (verdicts.ReadFault text) ends = absurd ends
-end_line (Info folder path sections) s (verdicts.ReadFault text) ends = absurd ends
+verdict_says : (c : CommandValue) (folder : Option Folder) (input at : Option (List ℕ)) (e : End) (v : Verdict) → IsVerdictOn c v e → IsEnd (packages_of c) (input_of c) folder input e → IsPlace (packages_of c) (input_of c) folder at e → Says v.status c folder input at v.text.items
+verdict_says c folder input at (Finished r) v on told place = final_says c folder input at r v (fits c r) refl on.ends on told
+verdict_says c folder input at (Stopped s) v on told place =
+    let P : Status → Type 0 = λ st. Says st c folder input at v.text.items in
+    subst P (sym on.status_is) (stop_says c folder input at s v.text.items on.text_is told place)
+verdict_says c folder input at (Failed path) v on told place =
+    let P : Status → Type 0 = λ st. Says st c folder input at v.text.items in
+    subst P (sym on.status_is) (record { failed = path; path = place; line_is = on.text_is })
 
--- the verdict on an article whose run ended
-end_verdict : (c : CommandValue) (article : Article) (s : State) (v : Verdict) → IsProved s → EndsAs c s v → IsEndOf article s → IsVerdict c article v
-end_verdict c Untold s v proved ends ended = record { reply = tt; own = end_line c s v ends; shows = end_shows c Untold s v proved ended ends }
-end_verdict c Missing s v proved ends ended = absurd ended
-end_verdict c (Told bytes) s v proved ends ended = record { reply = rw ended (end_reply c s v ends); own = end_line c s v ends; shows = end_shows c (Told bytes) s v proved ended ends }
+pub says : {E : Type 0} (c : CommandValue) (packages path : List ℕ) (folder : Option Folder) (input at : Option (List ℕ)) (o : Option End) (r : Result Verdict E) → packages ≡ packages_of c → path ≡ input_of c → IfOk r (IsVerdictOf c o) → IfSome o (IsEnd packages path folder input) → IfSome o (IsPlace packages path folder at) → IfOk r (λ v. Says v.status c folder input at v.text.items)
+says c packages path folder input at o (Err e) same same' on told place = tt
+says c packages path folder input at None (Ok v) same same' on told place = absurd on
+says c packages path folder input at (Some e) (Ok v) same same' on told place =
+    verdict_says c folder input at e v on (subst (λ (p : List ℕ × List ℕ). IsEnd p.0 p.1 folder input e) (λ i. (same i, same' i)) told) (subst (λ (p : List ℕ × List ℕ). IsPlace p.0 p.1 folder at e) (λ i. (same i, same' i)) place)
 
-pub ended_verdicts : {E : Type 0} (c : CommandValue) (ran : Result (Unit {0}) InputFault) (k : kernel.State) (m : Machine) (r : Result Verdict E) → ran ≡ Ok tt → IsProved (state_of k m) → IfOk r (EndsAs c (state_of k m)) → IfOk r (λ v. (article : Article) → ComesTo ran article k m → IsVerdict c article v)
-ended_verdicts c ran k m (Err e) was proved ends = tt
-ended_verdicts c ran k m (Ok v) was proved ends = λ article came. end_verdict c article (state_of k m) v proved ends (rw was at came)
+-- ---- the causes of its status
 
--- the verdict on an article that isn't there
-pub missing_verdict : (c : CommandValue) (article : Article) (text : Vec ℕ Global) → text.items ≡ missing_line (input_of c) → MayLack article → IsVerdict c article (verdicts.NoFile text)
-missing_verdict c Untold text line lacks = record { reply = tt; own = line; shows = tt }
-missing_verdict c Missing text line lacks = record { reply = cc; own = line; shows = tt }
-missing_verdict c (Told bytes) text line lacks = absurd lacks
+-- a run that ended is accepted or refused
+ended_status : (v : Verdict) (b : Bool) (text line : List ℕ) → MatchBool b (IsSaid v Accepted text) (IsSaid v Refused line) → (v.status ≡ Accepted) ⊎ (v.status ≡ Refused)
+ended_status v true text line said = inl said.status_is
+ended_status v false text line said = inr said.status_is
 
--- the verdict on an input that failed
-pub failed_verdict : (c : CommandValue) (article : Article) (text : Vec ℕ Global) → text.items ≡ read_fault_line (input_of c) → IsVerdict c article (verdicts.ReadFault text)
-failed_verdict c Untold text line = record { reply = tt; own = line; shows = tt }
-failed_verdict c Missing text line = record { reply = tt; own = line; shows = tt }
-failed_verdict c (Told bytes) text line = record { reply = tt; own = line; shows = tt }
+neither : {X : Type 0} (s t : Status) → (s ≡ Accepted) ⊎ (s ≡ Refused) → s ≡ t → ¬ (Accepted ≡ t) → ¬ (Refused ≡ t) → X
+neither s t (inl accepted) is other other' = absurd (other (sym accepted ∙ is))
+neither s t (inr refused) is other other' = absurd (other' (sym refused ∙ is))
 
--- ---- what holds of a verdict, where there is one
+missing_on : (P Q : Type 0) (c : CommandValue) (v : Verdict) (e : End) → IsVerdictOn c v e → HasCause P Q e → v.status ≡ NoFile → Q
+missing_on P Q c v (Finished r) on cause is = neither v.status NoFile (ended_status v (fits c r) _ _ on.ends) is (λ h. cc) (λ h. cc)
+missing_on P Q c v (Stopped s) on cause is = cause (sym on.status_is ∙ is)
+missing_on P Q c v (Failed path) on cause is = let h : ReadFault ≡ NoFile = sym on.status_is ∙ is in absurd cc
 
-pub held_anyway : {T E X : Type 0} (r : Result T E) → X → IfOk r (λ _. X)
-held_anyway (Ok v) holds = holds
-held_anyway (Err e) holds = tt
+-- a missing file was counted
+pub missing : {E : Type 0} (P Q : Type 0) (c : CommandValue) (o : Option End) (r : Result Verdict E) → IfOk r (IsVerdictOf c o) → IfSome o (HasCause P Q) → IfOk r (λ v. v.status ≡ NoFile → Q)
+missing P Q c o (Err e) on cause = tt
+missing P Q c None (Ok v) on cause = absurd on
+missing P Q c (Some e) (Ok v) on cause = missing_on P Q c v e on cause
 
-pub verdict_told : {E : Type 0} (c : CommandValue) (ran : Result (Unit {0}) InputFault) (k : kernel.State) (m : Machine) (r : Result Verdict E) (article : Article) → ComesTo ran article k m → IfOk r (λ v. (a : Article) → ComesTo ran a k m → IsVerdict c a v) → IfOk r (IsVerdict c article)
-verdict_told c ran k m (Ok v) article came told = told article came
-verdict_told c ran k m (Err e) article came told = tt
+-- no stop is a read fault
+stop_no_failure : {X : Type 0} (s : Stop) → stop_status s ≡ ReadFault → X
+stop_no_failure (InArticle path number fault) is = absurd cc
+stop_no_failure (InTheory path number fault) is = absurd cc
+stop_no_failure (InStructure path number fault) is = absurd cc
+stop_no_failure (TooLarge path) is = absurd cc
+stop_no_failure (Missing path) is = absurd cc
+
+failed_on : (P Q : Type 0) (c : CommandValue) (v : Verdict) (e : End) → IsVerdictOn c v e → HasCause P Q e → v.status ≡ ReadFault → P
+failed_on P Q c v (Finished r) on cause is = neither v.status ReadFault (ended_status v (fits c r) _ _ on.ends) is (λ h. cc) (λ h. cc)
+failed_on P Q c v (Stopped s) on cause is = stop_no_failure s (sym on.status_is ∙ is)
+failed_on P Q c v (Failed path) on cause is = cause
+
+-- and so was a failure
+pub failed : {E : Type 0} (Q : Type 0) (c : CommandValue) (path : List ℕ) (i j f g : ℕ) (o : Option End) (r : Result Verdict E) → path ≡ input_of c → IfOk r (IsVerdictOf c o) → IfSome o (HasCause (FailedAt path i j f g) Q) → IfOk r (λ v. v.status ≡ ReadFault → FailedAt (input_of c) i j f g)
+failed Q c path i j f g o (Err e) same on cause = tt
+failed Q c path i j f g None (Ok v) same on cause = absurd on
+failed Q c path i j f g (Some e) (Ok v) same on cause = λ is. subst (λ (p : List ℕ). FailedAt p i j f g) same (failed_on (FailedAt path i j f g) Q c v e on cause is)
+
+-- the article's path was the last to be asked for
+pub asked : {E : Type 0} (c : CommandValue) (path : List ℕ) (folder : Option Folder) (at : Option (List ℕ)) (o : Option End) (r : Result Verdict E) → path ≡ input_of c → IfOk r (IsVerdictOf c o) → IfSome o (λ _. LastPath path folder at) → IfOk r (λ _. LastPath (input_of c) folder at)
+asked c path folder at o (Err e) same on last = tt
+asked c path folder at None (Ok v) same on last = absurd on
+asked c path folder at (Some e) (Ok v) same on last = subst (λ (p : List ℕ). LastPath p folder at) same last

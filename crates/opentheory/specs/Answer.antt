@@ -1,31 +1,32 @@
 -- How the program's status and texts stand to the stated reply.
-use Rattle.std.specs.Prelude.{◌≡◌, ◌⊎◌, ℕ, List, [], Option, Some, None, MatchBool}
+use Rattle.std.specs.Prelude.{◌≡◌, ◌⊎◌, ℕ, List, true, false, ◌||◌, Option, Ok, Err, MatchBool, IfSome, IsSomeAnd, ◌≤◌}
 use Rattle.std.specs.List.{All}
 use Rattle.std.specs.Io.KnownBytes.{Appends}
 use Rattle.ot_plain.specs.Naming.{names}
+use Rattle.ot_plain.specs.Lists.{IsMember}
 use Rattle.ot_plain.specs.Hol.{Accepted as AcceptedLists}
 use Rattle.ot_laws.specs.Theorem.{IsTheorem}
 use Rattle.ot_io.specs.Causes.{Rose}
 use Rattle.ot_io.specs.Folder.{Folder, path_asked}
 use Rattle.ot_io.specs.Sinks.{AppendsFront}
-use Rattle.ot_args.specs.Grammar.{CommandValue, Check, Info}
-use Rattle.ot_args.specs.declared.sections.Sections.{Sections}
-use Rattle.ot_machine.specs.States.{State}
-use Rattle.ot_machine.specs.Run.{Ended}
-use Rattle.opentheory.specs.Texts.{usage_line, missing_line, read_fault_line, write_fault_line, memory_line}
-use Rattle.opentheory.specs.Reply.{Reply, input_of, is_standard, Article, Untold, Missing, Told, article_at, outcome, summary, assumptions_of, definitions_of, exports_of}
+use Rattle.ot_args.specs.Grammar.{CommandValue, is_theory}
+use Rattle.ot_link.specs.Stops.{Stop, InArticle, InTheory, InStructure, TooLarge, Missing, Linked}
+use Rattle.ot_link.specs.Blocks.{Ran}
+use Rattle.ot_text.specs.Laws.{OneSequent, OneSequentInFront}
+use Rattle.opentheory.specs.Texts.{usage_line, stop_line, large_line, read_fault_line, write_fault_line, memory_line}
+use Rattle.opentheory.specs.Reply.{Reply, input_of, is_standard, run_of, opened, text_of, fits, stop_status, assumptions_of, definitions_of, exports_of}
 use Rattle.opentheory.specs.declared.status.Status.{Status}
 use Rattle.opentheory.specs.declared.status.Status.TheVariants.{Accepted, Refused, Usage, NoFile, ReadFault, WriteFault, Memory}
 
 -- with this status the reply is such a one, and its output was written, or a front of it at a write fault
-abbrev pub Answers : Status → Reply → Option (List ℕ) → Option (List ℕ) → Type 0
-Answers Accepted reply old new = (reply.status ≡ Accepted) × Appends old new reply.output
-Answers WriteFault reply old new = (reply.status ≡ Accepted) × AppendsFront old new reply.output
-Answers Refused reply old new = reply.status ≡ Refused
-Answers Usage reply old new = reply.status ≡ Usage
-Answers NoFile reply old new = reply.status ≡ NoFile
-Answers ReadFault reply old new = Unit {0}
-Answers Memory reply old new = Unit {0}
+abbrev pub MatchesReply : Status → Reply → Option (List ℕ) → Option (List ℕ) → Type 0
+MatchesReply Accepted reply old new = (reply.status ≡ Accepted) × Appends old new reply.output
+MatchesReply WriteFault reply old new = (reply.status ≡ Accepted) × AppendsFront old new reply.output
+MatchesReply Refused reply old new = reply.status ≡ Refused
+MatchesReply Usage reply old new = reply.status ≡ Usage
+MatchesReply NoFile reply old new = reply.status ≡ NoFile
+MatchesReply ReadFault reply old new = Unit {0}
+MatchesReply Memory reply old new = Unit {0}
 
 -- the statuses with which nothing is written to the output
 abbrev pub IsSilent : Status → Type 0
@@ -37,53 +38,78 @@ IsSilent NoFile = Unit {0}
 IsSilent ReadFault = Unit {0}
 IsSilent Memory = Unit {0}
 
--- a sink's bytes grew by a line, or by a front of it where the sink's count of failures rose
-abbrev pub Says : Option (List ℕ) → Option (List ℕ) → ℕ → ℕ → List ℕ → Type 0
-Says old new before now line = Appends old new line ⊎ (Rose before now × AppendsFront old new line)
+-- the statuses whose line says why the input isn't accepted
+abbrev pub IsVerdict : Status → Type 0
+IsVerdict Refused = Unit {0}
+IsVerdict NoFile = Unit {0}
+IsVerdict Accepted = ⊥
+IsVerdict WriteFault = ⊥
+IsVerdict Usage = ⊥
+IsVerdict ReadFault = ⊥
+IsVerdict Memory = ⊥
 
--- the line on standard error that a status has by itself, where the command's input has this path
-abbrev pub own_line : List ℕ → Status → Option (List ℕ)
-own_line path Accepted = None
-own_line path Refused = None
-own_line path Usage = Some usage_line
-own_line path NoFile = Some (missing_line path)
-own_line path ReadFault = Some (read_fault_line path)
-own_line path WriteFault = Some write_fault_line
-own_line path Memory = Some memory_line
-
--- the input of a command, and nothing without one
-abbrev pub path_of : Option CommandValue → List ℕ
-path_of None = []
-path_of (Some c) = input_of c
-
--- the device that a command reads failed: standard input, or the files
-abbrev pub FailedAt : List ℕ → (before now : ℕ) → (files_before files_now : ℕ) → Type 0
-FailedAt path before now files_before files_now = MatchBool (is_standard path) (Rose before now) (Rose files_before files_now)
-
-abbrev pub Failed : Option CommandValue → (before now : ℕ) → (files_before files_now : ℕ) → Type 0
-Failed None before now files_before files_now = ⊥
-Failed (Some c) before now files_before files_now = FailedAt (input_of c) before now files_before files_now
-
--- the files are left alone where the input is standard input, and standard input where it is a file
-abbrev pub LeavesOne : {F S : Type 0} → List ℕ → F → F → S → S → Type 0
-LeavesOne path files files_now input input_now = MatchBool (is_standard path) (files_now ≡ files) (input_now ≡ input)
-
--- the path that was asked for last is the input's, where it is a file and the folder is told and has it
-abbrev pub AsksFor : List ℕ → Option Folder → Option (List ℕ) → Type 0
-AsksFor path folder at = MatchBool (is_standard path) (Unit {0}) (at ≡ path_asked folder path)
-
--- ---- what a summary says
+-- ---- what a text says of a run, as far as the run is told
 
 -- each theorem of the exports is derivable from the assumptions under the definitions, and these are accepted
-pub record IsProved (s : State) : Type 0 where
-  pub accepted : AcceptedLists names (assumptions_of s) (definitions_of s)
-  pub theorems : All (IsTheorem names (assumptions_of s) (definitions_of s)) (exports_of s)
+pub record IsProved (r : Ran) : Type 0 where
+  pub accepted : AcceptedLists names (assumptions_of r) (definitions_of r)
+  pub theorems : All (IsTheorem names (assumptions_of r) (definitions_of r)) (exports_of r)
 
--- the state at the end of the article's run, where the article is told
-abbrev pub IsEndOf : Article → State → Type 0
-IsEndOf Untold s = Unit {0}
-IsEndOf Missing s = ⊥
-IsEndOf (Told bytes) s = outcome bytes ≡ Ended s
+-- it is what the command prints of the run's end, whose theorems are proved; and a text is that of one sequent, whatever
+-- stands behind it
+pub record IsReport (c : CommandValue) (told : Option (Linked Ran)) (text : List ℕ) : Type 0 where
+  pub ran : Ran
+  pub ended : IfSome told (λ l. l.answer ≡ Ok ran)
+  pub proved : IsProved ran
+  pub one_text : OneSequent
+  pub one_in_front : OneSequentInFront
+  pub fits_is : fits c ran ≡ true
+  pub text_is : text ≡ text_of c ran
+
+-- a stop in the article of this path, or that it isn't there
+abbrev pub IsOwnStop : List ℕ → Stop → Type 0
+IsOwnStop path (InArticle p line fault) = p ≡ path
+IsOwnStop path (Missing p) = p ≡ path
+IsOwnStop path (InTheory p line fault) = ⊥
+IsOwnStop path (InStructure p line fault) = ⊥
+IsOwnStop path (TooLarge p) = ⊥
+
+-- it is the line of the run's stop: of an article one in that article, of a theory file any
+pub record IsStopLine (status : Status) (path : List ℕ) (told : Option (Linked Ran)) (line : List ℕ) : Type 0 where
+  pub stop : Stop
+  pub stopped : IfSome told (λ l. l.answer ≡ Err stop)
+  pub own : MatchBool (is_theory path) (Unit {0}) (IsOwnStop path stop)
+  pub status_is : stop_status stop ≡ status
+  pub line_is : line ≡ stop_line stop
+
+-- it is the line for a summary of the run's end that is too large
+pub record IsLargeLine (c : CommandValue) (told : Option (Linked Ran)) (line : List ℕ) : Type 0 where
+  pub ran : Ran
+  pub ended : IfSome told (λ l. l.answer ≡ Ok ran)
+  pub large : fits c ran ≡ false
+  pub line_is : line ≡ large_line (input_of c)
+
+-- the path is that of an input which the run reads: `-`, or a file that it needs, which was the last to be asked for
+abbrev pub IsReadPath : List ℕ → Option (List (List ℕ)) → Option (List ℕ) → List ℕ → Type 0
+IsReadPath path files at failed = MatchBool (is_standard path) (failed ≡ path) (IfSome files (IsMember failed) × IfSome at (λ asked. failed ≡ asked))
+
+-- it is the line for an input that failed
+pub record IsFailureLine (c : CommandValue) (folder : Option Folder) (at : Option (List ℕ)) (line : List ℕ) : Type 0 where
+  pub failed : List ℕ
+  pub path : IsReadPath (input_of c) (opened c folder) at failed
+  pub line_is : line ≡ read_fault_line failed
+
+-- what a text says with which the run of a command has this status
+abbrev pub Says : Status → CommandValue → Option Folder → Option (List ℕ) → Option (List ℕ) → List ℕ → Type 0
+Says Accepted c folder input at text = IsReport c (run_of c folder input) text
+Says Refused c folder input at line = IsStopLine Refused (input_of c) (run_of c folder input) line ⊎ IsLargeLine c (run_of c folder input) line
+Says NoFile c folder input at line = IsStopLine NoFile (input_of c) (run_of c folder input) line
+Says ReadFault c folder input at line = IsFailureLine c folder at line
+Says Usage c folder input at line = ⊥
+Says WriteFault c folder input at line = ⊥
+Says Memory c folder input at line = ⊥
+
+-- ---- what is written
 
 -- a text was written, or a front of it at a write fault
 abbrev pub Writes : Status → Option (List ℕ) → Option (List ℕ) → List ℕ → Type 0
@@ -95,18 +121,58 @@ Writes NoFile old new text = Unit {0}
 Writes ReadFault old new text = Unit {0}
 Writes Memory old new text = Unit {0}
 
--- what was written is the summary of a run whose theorems are proved
-pub record Summarises (status : Status) (sections : Sections) (article : Article) (old new : Option (List ℕ)) : Type 0 where
-  pub state : State
-  pub ended : IsEndOf article state
-  pub proved : IsProved state
-  pub text : Writes status old new (summary sections state)
+-- the headline of `check` and `info`: what was written is a report on the run
+pub record Prints (status : Status) (c : CommandValue) (told : Option (Linked Ran)) (old new : Option (List ℕ)) : Type 0 where
+  pub text : List ℕ
+  pub report : IsReport c told text
+  pub written : Writes status old new text
 
--- the headline of `info`, over the files and the bytes of standard input that are told
-abbrev pub Informs : Status → Option CommandValue → Option Folder → Option (List ℕ) → Option (List ℕ) → Option (List ℕ) → Type 0
-Informs status None files input old new = Unit {0}
-Informs status (Some (Check folder path)) files input old new = Unit {0}
-Informs status (Some (Info folder path sections)) files input old new = Summarises status sections (article_at path files input) old new
+-- a sink's bytes grew by a line, or by a front of it where the sink's count of failures rose
+abbrev pub WritesLine : {E : Type 0} → (E → Option (List ℕ)) → (E → ℕ) → E → E → List ℕ → Type 0
+WritesLine written faults old new line = Appends (written old) (written new) line ⊎ (Rose (faults old) (faults new) × AppendsFront (written old) (written new) line)
+
+-- the line on standard error that goes with a status
+abbrev pub IsLine : Status → Option CommandValue → Option Folder → Option (List ℕ) → Option (List ℕ) → List ℕ → Type 0
+IsLine Accepted c folder input at line = ⊥
+IsLine Refused c folder input at line = IsSomeAnd c (λ command. Says Refused command folder input at line)
+IsLine Usage c folder input at line = line ≡ usage_line
+IsLine NoFile c folder input at line = IsSomeAnd c (λ command. Says NoFile command folder input at line)
+IsLine ReadFault c folder input at line = IsSomeAnd c (λ command. Says ReadFault command folder input at line)
+IsLine WriteFault c folder input at line = line ≡ write_fault_line
+IsLine Memory c folder input at line = line ≡ memory_line
+
+-- one such line was written
+pub record WritesSome {E : Type 0} (IsOne : List ℕ → Type 0) (written : E → Option (List ℕ)) (faults : E → ℕ) (old new : E) : Type 0 where
+  pub line : List ℕ
+  pub is_one : IsOne line
+  pub writes : WritesLine written faults old new line
+
+-- ---- what else becomes of the inputs
+
+-- the device that a command reads failed: standard input, or the files
+abbrev pub FailedAt : List ℕ → (before now : ℕ) → (files_before files_now : ℕ) → Type 0
+FailedAt path before now files_before files_now = MatchBool (is_standard path) (Rose before now) (Rose files_before files_now)
+
+-- the files are left alone where the input is standard input, and standard input where it is a file
+abbrev pub LeavesOther : {F S : Type 0} → List ℕ → F → F → S → S → Type 0
+LeavesOther path files files_now input input_now = MatchBool (is_standard path) (files_now ≡ files) (input_now ≡ input)
+
+-- the path that was asked for last is the article's, where it is a file and the folder is told and has it
+abbrev pub LastPath : List ℕ → Option Folder → Option (List ℕ) → Type 0
+LastPath path folder at = MatchBool (is_standard path || is_theory path) (Unit {0}) (at ≡ path_asked folder path)
+
+-- the files stay what they are, and their counts never fall
+pub record KeepsFiles {F : Type 0} (folder : F → Option Folder) (faults misses : F → ℕ) (old new : F) : Type 0 where
+  pub same_folder : folder new ≡ folder old
+  pub later_faults : faults old ≤ faults new
+  pub later_misses : misses old ≤ misses new
+
+-- a source that isn't files stays so, and its count of failures never falls
+pub record KeepsSource {S : Type 0} (folder : S → Option Folder) (faults misses : S → ℕ) (at : S → Option (List ℕ)) (old new : S) : Type 0 where
+  pub same_folder : folder new ≡ folder old
+  pub same_misses : misses new ≡ misses old
+  pub same_at : at new ≡ at old
+  pub later : faults old ≤ faults new
 
 -- the exit status
 abbrev pub code_of : Status → ℕ

@@ -6,6 +6,11 @@ use Rattle.ot_plain.specs.Names.{Name, spelled}
 use Rattle.ot_plain.specs.Trees.{Symbol, ConSymbol, OpSymbol}
 use Rattle.ot_plain.specs.declared.kind.Kind.{Kind}
 use Rattle.ot_plain.specs.declared.kind.Kind.TheVariants as kinds
+use Rattle.ot_theory.specs.declared.fault.TheoryFault.{TheoryFault}
+use Rattle.ot_theory.specs.declared.fault.TheoryFault.TheVariants as theory
+use Rattle.ot_blocks.specs.declared.fault.StructureFault.{StructureFault}
+use Rattle.ot_blocks.specs.declared.fault.StructureFault.TheVariants as structure
+use Rattle.ot_link.specs.Stops.{Stop, InArticle, InTheory, InStructure, TooLarge, Missing}
 use Rattle.ot_plain.specs.Faults.{Fault, LineTooLong, ArticleTooLong, UnknownCommand, BadName, BadNumber, NumberRange, VersionMissing, VersionUnsupported, VersionLate, StackEmpty, WrongKind, NoEntry, EmptyList, NotFunction, ArgumentType, NotBool, NotEquation, NotAlphaEqual, VarFreeInHyps, NotRedex, BadSubst, ExportMismatch, Primitive, AlreadyDefined, SymbolInUse, NotClosed, TypeVarEscapes, BadDefinitionList, HypothesesPresent, NotApplication, BadTypeVars, Nesting}
 
 -- how a kind is called
@@ -60,13 +65,35 @@ fault_text NotApplication = codes "conclusion is not an application"
 fault_text BadTypeVars = codes "bad type variable list"
 fault_text Nesting = codes "nested deeper than 4096"
 
--- the line for a text of a path
+-- the text of a fault in the grammar of a theory file
+abbrev pub theory_text : TheoryFault → List ℕ
+theory_text theory.BadLine = codes "bad line"
+theory_text theory.BadBlock = codes "bad block"
+theory_text theory.DuplicateBlock = codes "duplicate block"
+theory_text theory.TwoSources = codes "second article or package"
+theory_text theory.NoMain = codes "no block main"
+theory_text theory.BadInterpret = codes "bad interpretation"
+theory_text theory.DuplicateInterpret = codes "duplicate interpretation"
+
+-- the text of a fault in what the blocks of a theory file ask for
+abbrev pub structure_text : StructureFault → List ℕ
+structure_text structure.UnknownImport = codes "unknown import"
+structure_text structure.BadPackageName = codes "bad package name"
+structure_text structure.ImportCycle = codes "import cycle"
+structure_text structure.PackageCycle = codes "package cycle"
+structure_text structure.PackageDepth = codes "packages nested deeper than 16"
+
+-- the line for a text about a path
 abbrev pub line_of : List ℕ → List ℕ → List ℕ
 line_of path text = concat (codes "opentheory: " ∷ path ∷ codes ": " ∷ text ∷ codes "\n" ∷ [])
 
+-- the line for a text about a line of the file of a path
+abbrev pub line_at : List ℕ → ℕ → List ℕ → List ℕ
+line_at path number text = concat (codes "opentheory: " ∷ path ∷ codes ":" ∷ decimal number ∷ codes ": " ∷ text ∷ codes "\n" ∷ [])
+
 -- the line for a fault at a line of the article of a path
 abbrev pub fault_line : List ℕ → ℕ → Fault Name → List ℕ
-fault_line path number fault = line_of (concat (path ∷ codes ":" ∷ decimal number ∷ [])) (fault_text fault)
+fault_line path number fault = line_at path number (fault_text fault)
 
 -- the line for a summary that is too large
 abbrev pub large_line : List ℕ → List ℕ
@@ -75,6 +102,14 @@ large_line path = line_of path (codes "summary larger than 67108864 bytes")
 -- the line for a file that isn't there
 abbrev pub missing_line : List ℕ → List ℕ
 missing_line path = line_of path (codes "no such file")
+
+-- the line for a run that stops so, with the path of the file that has the fault
+abbrev pub stop_line : Stop → List ℕ
+stop_line (InArticle path number fault) = fault_line path number fault
+stop_line (InTheory path number fault) = line_at path number (theory_text fault)
+stop_line (InStructure path number fault) = line_at path number (structure_text fault)
+stop_line (TooLarge path) = line_of path (codes "theory longer than 1048576 bytes")
+stop_line (Missing path) = missing_line path
 
 -- the line for an input that failed
 abbrev pub read_fault_line : List ℕ → List ℕ

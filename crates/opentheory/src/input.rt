@@ -1,142 +1,158 @@
-ghost use Rattle.std.specs.Prelude.{◌≡◌, ◌≢◌, ◌≤◌, Err, IfErr, IfSome};
+ghost use Rattle.std.specs.Prelude.{◌≡◌, ◌⊎◌, [], Some, IfOk, IfErr, IfSome, string_bytes};
+ghost use Rattle.std.specs.Option.{option_map};
 ghost use Rattle.ot_io.specs.Causes.{Rose};
 ghost use Rattle.ot_io.specs.Folder.{path_asked};
-ghost use Rattle.ot_scan.specs.Lines.{lines_of};
-ghost use Rattle.ot_machine.specs.States.{no_context};
-ghost use Rattle.ot_machine.specs.Meaning.{state_of, IsOf};
-ghost use Rattle.ot_machine.specs.Answers.{Runs, NamesSymbolIn as NamesFaultIn};
-ghost use Rattle.opentheory.specs.Reply.{start, told, file_at, article_at, article_limit};
-ghost use Rattle.opentheory.specs.Answer.{FailedAt, LeavesOne, AsksFor};
-ghost use Rattle.opentheory.specs.Verdicts.{ComesTo, NamesSymbolIn};
+ghost use Rattle.ot_link.specs.Blocks.{article_end};
+ghost use Rattle.ot_link.specs.Answers.{AreExportsIn, NamesSymbolIn};
+ghost use Rattle.ot_machine.specs.States.{fresh_run};
+ghost use Rattle.ot_machine.specs.Meaning.{run_of};
+ghost use Rattle.opentheory.specs.Reply.{outcome, article_run, theory_run};
+ghost use Rattle.opentheory.specs.Answer.{FailedAt, LeavesOther, LastPath, KeepsFiles, KeepsSource};
+ghost use Rattle.opentheory.specs.Verdicts.{end_of, IsAnswer, IsEnd, IsPlace, IsOwnEnd, IsNeeded, HasCause};
 
+use ot_args::is_theory;
 use ot_interp::Interp;
 use ot_io::{Files, OpenFault, Source};
-use ot_machine::{ArticleFault, Context, Fault, Machine, Session};
+use ot_link::{LinkFault, link};
+use ot_machine::{ArticleFault, Context, Export, Machine, Session};
 use ot_plain::Limits;
 use std::alloc::Global;
 
-/// Why an input isn't run to its end.
-#[derive(Clone, Copy, Debug, PartialEq, Eq)]
-pub enum InputFault {
-    /// The first fault, with its line.
-    At { line: u64, fault: Fault },
-    /// There is no such file.
-    Missing,
-    /// The input failed.
-    ReadFault,
-    /// Memory ran out.
-    Memory,
-}
+/// The input that is an article on standard input.
+const STANDARD: &str = "-";
 
-/// Runs the article of a path, up to its first fault: `-` is `input`, and any other name a file's. The session and the
-/// machine are fresh.
+/// Runs the input of a path, up to its first fault, and gives its exports: `-` is an article on `input`, a name that ends
+/// in `.thy` a theory file over packages in a folder, and any other name an article file. The session is fresh.
 pub fn run_input<F: Files, S: Source>(
     alloc: Global,
     session: &mut Session,
-    machine: &mut Machine,
+    packages: &str,
     path: &str,
     files: &mut F,
     input: &mut S,
-) -> Result<(), InputFault>
-    requires of { IsOf session.old.kernel machine.old }
-    requires fresh { state_of session.old.kernel machine.old ≡ start }
-    ensures comes_to { ComesTo result (article_at path.now (F.folder files.old) (S.left input.old)) session.new.kernel machine.new }
-    ensures of { IsOf session.new.kernel machine.new }
+) -> Result<Vec<Export>, LinkFault>
+    requires { run_of session.old.kernel ≡ fresh_run }
+    ensures end { IfSome (end_of session.new.kernel result) (IsEnd packages.now path.now (F.folder files.old) (S.left input.old)) }
+    ensures place { IfSome (end_of session.new.kernel result) (IsPlace packages.now path.now (F.folder files.old) (F.at files.new)) }
+    ensures exports { IfOk result (AreExportsIn session.new.kernel) }
     ensures symbols { IfErr result (NamesSymbolIn session.new.kernel) }
-    ensures missing { result ≡ Err InputFault.Missing → Rose (F.misses files.old) (F.misses files.new) }
-    ensures read { result ≡ Err InputFault.ReadFault → FailedAt path.now (S.faults input.old) (S.faults input.new) (F.faults files.old) (F.faults files.new) }
-    ensures later { (S.faults input.old ≤ S.faults input.new) × (F.faults files.old ≤ F.faults files.new) × (F.misses files.old ≤ F.misses files.new) }
-    ensures source { (S.folder input.new ≡ S.folder input.old) × (S.misses input.new ≡ S.misses input.old) × (S.at input.new ≡ S.at input.old) }
-    ensures files { F.folder files.new ≡ F.folder files.old }
-    ensures one { LeavesOne path.now files.old files.new input.old input.new }
-    ensures at { AsksFor path.now (F.folder files.old) (F.at files.new) }
+    ensures cause { IfSome (end_of session.new.kernel result)
+        (HasCause (FailedAt path.now (S.faults input.old) (S.faults input.new) (F.faults files.old) (F.faults files.new))
+        (Rose (F.misses files.old) (F.misses files.new))) }
+    ensures files { KeepsFiles F.folder F.faults F.misses files.old files.new }
+    ensures source { KeepsSource S.folder S.faults S.misses S.at input.old input.new }
+    ensures other { LeavesOther path.now files.old files.new input.old input.new }
+    ensures closed { (files.new ≡ files.old) ⊎ (F.left files.new ≡ Some []) }
+    ensures at { IfSome (end_of session.new.kernel result) (λ _. LastPath path.now (F.folder files.old) (F.at files.new)) }
 {
-    if path == "-" {
-        run_source(alloc, session, machine, input)
+    if path == STANDARD {
+        run_standard(alloc, session, path, input)
+    } else if is_theory(path) {
+        run_theory(alloc, session, packages, path, files)
     } else {
-        run_file(alloc, session, machine, path, files)
+        run_file(alloc, session, path, files)
     }
+}
+
+/// Runs the article on standard input.
+fn run_standard<S: Source>(
+    alloc: Global,
+    session: &mut Session,
+    path: &str,
+    input: &mut S,
+) -> Result<Vec<Export>, LinkFault>
+    requires { run_of session.old.kernel ≡ fresh_run }
+    ensures end { IfSome (S.left input.old) (λ bytes. IfSome (end_of session.new.kernel result) (IsAnswer (article_end path.now (outcome bytes)))) }
+    ensures own { IfSome (end_of session.new.kernel result) (IsOwnEnd path.now) }
+    ensures exports { IfOk result (AreExportsIn session.new.kernel) }
+    ensures symbols { IfErr result (NamesSymbolIn session.new.kernel) }
+    ensures cause { IfSome (end_of session.new.kernel result) (HasCause (Rose (S.faults input.old) (S.faults input.new)) ⊥) }
+    ensures source { KeepsSource S.folder S.faults S.misses S.at input.old input.new }
+{
+    let path = String::from_str(alloc, path)?;
+    run_article(alloc, session, path, input)
+}
+
+/// Runs a theory file over packages in a folder, with the limits of the program.
+fn run_theory<F: Files>(
+    alloc: Global,
+    session: &mut Session,
+    packages: &str,
+    path: &str,
+    files: &mut F,
+) -> Result<Vec<Export>, LinkFault>
+    requires { run_of session.old.kernel ≡ fresh_run }
+    ensures end { IfSome (F.folder files.old) (λ folder. IfSome (end_of session.new.kernel result) (IsAnswer (theory_run packages.now path.now folder).answer)) }
+    ensures needed { IfSome (end_of session.new.kernel result)
+        (IsNeeded (option_map (λ folder. (theory_run packages.now path.now folder).paths) (F.folder files.old)) (F.at files.new)) }
+    ensures exports { IfOk result (AreExportsIn session.new.kernel) }
+    ensures symbols { IfErr result (NamesSymbolIn session.new.kernel) }
+    ensures cause { IfSome (end_of session.new.kernel result)
+        (HasCause (Rose (F.faults files.old) (F.faults files.new)) (Rose (F.misses files.old) (F.misses files.new))) }
+    ensures files { KeepsFiles F.folder F.faults F.misses files.old files.new }
+    ensures closed { F.left files.new ≡ Some [] }
+{
+    let limits = Limits::standard();
+    link(alloc, session, files, path, packages, &limits)
 }
 
 /// Opens the file of a path, runs its article and closes it.
 fn run_file<F: Files>(
     alloc: Global,
     session: &mut Session,
-    machine: &mut Machine,
     path: &str,
     files: &mut F,
-) -> Result<(), InputFault>
-    requires of { IsOf session.old.kernel machine.old }
-    requires fresh { state_of session.old.kernel machine.old ≡ start }
-    ensures comes_to { ComesTo result (file_at path.now (F.folder files.old)) session.new.kernel machine.new }
-    ensures of { IsOf session.new.kernel machine.new }
+) -> Result<Vec<Export>, LinkFault>
+    requires { run_of session.old.kernel ≡ fresh_run }
+    ensures end { IfSome (F.folder files.old) (λ folder. IfSome (end_of session.new.kernel result) (IsAnswer (article_run path.now folder).answer)) }
+    ensures own { IfSome (end_of session.new.kernel result) (IsOwnEnd path.now) }
+    ensures exports { IfOk result (AreExportsIn session.new.kernel) }
     ensures symbols { IfErr result (NamesSymbolIn session.new.kernel) }
-    ensures missing { result ≡ Err InputFault.Missing → Rose (F.misses files.old) (F.misses files.new) }
-    ensures read { result ≡ Err InputFault.ReadFault → Rose (F.faults files.old) (F.faults files.new) }
-    ensures later { (F.faults files.old ≤ F.faults files.new) × (F.misses files.old ≤ F.misses files.new) }
-    ensures files { F.folder files.new ≡ F.folder files.old }
-    ensures at { F.at files.new ≡ path_asked (F.folder files.old) path.now }
+    ensures cause { IfSome (end_of session.new.kernel result)
+        (HasCause (Rose (F.faults files.old) (F.faults files.new)) (Rose (F.misses files.old) (F.misses files.new))) }
+    ensures files { KeepsFiles F.folder F.faults F.misses files.old files.new }
+    ensures closed { (files.new ≡ files.old) ⊎ (F.left files.new ≡ Some []) }
+    ensures at { IfSome (end_of session.new.kernel result) (λ _. F.at files.new ≡ path_asked (F.folder files.old) path.now) }
 {
+    let name = String::from_str(alloc, path)?;
     match files.open_file(path) {
         Ok(()) => {
-            let result = run_source(alloc, session, machine, files);
+            let ran = run_article(alloc, session, name, files);
             files.close();
-            result
+            ran
         }
-        Err(OpenFault::Missing) => Err(InputFault::Missing),
-        Err(OpenFault::Failed) => Err(InputFault::ReadFault),
+        Err(OpenFault::Missing) => Err(LinkFault::NoFile { path: name }),
+        Err(OpenFault::Failed) => Err(LinkFault::ReadFault { path: name }),
     }
 }
 
-/// Runs the article that a source has left.
-fn run_source<S: Source>(
+/// Runs the article of a path that a source has left, in the empty context: its symbols have the names that it gives
+/// them, and no theorem comes from elsewhere.
+fn run_article<S: Source>(
     alloc: Global,
     session: &mut Session,
-    machine: &mut Machine,
+    path: String,
     source: &mut S,
-) -> Result<(), InputFault>
-    requires of { IsOf session.old.kernel machine.old }
-    requires fresh { state_of session.old.kernel machine.old ≡ start }
-    ensures comes_to { ComesTo result (told (S.left source.old)) session.new.kernel machine.new }
-    ensures of { IsOf session.new.kernel machine.new }
+) -> Result<Vec<Export>, LinkFault>
+    requires { run_of session.old.kernel ≡ fresh_run }
+    ensures end { IfSome (S.left source.old) (λ bytes. IfSome (end_of session.new.kernel result) (IsAnswer (article_end (string_bytes path) (outcome bytes)))) }
+    ensures own { IfSome (end_of session.new.kernel result) (IsOwnEnd (string_bytes path)) }
+    ensures exports { IfOk result (AreExportsIn session.new.kernel) }
     ensures symbols { IfErr result (NamesSymbolIn session.new.kernel) }
-    ensures missing { result ≢ Err InputFault.Missing }
-    ensures read { result ≡ Err InputFault.ReadFault → Rose (S.faults source.old) (S.faults source.new) }
-    ensures later { S.faults source.old ≤ S.faults source.new }
-    ensures folder { S.folder source.new ≡ S.folder source.old }
-    ensures misses { S.misses source.new ≡ S.misses source.old }
-    ensures at { S.at source.new ≡ S.at source.old }
-{
-    match run_alone(alloc, session, machine, source) {
-        Ok(()) => Ok(()),
-        Err(ArticleFault::At { line, fault }) => Err(InputFault::At { line, fault }),
-        Err(ArticleFault::ReadFault) => Err(InputFault::ReadFault),
-        Err(ArticleFault::Memory) => Err(InputFault::Memory),
-    }
-}
-
-/// Runs the article that a source has left in the empty context: its symbols have the names that it gives them, and no
-/// theorem comes from elsewhere.
-fn run_alone<S: Source>(
-    alloc: Global,
-    session: &mut Session,
-    machine: &mut Machine,
-    source: &mut S,
-) -> Result<(), ArticleFault>
-    requires { IsOf session.old.kernel machine.old }
-    ensures runs { IfSome (S.left source.old) (λ bytes. Runs session.new.kernel result no_context (lines_of article_limit bytes) (state_of session.old.kernel machine.old) (state_of session.new.kernel machine.new)) }
-    ensures of { IsOf session.new.kernel machine.new }
-    ensures symbols { IfErr result (NamesFaultIn session.new.kernel) }
-    ensures cause { result ≡ Err ArticleFault.ReadFault → Rose (S.faults source.old) (S.faults source.new) }
-    ensures later { S.faults source.old ≤ S.faults source.new }
-    ensures folder { S.folder source.new ≡ S.folder source.old }
-    ensures misses { S.misses source.new ≡ S.misses source.old }
-    ensures at { S.at source.new ≡ S.at source.old }
+    ensures cause { IfSome (end_of session.new.kernel result) (HasCause (Rose (S.faults source.old) (S.faults source.new)) ⊥) }
+    ensures source { KeepsSource S.folder S.faults S.misses S.at source.old source.new }
 {
     let interp = Interp::new(alloc);
     let context = Context {
         interp: &interp,
         theorems: &[],
     };
-    machine.run_article(session, &context, source, Limits::standard().article_bytes)
+    let mut machine = Machine::new(alloc);
+    let limit = Limits::standard().article_bytes;
+    match machine.run_article(session, &context, source, limit) {
+        Ok(()) => Ok(Vec::from_slice(alloc, machine.exports())?),
+        Err(ArticleFault::At { line, fault }) => Err(LinkFault::Article { path, line, fault }),
+        Err(ArticleFault::ReadFault) => Err(LinkFault::ReadFault { path }),
+        Err(ArticleFault::Memory) => Err(LinkFault::Memory),
+    }
 }

@@ -1,4 +1,4 @@
-//! Reads an OpenTheory article, checks its proofs, and says what it came to.
+//! Runs an OpenTheory article or theory file, checks its proofs, and reports the result.
 #![tactic(auto)]
 
 mod input;

@@ -1,31 +1,27 @@
-ghost use Rattle.std.specs.Prelude.{◌≡◌, map, IfOk, IfErr, Err};
+ghost use Rattle.std.specs.Prelude.{◌≡◌, ◌<◌, length, map, IfOk, IfErr, IsSomeAnd};
+ghost use Rattle.std.specs.List.{All};
 ghost use Rattle.ot_args.specs.Grammar.{command_value};
-ghost use Rattle.ot_machine.specs.Meaning.{state_of, IsOf};
-ghost use Rattle.opentheory.specs.Reply.{Article, input_of, line_of_counts, count_line};
+ghost use Rattle.ot_link.specs.Answers.{AreExportsIn, NamesSymbolIn};
+ghost use Rattle.ot_text.specs.Laws.{OneSequent, OneSequentInFront};
+ghost use Rattle.opentheory.specs.Reply.{input_of, packages_of, line_of_counts, count_line};
 ghost use Rattle.opentheory.specs.Answer.{IsProved};
-ghost use Rattle.opentheory.specs.Verdicts.{ComesTo, NamesSymbolIn, EndsAs, IsVerdict, Summarises, status_of};
+ghost use Rattle.opentheory.specs.Verdicts.{ran_from, end_at, end_of, IsVerdictOf, IsStopVerdict, IsSaid, EndsAs, SummaryEndsAs};
 
-use crate::input::InputFault;
 use crate::status::Status;
-use crate::texts::{fault_line, line_of};
+use crate::texts::{fault_line, line_at, line_of, structure_text, theory_text};
 use ot_args::{Command, Sections};
-use ot_kernel::ThmId;
-use ot_machine::{Export, Machine, Session};
+use ot_kernel::{Kernel, ThmId};
+use ot_link::LinkFault;
+use ot_machine::{Export, Session};
 use ot_plain::{Limits, Memory};
-use ot_print::{PrintFault, summary_text};
+use ot_print::{PrintFault, one_text, summary_text};
 use std::alloc::{AllocError, Global};
 
-/// What a command came to, with the text that says it: for the output where it is accepted, else for the error sink.
+/// How a command ends, with the text that says it: for the output where it is accepted, else for the error sink.
 #[derive(Drop)]
-pub enum Verdict {
-    /// The input is accepted.
-    Accepted(Vec<u8>),
-    /// The rules refuse the input.
-    Refused(Vec<u8>),
-    /// There is no such file.
-    NoFile(Vec<u8>),
-    /// The input failed.
-    ReadFault(Vec<u8>),
+pub struct Verdict {
+    pub status: Status,
+    pub text: Vec<u8>,
 }
 
 /// The input of a command.
@@ -37,71 +33,118 @@ pub fn input_of<'a>(command: Command<'a>) -> &'a str
     }
 }
 
-/// The verdict on a command whose input's run came to this, with the session and the machine as it left them.
+/// The folder of a command's packages.
+pub fn packages_of<'a>(command: Command<'a>) -> &'a str
+    ensures { result.now ≡ packages_of (command_value command.entry) }
+{
+    match command {
+        Command::Check { packages, .. } | Command::Info { packages, .. } => packages,
+    }
+}
+
+/// The verdict on a command whose input was run so, with the session that the run left.
 pub fn verdict_on(
     alloc: Global,
     command: Command<'_>,
     session: &Session,
-    machine: &Machine,
-    ran: Result<(), InputFault>,
+    ran: Result<Vec<Export>, LinkFault>,
 ) -> Result<Verdict, Memory>
-    requires of { IsOf session.now.kernel machine.now }
+    requires exports { IfOk ran (AreExportsIn session.now.kernel) }
     requires symbols { IfErr ran (NamesSymbolIn session.now.kernel) }
-    ensures verdict { IfOk result (λ v. (article : Article) → ComesTo ran article session.now.kernel machine.now → IsVerdict (command_value command.entry) article v) }
-    ensures missing { IfOk result (λ v. status_of v ≡ Status.NoFile → ran ≡ Err InputFault.Missing) }
-    ensures read { IfOk result (λ v. status_of v ≡ Status.ReadFault → ran ≡ Err InputFault.ReadFault) }
+    ensures { IfOk result (IsVerdictOf (command_value command.entry) (end_of session.now.kernel ran)) }
 {
-    let path = input_of(command);
-    proved(session, machine);
     match ran {
-        Ok(()) => ended(alloc, command, session, machine),
-        Err(InputFault::At { line, fault }) => {
-            let line = fault_line(alloc, session.kernel(), path, line, fault)?;
-            Ok(Verdict::Refused(line))
+        Ok(exports) => {
+            proved(session, &exports);
+            ended(alloc, command, session, &exports)
         }
-        Err(InputFault::Missing) => Ok(Verdict::NoFile(line_of(alloc, path, "no such file")?)),
-        Err(InputFault::ReadFault) => Ok(Verdict::ReadFault(line_of(alloc, path, "read fault")?)),
-        Err(InputFault::Memory) => Err(Memory),
+        Err(stop) => stopped(alloc, session.kernel(), stop),
     }
 }
 
-/// The verdict on a command whose article was run to its end.
+/// A law: each theorem of these exports is derivable from the session's assumptions under its definitions, and these are
+/// accepted; and a text is that of one sequent.
+fn proved(session: &Session, exports: &[Export])
+    requires { All (λ e. e.th < length session.now.kernel.theorems) exports.now }
+    ensures proved { IsProved (ran_from session.now.kernel exports.now) }
+    ensures one_text { OneSequent }
+    ensures one_in_front { OneSequentInFront }
+{
+    session.kernel().sound();
+    one_text();
+}
+
+/// The verdict on a run that stopped. Want of memory has a line of its own.
+fn stopped(alloc: Global, kernel: &Kernel, stop: LinkFault) -> Result<Verdict, Memory>
+    requires { NamesSymbolIn kernel.now stop }
+    ensures { IfOk result (λ v. IsSomeAnd (end_at kernel.now stop) (IsStopVerdict v)) }
+{
+    match stop {
+        LinkFault::Article { path, line, fault } => {
+            Ok(refused(fault_line(alloc, kernel, &path, line, fault)?))
+        }
+        LinkFault::Theory { path, line, fault } => {
+            Ok(refused(line_at(alloc, &path, line, theory_text(fault))?))
+        }
+        LinkFault::Structure { path, line, fault } => {
+            Ok(refused(line_at(alloc, &path, line, structure_text(fault))?))
+        }
+        LinkFault::TheoryTooLarge { path } => {
+            Ok(refused(line_of(alloc, &path, "theory longer than 1048576 bytes")?))
+        }
+        LinkFault::NoFile { path } => Ok(Verdict {
+            status: Status::NoFile,
+            text: line_of(alloc, &path, "no such file")?,
+        }),
+        LinkFault::ReadFault { path } => Ok(Verdict {
+            status: Status::ReadFault,
+            text: line_of(alloc, &path, "read fault")?,
+        }),
+        LinkFault::Memory => Err(Memory),
+    }
+}
+
+/// That the rules refuse the input, with this line.
+fn refused(line: Vec<u8>) -> Verdict
+    ensures { IsSaid result Status.Refused line.items }
+{
+    Verdict {
+        status: Status::Refused,
+        text: line,
+    }
+}
+
+/// The verdict on a command whose input was run to its end, with these exports.
 fn ended(
     alloc: Global,
     command: Command<'_>,
     session: &Session,
-    machine: &Machine,
+    exports: &[Export],
 ) -> Result<Verdict, Memory>
-    requires { IsOf session.now.kernel machine.now }
-    ensures { IfOk result (EndsAs (command_value command.entry) (state_of session.now.kernel machine.now)) }
+    requires { All (λ e. e.th < length session.now.kernel.theorems) exports.now }
+    ensures { IfOk result (EndsAs (command_value command.entry) (ran_from session.now.kernel exports.now)) }
 {
     match command {
-        Command::Check { .. } => Ok(Verdict::Accepted(count_line(alloc, session, machine)?)),
+        Command::Check { .. } => Ok(Verdict {
+            status: Status::Accepted,
+            text: count_line(alloc, session, exports)?,
+        }),
         Command::Info {
             input,
             sections,
             ..
-        } => summary(alloc, input, sections, session, machine),
+        } => summary(alloc, input, sections, session, exports),
     }
 }
 
-/// A law: each theorem that a run exports is derivable from its assumptions under its definitions, and these are accepted.
-fn proved(session: &Session, machine: &Machine)
-    requires { IsOf session.now.kernel machine.now }
-    ensures { IsProved (state_of session.now.kernel machine.now) }
-{
-    session.kernel().sound();
-    let _exports = machine.exports();
-}
-
 /// How many theorems, assumptions and definitions a run came to.
-fn count_line(alloc: Global, session: &Session, machine: &Machine) -> Result<Vec<u8>, Memory>
-    ensures { IfOk result (λ line. line.items ≡ count_line (state_of session.now.kernel machine.now)) }
+fn count_line(alloc: Global, session: &Session, exports: &[Export]) -> Result<Vec<u8>, Memory>
+    ensures { IfOk result (λ line. line.items ≡ count_line (ran_from session.now.kernel exports.now)) }
 {
     let kernel = session.kernel();
     line_of_counts(
         alloc,
-        machine.exports().len(),
+        exports.len(),
         kernel.assumptions().len(),
         kernel.definitions().len(),
     )
@@ -128,12 +171,12 @@ fn summary(
     path: &str,
     sections: Sections,
     session: &Session,
-    machine: &Machine,
+    exports: &[Export],
 ) -> Result<Verdict, Memory>
-    requires { IsOf session.now.kernel machine.now }
-    ensures { IfOk result (Summarises path.now sections (state_of session.now.kernel machine.now)) }
+    requires { All (λ e. e.th < length session.now.kernel.theorems) exports.now }
+    ensures { IfOk result (SummaryEndsAs path.now sections (ran_from session.now.kernel exports.now)) }
 {
-    let theorems = theorems_of(alloc, machine.exports())?;
+    let theorems = theorems_of(alloc, exports)?;
     let limit = Limits::standard().summary_bytes;
     let mut text = Vec::new(alloc);
     match summary_text(
@@ -144,8 +187,11 @@ fn summary(
         limit,
         &mut text,
     ) {
-        Ok(()) => Ok(Verdict::Accepted(text)),
-        Err(PrintFault::TooLarge) => Ok(Verdict::Refused(line_of(
+        Ok(()) => Ok(Verdict {
+            status: Status::Accepted,
+            text,
+        }),
+        Err(PrintFault::TooLarge) => Ok(refused(line_of(
             alloc,
             path,
             "summary larger than 67108864 bytes",

@@ -1,20 +1,23 @@
 //! The program over objects in memory.
-ghost use Rattle.std.specs.Prelude.{◌≤◌, IsTrue, IfOk};
+ghost use Rattle.std.specs.Prelude.{◌≡◌, ◌≤◌, ◌++◌, map, IsTrue, IfOk};
 ghost use Rattle.ot_io.specs.Folder.{has_distinct_paths};
 ghost use Rattle.ot_io.specs.FileList.{folder_of};
-ghost use Rattle.ot_machine.specs.Meaning.{IsOf};
 
 mod tables;
+mod theories;
 
 use crate::program::run;
 use crate::status::Status;
-use ot_interp::Interp;
 use ot_io::{MemFiles, MemSink, MemSource};
-use ot_machine::{Context, Machine, Session};
 use std::alloc::Global;
 use std::test::Fail;
 use tables::{
-    ARTICLES, ASSUMED, EQUATIONS, FAULTS, FIRST, NONE, ONE, PARTS, REPEATED, SUMMARIES, TRANSITIVE,
+    ARTICLES, DOUBLED, FAULTS, FIRST, NONE, ONE, PARTS, REPEATED, Repeated, SUMMARIES, TOO_LARGE,
+};
+use theories::{
+    ASSUMED_ONE, ASSUMES, BAD_LINE, CHAIN, CYCLE, Entry, FAR, GONE, IMPORT_CYCLE, IMPORTS,
+    IMPORTS_LATE, IMPORTS_NONE, NO_ARTICLE, NOT_EQUATION, NOT_EQUATION_FAR, RENAMED, RENAMES,
+    SYMMETRIC, THEORY_FAILED, TOO_DEEP, UNREADABLE,
 };
 
 /// What the program answers: its status, and what stands on both sinks.
@@ -57,13 +60,41 @@ fn answered(alloc: Global, words: &[&str], article: &[u8], outside: Outside) -> 
     requires write { 1 ≤ outside.write.0 }
     requires say { 1 ≤ outside.say.0 }
 {
+    let files = one_file(alloc, article)?;
+    answered_over(alloc, words, files, article, outside)
+}
+
+/// The one file.
+fn one_file(alloc: Global, article: &[u8]) -> Result<Vec<(String, Vec<u8>)>, Fail>
+    ensures { IfOk result (λ files. IsTrue (has_distinct_paths (folder_of files.items))) }
+{
+    let mut files = Vec::new(alloc);
+    files.push((
+        String::from_str(alloc, "a.art")?,
+        Vec::from_slice(alloc, article)?,
+    ))?;
+    Ok(files)
+}
+
+/// Runs the program on these words over these files, with an article on the input.
+fn answered_over(
+    alloc: Global,
+    words: &[&str],
+    files: Vec<(String, Vec<u8>)>,
+    article: &[u8],
+    outside: Outside,
+) -> Result<Answer, Fail>
+    requires paths { IsTrue (has_distinct_paths (folder_of files.items)) }
+    requires read { 1 ≤ outside.read.0 }
+    requires write { 1 ≤ outside.write.0 }
+    requires say { 1 ≤ outside.say.0 }
+{
     let mut texts = Vec::new(alloc);
     for word in words {
         texts.push(String::from_str(alloc, word)?)?;
     }
-    let folder = folder(alloc, article)?;
     let fail = Vec::from_slice(alloc, &[outside.read.1])?;
-    let mut files = MemFiles::new(folder, outside.read.0, fail);
+    let mut files = MemFiles::new(files, outside.read.0, fail);
     let mut input = source(alloc, article, outside.read)?;
     let mut out = sink(alloc, outside.write)?;
     let mut err = sink(alloc, outside.say)?;
@@ -75,16 +106,39 @@ fn answered(alloc: Global, words: &[&str], article: &[u8], outside: Outside) -> 
     })
 }
 
-/// The one file.
-fn folder(alloc: Global, article: &[u8]) -> Result<Vec<(String, Vec<u8>)>, Fail>
-    ensures { IfOk result (λ files. IsTrue (has_distinct_paths (folder_of files.items))) }
+/// The files of a table; each has its text in two parts.
+fn files_of(alloc: Global, entries: &[Entry]) -> Result<Vec<(String, Vec<u8>)>, Fail>
+    ensures { IfOk result (λ files. folder_of files.items ≡ map (λ e. (e.0.now, e.1.now ++ e.2.now)) entries.now) }
 {
     let mut files = Vec::new(alloc);
-    files.push((
-        String::from_str(alloc, "a.art")?,
-        Vec::from_slice(alloc, article)?,
-    ))?;
+    'each: for (path, start, end) in entries {
+        let path = String::from_str(alloc, path)?;
+        let mut bytes = Vec::from_slice(alloc, start)?;
+        bytes.extend_from_slice(end)?;
+        files.push((path, bytes))?;
+    }
     Ok(files)
+}
+
+/// Runs the program on these words over the files of a table, and compares the status and what it says. The call of this
+/// number fails.
+fn says(
+    alloc: Global,
+    words: &[&str],
+    entries: &[Entry],
+    fail: u64,
+    status: Status,
+    text: &[u8],
+) -> Result<bool, Fail>
+    requires { IsTrue (has_distinct_paths (map (λ e. (e.0.now, e.1.now ++ e.2.now)) entries.now)) }
+{
+    let files = files_of(alloc, entries)?;
+    let outside = Outside {
+        read: (65536, fail),
+        ..FINE
+    };
+    let answer = answered_over(alloc, words, files, b"", outside)?;
+    Ok(answer.status == status && answer.said() == text)
 }
 
 fn source(alloc: Global, article: &[u8], calls: (usize, u64)) -> Result<MemSource, Fail>
@@ -127,9 +181,9 @@ fn articles(rt: HostRuntime) -> Result<(), Fail> {
         let mut article = Vec::new(rt.alloc());
         add_lines(&mut article, text)?;
         let answer = answered(rt.alloc(), &["check", "-"], &article, FINE)?;
-        assert_eq!(rt; answer.status, status);
-        assert_eq!(rt; answer.said(), line);
-        assert_eq!(rt; answer.out.len() + answer.err.len(), line.len());
+        assert_eq!(rt; answer.said(), line, "{text:?}");
+        assert_eq!(rt; answer.status, status, "{text:?}");
+        assert_eq!(rt; answer.out.len() + answer.err.len(), line.len(), "{text:?}");
     }
     Ok(())
 }
@@ -139,89 +193,21 @@ fn articles_in_parts(rt: HostRuntime) -> Result<(), Fail> {
     for (parts, status, line) in PARTS {
         let article = joined(rt.alloc(), parts)?;
         let answer = answered(rt.alloc(), &["check", "-"], &article, FINE)?;
-        assert_eq!(rt; answer.status, status);
-        assert_eq!(rt; answer.said(), line);
+        assert_eq!(rt; answer.said(), line, "{parts:?}");
+        assert_eq!(rt; answer.status, status, "{parts:?}");
     }
     Ok(())
 }
 
 #[test]
 fn summaries(rt: HostRuntime) -> Result<(), Fail> {
-    for (parts, options, summary) in SUMMARIES {
+    for (parts, operands, summary) in SUMMARIES {
         let article = joined(rt.alloc(), parts)?;
         let mut words: Vec<&str> = vec![in rt.alloc(); "info"]?;
-        words.extend_from_slice(options)?;
-        words.push("a.art")?;
+        words.extend_from_slice(operands)?;
         let answer = answered(rt.alloc(), &words, &article, FINE)?;
-        assert_eq!(rt; answer.said(), summary);
-        assert_eq!(rt; answer.status, Status::Accepted);
-    }
-    Ok(())
-}
-
-/// The machine after an article in parts.
-fn ran(alloc: Global, session: &mut Session, parts: &[&[u8]]) -> Result<Machine, Fail>
-    ensures { IfOk result (IsOf session.new.kernel) }
-{
-    let article = joined(alloc, parts)?;
-    let mut source = source(alloc, &article, FINE.read)?;
-    let mut machine = Machine::new(alloc);
-    let interp = Interp::new(alloc);
-    let context = Context {
-        interp: &interp,
-        theorems: &[],
-    };
-    let _ = machine.run_article(session, &context, &mut source, 4294967296);
-    Ok(machine)
-}
-
-/// The assumption is the theorem that is exported.
-#[test]
-fn takes_an_assumption(rt: HostRuntime) -> Result<(), Fail> {
-    let mut session = Session::new(rt.alloc())?;
-    let machine = ran(rt.alloc(), &mut session, ASSUMED)?;
-    let kernel = session.kernel();
-    assert_eq!(rt; kernel.assumptions().len(), 1);
-    assert_eq!(rt; machine.exports().len(), 1);
-    let exported = machine.exports()[0].th;
-    assert!(rt; kernel.hyps(exported).is_empty());
-    let concl = kernel.concl(exported);
-    for taken in kernel.assumptions() {
-        assert!(rt; kernel.hyps(*taken).is_empty());
-        assert_eq!(rt; kernel.concl(*taken), concl);
-    }
-    Ok(())
-}
-
-/// The equations that these articles prove have no hypothesis.
-#[test]
-fn proves_equations(rt: HostRuntime) -> Result<(), Fail> {
-    for parts in EQUATIONS {
-        let mut session = Session::new(rt.alloc())?;
-        let machine = ran(rt.alloc(), &mut session, parts)?;
-        let kernel = session.kernel();
-        assert_eq!(rt; machine.exports().len(), 1);
-        let exported = machine.exports()[0].th;
-        assert!(rt; kernel.hyps(exported).is_empty());
-        assert!(rt; kernel.terms().as_eq(kernel.concl(exported)).is_some());
-    }
-    Ok(())
-}
-
-/// a = c under a = b and b = c.
-#[test]
-fn joins_equations(rt: HostRuntime) -> Result<(), Fail> {
-    let mut session = Session::new(rt.alloc())?;
-    let machine = ran(rt.alloc(), &mut session, TRANSITIVE)?;
-    let kernel = session.kernel();
-    assert_eq!(rt; machine.exports().len(), 1);
-    let theorem = machine.exports()[0].th;
-    let hyps = kernel.hyps(theorem);
-    assert_eq!(rt; hyps.len(), 2);
-    let terms = kernel.terms();
-    match (terms.as_eq(hyps[0]), terms.as_eq(kernel.concl(theorem))) {
-        (Some(first), Some(whole)) => assert_eq!(rt; first.0, whole.0),
-        _ => assert!(rt; false),
+        assert_eq!(rt; answer.said(), summary, "{parts:?}");
+        assert_eq!(rt; answer.status, Status::Accepted, "{parts:?}");
     }
     Ok(())
 }
@@ -236,25 +222,114 @@ fn faults(rt: HostRuntime) -> Result<(), Fail> {
         line.extend_from_slice(fault)?;
         line.push(b'\n')?;
         let answer = answered(rt.alloc(), &["check", "a.art"], &article, FINE)?;
-        assert_eq!(rt; answer.err.as_slice(), line.as_slice());
-        assert_eq!(rt; answer.status, Status::Refused);
-        assert!(rt; answer.out.is_empty());
+        assert_eq!(rt; answer.err.as_slice(), line.as_slice(), "{text:?}");
+        assert_eq!(rt; answer.status, Status::Refused, "{text:?}");
+        assert!(rt; answer.out.is_empty(), "{text:?}");
+    }
+    Ok(())
+}
+
+/// Runs an article that says one part many times, and compares the status and what it says.
+fn says_repeated(alloc: Global, row: &Repeated) -> Result<bool, Fail> {
+    let (first, again, times, last, command, status, line) = *row;
+    let mut article = joined(alloc, first)?;
+    for _ in 0..times {
+        add_lines(&mut article, again)?;
+    }
+    add_lines(&mut article, last)?;
+    let answer = answered(alloc, &[command, "-"], &article, FINE)?;
+    Ok(answer.status == status && answer.said() == line)
+}
+
+#[test]
+fn repeated(rt: HostRuntime) -> Result<(), Fail> {
+    for row in &REPEATED {
+        assert!(rt;
+            says_repeated(rt.alloc(), row)?,
+            "{} times {:?}",
+            row.2,
+            row.1
+        );
+    }
+    Ok(())
+}
+
+/// Terms and types that are great as trees, and small as they are shared.
+#[test]
+fn doubled(rt: HostRuntime) -> Result<(), Fail> {
+    for row in &DOUBLED {
+        assert!(rt;
+            says_repeated(rt.alloc(), row)?,
+            "{} times {:?}",
+            row.2,
+            row.1
+        );
     }
     Ok(())
 }
 
 #[test]
-fn repeated(rt: HostRuntime) -> Result<(), Fail> {
-    for (first, again, times, status, line) in REPEATED {
-        let mut article = Vec::new(rt.alloc());
-        add_lines(&mut article, first)?;
-        for _ in 0..times {
-            add_lines(&mut article, again)?;
-        }
-        let answer = answered(rt.alloc(), &["check", "-"], &article, FINE)?;
-        assert_eq!(rt; answer.status, status, "{times} times");
-        assert_eq!(rt; answer.said(), line);
-    }
+fn too_large(rt: HostRuntime) -> Result<(), Fail> {
+    assert!(rt; says_repeated(rt.alloc(), &TOO_LARGE)?);
+    Ok(())
+}
+
+/// Articles in contexts of others, in theory files and packages.
+#[test]
+fn theory_files(rt: HostRuntime) -> Result<(), Fail> {
+    let alloc = rt.alloc();
+    let check = &["check", "t.thy"];
+    let info = &["info", "t.thy"];
+    assert!(rt; says(alloc, check, &IMPORTS, 0, Status::Accepted, ONE)?);
+    assert!(rt;
+        says(
+            alloc,
+            check,
+            &IMPORTS_NONE,
+            0,
+            Status::Accepted,
+            ASSUMED_ONE
+        )?
+    );
+    assert!(rt;
+        says(
+            alloc,
+            check,
+            &IMPORTS_LATE,
+            0,
+            Status::Accepted,
+            ASSUMED_ONE
+        )?
+    );
+    assert!(rt; says(alloc, info, &ASSUMES, 0, Status::Accepted, SYMMETRIC)?);
+    assert!(rt; says(alloc, info, &RENAMES, 0, Status::Accepted, RENAMED)?);
+    Ok(())
+}
+
+/// The path of a line is that of the file at fault.
+#[test]
+fn theory_faults(rt: HostRuntime) -> Result<(), Fail> {
+    let alloc = rt.alloc();
+    let check = &["check", "t.thy"];
+    let alone = &["check", "packages/eq-1.0/eq.art"];
+    assert!(rt; says(alloc, alone, &RENAMES, 0, Status::Refused, NOT_EQUATION)?);
+    assert!(rt; says(alloc, check, &FAR, 0, Status::Refused, NOT_EQUATION_FAR)?);
+    assert!(rt; says(alloc, check, &CYCLE, 0, Status::Refused, IMPORT_CYCLE)?);
+    assert!(rt; says(alloc, check, &UNREADABLE, 0, Status::Refused, BAD_LINE)?);
+    assert!(rt; says(alloc, check, &GONE, 0, Status::NoFile, NO_ARTICLE)?);
+    // The second call reads the theory file.
+    assert!(rt; says(alloc, check, &GONE, 2, Status::ReadFault, THEORY_FAILED)?);
+    Ok(())
+}
+
+/// Sixteen packages inside each other, and seventeen.
+#[test]
+fn package_chains(rt: HostRuntime) -> Result<(), Fail> {
+    let alloc = rt.alloc();
+    let sixteen = &["check", "--packages", "p", "sixteen.thy"];
+    let seventeen = &["check", "--packages", "p", "seventeen.thy"];
+    assert!(rt; says(alloc, sixteen, &CHAIN, 0, Status::Accepted, NONE)?);
+    assert!(rt; says(alloc, seventeen, &CHAIN, 0, Status::Refused, TOO_DEEP)?);
     Ok(())
 }
 
@@ -273,8 +348,8 @@ fn long_names(rt: HostRuntime) -> Result<(), Fail> {
         article.extend_from_slice(&vec![in rt.alloc(); b'x'; letters]?)?;
         article.push(b'"')?;
         let answer = answered(rt.alloc(), &["check", "-"], &article, FINE)?;
-        assert_eq!(rt; answer.status, status);
-        assert_eq!(rt; answer.said(), line);
+        assert_eq!(rt; answer.said(), line, "{letters} letters");
+        assert_eq!(rt; answer.status, status, "{letters} letters");
     }
     Ok(())
 }
@@ -288,7 +363,7 @@ const OTHER_WORDS: [&[&str]; 10] = [
     &["check"],
     &["check", "a", "b"],
     &["info", "--theorems", "--theorems", "a"],
-    &["check", "t.thy"],
+    &["check", "-.thy"],
     &["link", "a.art"],
     &["sample", "0"],
     &["sample", "1001"],
@@ -300,9 +375,9 @@ const OTHER_WORDS: [&[&str]; 10] = [
 fn other_words(rt: HostRuntime) -> Result<(), Fail> {
     for words in OTHER_WORDS {
         let answer = answered(rt.alloc(), words, FIRST, FINE)?;
-        assert_eq!(rt; answer.status, Status::Usage);
-        assert_eq!(rt; answer.err.as_slice(), USAGE);
-        assert!(rt; answer.out.is_empty());
+        assert_eq!(rt; answer.status, Status::Usage, "{words:?}");
+        assert_eq!(rt; answer.err.as_slice(), USAGE, "{words:?}");
+        assert!(rt; answer.out.is_empty(), "{words:?}");
     }
     Ok(())
 }
@@ -413,9 +488,9 @@ fn outsides(rt: HostRuntime) -> Result<(), Fail> {
         assert!(rt; outside.read.0 > 0 && outside.write.0 > 0 && outside.say.0 > 0);
         let article = &FIRST[..FIRST.len() - cut.min(1)];
         let answer = answered(rt.alloc(), words, article, outside)?;
-        assert_eq!(rt; answer.status, status);
-        assert_eq!(rt; answer.out.as_slice(), out);
-        assert_eq!(rt; answer.err.as_slice(), err);
+        assert_eq!(rt; answer.status, status, "{words:?}");
+        assert_eq!(rt; answer.out.as_slice(), out, "{words:?}");
+        assert_eq!(rt; answer.err.as_slice(), err, "{words:?}");
     }
     Ok(())
 }

@@ -1,17 +1,19 @@
-ghost use Rattle.std.specs.Prelude.{◌≡◌, ◌<◌, ◌++◌, length, IfOk, IfSome, OnOk, codes};
+ghost use Rattle.std.specs.Prelude.{◌≡◌, ◌<◌, ◌++◌, length, IfOk, IsSomeAnd, OnOk, codes};
 ghost use Rattle.std.specs.Fmt.{signed_decimal};
 ghost use Rattle.ot_plain.specs.Renamed.{map_symbol};
 ghost use Rattle.ot_kernel.specs.State.{name_at};
 ghost use Rattle.ot_term.specs.Symbols.{symbol_of};
 ghost use Rattle.ot_machine.specs.Faults.{fault_of};
 ghost use Rattle.ot_machine.specs.Answers.{IsSymbolIn};
-ghost use Rattle.opentheory.specs.Texts.{kind_text, symbol_text, fault_text, line_of, fault_line};
+ghost use Rattle.opentheory.specs.Texts.{kind_text, symbol_text, fault_text, theory_text, structure_text, line_of, line_at, fault_line};
 ghost use Rattle.opentheory.specs.Wording.{kind_word, line_start};
 
+use ot_blocks::StructureFault;
 use ot_kernel::Kernel;
 use ot_machine::Fault;
 use ot_plain::{Kind, Memory};
 use ot_term::{Symbol, SymbolKind};
+use ot_theory::TheoryFault;
 use std::alloc::Global;
 
 /// The line for words that are no command.
@@ -24,12 +26,48 @@ pub const WRITE_FAULT: &[u8] = b"opentheory: write fault\n";
 /// The line for want of memory.
 pub const OUT_OF_MEMORY: &[u8] = b"opentheory: out of memory\n";
 
-/// The line for a text about the input of a path.
+/// The line for a text about a path.
 pub fn line_of(alloc: Global, path: &str, text: &str) -> Result<Vec<u8>, Memory>
     ensures { IfOk result (λ line. line.items ≡ line_of path.now text.now) }
 {
     let line = format!(in alloc; "opentheory: {path}: {text}\n")?;
     Ok(line.into_bytes())
+}
+
+/// The line for a text about a line of the file of a path.
+pub fn line_at(alloc: Global, path: &str, number: u64, text: &str) -> Result<Vec<u8>, Memory>
+    ensures { IfOk result (λ line. line.items ≡ line_at path.now number text.now) }
+{
+    let line = format!(in alloc; "opentheory: {path}:{number}: {text}\n")?;
+    Ok(line.into_bytes())
+}
+
+/// The text of a fault in the grammar of a theory file.
+pub fn theory_text(fault: TheoryFault) -> &'static str
+    ensures { result.now ≡ theory_text fault }
+{
+    match fault {
+        TheoryFault::BadLine => "bad line",
+        TheoryFault::BadBlock => "bad block",
+        TheoryFault::DuplicateBlock => "duplicate block",
+        TheoryFault::TwoSources => "second article or package",
+        TheoryFault::NoMain => "no block main",
+        TheoryFault::BadInterpret => "bad interpretation",
+        TheoryFault::DuplicateInterpret => "duplicate interpretation",
+    }
+}
+
+/// The text of a fault in what the blocks of a theory file ask for.
+pub fn structure_text(fault: StructureFault) -> &'static str
+    ensures { result.now ≡ structure_text fault }
+{
+    match fault {
+        StructureFault::UnknownImport => "unknown import",
+        StructureFault::BadPackageName => "bad package name",
+        StructureFault::ImportCycle => "import cycle",
+        StructureFault::PackageCycle => "package cycle",
+        StructureFault::PackageDepth => "packages nested deeper than 16",
+    }
 }
 
 /// The line for a fault at a line of the article of a path. The kernel has the name of its symbol.
@@ -41,7 +79,7 @@ pub fn fault_line(
     fault: Fault,
 ) -> Result<Vec<u8>, Memory>
     requires { IsSymbolIn kernel.now fault }
-    ensures { IfOk result (λ line. IfSome (fault_of (name_at kernel.now) fault) (λ f. line.items ≡ fault_line path.now number f)) }
+    ensures { IfOk result (λ line. IsSomeAnd (fault_of (name_at kernel.now) fault) (λ f. line.items ≡ fault_line path.now number f)) }
 {
     let mut line = line_start(alloc, path, number)?;
     add_fault(alloc, kernel, fault, &mut line)?;
@@ -74,10 +112,10 @@ fn kind_text(kind: Kind) -> &'static str
     }
 }
 
-/// Appends the text of a fault. Want of memory has a line of its own.
+/// Appends the text of a fault. Want of memory is none of an article's.
 fn add_fault(alloc: Global, kernel: &Kernel, fault: Fault, out: &mut Vec<u8>) -> Result<(), Memory>
     requires { IsSymbolIn kernel.now fault }
-    ensures { OnOk result (IfSome (fault_of (name_at kernel.now) fault) (λ f. out.new.items ≡ out.old.items ++ fault_text f)) }
+    ensures { OnOk result (IsSomeAnd (fault_of (name_at kernel.now) fault) (λ f. out.new.items ≡ out.old.items ++ fault_text f)) }
 {
     match fault {
         Fault::LineTooLong => add(out, "line longer than 65535 bytes"),
@@ -112,7 +150,7 @@ fn add_fault(alloc: Global, kernel: &Kernel, fault: Fault, out: &mut Vec<u8>) ->
         Fault::NotApplication => add(out, "conclusion is not an application"),
         Fault::BadTypeVars => add(out, "bad type variable list"),
         Fault::Nesting => add(out, "nested deeper than 4096"),
-        Fault::Memory => add(out, "out of memory"),
+        Fault::Memory => Err(Memory),
     }
 }
 

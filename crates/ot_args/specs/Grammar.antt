@@ -3,7 +3,7 @@
 --   check [--packages DIR] INPUT
 --   info [--assumptions] [--definitions] [--theorems] [--packages DIR] INPUT
 --
--- DIR isn't empty; without it the folder is `packages`. Where `info` names no section, it asks for all three. INPUT is `-`, or a name that doesn't begin with `-`, isn't empty and doesn't end in `.thy`.
+-- DIR isn't empty; without it the folder is `packages`. Where `info` names no section, it asks for all three. INPUT is `-`, or a name that doesn't begin with `-` and isn't empty; a name that ends in `.thy` is a theory file's.
 use Rattle.std.specs.Prelude.{◌≡◌, ◌↔◌, ℕ, Bool, true, not, ◌&&◌, ◌||◌, List, [], ◌∷◌, ◌++◌, map, codes, nat_eq, String, Option, None, Some, unwrap_or, Result, Ok, Err, if◌then◌else◌}
 use Rattle.std.specs.Global.{Global}
 use Rattle.std.specs.Option.{option_map, option_and_then}
@@ -87,17 +87,13 @@ shown s = if names_any s then s else record { assumptions = true; definitions = 
 
 -- ---- operands
 
--- a name that isn't empty, and begins with `-` only where it is `-` itself
-abbrev pub is_name : List ℕ → Bool
-is_name text = not (bytes_eq text []) && (bytes_eq text (codes "-") || not (starts_with nat_eq text (codes "-")))
+-- standard input, or a file's name: a text that isn't empty, and begins with `-` only where it is `-` itself
+abbrev pub is_input : List ℕ → Bool
+is_input text = not (bytes_eq text []) && (bytes_eq text (codes "-") || not (starts_with nat_eq text (codes "-")))
 
--- a theory file's name
+-- a theory file's name; any other file's name is an article's
 abbrev pub is_theory : List ℕ → Bool
 is_theory text = ends_with nat_eq text (codes ".thy")
-
--- an article on standard input or an article file; theory files aren't read yet
-abbrev pub is_input : List ℕ → Bool
-is_input text = is_name text && not (is_theory text)
 
 -- ---- commands
 

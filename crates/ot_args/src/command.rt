@@ -1,12 +1,12 @@
 ghost use Rattle.std.specs.Prelude.{◌≡◌, ℕ, List};
-ghost use Rattle.ot_args.specs.Grammar.{texts_of, answer, command_of, is_input, CommandValue, IsRead};
+ghost use Rattle.ot_args.specs.Grammar.{texts_of, answer, command_of, is_input, is_theory, CommandValue, IsRead};
 ghost use Rattle.ot_args.specs.Reading.{command_given, given_value};
 
 use crate::arguments::Given;
 use crate::sections::{Sections, names_any, shown};
 
 /// What the words of the command line ask for. In each command the input is `-` for an article on
-/// standard input, or an article file's name, and the theory packages are in a folder.
+/// standard input, a theory file's name or an article file's, and the theory packages are in a folder.
 #[derive(Clone, Copy, Debug, PartialEq, Eq)]
 pub enum Command<'a> {
     /// Runs the input.
@@ -71,8 +71,7 @@ fn command_given<'a>(word: &str, given: Given<'a>) -> Result<Command<'a>, Usage>
     }
 }
 
-/// Whether the word names an article: it isn't empty, begins with `-` only where it is `-` itself, and
-/// isn't a theory file's name.
+/// Whether the word names an input: it isn't empty, and begins with `-` only where it is `-` itself.
 fn is_input(word: &str) -> bool
     ensures { result ≡ is_input word.now }
 {
@@ -80,8 +79,15 @@ fn is_input(word: &str) -> bool
     match bytes {
         [] => false,
         [b'-', ..] => bytes.len() == 1,
-        _ => !bytes.ends_with(b".thy"),
+        _ => true,
     }
+}
+
+/// Whether an input is a theory file: its name ends in `.thy`.
+pub fn is_theory(input: &str) -> bool
+    ensures { result ≡ is_theory input.now }
+{
+    input.as_bytes().ends_with(b".thy")
 }
 
 #[cfg(test)]
@@ -116,13 +122,19 @@ mod tests {
 
     /// The words of a line, and the packages' folder and the input of its command, with the sections
     /// of an `info`.
-    const ROWS: [(&[&str], Option<(&str, &str, Option<Sections>)>); 47] = [
+    const ROWS: [(&[&str], Option<(&str, &str, Option<Sections>)>); 48] = [
         (&["check", "-"], Some(("packages", "-", None))),
         (&["check", "a.art"], Some(("packages", "a.art", None))),
         (
             &["check", "a.thy.art"],
             Some(("packages", "a.thy.art", None)),
         ),
+        (
+            &["check", "--packages", "p", "t.thy"],
+            Some(("p", "t.thy", None)),
+        ),
+        (&["check", ".thy"], Some(("packages", ".thy", None))),
+        (&["info", "a.thy"], Some(("packages", "a.thy", Some(ALL)))),
         (&["check", "--packages", "p", "-"], Some(("p", "-", None))),
         (
             &["check", "--packages", "-p", "a.art"],
@@ -172,8 +184,7 @@ mod tests {
         (&["check", "--", "-"], None),
         (&["check", ""], None),
         (&["check", "-x"], None),
-        (&["check", "t.thy"], None),
-        (&["check", ".thy"], None),
+        (&["check", "-.thy"], None),
         (&["Check", "-"], None),
         (&["info"], None),
         (&["info", "--theorems", "--theorems", "a"], None),
@@ -194,7 +205,6 @@ mod tests {
         (&["info", "--definitions"], None),
         (&["info", "--theorems", "-x"], None),
         (&["info", "-x"], None),
-        (&["info", "a.thy"], None),
         (&["info", "a", "--theorems"], None),
         (&["info", "a", "b"], None),
         (&["link", "a.art"], None),
@@ -226,8 +236,14 @@ mod tests {
                 }),
                 None => Err(Usage),
             };
-            assert_eq!(rt; Command::read(&words), wanted);
+            assert_eq!(rt; Command::read(&words), wanted, "{line:?}");
         }
         Ok(())
+    }
+
+    #[test]
+    fn theory_files(rt: HostRuntime) {
+        assert!(rt; is_theory("d/t.thy") && is_theory(".thy"));
+        assert!(rt; !is_theory("t.thy.art") && !is_theory("thy") && !is_theory("-"));
     }
 }

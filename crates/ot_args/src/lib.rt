@@ -5,5 +5,5 @@ mod arguments;
 mod command;
 mod sections;
 
-pub use command::{Command, Usage, one_reading};
+pub use command::{Command, Usage, is_theory, one_reading};
 pub use sections::Sections;

@@ -11,7 +11,7 @@ pub const ONE: &[u8] = b"accepted: 1 theorems, 0 assumptions, 0 definitions\n";
 const DEFINED: &[u8] = b"accepted: 1 theorems, 0 assumptions, 1 definitions\n";
 
 /// Whole articles, a space for the end of a line.
-pub const ARTICLES: [(&[u8], Status, &[u8]); 18] = [
+pub const ARTICLES: [(&[u8], Status, &[u8]); 19] = [
     (b"", Status::Accepted, NONE),
     (b"6", Status::Accepted, NONE),
     (b"6 version -9223372036854775808", Status::Accepted, NONE),
@@ -37,6 +37,12 @@ pub const ARTICLES: [(&[u8], Status, &[u8]); 18] = [
     ),
     (
         b"6 version \"p\" \"bool\" typeOp nil opType var varTerm 0 def assume 0 ref 0 ref nil cons cons 0 ref thm",
+        Status::Accepted,
+        ONE,
+    ),
+    // One sequent exported twice, the second time with its hypothesis twice in the list.
+    (
+        b"6 version \"p\" \"bool\" typeOp nil opType var varTerm 0 def assume 0 ref nil cons 0 ref thm 0 ref assume 0 ref 0 ref nil cons cons 0 ref thm",
         Status::Accepted,
         ONE,
     ),
@@ -162,71 +168,136 @@ const EQUAL: &[&[u8]] = &[
     b"refl \"y\" 1 ref var 9 def 9 ref varTerm absTerm refl eqMp nil 8 ref thm",
 ];
 
-/// Articles in parts, the options of `info`, and what it prints.
-pub const SUMMARIES: [(&[&[u8]], &[&str], &[u8]); 12] = [
+/// Over P, `p = q` is stored as 9, and `q = p` as 10.
+const Q: &[u8] =
+    b"\"p\" 1 ref var varTerm 6 def pop \"q\" 1 ref var varTerm 7 def pop 4 ref 3 ref constTerm 8 def pop 8 ref 6 ref appTerm 7 ref appTerm 9 def pop 8 ref 7 ref appTerm 6 ref appTerm 10 def pop";
+
+/// `deductAntisym` of p |- p and q |- q, whose hypotheses stay, and of p |- p with itself, whose hypotheses go.
+const DEDUCED: &[&[u8]] = &[
+    P,
+    Q,
+    b"6 ref assume 7 ref assume deductAntisym 6 ref 7 ref nil cons cons 9 ref thm 6 ref assume 6 ref assume deductAntisym nil 8 ref 6 ref appTerm 6 ref appTerm thm",
+];
+
+/// `appThm` of f = f and x = y.
+const APPLIED: &[&[u8]] = &[
+    P,
+    b"\"f\" 2 ref var varTerm 6 def refl 4 ref 3 ref constTerm 9 def \"x\" 1 ref var varTerm 7 def appTerm \"y\" 1 ref var varTerm 8 def appTerm 10 def assume appThm 10 ref nil cons 9 ref 6 ref 7 ref appTerm appTerm 6 ref 8 ref appTerm appTerm thm",
+];
+
+/// `absThm` of an assumption p = q.
+const ABSTRACTED: &[&[u8]] = &[
+    P,
+    Q,
+    b"\"z\" 1 ref var 11 def nil 9 ref axiom absThm nil",
+    E,
+    b"11 ref 6 ref absTerm appTerm 11 ref 7 ref absTerm appTerm thm",
+];
+
+/// An operator with an argument, `=` at another type than an equality's and with one argument, and a type with variables.
+const FORMS: &[&[u8]] = &[
+    P,
+    b"\"list\" typeOp 5 ref nil cons opType 6 def pop \"x\" 6 ref var varTerm 7 def refl nil 4 ref 0 ref 6 ref 0 ref 6 ref 1 ref nil cons cons opType nil cons cons opType constTerm 7 ref appTerm 7 ref appTerm thm 4 ref 1 ref constTerm 8 def assume 8 ref nil cons 8 ref thm 4 ref 3 ref constTerm \"p\" 1 ref var varTerm appTerm 9 def refl nil",
+    E,
+    b"9 ref appTerm 9 ref appTerm thm \"T\" \"abs\" \"rep\" \"A\" \"B\" nil cons cons nil \"P\" const 0 ref 5 ref 1 ref nil cons cons opType constTerm \"k\" const 5 ref constTerm appTerm axiom defineTypeOp",
+];
+
+/// Two assumptions, two definitions and two theorems.
+const ORDERS: &[&[u8]] = &[
+    P,
+    b"\"q\" 1 ref var varTerm 6 def pop \"p\" 1 ref var varTerm 7 def pop nil 6 ref axiom nil 6 ref thm nil 7 ref axiom nil 7 ref thm \"d\" \"k\" const 1 ref constTerm defineConst pop pop \"c\" \"k\" const 1 ref constTerm defineConst",
+];
+
+/// Articles in parts, the words behind `info`, and what it prints.
+pub const SUMMARIES: [(&[&[u8]], &[&str], &[u8]); 17] = [
     (
         &[
             b"6 version \"p\" \"bool\" typeOp nil opType var varTerm 0 def assume 0 ref nil cons 0 ref thm",
         ],
-        &[],
+        &["-"],
         b"assumptions: 0\ndefinitions: 0\ntheorems: 1\n  \"p\":\"bool\" |- \"p\":\"bool\"\n",
     ),
     (
         &[
             b"6 version \"a.b\\.c\" \"bool\" typeOp nil opType var varTerm 0 def assume 0 ref nil cons 0 ref thm",
         ],
-        &["--theorems"],
+        &["--theorems", "a.art"],
         b"theorems: 1\n  \"a.b\\.c\":\"bool\" |- \"a.b\\.c\":\"bool\"\n",
     ),
     (
         REALISTIC,
-        &[],
+        &["-"],
         b"assumptions: 0\ndefinitions: 1\n  const \"Data.Bool.T\" : |- (@\"Data.Bool.T\":\"bool\" = ((\\\"bool\". #0) = (\\\"bool\". #0)))\ntheorems: 1\n  |- (@\"Data.Bool.T\":\"bool\" = ((\\\"bool\". #0) = (\\\"bool\". #0)))\n",
     ),
     (
         BETA,
-        &["--theorems"],
+        &["--theorems", "a.art"],
         b"theorems: 1\n  |- (((\\'\"A\". (\\'\"A\". #1)) \"y\":'\"A\") = (\\'\"A\". \"y\":'\"A\"))\n",
     ),
     (
         CAPTURED,
-        &["--theorems"],
+        &["--theorems", "a.art"],
         b"theorems: 1\n  |- ((\\\"bool\". \"x\":\"bool\") = (\\\"bool\". \"x\":\"bool\"))\n",
     ),
     (
         EQUAL,
-        &["--theorems"],
+        &["--theorems", "a.art"],
         b"theorems: 1\n  |- ((\\\"bool\". #0) = (\\\"bool\". #0))\n",
     ),
     (
         ASSUMED,
-        &[],
+        &["-"],
         b"assumptions: 1\n  |- \"p\":\"bool\"\ndefinitions: 0\ntheorems: 1\n  |- \"p\":\"bool\"\n",
     ),
     (
         ASSUMED,
-        &["--assumptions", "--packages", "p"],
+        &["--assumptions", "--packages", "p", "a.art"],
         b"assumptions: 1\n  |- \"p\":\"bool\"\n",
     ),
     (
         TRANSITIVE,
-        &["--theorems", "--definitions"],
+        &["--theorems", "--definitions", "a.art"],
         b"definitions: 0\ntheorems: 1\n  (\"a\":\"bool\" = \"b\":\"bool\"), (\"b\":\"bool\" = \"c\":\"bool\") |- (\"a\":\"bool\" = \"c\":\"bool\")\n",
     ),
     (
         TWO_CONSTANTS,
-        &[],
+        &["-"],
         b"assumptions: 0\ndefinitions: 1\n  consts \"c\" for \"u\":\"bool\", \"d\" for \"w\":\"bool\" from (\"u\":\"bool\" = ((\\\"bool\". #0) = (\\\"bool\". #0))), (\"w\":\"bool\" = ((\\\"bool\". #0) = (\\\"bool\". #0))) |- (\"u\":\"bool\" = \"w\":\"bool\") : |- (@\"c\":\"bool\" = @\"d\":\"bool\")\ntheorems: 1\n  |- (@\"c\":\"bool\" = @\"d\":\"bool\")\n",
     ),
     (
         NO_CONSTANTS,
-        &["--definitions"],
+        &["--definitions", "a.art"],
         b"definitions: 1\n  consts from |- ((\\\"bool\". #0) = (\\\"bool\". #0)) : |- ((\\\"bool\". #0) = (\\\"bool\". #0))\n",
     ),
     (
         NEW_TYPE,
-        &[],
+        &["-"],
         b"assumptions: 1\n  |- (@\"P\":(\"bool\" -> \"bool\") @\"k\":\"bool\")\ndefinitions: 1\n  type \"T\" () abs \"abs\" rep \"rep\" from |- (@\"P\":(\"bool\" -> \"bool\") @\"k\":\"bool\") : |- ((\\\"T\". (@\"abs\":(\"bool\" -> \"T\") (@\"rep\":(\"T\" -> \"bool\") #0))) = (\\\"T\". #0)) ; |- ((\\\"bool\". ((@\"rep\":(\"T\" -> \"bool\") (@\"abs\":(\"bool\" -> \"T\") #0)) = #0)) = (\\\"bool\". (@\"P\":(\"bool\" -> \"bool\") #0)))\ntheorems: 0\n",
+    ),
+    (
+        DEDUCED,
+        &["-"],
+        b"assumptions: 0\ndefinitions: 0\ntheorems: 2\n  \"p\":\"bool\", \"q\":\"bool\" |- (\"p\":\"bool\" = \"q\":\"bool\")\n  |- (\"p\":\"bool\" = \"p\":\"bool\")\n",
+    ),
+    (
+        APPLIED,
+        &["--theorems", "-"],
+        b"theorems: 1\n  (\"x\":\"bool\" = \"y\":\"bool\") |- ((\"f\":(\"bool\" -> \"bool\") \"x\":\"bool\") = (\"f\":(\"bool\" -> \"bool\") \"y\":\"bool\"))\n",
+    ),
+    (
+        ABSTRACTED,
+        &["-"],
+        b"assumptions: 1\n  |- (\"p\":\"bool\" = \"q\":\"bool\")\ndefinitions: 0\ntheorems: 1\n  |- ((\\\"bool\". \"p\":\"bool\") = (\\\"bool\". \"q\":\"bool\"))\n",
+    ),
+    (
+        FORMS,
+        &["-"],
+        b"assumptions: 1\n  |- (@\"P\":('\"A\" -> \"bool\") @\"k\":'\"A\")\ndefinitions: 1\n  type \"T\" (\"A\" \"B\") abs \"abs\" rep \"rep\" from |- (@\"P\":('\"A\" -> \"bool\") @\"k\":'\"A\") : |- ((\\(\"T\" '\"A\" '\"B\"). (@\"abs\":('\"A\" -> (\"T\" '\"A\" '\"B\")) (@\"rep\":((\"T\" '\"A\" '\"B\") -> '\"A\") #0))) = (\\(\"T\" '\"A\" '\"B\"). #0)) ; |- ((\\'\"A\". ((@\"rep\":((\"T\" '\"A\" '\"B\") -> '\"A\") (@\"abs\":('\"A\" -> (\"T\" '\"A\" '\"B\")) #0)) = #0)) = (\\'\"A\". (@\"P\":('\"A\" -> \"bool\") #0)))\ntheorems: 3\n  |- (\"x\":(\"list\" '\"A\") = \"x\":(\"list\" '\"A\"))\n  @\"=\":\"bool\" |- @\"=\":\"bool\"\n  |- ((@\"=\":(\"bool\" -> (\"bool\" -> \"bool\")) \"p\":\"bool\") = (@\"=\":(\"bool\" -> (\"bool\" -> \"bool\")) \"p\":\"bool\"))\n",
+    ),
+    (
+        ORDERS,
+        &["-"],
+        b"assumptions: 2\n  |- \"p\":\"bool\"\n  |- \"q\":\"bool\"\ndefinitions: 2\n  const \"d\" : |- (@\"d\":\"bool\" = @\"k\":\"bool\")\n  const \"c\" : |- (@\"c\":\"bool\" = @\"k\":\"bool\")\ntheorems: 2\n  |- \"q\":\"bool\"\n  |- \"p\":\"bool\"\n",
     ),
 ];
 
@@ -295,17 +366,14 @@ pub const PARTS: [(&[&[u8]], Status, &[u8]); 11] = [
     ),
 ];
 
-/// Articles that export one equation without hypotheses.
-pub const EQUATIONS: [&[&[u8]]; 3] = [BETA, CAPTURED, EQUAL];
-
 /// An assumption that proves a hypothesis of another theorem.
-pub const ASSUMED: &[&[u8]] = &[P, TAKEN];
+const ASSUMED: &[&[u8]] = &[P, TAKEN];
 
 /// a = c under a = b and b = c.
-pub const TRANSITIVE: &[&[u8]] = &[P, JOINED];
+const TRANSITIVE: &[&[u8]] = &[P, JOINED];
 
 /// What follows `6 version`, a space for the end of a line, with the line and the text of the fault.
-pub const FAULTS: [(&[u8], &[u8]); 62] = [
+pub const FAULTS: [(&[u8], &[u8]); 63] = [
     (b"\"a\" \"b\" cons", b"5: wanted list, found name"),
     (b"nil def", b"4: wanted number, found list"),
     (b"7 ref", b"4: no entry 7"),
@@ -470,6 +538,10 @@ pub const FAULTS: [(&[u8], &[u8]); 62] = [
         b"\"c\" \"k\" const \"A\" varType constTerm 0 def defineConst \"c\" 0 ref defineConst",
         b"15: const \"c\" is defined already",
     ),
+    (
+        b"\"c\" \"c\" const \"A\" varType constTerm defineConst",
+        b"9: const \"c\" is in use",
+    ),
     (b"nil defineConstList", b"4: wanted theorem, found list"),
     (
         b"\"T\" \"abs\" \"rep\" nil \"p\" \"bool\" typeOp nil opType var varTerm assume defineTypeOp",
@@ -493,37 +565,147 @@ pub const FAULTS: [(&[u8], &[u8]); 62] = [
     ),
 ];
 
-/// A first part and a part that is said so many times, a space for the end of a line, with the answer.
-pub const REPEATED: [(&[u8], &[u8], u64, Status, &[u8]); 7] = [
-    (b"6 version nil", b"nil cons", 4095, Status::Accepted, NONE),
+/// What is said first, what is said so many times, and what is said last, a space for the end of a line; with the command
+/// on standard input, and the answer.
+pub type Repeated = (
+    &'static [&'static [u8]],
+    &'static [u8],
+    u64,
+    &'static [u8],
+    &'static str,
+    Status,
+    &'static [u8],
+);
+
+/// Terms x and y at A, f at A -> (A -> A), stored as 5, 7 and 4; x and y again as 406 and 407.
+const SAMPLE: &[u8] =
+    b"6 version \"->\" typeOp 0 def pop \"A\" varType 1 def pop 0 ref 1 ref 1 ref nil cons cons opType 2 def pop 0 ref 1 ref 2 ref nil cons cons opType 3 def pop \"f\" 3 ref var varTerm 4 def pop \"x\" 1 ref var 5 def varTerm 406 def 6 def pop \"y\" 1 ref var varTerm 407 def 7 def pop";
+
+/// Both are doubled under f.
+const BOTH_DOUBLED: &[u8] =
+    b"4 ref 406 ref appTerm 406 ref appTerm 406 def pop 4 ref 407 ref appTerm 407 ref appTerm 407 def pop";
+
+pub const REPEATED: [Repeated; 7] = [
     (
-        b"6 version nil",
+        &[b"6 version nil"],
         b"nil cons",
-        4096,
-        Status::Refused,
-        b"opentheory: -:8195: nested deeper than 4096\n",
-    ),
-    (
-        b"6 version \"d\" typeOp 0 def nil opType",
-        b"1 def pop 0 ref 1 ref 1 ref nil cons cons opType",
-        1000,
+        4095,
+        b"#",
+        "check",
         Status::Accepted,
         NONE,
     ),
     (
-        b"6 version \"d\" typeOp 0 def nil opType",
+        &[b"6 version nil"],
+        b"nil cons",
+        4096,
+        b"#",
+        "check",
+        Status::Refused,
+        b"opentheory: -:8195: nested deeper than 4096\n",
+    ),
+    (
+        &[b"6 version \"d\" typeOp 0 def nil opType"],
+        b"1 def pop 0 ref 1 ref 1 ref nil cons cons opType",
+        1000,
+        b"#",
+        "check",
+        Status::Accepted,
+        NONE,
+    ),
+    (
+        &[b"6 version \"d\" typeOp 0 def nil opType"],
         b"1 def pop 0 ref 1 ref nil cons opType",
         4096,
+        b"#",
+        "check",
         Status::Refused,
         b"opentheory: -:40968: nested deeper than 4096\n",
     ),
     (
-        b"6 version \"->\" typeOp 0 def pop \"A\" varType 1 def pop \"f\" 0 ref 1 ref 1 ref nil cons cons opType var varTerm 2 def pop \"x\" 1 ref var varTerm",
+        &[
+            b"6 version \"->\" typeOp 0 def pop \"A\" varType 1 def pop \"f\" 0 ref 1 ref 1 ref nil cons cons opType var varTerm 2 def pop \"x\" 1 ref var varTerm",
+        ],
         b"3 def pop 2 ref 3 ref appTerm",
         4096,
+        b"#",
+        "check",
         Status::Refused,
         b"opentheory: -:32801: nested deeper than 4096\n",
     ),
-    (b"6 version #", b" #", 3, Status::Accepted, NONE),
-    (b"6 version", b"nil  #", 3, Status::Accepted, NONE),
+    (
+        &[b"6 version #"],
+        b" #",
+        3,
+        b"#",
+        "check",
+        Status::Accepted,
+        NONE,
+    ),
+    (
+        &[b"6 version"],
+        b"nil  #",
+        3,
+        b"#",
+        "check",
+        Status::Accepted,
+        NONE,
+    ),
 ];
+
+pub const DOUBLED: [Repeated; 4] = [
+    // Two axioms about a term that is doubled 60 times.
+    (
+        &[
+            P,
+            b"\"f\" 3 ref var varTerm 6 def pop \"x\" 1 ref var varTerm",
+        ],
+        b"7 def pop 6 ref 7 ref appTerm 7 ref appTerm",
+        60,
+        b"7 def pop 4 ref 3 ref constTerm 7 ref appTerm 8 def pop nil 8 ref \"a\" 1 ref var varTerm appTerm axiom nil 8 ref \"b\" 1 ref var varTerm appTerm axiom",
+        "check",
+        Status::Accepted,
+        b"accepted: 0 theorems, 2 assumptions, 0 definitions\n",
+    ),
+    // Two theorems with great hypotheses, compared with conclusions that are as great.
+    (
+        &[SAMPLE],
+        BOTH_DOUBLED,
+        200,
+        b"\"=\" const 0 ref 1 ref 0 ref 1 ref \"bool\" typeOp nil opType nil cons cons opType nil cons cons opType constTerm 406 ref appTerm 900 def 6 ref appTerm assume 900 ref 7 ref appTerm assume deductAntisym",
+        "check",
+        Status::Accepted,
+        NONE,
+    ),
+    // y for x in a term that is doubled 200 times.
+    (
+        &[SAMPLE],
+        BOTH_DOUBLED,
+        200,
+        b"nil 5 ref 7 ref nil cons cons nil cons nil cons cons 406 ref refl subst nil \"=\" const 0 ref 1 ref 0 ref 1 ref \"bool\" typeOp nil opType nil cons cons opType nil cons cons opType constTerm 407 ref appTerm 407 ref appTerm thm",
+        "check",
+        Status::Accepted,
+        ONE,
+    ),
+    // bool for A in a type that is doubled 100 times.
+    (
+        &[P, b"5 ref 9 def pop"],
+        b"0 ref 9 ref 9 ref nil cons cons opType 9 def pop",
+        100,
+        b"\"A\" 1 ref nil cons cons nil cons nil nil cons cons \"x\" 9 ref var varTerm refl subst",
+        "check",
+        Status::Accepted,
+        NONE,
+    ),
+];
+
+/// An assumption that is doubled 30 times is too large to be printed.
+pub const TOO_LARGE: Repeated = (
+    &[P, b"\"p\" 1 ref var varTerm"],
+    b"6 def pop 4 ref 3 ref constTerm 6 ref appTerm 6 ref appTerm",
+    30,
+    b"6 def pop nil 6 ref axiom",
+    "info",
+    Status::Refused,
+    b"opentheory: -: summary larger than 67108864 bytes\n",
+);

@@ -1,5 +1,5 @@
 use Rattle.opentheory.proofs.RunLemmas.{is_proved}
 use Rattle.opentheory.proofs.report.proved.Goals as goal
 
-pub returns : goal.returns
-returns c = is_proved c.args.session.now.kernel c.args.machine.now (rw c.kernel.ensures at c.sound.ensures) c.requires
+pub returns-clause-proved : goal.returns-clause-proved
+returns-clause-proved c = is_proved c.args.session.now.kernel c.args.exports.now (rw c.kernel.ensures at c.sound.ensures) c.requires

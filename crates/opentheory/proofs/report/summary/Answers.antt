@@ -1,22 +1,22 @@
-use Rattle.std.proofs.Common.{◌≡◌, ◌∙◌, ap, map, Err}
+use Rattle.std.proofs.Common.{◌≡◌, ◌∙◌, refl, ap, map, Err}
 use Rattle.opentheory.specs.Reply.{summary_limit}
-use Rattle.opentheory.proofs.RunLemmas.{exported_within, summary_within, summary_too_large}
+use Rattle.opentheory.proofs.RunLemmas.{exported_within, summary_printed, summary_too_large}
 use Rattle.opentheory.proofs.report.summary.Goals as goal
 
 pub summary_text-requires : goal.summary_text-requires
 summary_text-requires c =
-    let are : c.deref.result.now ≡ map (λ e. e.th) c.args.machine.now.exports.items = c.deref.ensures.value ∙ c.in_ok-theorems.ensures ∙ ap (map (λ e. e.th)) c.exports.ensures in
-    rw c.kernel.ensures (exported_within c.args.session.now.kernel c.args.machine.now c.deref.result.now are c.requires)
+    let are : c.deref.result.now ≡ map (λ e. e.th) c.args.exports.now = c.deref.ensures.value ∙ c.in_ok-theorems.ensures in
+    rw c.kernel.ensures (exported_within c.args.session.now.kernel c.args.exports.now c.deref.result.now are c.requires)
 
 pub returns-in-Ok : goal.returns-in-Ok
 returns-in-Ok c =
-    let are : c.deref.result.now ≡ map (λ e. e.th) c.args.machine.now.exports.items = c.deref.ensures.value ∙ c.in_ok-theorems.ensures ∙ ap (map (λ e. e.th)) c.exports.ensures in
+    let are : c.deref.result.now ≡ map (λ e. e.th) c.args.exports.now = c.deref.ensures.value ∙ c.in_ok-theorems.ensures in
     let limit : c.standard-limit.result.summary_bytes ≡ summary_limit = ap (λ l. l.summary_bytes) c.standard-limit.ensures in
-    summary_within c.args.sections c.args.session.now.kernel c.kernel.result.now c.args.machine.now c.deref.result.now c.standard-limit.result.summary_bytes c.new-text.result.items c.summary_text.new.out.items c.kernel.ensures are limit c.new-text.ensures.items c.in-Ok.ensures.ok
+    summary_printed c.args.path.now c.args.sections c.args.session.now.kernel c.kernel.result.now c.args.exports.now c.deref.result.now c.standard-limit.result.summary_bytes c.new-text.result.items _ c.kernel.ensures are limit c.new-text.ensures.items refl c.in-Ok.ensures.ok
 
 pub returns-in-Err-TooLarge : goal.returns-in-Err-TooLarge
 returns-in-Err-TooLarge c =
-    let are : c.deref.result.now ≡ map (λ e. e.th) c.args.machine.now.exports.items = c.deref.ensures.value ∙ c.in_ok-theorems.ensures ∙ ap (map (λ e. e.th)) c.exports.ensures in
+    let are : c.deref.result.now ≡ map (λ e. e.th) c.args.exports.now = c.deref.ensures.value ∙ c.in_ok-theorems.ensures in
     let limit : c.standard-limit.result.summary_bytes ≡ summary_limit = ap (λ l. l.summary_bytes) c.standard-limit.ensures in
-    let past = summary_too_large c.args.sections c.args.session.now.kernel c.kernel.result.now c.args.machine.now c.deref.result.now c.standard-limit.result.summary_bytes c.kernel.ensures are limit (c.in-Err-TooLarge.ensures.too_large (ap Err c.in-Err-TooLarge.field-0-is)) in
-    (c.in_ok-line_of-in-Err-TooLarge.ensures, past)
+    summary_too_large c.args.path.now c.args.sections c.args.session.now.kernel c.kernel.result.now c.args.exports.now c.deref.result.now c.standard-limit.result.summary_bytes c.refused.result c.kernel.ensures are limit (c.in-Err-TooLarge.ensures.too_large (ap Err c.in-Err-TooLarge.field-0-is))
+    (record { status_is = c.refused.ensures.status_is; text_is = c.refused.ensures.text_is ∙ c.in_ok-line_of-in-Err-TooLarge.ensures })

@@ -1,0 +1,26 @@
+-- How the run of an article ends.
+pub mod Ending
+-- The article or the package among statements.
+pub mod Finding
+-- A link in parts.
+pub mod Parts
+-- The plan of a theory file, from its parts.
+pub mod Planning
+-- The blocks of a theory file that has a plan.
+pub mod Runnable
+-- The interpretation of a block, one statement at a time.
+pub mod OneMore
+-- One pair more in an interpretation of numbers.
+pub mod Interning
+-- The context of a block.
+pub mod InBlock
+-- How a package is opened, and how a theory file is run.
+pub mod Opened
+-- Blocks in their order, one after another.
+pub mod Sequence
+-- Blocks by their places.
+pub mod Standing
+-- The exports that are held of the blocks that have run.
+pub mod Held
+-- Exports by the classes of their conclusions.
+pub mod Alike

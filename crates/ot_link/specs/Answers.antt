@@ -1,0 +1,84 @@
+-- How the code's answers stand to the stated ones. After a read fault, and where memory ran out, the answer is open.
+use Rattle.std.specs.Prelude.{◌≡◌, ◌<◌, ◌≤◌, ℕ, List, length, map, Option, Some, Result, Ok, Err, Vec, IfSome, string_bytes}
+use Rattle.std.specs.Global.{Global}
+use Rattle.std.specs.List.{All}
+use Rattle.ot_plain.specs.Names.{Name}
+use Rattle.ot_plain.specs.Lists.{IsMember}
+use Rattle.ot_plain.specs.Faults as faults
+use Rattle.ot_plain.specs.declared.limits.Limits.{Limits}
+use Rattle.ot_io.specs.Causes.{Rose}
+use Rattle.ot_io.specs.Folder.{Folder}
+use Rattle.ot_kernel.specs.State as kernel
+use Rattle.ot_machine.specs.Faults.{fault_of}
+use Rattle.ot_machine.specs.Meaning.{export_of, run_of}
+use Rattle.ot_machine.specs.Answers.{IsSymbolIn}
+use Rattle.ot_machine.specs.States.{State}
+use Rattle.ot_machine.specs.Run.{Outcome, Ended, Stopped}
+use Rattle.ot_machine.specs.declared.fault.ArticleFault.{ArticleFault}
+use Rattle.ot_machine.specs.declared.fault.ArticleFault.TheVariants as article
+use Rattle.ot_machine.specs.declared.machine.Export as code
+use Rattle.ot_link.specs.Stops.{InArticle, InTheory, InStructure, TooLarge, Missing, Linked, Setting}
+use Rattle.ot_link.specs.Blocks.{Ran}
+use Rattle.ot_link.specs.declared.setting.Setting as code_setting
+use Rattle.ot_link.specs.declared.fault.LinkFault.{LinkFault}
+use Rattle.ot_link.specs.declared.fault.LinkFault.TheVariants as link
+
+-- the limits are at most those of the program
+pub record AreWithin (limits : Limits) : Type 0 where
+  pub article : limits.article_bytes ≤ 4294967296
+  pub theory : limits.theory_bytes ≤ 1048576
+  pub packages : limits.package_depth ≤ 16
+
+-- what stays the same through a link, over these files
+abbrev pub setting_of : Folder → code_setting.Setting → Setting
+setting_of folder s = record { folder = folder; packages = s.packages.now; limits = s.limits.now }
+
+-- the link stops with this fault, of an article by the kernel's names; a path that can't be read is one that is needed
+abbrev pub Stops : {A : Type 0} → kernel.State → LinkFault → Linked A → Type 0
+Stops k (link.Article path line fault) l = (f : faults.Fault Name) × (fault_of (kernel.name_at k) fault ≡ Some f) × (l.answer ≡ Err (InArticle (string_bytes path) line f))
+Stops k (link.Theory path line fault) l = l.answer ≡ Err (InTheory (string_bytes path) line fault)
+Stops k (link.Structure path line fault) l = l.answer ≡ Err (InStructure (string_bytes path) line fault)
+Stops k (link.TheoryTooLarge path) l = l.answer ≡ Err (TooLarge (string_bytes path))
+Stops k (link.NoFile path) l = l.answer ≡ Err (Missing (string_bytes path))
+Stops k (link.ReadFault path) l = IsMember (string_bytes path) l.paths
+Stops k link.Memory l = Unit {0}
+
+-- what was made is what is stated
+abbrev pub Comes : {X A : Type 0} → kernel.State → (X → A) → Result X LinkFault → Linked A → Type 0
+Comes k view (Ok x) l = l.answer ≡ Ok (view x)
+Comes k view (Err e) l = Stops k e l
+
+-- the exports and the run that numbers stand for
+abbrev pub ran_of : kernel.State → Vec code.Export Global → Ran
+ran_of k exports = record { exports = map (export_of k) exports.items; run = run_of k }
+
+-- what the run of an article answered, against the stated end
+abbrev pub EndsAs : kernel.State → Result (Vec code.Export Global) ArticleFault → Outcome → Type 0
+EndsAs k (Ok exports) o = (s : State) × (o ≡ Ended s) × (ran_of k exports ≡ record { exports = s.article.exports; run = s.run })
+EndsAs k (Err (article.At line fault)) o = (s : State) × (f : faults.Fault Name) × (fault_of (kernel.name_at k) fault ≡ Some f) × (o ≡ Stopped line f s)
+EndsAs k (Err article.ReadFault) o = Unit {0}
+EndsAs k (Err article.Memory) o = Unit {0}
+
+-- the exports' numbers are of the kernel
+abbrev pub AreExportsIn : kernel.State → Vec code.Export Global → Type 0
+AreExportsIn k exports = All (λ e. e.th < length k.theorems) exports.items
+
+-- the symbol that a fault names, where it names one, is of the kernel
+abbrev pub NamesSymbolIn : kernel.State → LinkFault → Type 0
+NamesSymbolIn k (link.Article path line fault) = IsSymbolIn k fault
+NamesSymbolIn k (link.Theory path line fault) = Unit {0}
+NamesSymbolIn k (link.Structure path line fault) = Unit {0}
+NamesSymbolIn k (link.TheoryTooLarge path) = Unit {0}
+NamesSymbolIn k (link.NoFile path) = Unit {0}
+NamesSymbolIn k (link.ReadFault path) = Unit {0}
+NamesSymbolIn k link.Memory = Unit {0}
+
+-- a missing file is counted, and so is a failure, which is one of the path that was asked for, where that is told
+abbrev pub HasCause : LinkFault → ℕ → ℕ → ℕ → ℕ → Option (List ℕ) → Type 0
+HasCause (link.NoFile path) misses misses' faults faults' at = Rose misses misses'
+HasCause (link.ReadFault path) misses misses' faults faults' at = Rose faults faults' × IfSome at (λ asked. string_bytes path ≡ asked)
+HasCause (link.Article path line fault) misses misses' faults faults' at = Unit {0}
+HasCause (link.Theory path line fault) misses misses' faults faults' at = Unit {0}
+HasCause (link.Structure path line fault) misses misses' faults faults' at = Unit {0}
+HasCause (link.TheoryTooLarge path) misses misses' faults faults' at = Unit {0}
+HasCause link.Memory misses misses' faults faults' at = Unit {0}

@@ -1,0 +1,74 @@
+use ot_blocks::StructureFault;
+use ot_machine::Fault;
+use ot_plain::Memory as NoMemory;
+use ot_theory::TheoryFault;
+use std::alloc::{AllocError, AllocFailed};
+
+/// Why a link isn't run to its end. A path is that of the file at fault.
+#[derive(Debug, Drop)]
+pub enum LinkFault {
+    /// The first fault of an article, which is never want of memory.
+    Article {
+        path: String,
+        line: u64,
+        fault: Fault,
+    },
+    /// The first fault of a theory file's grammar.
+    Theory {
+        path: String,
+        line: u64,
+        fault: TheoryFault,
+    },
+    /// The first fault of what the blocks of a theory file ask for.
+    Structure {
+        path: String,
+        line: u64,
+        fault: StructureFault,
+    },
+    /// A theory file has more bytes than the limit.
+    TheoryTooLarge {
+        path: String,
+    },
+    /// There is no such file.
+    NoFile {
+        path: String,
+    },
+    /// The file could not be read.
+    ReadFault {
+        path: String,
+    },
+    Memory,
+}
+
+impl From<NoMemory> for LinkFault {
+    ghost use Rattle.std.specs.Prelude.{◌≡◌};
+    ghost use Rattle.ot_link.specs.declared.fault.LinkFault.TheVariants.{Memory};
+
+    ghost from_gives = { λ _ r. r ≡ Memory };
+
+    fn from(_: NoMemory) -> LinkFault {
+        LinkFault::Memory
+    }
+}
+
+impl From<AllocError> for LinkFault {
+    ghost use Rattle.std.specs.Prelude.{◌≡◌};
+    ghost use Rattle.ot_link.specs.declared.fault.LinkFault.TheVariants.{Memory};
+
+    ghost from_gives = { λ _ r. r ≡ Memory };
+
+    fn from(_: AllocError) -> LinkFault {
+        LinkFault::Memory
+    }
+}
+
+impl<T: Drop> From<AllocFailed<T>> for LinkFault {
+    ghost use Rattle.std.specs.Prelude.{◌≡◌};
+    ghost use Rattle.ot_link.specs.declared.fault.LinkFault.TheVariants.{Memory};
+
+    ghost from_gives = { λ _ r. r ≡ Memory };
+
+    fn from(_: AllocFailed<T>) -> LinkFault {
+        LinkFault::Memory
+    }
+}

@@ -1,0 +1,88 @@
+ghost use Rattle.std.specs.Prelude.{◌≡◌, ◌≤◌, [], Some, IfOk, IfErr, IfSome};
+ghost use Rattle.ot_io.specs.Folder.{Folder};
+ghost use Rattle.ot_machine.specs.States.{fresh_run};
+ghost use Rattle.ot_machine.specs.Meaning.{run_of};
+ghost use Rattle.ot_link.specs.Link.{link};
+ghost use Rattle.ot_link.specs.Answers.{AreWithin, setting_of, Comes, ran_of, AreExportsIn, NamesSymbolIn, HasCause};
+
+use crate::blocks::{File, link_file};
+use crate::fault::LinkFault;
+use crate::setting::Setting;
+use ot_interp::Interp;
+use ot_io::Files;
+use ot_machine::{Context, Export, Session};
+use ot_plain::Limits;
+use std::alloc::Global;
+
+/// Runs a theory file, with all articles and packages that it asks for, and gives the exports of its block `main`. By the
+/// theory file format the blocks that `main` reaches run in depth-first order, each once, behind its imports; a block's
+/// article or package is run in the context of the exports that the block imports, and under its `interpret:` statements. A
+/// package `NAME-VERSION` is the file `NAME.thy` in the folder of that full name in `packages`. The session is fresh, and
+/// the limits are at most those of the program.
+///
+/// - `Article`, `Theory`, `Structure`, `TheoryTooLarge`: the first fault of the run, with the path of its file and its line.
+///   The symbol that a fault of an article names has its name in the session's kernel.
+/// - `NoFile`: only where a file was missing in this call, and where the folder is told, exactly where it is the first fault.
+/// - `ReadFault`: only where the files failed in this call; the path is one of those that the run needs.
+/// - `Memory`: free.
+///
+/// No file is left open. After a fault the session may hold what the run put into it.
+pub fn link<F: Files>(
+    alloc: Global,
+    session: &mut Session,
+    files: &mut F,
+    theory_path: &str,
+    packages: &str,
+    limits: &Limits,
+) -> Result<Vec<Export>, LinkFault>
+    requires fresh { run_of session.old.kernel ≡ fresh_run }
+    requires limits { AreWithin limits.now }
+    ensures links { IfSome (F.folder files.old) (λ folder. Comes session.new.kernel (ran_of session.new.kernel) result
+        (link (record { folder = folder; packages = packages.now; limits = limits.now }) theory_path.now)) }
+    ensures exports { IfOk result (AreExportsIn session.new.kernel) }
+    ensures symbols { IfErr result (NamesSymbolIn session.new.kernel) }
+    ensures cause { IfErr result (λ e. HasCause e (F.misses files.old) (F.misses files.new) (F.faults files.old) (F.faults files.new) (F.at files.new)) }
+    ensures later { (F.faults files.old ≤ F.faults files.new) × (F.misses files.old ≤ F.misses files.new) }
+    ensures folder { F.folder files.new ≡ F.folder files.old }
+    ensures closed { F.left files.new ≡ Some [] }
+{
+    let setting = Setting {
+        alloc,
+        packages,
+        limits,
+    };
+    let result = link_first(setting, session, files, theory_path);
+    files.close();
+    result
+}
+
+/// Runs the theory file of a path, in the empty context.
+fn link_first<F: Files>(
+    setting: Setting<'_>,
+    session: &mut Session,
+    files: &mut F,
+    path: &str,
+) -> Result<Vec<Export>, LinkFault>
+    requires fresh { run_of session.old.kernel ≡ fresh_run }
+    requires limits { AreWithin setting.limits.now }
+    ensures comes { (folder : Folder) → F.folder files.old ≡ Some folder → Comes session.new.kernel (ran_of session.new.kernel) result (link (setting_of folder setting.entry) path.now) }
+    ensures exports { IfOk result (AreExportsIn session.new.kernel) }
+    ensures symbols { IfErr result (NamesSymbolIn session.new.kernel) }
+    ensures cause { IfErr result (λ e. HasCause e (F.misses files.old) (F.misses files.new) (F.faults files.old) (F.faults files.new) (F.at files.new)) }
+    ensures later { (F.faults files.old ≤ F.faults files.new) × (F.misses files.old ≤ F.misses files.new) }
+    ensures folder { F.folder files.new ≡ F.folder files.old }
+{
+    let interp = Interp::new(setting.alloc);
+    let outer = Context {
+        interp: &interp,
+        theorems: &[],
+    };
+    let path = String::from_str(setting.alloc, path)?;
+    let file = File {
+        path,
+        chain: Vec::new(setting.alloc),
+        left: setting.limits.package_depth,
+        outer: &outer,
+    };
+    link_file(setting, session, files, &file)
+}

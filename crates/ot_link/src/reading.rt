@@ -1,0 +1,142 @@
+// Theory files as they are read and planned.
+ghost use Rattle.std.specs.Prelude.{◌≡◌, ◌≤◌, ◌+◌, ◌^◌, ◌<◌, ℕ, List, Option, Some, length, take, IfOk, IfErr, IfSome, codes, true};
+ghost use Rattle.ot_io.specs.Causes.{Rose};
+ghost use Rattle.ot_io.specs.Folder.{Folder};
+ghost use Rattle.ot_kernel.specs.State.{State};
+ghost use Rattle.ot_theory.specs.Theory.{theory, has_block};
+ghost use Rattle.ot_theory.specs.Sound.{IsSound};
+ghost use Rattle.ot_theory.specs.Answers.{theory_of, blocks_of};
+ghost use Rattle.ot_blocks.specs.Answers.{plan_of};
+ghost use Rattle.ot_blocks.specs.Structure.{plan, IsPlan};
+ghost use Rattle.ot_link.specs.Stops.{answered};
+ghost use Rattle.ot_link.specs.Planned.{in_theory, in_structure};
+ghost use Rattle.ot_link.specs.Link.{text_at};
+ghost use Rattle.ot_link.specs.Answers.{setting_of, Comes, NamesSymbolIn, HasCause};
+
+use crate::fault::LinkFault;
+use crate::setting::Setting;
+use ot_blocks::{Plan, PlanFault, plan_blocks};
+use ot_io::{Failed, Files, OpenFault, Source};
+use ot_theory::{Block, Theory, TheoryError, parse};
+use std::alloc::Global;
+
+/// Why the bytes of an open file aren't read.
+#[derive(Clone, Copy, Debug, PartialEq, Eq)]
+pub(crate) enum ReadError {
+    Failed,
+    Memory,
+}
+
+/// The text of a theory file, which is within its limit. No more than one byte past the limit is read.
+pub(crate) fn theory_text<F: Files>(
+    setting: Setting<'_>,
+    files: &mut F,
+    path: &str,
+) -> Result<Vec<u8>, LinkFault>
+    requires { setting.limits.now.theory_bytes ≤ 1048576 }
+    ensures comes { (folder : Folder) (k : State) → F.folder files.old ≡ Some folder → Comes k (λ text. text.items) result (text_at (setting_of folder setting.entry) path.now) }
+    ensures symbols { IfErr result (λ e. (k : State) → NamesSymbolIn k e) }
+    ensures cause { IfErr result (λ e. HasCause e (F.misses files.old) (F.misses files.new) (F.faults files.old) (F.faults files.new) (F.at files.new)) }
+    ensures later { (F.faults files.old ≤ F.faults files.new) × (F.misses files.old ≤ F.misses files.new) }
+    ensures folder { F.folder files.new ≡ F.folder files.old }
+{
+    let alloc = setting.alloc;
+    let limit = setting.limits.theory_bytes;
+    match files.open_file(path) {
+        Ok(()) => match read_front(alloc, files, limit) {
+            Ok(text) => {
+                if text.len() <= limit {
+                    Ok(text)
+                } else {
+                    let path = String::from_str(alloc, path)?;
+                    Err(LinkFault::TheoryTooLarge { path })
+                }
+            }
+            Err(ReadError::Failed) => {
+                let path = String::from_str(alloc, path)?;
+                Err(LinkFault::ReadFault { path })
+            }
+            Err(ReadError::Memory) => Err(LinkFault::Memory),
+        },
+        Err(OpenFault::Missing) => {
+            let path = String::from_str(alloc, path)?;
+            Err(LinkFault::NoFile { path })
+        }
+        Err(OpenFault::Failed) => {
+            let path = String::from_str(alloc, path)?;
+            Err(LinkFault::ReadFault { path })
+        }
+    }
+}
+
+/// The bytes that a source has left, or its first ones where it has more than so many: one more than that. No more are read,
+/// whatever the answer is.
+fn read_front<S: Source>(
+    alloc: Global,
+    source: &mut S,
+    max_bytes: usize,
+) -> Result<Vec<u8>, ReadError>
+    requires { max_bytes + 1 < 2 ^ 64 }
+    ensures bytes { IfOk result (λ bytes. IfSome (S.left source.old) (λ left. bytes.items ≡ take (max_bytes + 1) left)) }
+    ensures few { IfSome (S.left source.old) (λ left. IfSome (S.left source.new) (λ rest. length left ≤ length rest + (max_bytes + 1))) }
+    ensures cause { IfErr result (λ e. e ≡ ReadError.Failed → Rose (S.faults source.old) (S.faults source.new)) }
+    ensures later { S.faults source.old ≤ S.faults source.new }
+    ensures folder { S.folder source.new ≡ S.folder source.old }
+    ensures misses { S.misses source.new ≡ S.misses source.old }
+    ensures at { S.at source.new ≡ S.at source.old }
+{
+    let mut bytes = Vec::new(alloc);
+    let mut buffer = [0u8; 4096];
+    'reading: while bytes.len() <= max_bytes {
+        let want = (max_bytes + 1 - bytes.len()).min(buffer.len());
+        match source.read(&mut buffer[..want]) {
+            Ok(0) => break,
+            Ok(count) => {
+                let Ok(()) = bytes.extend_from_slice(&buffer[..count]) else {
+                    return Err(ReadError::Memory);
+                };
+            }
+            Err(Failed) => return Err(ReadError::Failed),
+        }
+    }
+    Ok(bytes)
+}
+
+/// The theory file that a text is.
+pub(crate) fn theory_at<'a>(
+    alloc: Global,
+    path: &str,
+    text: &'a [u8],
+) -> Result<Theory<'a>, LinkFault>
+    ensures comes { (k : State) → Comes k theory_of result (answered (in_theory path.now (theory text.now))) }
+    ensures sound { IfOk result (λ t. IsSound (theory_of t)) }
+    ensures symbols { IfErr result (λ e. (k : State) → NamesSymbolIn k e) }
+    ensures cause { IfErr result (λ e. (misses misses' faults faults' : ℕ) (at : Option (List ℕ)) → HasCause e misses misses' faults faults' at) }
+{
+    match parse(alloc, text) {
+        Ok(theory) => Ok(theory),
+        Err(TheoryError::At { line, fault }) => {
+            let path = String::from_str(alloc, path)?;
+            Err(LinkFault::Theory { path, line, fault })
+        }
+        Err(TheoryError::Memory) => Err(LinkFault::Memory),
+    }
+}
+
+/// The plan of a theory file's blocks.
+pub(crate) fn plan_at(alloc: Global, path: &str, blocks: &[Block<'_>]) -> Result<Plan, LinkFault>
+    requires { has_block (blocks_of blocks.now) (codes "main") ≡ true }
+    ensures comes { (k : State) → Comes k plan_of result (answered (in_structure path.now (plan (blocks_of blocks.now)))) }
+    ensures sound { IfOk result (λ p. IsPlan (blocks_of blocks.now) (plan_of p)) }
+    ensures symbols { IfErr result (λ e. (k : State) → NamesSymbolIn k e) }
+    ensures cause { IfErr result (λ e. (misses misses' faults faults' : ℕ) (at : Option (List ℕ)) → HasCause e misses misses' faults faults' at) }
+{
+    match plan_blocks(alloc, blocks) {
+        Ok(plan) => Ok(plan),
+        Err(PlanFault::At { line, fault }) => {
+            let path = String::from_str(alloc, path)?;
+            Err(LinkFault::Structure { path, line, fault })
+        }
+        Err(PlanFault::Memory) => Err(LinkFault::Memory),
+    }
+}

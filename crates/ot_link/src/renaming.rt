@@ -1,0 +1,116 @@
+// What the `interpret:` statements of a block rename.
+ghost use Rattle.std.specs.Prelude.{◌≡◌, ◌<◌, ℕ, Some, false, length, IfOk, OnOk};
+ghost use Rattle.ot_plain.specs.Naming.{numbers};
+ghost use Rattle.ot_plain.specs.Reading.{name_read};
+ghost use Rattle.ot_interp.specs.Interpretation.{map_interpretation, IsWithin};
+ghost use Rattle.ot_kernel.specs.State.{Keeps, name_at};
+ghost use Rattle.ot_machine.specs.Meaning.{run_of};
+ghost use Rattle.ot_theory.specs.Interpretations.{IsQuotedName};
+ghost use Rattle.ot_theory.specs.Answers.{tag_of, tags_of};
+ghost use Rattle.ot_link.specs.Renaming.{renaming_of, renaming_at, interpretation_of};
+ghost use Rattle.ot_link.specs.Adding.{AreRight, is_held_by, with_pair, added, IsNew};
+
+use ot_interp::Interp;
+use ot_machine::Session;
+use ot_plain::{Memory, Name, NameFault, NameId};
+use ot_theory::{Key, SymbolWord, Tag, key_of, split_interpret};
+use std::alloc::Global;
+
+/// The interpretation that the statements of a block write.
+pub(crate) fn interpretation_of(
+    alloc: Global,
+    session: &mut Session,
+    statements: &[Tag<'_>],
+) -> Result<Interp, Memory>
+    requires { AreRight (tags_of statements.now) }
+    ensures names { IfOk result (λ i. map_interpretation (name_at session.new.kernel) i ≡ interpretation_of (tags_of statements.now)) }
+    ensures within { IfOk result (IsWithin (length session.new.kernel.names)) }
+    ensures grown { Keeps session.old.kernel session.new.kernel }
+    ensures run { run_of session.new.kernel ≡ run_of session.old.kernel }
+{
+    let mut interp = Interp::new(alloc);
+    'each: for statement in statements {
+        add_statement(alloc, session, &mut interp, statement)?;
+    }
+    Ok(interp)
+}
+
+/// Adds what a statement renames, which isn't renamed yet.
+fn add_statement(
+    alloc: Global,
+    session: &mut Session,
+    interp: &mut Interp,
+    statement: &Tag<'_>,
+) -> Result<(), Memory>
+    requires within { IsWithin (length session.old.kernel.names) interp.old }
+    requires new { IsNew (renaming_at (tag_of statement.now)) (map_interpretation (name_at session.old.kernel) interp.old) }
+    ensures added { OnOk result (map_interpretation (name_at session.new.kernel) interp.new ≡ added (renaming_at (tag_of statement.now)) (map_interpretation (name_at session.old.kernel) interp.old)) }
+    ensures within { OnOk result (IsWithin (length session.new.kernel.names) interp.new) }
+    ensures grown { Keeps session.old.kernel session.new.kernel }
+    ensures run { run_of session.new.kernel ≡ run_of session.old.kernel }
+{
+    match key_of(statement.key) {
+        Key::Interpret => add_renaming(alloc, session, interp, statement.value),
+        Key::Import | Key::Article | Key::Package | Key::Other => Ok(()),
+    }
+}
+
+/// Adds what an `interpret:` value renames, which isn't renamed yet.
+fn add_renaming(
+    alloc: Global,
+    session: &mut Session,
+    interp: &mut Interp,
+    value: &[u8],
+) -> Result<(), Memory>
+    requires within { IsWithin (length session.old.kernel.names) interp.old }
+    requires new { IsNew (renaming_of value.now) (map_interpretation (name_at session.old.kernel) interp.old) }
+    ensures added { OnOk result (map_interpretation (name_at session.new.kernel) interp.new ≡ added (renaming_of value.now) (map_interpretation (name_at session.old.kernel) interp.old)) }
+    ensures within { OnOk result (IsWithin (length session.new.kernel.names) interp.new) }
+    ensures grown { Keeps session.old.kernel session.new.kernel }
+    ensures run { run_of session.new.kernel ≡ run_of session.old.kernel }
+{
+    match split_interpret(value) {
+        Some((kind, from, to)) => {
+            let from = number_of(alloc, session, from)?;
+            let to = number_of(alloc, session, to)?;
+            session.kernel().sound();
+            add(interp, kind, from, to)
+        }
+        None => Ok(()),
+    }
+}
+
+/// The number of a name that is written in quotes.
+fn number_of(alloc: Global, session: &mut Session, quoted: &[u8]) -> Result<NameId, Memory>
+    requires { IsQuotedName quoted.now }
+    ensures name { IfOk result (λ id. name_read quoted.now ≡ Some (name_at session.new.kernel id)) }
+    ensures within { IfOk result (λ id. id < length session.new.kernel.names) }
+    ensures grown { Keeps session.old.kernel session.new.kernel }
+    ensures run { run_of session.new.kernel ≡ run_of session.old.kernel }
+{
+    let name = name_of(alloc, quoted)?;
+    session.intern(name)
+}
+
+fn name_of(alloc: Global, quoted: &[u8]) -> Result<Name, Memory>
+    requires { IsQuotedName quoted.now }
+    ensures { IfOk result (λ name. name_read quoted.now ≡ Some name) }
+{
+    match Name::read(alloc, quoted) {
+        Ok(name) => Ok(name),
+        Err(NameFault::Memory) => Err(Memory),
+        Err(NameFault::Unterminated | NameFault::Trailing) => unreachable!(),
+    }
+}
+
+/// Adds a pair of this kind.
+fn add(interp: &mut Interp, kind: SymbolWord, from: NameId, to: NameId) -> Result<(), Memory>
+    requires { is_held_by numbers kind interp.old from ≡ false }
+    ensures added { OnOk result (interp.new ≡ with_pair kind from to interp.old) }
+    ensures within { (size : ℕ) → from < size → to < size → IsWithin size interp.old → IsWithin size interp.new }
+{
+    match kind {
+        SymbolWord::Con => interp.add_constant(from, to),
+        SymbolWord::TyOp => interp.add_type_op(from, to),
+    }
+}
