@@ -1,0 +1,22 @@
+-- Members of lists, by the test and by recursion.
+pub mod Members
+-- What a walk gives.
+pub mod Walking
+-- The order of first edges.
+pub mod Turns
+-- The walk's bound is enough.
+pub mod Ending
+-- The rest of a walk.
+pub mod Rest
+-- The packages that are required.
+pub mod Requiring
+-- The list of installed packages.
+pub mod Picking
+-- What is collected tag by tag.
+pub mod Tags
+-- How far the walk over packages is.
+pub mod SoFar
+-- One step of it.
+pub mod Steps
+-- Small folders, by computation.
+pub mod Rows

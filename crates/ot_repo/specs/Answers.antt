@@ -1,0 +1,44 @@
+-- How the code's answers stand to the stated ones. After a read fault, and where memory ran out, the answer is open.
+use Rattle.std.specs.Prelude.{◌≡◌, ℕ, List, map, Option, Result, Ok, Err, Vec, String, IfSome, string_bytes}
+use Rattle.std.specs.Global.{Global}
+use Rattle.ot_io.specs.Causes.{Rose}
+use Rattle.ot_repo.specs.Required.{Refusal, Theory, TheoryTooLarge, IndexTooLarge, BadIndex, NotInstalled, RequiresCycle, Missing}
+use Rattle.ot_repo.specs.declared.fault.RepoFault.{RepoFault}
+use Rattle.ot_repo.specs.declared.fault.RepoFault.TheVariants as faults
+
+-- the names that the code gives
+abbrev pub names_of : Vec (String Global) Global → List (List ℕ)
+names_of names = map string_bytes names.items
+
+-- this refusal is the stated answer
+abbrev pub Refuses : {A : Type 0} → RepoFault → Result A Refusal → Type 0
+Refuses (faults.Theory path line fault) stated = stated ≡ Err (Theory (string_bytes path) line fault)
+Refuses (faults.TheoryTooLarge path) stated = stated ≡ Err (TheoryTooLarge (string_bytes path))
+Refuses (faults.IndexTooLarge path) stated = stated ≡ Err (IndexTooLarge (string_bytes path))
+Refuses (faults.BadIndex path line) stated = stated ≡ Err (BadIndex (string_bytes path) line)
+Refuses (faults.NotInstalled path line) stated = stated ≡ Err (NotInstalled (string_bytes path) line)
+Refuses (faults.RequiresCycle path line) stated = stated ≡ Err (RequiresCycle (string_bytes path) line)
+Refuses (faults.NoFile path) stated = stated ≡ Err (Missing (string_bytes path))
+Refuses (faults.ReadFault path) stated = Unit {0}
+Refuses faults.Memory stated = Unit {0}
+
+-- what was made is what is stated
+abbrev pub Gives : {X A : Type 0} → (X → A) → Result X RepoFault → Result A Refusal → Type 0
+Gives view (Ok x) stated = stated ≡ Ok (view x)
+Gives view (Err e) stated = Refuses e stated
+
+-- a missing file is counted, and so is a failure, which is one of the path that was asked for, where that is told
+abbrev pub HasCause : RepoFault → ℕ → ℕ → ℕ → ℕ → Option (List ℕ) → Type 0
+HasCause (faults.NoFile path) misses misses' faults faults' at = Rose misses misses'
+HasCause (faults.ReadFault path) misses misses' faults faults' at = Rose faults faults' × IfSome at (λ asked. string_bytes path ≡ asked)
+HasCause (faults.Theory path line fault) misses misses' faults faults' at = Unit {0}
+HasCause (faults.TheoryTooLarge path) misses misses' faults faults' at = Unit {0}
+HasCause (faults.IndexTooLarge path) misses misses' faults faults' at = Unit {0}
+HasCause (faults.BadIndex path line) misses misses' faults faults' at = Unit {0}
+HasCause (faults.NotInstalled path line) misses misses' faults faults' at = Unit {0}
+HasCause (faults.RequiresCycle path line) misses misses' faults faults' at = Unit {0}
+HasCause faults.Memory misses misses' faults faults' at = Unit {0}
+
+-- no file is missing, and no read failed
+abbrev pub IsInside : RepoFault → Type 0
+IsInside e = (misses misses' faults faults' : ℕ) (at : Option (List ℕ)) → HasCause e misses misses' faults faults' at

@@ -1,0 +1,8 @@
+-- Origins, the table of steps, what roots lead to in it, and how often a step is used.
+pub mod Origins
+pub mod OriginCodes
+pub mod Trace
+pub mod Reach
+pub mod Walk
+pub mod Uses
+pub mod Tally

@@ -1,0 +1,15 @@
+//! The table of steps: an origin is a number, and two numbers are equal exactly where the origins
+//! are.
+#![tactic(auto)]
+
+mod counting;
+mod reaching;
+mod step;
+#[cfg(test)]
+mod tests;
+mod trace;
+
+pub use counting::uses;
+pub use reaching::reach;
+pub use step::Step;
+pub use trace::{StepId, Trace};

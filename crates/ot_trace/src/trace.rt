@@ -1,0 +1,126 @@
+ghost use Rattle.std.specs.Prelude.{◌≡◌, ℕ, ◌<◌, ◌++◌, ◌∷◌, [], ◌⊎◌, ◌≢◌, Some, slice_get, length, IfOk, OnOk, OnErr, IfSome, IfNone};
+ghost use Rattle.ot_plain.specs.Table.{IsInjective};
+
+mod making;
+
+use crate::step::Step;
+use indexmap::IndexMap;
+use ot_plain::Memory;
+use std::alloc::Global;
+use std::marker::Model;
+
+/// The number of a step in its trace.
+#[derive(Clone, Copy, Debug, Default, PartialEq, Eq, PartialOrd, Ord, Hash)]
+pub struct StepId(pub(crate) usize);
+
+impl Model for StepId {
+    ghost use Rattle.std.specs.Prelude.{ℕ};
+
+    ghost Value = { ℕ };
+
+    ghost view = { λ n. n.0 };
+
+    ghost inverse = { λ n. record { 0 = n } };
+}
+
+impl StepId {
+    /// The place in a list that has an element for each step.
+    pub fn index(self) -> usize
+        ensures { result ≡ self }
+    {
+        self.0
+    }
+}
+
+/// The origins of objects, each once: how an object was made, as a tree of the commands of the
+/// OpenTheory article format.
+///
+/// Two numbers are equal exactly where the origins are, and each number keeps its origin after every
+/// call, refused or not. A call that takes a number has the condition that it is one of this trace.
+#[derive(Drop)]
+pub struct Trace {
+    steps: IndexMap<Step, ()>,
+}
+
+impl Model for Trace {
+    ghost use Rattle.std.specs.Prelude.{ℕ, List};
+    ghost use Rattle.std.specs.Coded.{coded_list, coded_ℕ};
+    ghost use Rattle.ot_trace.specs.Origins.{Origin};
+    ghost use Rattle.ot_trace.specs.OriginCodes.{coded_origin};
+
+    ghost Value = { List (Origin ℕ) };
+
+    ghost coded = { coded_list (coded_origin coded_ℕ) };
+
+    ghost use Rattle.ot_trace.specs.Trace.{origins, IsTrace};
+
+    ghost view = { λ t. origins t.steps.entries };
+
+    ghost invariant = { λ t. IsTrace t.steps.entries (origins t.steps.entries) };
+}
+
+impl Trace {
+    ghost use Rattle.ot_trace.specs.Trace.{origin_of, IsBelow, HasSymbols, IsStepTable};
+
+    /// The trace with no steps.
+    pub fn new(alloc: Global) -> Trace
+        ensures { result ≡ [] }
+    {
+        Trace {
+            steps: IndexMap::new(alloc),
+        }
+    }
+
+    /// The number of a step, which is added where it is new.
+    ///
+    /// The numbers in the step are of this trace, and the symbols of a definition are those that its
+    /// operands name. After want of memory the trace is as before.
+    pub fn add(&mut self, step: Step) -> Result<StepId, Memory>
+        requires inside { IsBelow (length self.old) step }
+        requires symbols { HasSymbols self.old step }
+        ensures ok { IfOk result (λ id. slice_get self.new id ≡ Some (origin_of self.old step)) }
+        ensures grown { OnOk result ((self.new ≡ self.old) ⊎ (self.new ≡ self.old ++ origin_of self.old step ∷ [])) }
+        ensures err { OnErr result (self.new ≡ self.old) }
+        ensures once { IsInjective self.new }
+    {
+        let (index, _) = self.steps.insert_full(step, ())?;
+        Ok(StepId(index))
+    }
+
+    /// The step of a number. The numbers in it are lower.
+    pub fn step(&self, id: StepId) -> &Step
+        requires { id < length self.now }
+        ensures origin { slice_get self.now id ≡ Some (origin_of self.now result.now) }
+        ensures below { IsBelow id result.now }
+        ensures symbols { HasSymbols self.now result.now }
+        ensures once { IsInjective self.now }
+    {
+        match self.steps.get_index(id.0) {
+            Some((step, _)) => step,
+            None => unreachable!(),
+        }
+    }
+
+    /// The number of a step, or `None` exactly where the trace hasn't its origin.
+    ///
+    /// The step is one that `add` takes.
+    pub fn find(&self, step: &Step) -> Option<StepId>
+        requires inside { IsBelow (length self.now) step.now }
+        requires symbols { HasSymbols self.now step.now }
+        ensures some { IfSome result (λ id. slice_get self.now id ≡ Some (origin_of self.now step.now)) }
+        ensures none { IfNone result ((i : ℕ) → slice_get self.now i ≢ Some (origin_of self.now step.now)) }
+    {
+        match self.steps.get_index_of(step) {
+            Some(index) => Some(StepId(index)),
+            None => None,
+        }
+    }
+
+    /// How many steps there are.
+    pub fn count(&self) -> usize
+        ensures count { result ≡ length self.now }
+        ensures table { IsStepTable self.now }
+    {
+        self.steps.len()
+    }
+}
