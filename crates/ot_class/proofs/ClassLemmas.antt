@@ -1,7 +1,8 @@
 -- Lemmas on the table of nameless terms.
-use Rattle.std.proofs.Common.{◌≡◌, ℕ, ◌<◌, ◌≤◌, cond, inl, inr, Ordering, Less, Equal, Greater, nat_cmp, is_lt, Bool, true, false, ◌&&◌, nat_eq, eqb-true, eq-eqb, true≢false, List, length, slice_get, Some, refl, sym, ap, subst, arith}
+use Rattle.std.proofs.Common.{◌≡◌, ℕ, ◌<◌, ◌≤◌, cond, inl, inr, Ordering, Less, Equal, Greater, nat_cmp, is_lt, Bool, true, false, ◌&&◌, nat_eq, eqb-true, eq-eqb, true≢false, List, length, slice_get, Some, refl, sym, ap, subst, ◌∙◌, arith}
 use Rattle.std.proofs.lemmas.Option.{get_or_from_slice_get}
 use Rattle.std.proofs.lemmas.Map.Keys.{ge_from_not_lt}
+use Rattle.std.proofs.Math.Bool.{and-false}
 use Rattle.std.specs.Cmp.Derive.{both_true}
 use Rattle.std.specs.Ordering.{ord_max}
 use Rattle.ot_type.proofs.SubtypeLemmas.{less_is}
@@ -12,7 +13,7 @@ use Rattle.ot_plain.specs.Table.{Extends, IsInjective}
 use Rattle.ot_plain.specs.Interned.{NodeLaws}
 use Rattle.ot_plain.proofs.TableLemmas.{get_or-Extends, get_or-IsInjective}
 use Rattle.ot_class.specs.Class.{numbered, variable_by, class_at}
-use Rattle.ot_class.specs.Table.{tree_of, AreBelow, IsNewest, IsBeside, AreClassNodes}
+use Rattle.ot_class.specs.Table.{tree_of, AreBelow, Describes, IsBeside, AreClassNodes}
 use Rattle.ot_class.specs.declared.node.ClassNode.{ClassNode}
 use Rattle.ot_class.specs.declared.node.ClassNode.TheVariants as node
 use Rattle.ot_class.specs.declared.table.Beside.{Beside}
@@ -149,20 +150,20 @@ pub laws : NodeLaws tree_of AreBelow IsBeside node_eq
 laws = record {
   more_below = more_below;
   tree_stays = tree_stays;
-  fits_stays = λ cs ds e n b below h. subst (λ t. IsNewest t b) (sym (tree_stays cs ds e n below)) h;
+  fits_stays = λ cs ds e n b below h. subst (λ t. Describes t b) (sym (tree_stays cs ds e n below)) h;
   tree_same = tree_same;
   same_tree = λ cs one m n d e below above fits also same. same_tree cs one m n below above same;
 }
 
 -- what stands beside a number is of the tree at it
-pub newest_at : (es : List (ClassNode × Beside)) (cs : List (Tm ℕ)) → AreClassNodes es cs → (i : ℕ) (n : ClassNode) (b : Beside) → slice_get es i ≡ Some (n, b) → IsNewest (class_at cs i) b
-newest_at es cs nodes i n b p =
+pub described_at : (es : List (ClassNode × Beside)) (cs : List (Tm ℕ)) → AreClassNodes es cs → (i : ℕ) (n : ClassNode) (b : Beside) → slice_get es i ≡ Some (n, b) → Describes (class_at cs i) b
+described_at es cs nodes i n b p =
     let e = nodes.entries i n b p in
-    subst (λ t. IsNewest t b) (sym (get_or_from_slice_get cs i _ (Bound 0) e.tree)) e.fits
+    subst (λ t. Describes t b) (sym (get_or_from_slice_get cs i _ (Bound 0) e.tree)) e.fits
 
 -- what stands beside an application and an abstraction, by their parts
-pub newest-application : (f x : Tm ℕ) (b c d : Beside) → d.newest ≡ ord_max nat_cmp b.newest c.newest → IsNewest f b → IsNewest x c → IsNewest (App f x) d
-newest-application f x b c d e g h = record { most = most }
+pub described-application : (f x : Tm ℕ) (b c d : Beside) → d.newest ≡ ord_max nat_cmp b.newest c.newest → d.closed ≡ (b.closed && c.closed) → Describes f b → Describes x c → Describes (App f x) d
+described-application f x b c d e s g h = record { most = most; closed = closed }
   where
     bounds : (b.newest ≤ d.newest) × (c.newest ≤ d.newest)
     bounds = subst (λ m. (b.newest ≤ m) × (c.newest ≤ m)) (sym e) (max_bounds b.newest c.newest)
@@ -171,5 +172,9 @@ newest-application f x b c d e g h = record { most = most }
     most w (inl i) = let le = g.most w i in omega (arith, le, bounds.0)
     most w (inr i) = let le = h.most w i in omega (arith, le, bounds.1)
 
-pub newest-abstraction : (t : Ty ℕ) (f : Tm ℕ) (b d : Beside) → d.newest ≡ b.newest → IsNewest f b → IsNewest (Abs t f) d
-newest-abstraction t f b d e g = record { most = λ w i. let le = g.most w i in omega (arith, le, e) }
+    closed : (w : Variable ℕ) → IsFree alphabet w (App f x) → d.closed ≡ false
+    closed w (inl i) = s ∙ ap (λ l. l && c.closed) (g.closed w i)
+    closed w (inr i) = s ∙ ap (λ l. b.closed && l) (h.closed w i) ∙ and-false b.closed
+
+pub described-abstraction : (t : Ty ℕ) (f : Tm ℕ) (b d : Beside) → d.newest ≡ b.newest → d.closed ≡ b.closed → Describes f b → Describes (Abs t f) d
+described-abstraction t f b d e s g = record { most = λ w i. let le = g.most w i in omega (arith, le, e); closed = λ w i. s ∙ g.closed w i }

@@ -9,15 +9,15 @@ use Rattle.ot_plain.specs.Table.{Extends}
 use Rattle.ot_plain.proofs.TableLemmas.{get_or-Extends}
 use Rattle.ot_laws.proofs.Tests.{tells_numbers}
 use Rattle.ot_laws.proofs.Terms.{close_at_fresh}
-use Rattle.ot_class.specs.Class.{class_at}
-use Rattle.ot_class.specs.Table.{IsNewest}
-use Rattle.ot_class.specs.Closing.{variable_of, same_place, IsClosing}
+use Rattle.ot_class.specs.Class.{variable_of, class_at}
+use Rattle.ot_class.specs.Table.{Describes}
+use Rattle.ot_class.specs.Closing.{same_place, IsClosing}
 use Rattle.ot_class.specs.declared.node.Key.{Key}
 use Rattle.ot_class.specs.declared.table.Beside.{Beside}
 use Rattle.ot_class.specs.declared.table.closing.Place.{Place}
 
 -- a variable that is newer than each free one closes nothing
-pub newer : (cs : List (Tm ℕ)) (id depth : ℕ) (v : Key) (b : Beside) → id < length cs → IsNewest (class_at cs id) b → b.newest < v.name → slice_get cs id ≡ Some (close_at numbers depth (variable_of v) (class_at cs id))
+pub newer : (cs : List (Tm ℕ)) (id depth : ℕ) (v : Key) (b : Beside) → id < length cs → Describes (class_at cs id) b → b.newest < v.name → slice_get cs id ≡ Some (close_at numbers depth (variable_of v) (class_at cs id))
 newer cs id depth v b h most lt =
     slice_get-get_or cs id (Bound 0) h ∙ ap Some (sym (close_at_fresh numbers tells_numbers depth (variable_of v) (class_at cs id) fresh))
   where

@@ -1,6 +1,7 @@
 -- Nameless terms over numbers of types: the type with the number k stands as the type variable k.
 use Rattle.std.specs.Prelude.{ℕ, List, slice_index_or}
 use Rattle.ot_plain.specs.Trees.{Ty, TyVar, Variable, Tm, Bound}
+use Rattle.ot_class.specs.declared.node.Key.{Key}
 
 -- the type with a number
 abbrev pub numbered : ℕ → Ty ℕ
@@ -9,6 +10,10 @@ numbered t = TyVar t
 -- the variable with a name and a type, by their numbers
 abbrev pub variable_by : ℕ → ℕ → Variable ℕ
 variable_by n t = record { name = n; ty = numbered t }
+
+-- the variable of a key
+abbrev pub variable_of : Key → Variable ℕ
+variable_of v = variable_by v.name v.ty
 
 -- the nameless term of a number of the table
 abbrev pub class_at : List (Tm ℕ) → ℕ → Tm ℕ

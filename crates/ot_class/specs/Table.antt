@@ -1,5 +1,5 @@
 -- The table of nameless terms.
-use Rattle.std.specs.Prelude.{ℕ, ◌<◌, ◌≤◌, List}
+use Rattle.std.specs.Prelude.{◌≡◌, ℕ, ◌<◌, ◌≤◌, false, List}
 use Rattle.ot_plain.specs.Trees.{Variable, Tm, Free, Con, Bound, App, Abs}
 use Rattle.ot_plain.specs.Hol.{IsFree}
 use Rattle.ot_plain.specs.Naming.{numbers as alphabet}
@@ -25,12 +25,13 @@ AreBelow k (node.Bound j) = Unit {0}
 AreBelow k (node.App f x) = (f < k) × (x < k)
 AreBelow k (node.Abs t b) = b < k
 
--- no free variable of the tree has a newer name
-pub record IsNewest (t : Tm ℕ) (b : Beside) : Type 0 where
+-- no free variable of the tree has a newer name, and a closed tree has none
+pub record Describes (t : Tm ℕ) (b : Beside) : Type 0 where
   pub most : (w : Variable ℕ) → IsFree alphabet w t → w.name ≤ b.newest
+  pub closed : (w : Variable ℕ) → IsFree alphabet w t → b.closed ≡ false
 
 abbrev pub IsBeside : List (Tm ℕ) → ClassNode → Beside → Type 0
-IsBeside cs n b = IsNewest (tree_of cs n) b
+IsBeside cs n b = Describes (tree_of cs n) b
 
 -- the trees of the entries
 abbrev pub class_trees : List (ClassNode × Beside) → List (Tm ℕ)

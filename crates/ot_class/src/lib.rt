@@ -5,5 +5,5 @@
 mod node;
 mod table;
 
-pub use node::ClassId;
+pub use node::{ClassId, Key};
 pub use table::Classes;

@@ -16,11 +16,11 @@ impl Model for ClassId {
     ghost inverse = { λ n. record { 0 = n } };
 }
 
-// A variable, by the numbers of its name and its type.
+/// A variable, by the numbers of its name and its type.
 #[derive(Clone, Copy, Debug, PartialEq, Eq, Hash)]
-pub(crate) struct Key {
-    pub(crate) name: NameId,
-    pub(crate) ty: TypeId,
+pub struct Key {
+    pub name: NameId,
+    pub ty: TypeId,
 }
 
 // A nameless term, its parts by number.

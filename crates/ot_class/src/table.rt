@@ -15,11 +15,13 @@ use ot_type::TypeId;
 use std::alloc::Global;
 use std::marker::Model;
 
-/// What stands beside a node. No free variable has a name with a greater number than `newest`. `size` is how many nodes
-/// the tree has, as far as a `u32` goes; how long a call takes depends on it, and no answer does.
+/// What stands beside a node. No free variable has a name with a greater number than `newest`, and where the tree is
+/// `closed` none is free. `size` is how many nodes the tree has, as far as a `u32` goes; how long a call takes depends on
+/// it, and no answer does.
 #[derive(Clone, Copy, Debug)]
 struct Beside {
     newest: NameId,
+    closed: bool,
     size: u32,
 }
 
@@ -49,7 +51,7 @@ impl Model for Classes {
 
 impl Classes {
     ghost use Rattle.ot_class.specs.Class.{class_at, numbered, variable_by};
-    ghost use Rattle.ot_class.specs.Table.{tree_of, AreBelow, IsNewest};
+    ghost use Rattle.ot_class.specs.Table.{tree_of, AreBelow, Describes};
 
     /// The table with no terms. It takes no memory.
     pub fn new(alloc: Global) -> Classes
@@ -117,7 +119,7 @@ impl Classes {
     // What stands beside the node of a number.
     fn beside(&self, id: ClassId) -> &Beside
         requires { id < length self.now }
-        ensures newest { IsNewest (class_at self.now id) result.now }
+        ensures describes { Describes (class_at self.now id) result.now }
         ensures once { IsInjective self.now }
     {
         match self.nodes.get_index(id.0) {
@@ -129,21 +131,24 @@ impl Classes {
     // What is to stand beside a new node.
     fn beside_new(&self, node: &ClassNode) -> Beside
         requires { AreBelow (length self.now) node.now }
-        ensures { IsNewest (tree_of self.now node.now) result }
+        ensures { Describes (tree_of self.now node.now) result }
     {
         match *node {
             ClassNode::Free(v) => Beside {
                 newest: v.name,
+                closed: false,
                 size: 1,
             },
             ClassNode::Const(_, _) | ClassNode::Bound(_) => Beside {
                 newest: NameId::ARROW,
+                closed: true,
                 size: 1,
             },
             ClassNode::App(f, x) => {
                 let (f, x) = (self.beside(f), self.beside(x));
                 Beside {
                     newest: f.newest.max(x.newest),
+                    closed: f.closed & x.closed,
                     size: f.size.saturating_add(x.size).saturating_add(1),
                 }
             }
@@ -151,6 +156,7 @@ impl Classes {
                 let body = self.beside(body);
                 Beside {
                     newest: body.newest,
+                    closed: body.closed,
                     size: body.size.saturating_add(1),
                 }
             }

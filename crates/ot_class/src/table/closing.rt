@@ -20,8 +20,8 @@ pub(super) struct Place {
 }
 
 impl Classes {
-    ghost use Rattle.ot_class.specs.Class.{class_at};
-    ghost use Rattle.ot_class.specs.Closing.{variable_of, IsClosing};
+    ghost use Rattle.ot_class.specs.Class.{variable_of, class_at};
+    ghost use Rattle.ot_class.specs.Closing.{IsClosing};
 
     // The number of a nameless term under some abstractions, with a variable closed. Results for great trees are kept.
     #[cycle(close_at)]

@@ -1,11 +1,11 @@
-//! The types at which the variables of one name are free in a nameless term.
+//! The free variables of a nameless term, and the types at which those of one name are free in it.
 ghost use Rattle.std.specs.Prelude.{◌≡◌, ◌↔◌, ◌<◌, ℕ, nat_eq, length, IfOk, OnOk};
 ghost use Rattle.indexmap.specs.IndexSet.{insert_key};
 ghost use Rattle.ot_plain.specs.Lists.{IsMember, AreDistinct};
 ghost use Rattle.ot_plain.specs.Hol.{IsFree};
 ghost use Rattle.ot_plain.specs.Naming.{numbers};
 
-use crate::node::{ClassId, ClassNode};
+use crate::node::{ClassId, ClassNode, Key};
 use crate::table::Classes;
 use crate::table::closing::SMALL;
 use indexmap::IndexSet;
@@ -14,8 +14,77 @@ use ot_type::TypeId;
 use std::alloc::Global;
 
 impl Classes {
-    ghost use Rattle.ot_class.specs.Class.{class_at, variable_by};
-    ghost use Rattle.ot_class.specs.Gathering.{AddsTypes, AreSeen};
+    ghost use Rattle.ot_class.specs.Class.{class_at, variable_by, variable_of};
+    ghost use Rattle.ot_class.specs.Gathering.{AddsFree, AreSeen};
+
+    /// The free variables of a nameless term, each once. A part that is shared is looked at once, or is small; a closed
+    /// part is passed over.
+    pub fn free_vars(&self, alloc: Global, id: ClassId) -> Result<IndexSet<Key>, Memory>
+        requires { id < length self.now }
+        ensures free { IfOk result (λ vars. (v : Key) → IsMember v vars.keys ↔ IsFree numbers (variable_of v) (class_at self.now id)) }
+        ensures once { IfOk result (λ vars. AreDistinct vars.keys) }
+    {
+        let mut seen = IndexSet::new(alloc);
+        let mut vars = IndexSet::new(alloc);
+        self.add_vars(id, &mut seen, &mut vars)?;
+        Ok(vars)
+    }
+
+    // Adds the free variables of a nameless term. Great trees are kept that were looked at.
+    #[cycle(add_vars)]
+    fn add_vars(
+        &self,
+        id: ClassId,
+        seen: &mut IndexSet<ClassId>,
+        vars: &mut IndexSet<Key>,
+    ) -> Result<(), Memory>
+        requires id { id < length self.now }
+        requires seen { AreSeen variable_of self.now seen.old.keys vars.old.keys }
+        ensures added { OnOk result (AddsFree variable_of (class_at self.now id) vars.old.keys vars.new.keys) }
+        ensures seen { OnOk result (AreSeen variable_of self.now seen.new.keys vars.new.keys) }
+    {
+        let beside = *self.beside(id);
+        if beside.closed {
+            return Ok(());
+        }
+        if beside.size <= SMALL {
+            return self.add_node_vars(id, seen, vars);
+        }
+        if seen.contains(&id) {
+            return Ok(());
+        }
+        self.add_node_vars(id, seen, vars)?;
+        seen.insert(id)?;
+        Ok(())
+    }
+
+    // The same, node by node.
+    #[cycle(add_vars)]
+    fn add_node_vars(
+        &self,
+        id: ClassId,
+        seen: &mut IndexSet<ClassId>,
+        vars: &mut IndexSet<Key>,
+    ) -> Result<(), Memory>
+        requires id { id < length self.now }
+        requires seen { AreSeen variable_of self.now seen.old.keys vars.old.keys }
+        ensures added { OnOk result (AddsFree variable_of (class_at self.now id) vars.old.keys vars.new.keys) }
+        ensures seen { OnOk result (AreSeen variable_of self.now seen.new.keys vars.new.keys) }
+    {
+        match *self.node(id) {
+            ClassNode::Free(v) => {
+                vars.insert(v)?;
+                Ok(())
+            }
+            ClassNode::Const(_, _) => Ok(()),
+            ClassNode::Bound(_) => Ok(()),
+            ClassNode::App(f, x) => {
+                self.add_vars(f, seen, vars)?;
+                self.add_vars(x, seen, vars)
+            }
+            ClassNode::Abs(_, body) => self.add_vars(body, seen, vars),
+        }
+    }
 
     /// The types at which variables of a name are free in a nameless term, each once. A part that is shared is looked at
     /// once, or is small.
@@ -40,9 +109,9 @@ impl Classes {
         types: &mut Vec<TypeId>,
     ) -> Result<(), Memory>
         requires id { id < length self.now }
-        requires seen { AreSeen self.now name seen.old.keys types.old.items }
-        ensures added { OnOk result (AddsTypes (class_at self.now id) name types.old.items types.new.items) }
-        ensures seen { OnOk result (AreSeen self.now name seen.new.keys types.new.items) }
+        requires seen { AreSeen (variable_by name) self.now seen.old.keys types.old.items }
+        ensures added { OnOk result (AddsFree (variable_by name) (class_at self.now id) types.old.items types.new.items) }
+        ensures seen { OnOk result (AreSeen (variable_by name) self.now seen.new.keys types.new.items) }
     {
         let beside = *self.beside(id);
         if beside.newest < name {
@@ -69,9 +138,9 @@ impl Classes {
         types: &mut Vec<TypeId>,
     ) -> Result<(), Memory>
         requires id { id < length self.now }
-        requires seen { AreSeen self.now name seen.old.keys types.old.items }
-        ensures added { OnOk result (AddsTypes (class_at self.now id) name types.old.items types.new.items) }
-        ensures seen { OnOk result (AreSeen self.now name seen.new.keys types.new.items) }
+        requires seen { AreSeen (variable_by name) self.now seen.old.keys types.old.items }
+        ensures added { OnOk result (AddsFree (variable_by name) (class_at self.now id) types.old.items types.new.items) }
+        ensures seen { OnOk result (AreSeen (variable_by name) self.now seen.new.keys types.new.items) }
     {
         match *self.node(id) {
             ClassNode::Free(v) => {

@@ -87,13 +87,31 @@ impl Terms {
         ensures err { OnErr result (self.new ≡ self.old) }
         ensures table { IsTermTable self.new }
     {
+        let ty = self.app_type(f, x)?;
+        Ok(self.apply(f, x, ty)?)
+    }
+
+    // The type of the application of a function to an argument.
+    fn app_type(&self, f: TermId, x: TermId) -> Result<TypeId, TermFault>
+        requires f { f < length self.now.terms }
+        requires x { x < length self.now.terms }
+        ensures below { IfOk result (λ ty. ty < length self.now.types) }
+        ensures typed { IfOk result (λ ty.
+            named_type numbers (NApp (term_at self.now.terms f) (term_at self.now.terms x)) ≡ Some (type_at self.now.types ty)) }
+        ensures not_function { result ≡ Err TermFault.NotFunction → (a b : Ty ℕ)
+            → named_type numbers (term_at self.now.terms f) ≢ Some (fun_ty numbers a b) }
+        ensures argument_type { result ≡ Err TermFault.ArgumentType → (a b : Ty ℕ)
+            × (named_type numbers (term_at self.now.terms f) ≡ Some (fun_ty numbers a b)) × (named_type numbers (term_at self.now.terms x) ≢ Some a) }
+        ensures limit { result ≢ Err TermFault.Nesting }
+        ensures table { IsTermTable self.now }
+    {
         let Some(parts) = self.types.as_fun(self.type_of(f)) else {
             return Err(TermFault::NotFunction);
         };
         if parts.0 != self.type_of(x) {
             return Err(TermFault::ArgumentType);
         }
-        Ok(self.apply(f, x, parts.1)?)
+        Ok(parts.1)
     }
 
     /// The abstraction of a variable from a body.
@@ -119,7 +137,25 @@ impl Terms {
             return Err(TableFault::Nesting);
         }
         let depth = inner + 1;
-        let ty = self.type_fun(v.ty, self.type_of(body))?;
+        let ty = self.abs_type(v, body)?;
         Ok(self.intern(TermNode::Abs(v, body), ty, depth)?)
+    }
+
+    // The type of the abstraction of a variable from a body.
+    fn abs_type(&mut self, v: VarKey, body: TermId) -> Result<TypeId, TableFault>
+        requires ty { v.ty < length self.old.types }
+        requires body { body < length self.old.terms }
+        ensures below { IfOk result (λ ty. ty < length self.new.types) }
+        ensures typed { IfOk result (λ ty.
+            named_type numbers (NAbs (variable_of self.old.types v) (term_at self.old.terms body)) ≡ Some (type_at self.new.types ty)) }
+        ensures nesting { result ≡ Err TableFault.Nesting
+            → is_within_limit (NAbs (variable_of self.old.types v) (term_at self.old.terms body)) ≡ false }
+        ensures terms { self.new.terms ≡ self.old.terms }
+        ensures grows { Grows self.old self.new }
+        ensures names { NamesUpTo 1 self.old self.new }
+        ensures table { IsTermTable self.new }
+    {
+        let of_body = self.type_of(body);
+        self.type_fun(v.ty, of_body)
     }
 }

@@ -5,8 +5,7 @@ use Rattle.ot_plain.specs.Hol.{close_at}
 use Rattle.ot_plain.specs.Naming.{numbers}
 use Rattle.ot_plain.specs.Trees.{Bound}
 use Rattle.ot_plain.proofs.TableLemmas.{get_or-Extends}
-use Rattle.ot_class.specs.Class.{class_at, numbered}
-use Rattle.ot_class.specs.Closing.{variable_of}
+use Rattle.ot_class.specs.Class.{class_at, numbered, variable_of}
 use Rattle.ot_class.specs.Table.{tree_of, AreBelow}
 use Rattle.ot_class.proofs.ClassLemmas.{less_than}
 use Rattle.ot_class.proofs.ClosingLemmas.{newer, closing_grown, closing_insert, closed-application, closed-abstraction, closed-other, closed-leaf, on_ok}
@@ -14,7 +13,7 @@ use Rattle.ot_class.proofs.table.Classes.+close_at.Goals as goal
 
 pub close_at-returns-then-lt-clause-ok : goal.close_at-returns-then-lt-clause-ok
 close_at-returns-then-lt-clause-ok t c =
-    newer c.args.self.now c.args.id c.args.depth c.args.v c.beside.result.now c.requires.id c.beside.ensures.newest (less_than c.beside.result.now.newest c.args.v.name (sym c.lt.ensures ∙ c.if-lt.true))
+    newer c.args.self.now c.args.id c.args.depth c.args.v c.beside.result.now c.requires.id c.beside.ensures.describes (less_than c.beside.result.now.newest c.args.v.name (sym c.lt.ensures ∙ c.if-lt.true))
 
 pub close_at-returns-in-Some-clause-ok : goal.close_at-returns-in-Some-clause-ok
 close_at-returns-in-Some-clause-ok t c =

@@ -1,25 +1,17 @@
-use Rattle.std.proofs.Common.{◌≡◌, eqb-true, Some, Err, ap, sym, subst}
-use Rattle.std.proofs.lemmas.Bool.{not-false}
-use Rattle.ot_plain.specs.Hol.{fun_ty, named_type}
-use Rattle.ot_plain.specs.Naming.{numbers}
-use Rattle.ot_plain.specs.Trees.{NApp}
+use Rattle.std.proofs.Common.{Err, ap}
 use Rattle.ot_type.specs.TypeTable.{type_at}
-use Rattle.ot_term.specs.TermTable.{term_at}
-use Rattle.ot_term.proofs.Refusals.{application-typed, nesting_from}
+use Rattle.ot_term.proofs.Refusals.{nesting_from, same_error}
 use Rattle.ot_term.proofs.table.Terms.app.Goals as goal
-use Rattle.ot_term.proofs.table.Terms.app.Goals.{Else-ne}
 
--- the argument is of the type that the function takes
-typed : (c : Else-ne) → named_type numbers (NApp (term_at c.args.self.now.terms c.args.f) (term_at c.args.self.now.terms c.args.x)) ≡ Some (type_at c.args.self.now.types c.in-Some.parts.1)
-typed c =
-    let types : c.self.inside.types ≡ c.args.self.now.types = ap (λ t. t.types) c.self.view_is in
-    let shape = subst (λ ts. type_at ts c.type_of.result ≡ fun_ty numbers (type_at ts c.in-Some.parts.0) (type_at ts c.in-Some.parts.1)) types c.in-Some.ensures.0 in
-    let same = eqb-true c.in-Some.parts.0 c.type_of-2.result (not-false _ (sym c.if-ne.ensures)) in
-    application-typed (term_at c.args.self.now.terms c.args.f) (term_at c.args.self.now.terms c.args.x) _ _ _ _ c.type_of.ensures.typed shape c.type_of-2.ensures.typed (ap (type_at c.args.self.now.types) same)
+pub returns-in_err-ty-clause-not_function : goal.returns-in_err-ty-clause-not_function
+returns-in_err-ty-clause-not_function c = λ p. c.in_err-ty.ensures.not_function (ap Err (same_error c.from_residual.result _ _ c.from_residual.ensures.1 p))
 
-pub apply-requires-clause-typed : goal.apply-requires-clause-typed
-apply-requires-clause-typed c = typed (goal.at.apply-requires-clause-typed c).Else-ne
+pub returns-in_err-ty-clause-argument_type : goal.returns-in_err-ty-clause-argument_type
+returns-in_err-ty-clause-argument_type c = λ p. c.in_err-ty.ensures.argument_type (ap Err (same_error c.from_residual.result _ _ c.from_residual.ensures.1 p))
+
+pub returns-in_err-ty-clause-nesting : goal.returns-in_err-ty-clause-nesting
+returns-in_err-ty-clause-nesting c = λ p. absurd (c.in_err-ty.ensures.limit (ap Err (same_error c.from_residual.result _ _ c.from_residual.ensures.1 p)))
 
 pub returns-in_err-apply-clause-nesting : goal.returns-in_err-apply-clause-nesting
 returns-in_err-apply-clause-nesting c =
-    λ p. (type_at c.args.self.now.types c.in-Some.parts.1, typed (goal.at.returns-in_err-apply-clause-nesting c).Else-ne, c.in_err-apply.ensures.nesting (ap Err (nesting_from c.from_residual.result _ c.from_residual.ensures.1 p)))
+    λ p. (type_at c.args.self.now.types c.in_ok-ty.ty, c.in_ok-ty.ensures.typed, c.in_err-apply.ensures.nesting (ap Err (nesting_from c.from_residual-in_err-apply.result _ c.from_residual-in_err-apply.ensures.1 p)))

@@ -3,7 +3,8 @@ use Rattle.ot_term.specs.Free.{AreTypesOf}
 use Rattle.ot_term.specs.Term.{TermTable}
 use Rattle.ot_term.specs.TermTable.{term_at, terms_of, IsClassOf}
 use Rattle.ot_term.proofs.TermTableLemmas.{class_at-number, classes_within}
-use Rattle.ot_term.proofs.FreeNamed.{types_of_result, entry_within}
+use Rattle.ot_term.proofs.FreeNamed.{types_of_result}
+use Rattle.ot_term.proofs.FreeLemmas.{entry_within}
 use Rattle.ot_term.proofs.table.Terms.types_of_name.Goals as goal
 
 pub class_beside-class-requires : goal.class_beside-class-requires

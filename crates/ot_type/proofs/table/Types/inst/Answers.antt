@@ -1,7 +1,7 @@
 use Rattle.std.proofs.Common.{Err, ap, subst, arith}
 use Rattle.ot_plain.specs.Table.{IsInjective}
 use Rattle.ot_plain.proofs.TableLemmas.{Extends-refl}
-use Rattle.ot_type.proofs.InstLemmas.{nothing_put, walk_memo, next_within, next_args, next_nesting, walk_step, walk_end, walk_result, same_error}
+use Rattle.ot_type.proofs.InstLemmas.{nothing_put, instance_var, walk_memo, next_within, next_args, next_nesting, walk_step, walk_end, walk_result, same_error}
 use Rattle.ot_type.proofs.table.Types.inst.Goals as goal
 
 pub returns-then-is_empty-clause-ok : goal.returns-then-is_empty-clause-ok
@@ -9,6 +9,12 @@ returns-then-is_empty-clause-ok c = nothing_put c.args.self.now c.args.s.now c.a
 
 pub returns-then-is_empty-clause-extends : goal.returns-then-is_empty-clause-extends
 returns-then-is_empty-clause-extends c = Extends-refl c.args.self.now
+
+pub returns-in-Var-clause-ok : goal.returns-in-Var-clause-ok
+returns-in-Var-clause-ok c = instance_var c.args.self.now c.args.id c.node.result.now c.in-Var.name c.args.s.now c.unwrap_or.result c.node.ensures.tree c.in-Var.is c.requires.pairs (rw (← c.get-image.ensures) c.unwrap_or.ensures)
+
+pub returns-in-Var-clause-extends : goal.returns-in-Var-clause-extends
+returns-in-Var-clause-extends c = Extends-refl c.args.self.now
 
 pub instance_of-requires-clause-id : goal.instance_of-requires-clause-id
 instance_of-requires-clause-id c = next_within _ _ _ _ _ _ _ _ c.requires.pairs (subst IsInjective c.self.view_is c.self.invariant.table.injective) c.in-Some.ensures.items c.loop-part.invariant
@@ -31,7 +37,7 @@ loop-part-preserved c =
 
 pub result_of-requires : goal.result_of-requires
 result_of-requires c =
-    walk_end _ _ _ _ _ _ c.requires.id c.loop-part.invariant (subst IsInjective c.self.view_is c.self.invariant.table.injective) (omega (arith, c.in_default.ensures.cases, c.loop-part.left.ok.0))
+    walk_end _ _ _ _ _ _ c.requires.id c.loop-part.invariant (subst IsInjective c.self.view_is c.self.invariant.table.injective) (omega (arith, c.in_default-pop.ensures.cases, c.loop-part.left.ok.0))
 
 pub returns-clause-ok : goal.returns-clause-ok
 returns-clause-ok c = walk_result _ _ _ _ _ _ c.requires.id c.loop-part.invariant c.result_of.result c.result_of.ensures
