@@ -30,6 +30,7 @@ use Rattle.ot_kernel.specs.State.{State, name_at, IsSoundState}
 use Rattle.ot_kernel.specs.Definitions.{definition_at, IsDefinitionIn, IsHeld, number_of, IsSignature}
 use Rattle.ot_kernel.specs.Spelled.{Held, sequent_of, sequents_at, undefined_state, state_of, IsInside, IsKernel}
 use Rattle.ot_kernel.specs.Accepting.{adding, added_definition, accepting, IsAcceptable}
+use Rattle.ot_kernel.proofs.Placing.{places-grown}
 use Rattle.ot_kernel.proofs.Accepted.{definition_stays, definitions_kept, held_stays, held_stay}
 use Rattle.ot_kernel.proofs.Namings.{length-map, map-push, name_of-index}
 
@@ -113,7 +114,7 @@ pub record Defined (now : State) (ns : List Name) (t : TermTable) (more : Held) 
 
 abbrev more_of : Held → List Theorem → code.Definition → List (Symbol ℕ) → List (Symbol ℕ) → Held
 more_of held ths c defs uses =
-    record { theorems = held.theorems ++ ths; assumptions = held.assumptions; definitions = held.definitions ++ c ∷ []; signature = record { defined = with_symbols held.signature.defined defs; used = with_symbols held.signature.used uses } }
+    record { theorems = held.theorems ++ ths; assumptions = held.assumptions; definitions = held.definitions ++ c ∷ []; signature = record { defined = with_symbols held.signature.defined defs; used = with_symbols held.signature.used uses }; places = held.places }
 
 defined_from : (ns : List Name) (t : TermTable) (held : Held) (ths : List Theorem) (c : code.Definition) (defs uses : List (Symbol ℕ)) → IsKernel ns t held → IsAcceptable (state_of ns t held) ths c defs uses
     → Defined (state_of ns t held) ns t (more_of held ths c defs uses) ths c
@@ -218,13 +219,14 @@ defined_from ns t held ths c defs uses k p = record { kernel = kernel; state = s
           All-push (IsHeld (state_of ns t more)) held.definitions c (held_stay s (state_of ns t more) (Extends-refl _) (Extends-refl _) longer held.definitions k.accepted)
           (held_stays (adding s ths) (state_of ns t more) (Extends-refl _) (Extends-refl _) same_theorems c new_held);
       signature = subst (λ el. IsSignature ns el more.signature) (sym definitions) signature;
+      placed = places-grown (length t.terms) t.classes t.classes held.theorems (held.theorems ++ ths) held.assumptions held.places k.table.classed (Extends-refl _) (Extends-append held.theorems ths) k.numbered k.inside k.placed;
       sound = subst IsSoundState (sym state) sound;
     }
 
 -- the same from the state that contracts see
 pub defined_now : (ns : List Name) (t : TermTable) (held : Held) (now : State) (ths new_theorems : List Theorem) (c : code.Definition) (new_definitions : List code.Definition) (defs uses : List (Symbol ℕ)) (signature : Symbols) → state_of ns t held ≡ now → IsKernel ns t held
     → new_theorems ≡ held.theorems ++ ths → new_definitions ≡ held.definitions ++ c ∷ [] → signature ≡ record { defined = with_symbols held.signature.defined defs; used = with_symbols held.signature.used uses }
-    → IsAcceptable now ths c defs uses → Defined now ns t (record { theorems = new_theorems; assumptions = held.assumptions; definitions = new_definitions; signature = signature }) ths c
+    → IsAcceptable now ths c defs uses → Defined now ns t (record { theorems = new_theorems; assumptions = held.assumptions; definitions = new_definitions; signature = signature; places = held.places }) ths c
 defined_now ns t held now ths new_theorems c new_definitions defs uses signature view k a b e p =
     let start = subst (λ s. IsAcceptable s ths c defs uses → Defined s ns t (more_of held ths c defs uses) ths c) view (defined_from ns t held ths c defs uses k) p in
-    subst (λ (z : List Theorem × List code.Definition × Symbols). Defined now ns t (record { theorems = z.0; assumptions = held.assumptions; definitions = z.1; signature = z.2 }) ths c) (λ i. (sym a i, sym b i, sym e i)) start
+    subst (λ (z : List Theorem × List code.Definition × Symbols). Defined now ns t (record { theorems = z.0; assumptions = held.assumptions; definitions = z.1; signature = z.2; places = held.places }) ths c) (λ i. (sym a i, sym b i, sym e i)) start

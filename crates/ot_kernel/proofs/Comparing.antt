@@ -47,3 +47,11 @@ other_inclusion b a x c p q h = h ∙ both x ∙ (λ i. (sym p i && x) && sym q 
     both : (y : Bool) → y ≡ ((true && y) && true)
     both true = refl
     both false = refl
+
+-- and whether the hypotheses of the first are among those of the second
+pub same_conclusion : (b a c : Bool) → c ≡ true → b ≡ a → b ≡ (a && c)
+same_conclusion b a c q h = h ∙ both a ∙ ap (λ z. a && z) (sym q)
+  where
+    both : (y : Bool) → y ≡ (y && true)
+    both true = refl
+    both false = refl

@@ -18,6 +18,7 @@ use Rattle.ot_kernel.specs.declared.theorem.Theorem.{Theorem}
 use Rattle.ot_kernel.specs.State.{State, named_at, Keeps, SameTheorems, AreApart}
 use Rattle.ot_laws.specs.Theorem.{IsTheorem}
 use Rattle.ot_kernel.specs.Spelled.{Held, sequent_of, sequents_at, undefined_state, state_of, IsInside, IsKernel}
+use Rattle.ot_kernel.proofs.Placing.{places-grown}
 use Rattle.ot_kernel.proofs.Accepted.{held_stay, definitions_kept, signature_kept}
 use Rattle.ot_kernel.proofs.Namings.{agree_ty, agree_named, length-map, map-Extends, bound_ty-get, bound_named-get, name_of-Extends}
 
@@ -61,6 +62,7 @@ grown_from ns ms t u held k more first g table a b = record {
     numbered = k.numbered;
     accepted = held_stay (state_of ns t held) (state_of ms u held) more types theorems held.definitions k.accepted;
     signature = signature_kept ns ms k.names first more (state_of ns t held).definitions (state_of ms u held).definitions held.signature defined k.signature;
+    placed = places-grown (length t.terms) t.classes u.classes held.theorems held.theorems held.assumptions held.places k.table.classed g.classes (Extends-refl _) k.numbered k.inside k.placed;
     sound = record {
       theorems = subst (λ (z : List (Sequent Name) × List (Definition Name)). All (IsTheorem names (sequents_at z.0 held.assumptions) z.1) z.0) (λ i. (sym sequents i, sym defined i)) k.sound.theorems;
       assumptions = subst (λ qs. All (IsSequent names) (sequents_at qs held.assumptions)) (sym sequents) k.sound.assumptions;

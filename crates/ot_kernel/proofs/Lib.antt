@@ -1,5 +1,6 @@
 -- The real state of a kernel, as its tables and its theorems grow, and what its calls answer.
 pub mod Namings
+pub mod Placing
 pub mod Accepted
 pub mod Growth
 pub mod Carried
@@ -9,6 +10,7 @@ pub mod Numbers
 pub mod Theorems
 pub mod Assume
 pub mod Comparing
+pub mod ByClass
 pub mod EquationLimits
 pub mod EquationRules
 pub mod Equating
@@ -22,6 +24,7 @@ pub mod Contracting
 pub mod Later
 pub mod Derived
 pub mod Supposed
+pub mod FirstPlaces
 pub mod Adding
 pub mod Conditions
 pub mod Accepting
@@ -41,3 +44,4 @@ pub mod Operators
 pub mod OpenDerivable
 pub mod OpenLimits
 pub mod OpenTypes
+pub mod Compared

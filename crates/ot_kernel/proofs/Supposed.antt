@@ -1,5 +1,5 @@
 -- A sequent that becomes an assumption.
-use Rattle.std.specs.Prelude.{◌≡◌, ℕ, ◌<◌, Bool, true, false, cond, if◌then◌else◌, is_ok, is_err, find, List, [], ◌∷◌, ◌++◌, map, length, slice_index_or, Option, Some, None, Result, Ok, Err, IfOk, IfErr}
+use Rattle.std.specs.Prelude.{◌≡◌, ℕ, ◌<◌, Bool, true, false, cond, if◌then◌else◌, is_ok, is_err, find, List, [], ◌∷◌, ◌++◌, map, length, slice_get, slice_index_or, Option, Some, None, Result, Ok, Err, IfOk, IfErr}
 use Rattle.std.specs.List.{All, AllByRecursion, list_all}
 use Rattle.std.proofs.Common.{◌+◌, zero, suc, get_or, drop, refl, sym, ap, ◌∙◌, subst, arith, length-append, ◌⊎◌, inl, inr}
 use Rattle.std.proofs.Math.Seq.{get_or-append_seam}
@@ -29,11 +29,13 @@ use Rattle.ot_kernel.specs.declared.fault.RuleFault.TheVariants.{Memory}
 use Rattle.ot_kernel.specs.declared.fault.RuleFault.TheVariants as rules
 use Rattle.ot_kernel.specs.State.{State, type_at, term_at, terms_at, Keeps, SameTheorems, IsSoundState}
 use Rattle.ot_kernel.specs.Definitions.{IsSignature}
+use Rattle.ot_kernel.specs.Places.{IsPlaced}
 use Rattle.ot_kernel.specs.Spelled.{Held, sequent_of, sequents_at, undefined_state, state_of, IsInside, IsKernel}
 use Rattle.ot_kernel.specs.Numbered.{tms_at}
 use Rattle.ot_kernel.specs.Axioms.{axiom_rule, known, with_sequent, with_theorem}
 use Rattle.ot_kernel.specs.Answers.{Assumes, RefusesRule}
 use Rattle.ot_kernel.specs.Supposed.{IsProposed, IsSupposed, supposing}
+use Rattle.ot_kernel.proofs.Placing.{places-noted, places-more}
 use Rattle.ot_kernel.proofs.Accepted.{held_stay, definitions_kept}
 use Rattle.ot_kernel.proofs.EquationRules.{refuses_rule, memory_refuses}
 use Rattle.ot_kernel.proofs.Growth.{named_at-Extends, hyps-Extends}
@@ -71,9 +73,11 @@ none-passes {X} p (x ∷ xs) h k d l = by (p x) refl (none-passes p xs) k l
     by false e rest zero m = e
     by false e rest (suc j) m = rest (found false e) j d (omega (arith, m))
 
-assumed_from : (ns : List Name) (t : TermTable) (held : Held) (th : Theorem) → IsKernel ns t held → IsProposed (state_of ns t held) th → IsNew (state_of ns t held) th
-    → Assumed (state_of ns t held) ns t (record held { theorems = held.theorems ++ th ∷ []; assumptions = held.assumptions ++ length held.theorems ∷ [] }) th
-assumed_from ns t held th k p new = record { kernel = kernel; state = state }
+-- the class of its conclusion has a place by then
+assumed_from : (ns : List Name) (t : TermTable) (held : Held) (th : Theorem) (ps : List (ℕ × ℕ)) (c place : ℕ) → slice_get t.classes th.concl ≡ Some c → place ≡ length held.assumptions → IsPlaced c place held.places ps
+    → IsKernel ns t held → IsProposed (state_of ns t held) th → IsNew (state_of ns t held) th
+    → Assumed (state_of ns t held) ns t (record held { theorems = held.theorems ++ th ∷ []; assumptions = held.assumptions ++ length held.theorems ∷ []; places = ps }) th
+assumed_from ns t held th ps c place class here noted k p new = record { kernel = kernel; state = state }
   where
     f : Theorem → Sequent Name
     f = sequent_of (state_of ns t held).terms
@@ -88,7 +92,7 @@ assumed_from ns t held th k p new = record { kernel = kernel; state = state }
     al = sequents_at qs held.assumptions
 
     more : Held
-    more = record held { theorems = held.theorems ++ th ∷ []; assumptions = held.assumptions ++ length held.theorems ∷ [] }
+    more = record held { theorems = held.theorems ++ th ∷ []; assumptions = held.assumptions ++ length held.theorems ∷ []; places = ps }
 
     same_length : length qs ≡ length held.theorems
     same_length = length-map f held.theorems
@@ -135,21 +139,43 @@ assumed_from ns t held th k p new = record { kernel = kernel; state = state }
       numbered = All-push (λ i. i < length (held.theorems ++ th ∷ [])) held.assumptions (length held.theorems) (λ i d h. let l = k.numbered i d h in omega (arith, l, length-append held.theorems (th ∷ []))) (omega (arith, length-append held.theorems (th ∷ [])));
       accepted = held_stay (state_of ns t held) (state_of ns t more) (Extends-refl _) (Extends-refl _) longer held.definitions k.accepted;
       signature = subst (λ el. IsSignature ns el held.signature) (sym defined) k.signature;
+      placed = places-more t.classes held.theorems held.assumptions ps th c class k.numbered (places-noted t.classes held.theorems held.assumptions held.places ps c place here k.placed noted) noted.found;
       sound = subst IsSoundState (sym state) sound;
     }
 
 -- the same from the state that contracts see
-pub assumed : (ns : List Name) (t : TermTable) (held : Held) (now : State) (th : Theorem) (ths : List Theorem) (taken : List ℕ) (n : ℕ) → state_of ns t held ≡ now → IsKernel ns t held → ths ≡ held.theorems ++ th ∷ [] → n ≡ length held.theorems → taken ≡ held.assumptions ++ n ∷ []
-    → IsProposed now th → IsNew now th → Assumed now ns t (record held { theorems = ths; assumptions = taken }) th
-assumed ns t held now th ths taken n view k e len d p new =
+pub assumed : (ns : List Name) (t : TermTable) (held : Held) (now : State) (th : Theorem) (ths : List Theorem) (taken : List ℕ) (n : ℕ) (qs : List (ℕ × ℕ)) (c place : ℕ) → slice_get t.classes th.concl ≡ Some c → place ≡ length held.assumptions → IsPlaced c place held.places qs
+    → state_of ns t held ≡ now → IsKernel ns t held → ths ≡ held.theorems ++ th ∷ [] → n ≡ length held.theorems → taken ≡ held.assumptions ++ n ∷ []
+    → IsProposed now th → IsNew now th → Assumed now ns t (record held { theorems = ths; assumptions = taken; places = qs }) th
+assumed ns t held now th ths taken n qs c place class here noted view k e len d p new =
     let after : taken ≡ held.assumptions ++ length held.theorems ∷ [] = d ∙ ap (λ m. held.assumptions ++ m ∷ []) len in
-    let start = subst (λ s. IsProposed s th → IsNew s th → Assumed s ns t (record held { theorems = held.theorems ++ th ∷ []; assumptions = held.assumptions ++ length held.theorems ∷ [] }) th) view (assumed_from ns t held th k) p new in
-    subst (λ (z : List Theorem × List ℕ). Assumed now ns t (record held { theorems = z.0; assumptions = z.1 }) th) (λ i. (sym e i, sym after i)) start
+    let start = subst (λ s. IsProposed s th → IsNew s th → Assumed s ns t (record held { theorems = held.theorems ++ th ∷ []; assumptions = held.assumptions ++ length held.theorems ∷ []; places = qs }) th) view (assumed_from ns t held th qs c place class here noted k) p new in
+    subst (λ (z : List Theorem × List ℕ). Assumed now ns t (record held { theorems = z.0; assumptions = z.1; places = qs }) th) (λ i. (sym e i, sym after i)) start
+
+-- a place that comes changes nothing else
+pub noted : (ns : List Name) (t : TermTable) (held : Held) (ths : List Theorem) (qs : List (ℕ × ℕ)) (c place : ℕ) → place ≡ length held.assumptions → IsPlaced c place held.places qs → ths ≡ held.theorems → IsKernel ns t held → IsKernel ns t (record held { theorems = ths; places = qs })
+noted ns t held ths qs c place here new same k = subst (λ l. IsKernel ns t (record held { theorems = l; places = qs })) (sym same) (record {
+  names = k.names;
+  types = k.types;
+  terms = k.terms;
+  table = k.table;
+  inside = k.inside;
+  numbered = k.numbered;
+  accepted = k.accepted;
+  signature = k.signature;
+  placed = places-noted t.classes held.theorems held.assumptions held.places qs c place here k.placed new;
+  sound = k.sound;
+})
 
 -- what was pushed, where memory allowed
 pub pushed_items : {U E X : Type 0} (r : Result U E) (xs ys new : List X) → is_err r ≡ false → new ≡ (if is_ok r then xs else ys) → new ≡ xs
 pushed_items (Ok u) xs ys new h e = e
 pushed_items (Err f) xs ys new h e = cc
+
+-- what was not, where it didn't
+pub unpushed_items : {U E X : Type 0} (r : Result U E) (xs ys new : List X) → is_err r ≡ true → new ≡ (if is_ok r then xs else ys) → new ≡ ys
+unpushed_items (Ok u) xs ys new h e = cc
+unpushed_items (Err f) xs ys new h e = e
 
 -- ---- the assumption of a sequent
 -- the next one of a list

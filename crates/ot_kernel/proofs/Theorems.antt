@@ -7,7 +7,7 @@ use Rattle.std.proofs.lemmas.List.Elements.{All-head, All-tail, All-push}
 use Rattle.ot_plain.specs.Names.{Name}
 use Rattle.ot_plain.specs.Faults.{Fault}
 use Rattle.ot_plain.specs.Trees.{Bound, Sequent}
-use Rattle.ot_plain.specs.Hol.{nameless, same_sequent}
+use Rattle.ot_plain.specs.Hol.{nameless, same_tm, same_sequent}
 use Rattle.ot_plain.specs.Naming.{names, numbers, name_of}
 use Rattle.ot_plain.specs.Renamed.{map_tm, map_named, map_sequent}
 use Rattle.ot_plain.proofs.Lift.{map-nameless}
@@ -23,6 +23,7 @@ use Rattle.ot_kernel.specs.declared.fault.RuleFault.TheVariants.{Memory}
 use Rattle.ot_kernel.specs.State.{State, term_at, terms_at, theorem_at, Keeps, SameBasis, SameTheorems, IsSoundState}
 use Rattle.ot_kernel.specs.Definitions.{IsSignature}
 use Rattle.ot_kernel.specs.Spelled.{Held, sequent_of, sequents_at, undefined_state, state_of, IsInside, IsKernel}
+use Rattle.ot_kernel.proofs.Placing.{places-grown}
 use Rattle.ot_kernel.proofs.Accepted.{held_stay, definitions_kept}
 use Rattle.ot_kernel.specs.Numbered.{tm_at, tms_at, numbered_sequent}
 use Rattle.ot_kernel.specs.Answers.{Concludes}
@@ -72,6 +73,17 @@ module _ (ns : List Name) (t : TermTable) (held : Held) (now : State) (view : st
       let right = real_sequent hyps concl g l in
       carry-sequents (naming ns) numbers names (lettering ns (table_names ns k.names)) (λ L c y z. b ≡ same_sequent c y z) (numbered_sequent t.terms th) (record { hyps = tms_at t.terms hyps; concl = tm_at t.terms concl }) q
       ∙ (λ j. same_sequent names (left j) (right j))
+
+  -- two terms that are compared
+  pub same_tm-real : (a b : ℕ) → a < length now.terms → b < length now.terms → same_tm numbers (tm_at t.terms a) (tm_at t.terms b) ≡ same_tm names (term_at now a) (term_at now b)
+  same_tm-real a b g l =
+      let v = same_tm numbers (tm_at t.terms a) (tm_at t.terms b) in
+      let q : Sequent ℕ = record { hyps = []; concl = tm_at t.terms a } in
+      let r : Sequent ℕ = record { hyps = []; concl = tm_at t.terms b } in
+      let left = real_sequent [] a (λ j x m. absurd (omega (arith, m))) g in
+      let right = real_sequent [] b (λ j x m. absurd (omega (arith, m))) l in
+      carry-sequents (naming ns) numbers names (lettering ns (table_names ns k.names)) (λ L c y z. v ≡ same_tm c y.concl z.concl) q r refl
+      ∙ (λ j. same_tm names (left j).concl (right j).concl)
 
 -- ---- one theorem more
 pub sequents_at-push : (qs : List (Sequent Name)) (q : Sequent Name) (is : List ℕ) → All (λ i. i < length qs) is → sequents_at (qs ++ q ∷ []) is ≡ sequents_at qs is
@@ -138,6 +150,7 @@ pushed_from ns t held ths th k e inside follows = subst (λ l. Pushed (state_of 
       numbered = λ i d h. let l = k.numbered i d h in omega (arith, l, length-append held.theorems (th ∷ []));
       accepted = held_stay (state_of ns t held) (state_of ns t more) (Extends-refl _) (Extends-refl _) longer held.definitions k.accepted;
       signature = subst (λ dl. IsSignature ns dl held.signature) (sym defined) k.signature;
+      placed = places-grown (length t.terms) t.classes t.classes held.theorems (held.theorems ++ th ∷ []) held.assumptions held.places k.table.classed (Extends-refl _) (Extends-append held.theorems (th ∷ [])) k.numbered k.inside k.placed;
       sound = subst IsSoundState (sym state) sound;
     }
 

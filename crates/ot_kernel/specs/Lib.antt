@@ -1,6 +1,7 @@
 -- What contracts see of a kernel, and what holds of it at all times.
 pub mod State
 pub mod Definitions
+pub mod Places
 pub mod Spelled
 pub mod Axioms
 pub mod Defining
@@ -14,3 +15,4 @@ pub mod Accepting
 pub mod Equating
 pub mod Proved
 pub mod Opening
+pub mod Classes

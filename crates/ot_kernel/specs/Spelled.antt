@@ -12,15 +12,18 @@ use Rattle.ot_term.specs.TermTable.{IsTermTable}
 use Rattle.ot_kernel.specs.declared.theorem.Theorem.{Theorem}
 use Rattle.ot_define.specs.Signature.{Symbols}
 use Rattle.ot_kernel.specs.declared.definition.Definition as code
+use Rattle.ot_kernel.specs.Places.{ArePlaces}
 use Rattle.ot_kernel.specs.State.{State, named_at, IsSoundState}
 use Rattle.ot_kernel.specs.Definitions.{definition_at, IsHeld, IsSignature}
 
--- the theorems that a kernel holds, the numbers of those that are assumptions, and the definitions with their symbols
+-- the theorems that a kernel holds, the numbers of those that are assumptions, the definitions with their symbols, and the
+-- places of the assumptions by the classes of their conclusions
 pub record Held : Type 0 where
   pub theorems : List Theorem
   pub assumptions : List ℕ
   pub definitions : List code.Definition
   pub signature : Symbols
+  pub places : List (ℕ × ℕ)
 
 -- the sequent of a theorem, over the real terms
 abbrev pub sequent_of : List (Named Name) → Theorem → Sequent Name
@@ -63,4 +66,5 @@ pub record IsKernel (ns : List Name) (t : TermTable) (held : Held) : Type 0 wher
   pub numbered : All (λ i. i < length held.theorems) held.assumptions
   pub accepted : All (IsHeld (state_of ns t held)) held.definitions
   pub signature : IsSignature ns (state_of ns t held).definitions held.signature
+  pub placed : ArePlaces t.classes held.theorems held.assumptions held.places
   pub sound : IsSoundState (state_of ns t held)

@@ -1,12 +1,13 @@
 //! Assumptions: sequents that are taken as they are.
-ghost use Rattle.std.specs.Prelude.{◌≡◌, ◌<◌, map, length, find, None, IfOk, IfErr, IfSome};
+ghost use Rattle.std.specs.Prelude.{◌≡◌, ◌<◌, ◌≤◌, map, length, take, find, None, false, IfOk, IfErr, IfSome, OnOk, OnErr};
 ghost use Rattle.std.specs.List.{All, list_all};
 ghost use Rattle.std.specs.Option.{option_map};
-ghost use Rattle.ot_plain.specs.Hol.{same_sequent};
+ghost use Rattle.ot_plain.specs.Hol.{same_tm, same_sequent};
 ghost use Rattle.ot_plain.specs.Naming.{names};
 ghost use Rattle.ot_plain.specs.Rules.{has_type};
 ghost use Rattle.ot_kernel.specs.State.{type_at, term_at, terms_at, theorem_at, Keeps};
 ghost use Rattle.ot_kernel.specs.Spelled.{sequent_of, IsInside};
+ghost use Rattle.ot_kernel.specs.Places.{IsPlaced};
 ghost use Rattle.ot_kernel.specs.Axioms.{axiom_rule};
 ghost use Rattle.ot_kernel.specs.Answers.{Assumes};
 ghost use Rattle.ot_kernel.specs.Supposed.{IsProposed, IsSupposed, supposing};
@@ -15,6 +16,9 @@ use crate::fault::RuleFault;
 use crate::hypotheses::once_each;
 use crate::kernel::Kernel;
 use crate::theorem::{Theorem, ThmId};
+use indexmap::IndexMap;
+use ot_class::ClassId;
+use ot_plain::Memory;
 use ot_term::TermId;
 use ot_type::TypeId;
 
@@ -36,7 +40,7 @@ impl Kernel {
     }
 
     // Whether terms are all of a type.
-    fn have_type(&self, ts: &[TermId], ty: TypeId) -> bool
+    pub(crate) fn have_type(&self, ts: &[TermId], ty: TypeId) -> bool
         requires ts { All (λ i. i < length self.now.terms) ts.now }
         requires ty { ty < length self.now.types }
         ensures { result ≡ list_all (λ t. has_type names t (type_at self.now ty)) (terms_at self.now ts.now) }
@@ -65,14 +69,39 @@ impl Kernel {
     fn assumption_of(&self, theorem: &Theorem) -> Option<ThmId>
         requires { IsInside (length self.now.terms) theorem.now }
         ensures within { IfSome result (λ id. id < length self.now.theorems) }
-        ensures first { option_map (theorem_at self.now) result ≡ find (λ r. same_sequent names r (sequent_of self.now.terms theorem.now)) self.now.assumptions }
+        ensures first { option_map (theorem_at self.now) result
+            ≡ find (λ r. same_sequent names r (sequent_of self.now.terms theorem.now)) self.now.assumptions }
     {
-        for id in self.assumptions() {
+        let from = self.first_place(theorem.concl);
+        self.first_same(&self.assumptions()[from..], theorem)
+    }
+
+    // The first of these theorems that is this sequent.
+    fn first_same(&self, among: &[ThmId], theorem: &Theorem) -> Option<ThmId>
+        requires among { All (λ i. i < length self.now.theorems) among.now }
+        requires theorem { IsInside (length self.now.terms) theorem.now }
+        ensures within { IfSome result (λ id. id < length self.now.theorems) }
+        ensures first { option_map (theorem_at self.now) result
+            ≡ find (λ r. same_sequent names r (sequent_of self.now.terms theorem.now)) (map (theorem_at self.now) among.now) }
+    {
+        for id in among {
             if self.same(*id, &theorem.hyps, theorem.concl) {
                 return Some(*id);
             }
         }
         None
+    }
+
+    // A place before which no assumption has this conclusion.
+    fn first_place(&self, concl: TermId) -> usize
+        requires { concl < length self.now.terms }
+        ensures within { result ≤ length self.now.assumptions }
+        ensures none { All (λ r. same_tm names r.concl (term_at self.now concl) ≡ false) (take result self.now.assumptions) }
+    {
+        match self.places.get(&self.terms.class(concl)) {
+            Some(place) => *place,
+            None => self.assumptions.len(),
+        }
     }
 
     // A sequent of propositions as a new assumption, whose theorem takes the next place.
@@ -82,6 +111,9 @@ impl Kernel {
         ensures ok { IfOk result (λ id. (id ≡ length self.old.theorems) × (self.new ≡ supposing self.old (sequent_of self.old.terms theorem))) }
         ensures err { IfErr result (λ e. (self.new ≡ self.old) × (e ≡ RuleFault.Memory)) }
     {
+        let class = self.terms.class(theorem.concl);
+        let place = self.assumptions.len();
+        note_place(&mut self.places, class, place)?;
         let id = ThmId(self.theorems.len());
         self.theorems.push(theorem)?;
         if self.assumptions.push(id).is_err() {
@@ -98,4 +130,20 @@ impl Kernel {
     {
         &self.assumptions
     }
+}
+
+// Gives a class its place, where it has none.
+fn note_place(
+    places: &mut IndexMap<ClassId, usize>,
+    class: ClassId,
+    place: usize,
+) -> Result<(), Memory>
+    ensures ok { OnOk result (IsPlaced class place places.old.entries places.new.entries) }
+    ensures err { OnErr result (places.new.entries ≡ places.old.entries) }
+{
+    if places.contains_key(&class) {
+        return Ok(());
+    }
+    places.insert(class, place)?;
+    Ok(())
 }

@@ -8,7 +8,8 @@ ghost use Rattle.ot_kernel.specs.Spelled.{IsInside};
 
 use crate::equations::equate;
 use crate::fault::RuleFault;
-use crate::hypotheses::{has_term, minus, union};
+use crate::hypotheses::{minus, union};
+use crate::membership::has_term;
 use crate::theorem::Theorem;
 use ot_plain::Memory;
 use ot_term::Terms;

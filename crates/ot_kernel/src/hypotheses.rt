@@ -1,38 +1,30 @@
 //! Hypotheses as sets: terms that differ at most in the names of binders count as one.
-ghost use Rattle.std.specs.Prelude.{◌≡◌, ◌<◌, length, IfOk};
+ghost use Rattle.std.specs.Prelude.{◌≡◌, ◌<◌, ◌++◌, ◌∷◌, [], length, if◌then◌else◌, IfOk, IfSome, OnOk};
 ghost use Rattle.std.specs.List.{All};
-ghost use Rattle.ot_plain.specs.Hol.{is_in, all_in, is_free, is_free_in_some, minus, union, once_each};
+ghost use Rattle.ot_plain.specs.Hol.{is_in, all_in, is_free_in_some, minus, union, once_each};
 ghost use Rattle.ot_plain.specs.Naming.{numbers};
 ghost use Rattle.ot_term.specs.TermTable.{variable_of};
 ghost use Rattle.ot_kernel.specs.Numbered.{tm_at, tms_at};
+ghost use Rattle.ot_kernel.specs.Classes.{AreClassesOf};
 
+use crate::membership::{add_term, classes_at_hand, classes_of_many, classes_of_none, is_among};
+use indexmap::IndexSet;
 use ot_alpha::alpha_eq;
+use ot_class::ClassId;
 use ot_plain::Memory;
 use ot_term::{TermId, Terms, VarKey};
 use std::alloc::Global;
 
-// Whether a term is among these.
-pub(crate) fn has_term(terms: &Terms, among: &[TermId], t: TermId) -> bool
-    requires among { All (λ i. i < length terms.now.terms) among.now }
-    requires t { t < length terms.now.terms }
-    ensures { result ≡ is_in numbers (tm_at terms.now.terms t) (tms_at terms.now.terms among.now) }
-{
-    for u in among {
-        if alpha_eq(terms, *u, t) {
-            return true;
-        }
-    }
-    false
-}
-
 // Whether all the terms are among these.
-pub(crate) fn has_terms(terms: &Terms, among: &[TermId], ts: &[TermId]) -> bool
+pub(crate) fn has_terms(alloc: Global, terms: &Terms, among: &[TermId], ts: &[TermId]) -> bool
     requires among { All (λ i. i < length terms.now.terms) among.now }
     requires ts { All (λ i. i < length terms.now.terms) ts.now }
     ensures { result ≡ all_in numbers (tms_at terms.now.terms ts.now) (tms_at terms.now.terms among.now) }
 {
+    // Without memory each is sought one by one.
+    let classes = classes_at_hand(alloc, terms, among, ts.len());
     for t in ts {
-        if !has_term(terms, among, *t) {
+        if !is_among(terms, among, &classes, *t) {
             return false;
         }
     }
@@ -51,11 +43,10 @@ pub(crate) fn union(
     ensures union { IfOk result (λ v. tms_at terms.now.terms v.items ≡ union numbers (tms_at terms.now.terms g.now) (tms_at terms.now.terms h.now)) }
     ensures inside { IfOk result (λ v. All (λ i. i < length terms.now.terms) v.items) }
 {
+    let classes = classes_of_many(alloc, terms, g, h.len())?;
     let mut all = Vec::from_slice(alloc, g)?;
     for t in h {
-        if !has_term(terms, g, *t) {
-            all.push(*t)?;
-        }
+        push_lacking(terms, g, &classes, *t, &mut all)?;
     }
     Ok(all)
 }
@@ -81,19 +72,42 @@ pub(crate) fn minus(
     Ok(left)
 }
 
-// The members of a list, each once.
+// The members of a list, each once, at its last place.
 pub(crate) fn once_each(alloc: Global, terms: &Terms, g: &[TermId]) -> Result<Vec<TermId>, Memory>
     requires { All (λ i. i < length terms.now.terms) g.now }
     ensures once { IfOk result (λ v. tms_at terms.now.terms v.items ≡ once_each numbers (tms_at terms.now.terms g.now)) }
     ensures inside { IfOk result (λ v. All (λ i. i < length terms.now.terms) v.items) }
 {
+    let mut later = classes_of_none(alloc, g.len());
     let mut once = Vec::new(alloc);
-    for (i, t) in g.iter().enumerate() {
-        if !has_term(terms, &g[i + 1..], *t) {
-            once.push(*t)?;
-        }
+    for i in (0..g.len()).rev() {
+        let t = g[i];
+        push_lacking(terms, &g[i + 1..], &later, t, &mut once)?;
+        add_term(terms, &mut later, t)?;
     }
+    once.reverse();
     Ok(once)
+}
+
+// Puts a term at the end of a list, where it isn't among these.
+fn push_lacking(
+    terms: &Terms,
+    among: &[TermId],
+    classes: &Option<IndexSet<ClassId>>,
+    t: TermId,
+    list: &mut Vec<TermId>,
+) -> Result<(), Memory>
+    requires among { All (λ i. i < length terms.now.terms) among.now }
+    requires classes { IfSome classes.now (λ s. AreClassesOf terms.now (tms_at terms.now.terms among.now) s.keys) }
+    requires t { t < length terms.now.terms }
+    ensures { OnOk result (list.new.items ≡ (if is_in numbers (tm_at terms.now.terms t) (tms_at terms.now.terms among.now)
+        then list.old.items else list.old.items ++ t ∷ [])) }
+{
+    if is_among(terms, among, classes, t) {
+        return Ok(());
+    }
+    list.push(t)?;
+    Ok(())
 }
 
 // Whether a variable is free in one of the terms.
@@ -108,20 +122,9 @@ pub(crate) fn is_free_in_some(
     ensures { IfOk result (λ b. b ≡ is_free_in_some numbers (variable_of terms.now.types v) (tms_at terms.now.terms among.now)) }
 {
     for t in among {
-        if is_free(alloc, terms, &v, *t)? {
+        if terms.is_free(alloc, &v, *t)? {
             return Ok(true);
         }
     }
     Ok(false)
-}
-
-// Whether a variable is free in a term.
-fn is_free(alloc: Global, terms: &Terms, v: &VarKey, t: TermId) -> Result<bool, Memory>
-    requires ty { v.now.ty < length terms.now.types }
-    requires t { t < length terms.now.terms }
-    ensures { IfOk result (λ b. b ≡ is_free numbers (variable_of terms.now.types v.now) (tm_at terms.now.terms t)) }
-{
-    // No type has two numbers.
-    let _types = terms.types();
-    Ok(terms.free_vars(alloc, t)?.contains(v))
 }

@@ -14,6 +14,8 @@ ghost use Rattle.ot_kernel.specs.Derived.{Follows, Adds};
 use crate::definition::Definition;
 use crate::fault::RuleFault;
 use crate::theorem::{Theorem, ThmId};
+use indexmap::IndexMap;
+use ot_class::ClassId;
 use ot_define::Signature;
 use ot_plain::{Memory, Name, NameId, Names};
 use ot_term::{TermFault, TermId, Terms, VarKey};
@@ -33,6 +35,8 @@ pub struct Kernel {
     pub(crate) theorems: Vec<Theorem>,
     // The numbers of the assumptions, in their order.
     pub(crate) assumptions: Vec<ThmId>,
+    // For the class of a conclusion, a place before which no assumption has one of it.
+    pub(crate) places: IndexMap<ClassId, usize>,
     pub(crate) definitions: Vec<Definition>,
     // Their symbols.
     pub(crate) signature: Signature,
@@ -47,9 +51,9 @@ impl Model for Kernel {
 
     ghost use Rattle.ot_kernel.specs.Spelled.{state_of, IsKernel};
 
-    ghost view = { λ k. state_of k.names k.terms (record { theorems = k.theorems.items; assumptions = k.assumptions.items; definitions = k.definitions.items; signature = k.signature }) };
+    ghost view = { λ k. state_of k.names k.terms (record { theorems = k.theorems.items; assumptions = k.assumptions.items; definitions = k.definitions.items; signature = k.signature; places = k.places.entries }) };
 
-    ghost invariant = { λ k. IsKernel k.names k.terms (record { theorems = k.theorems.items; assumptions = k.assumptions.items; definitions = k.definitions.items; signature = k.signature }) };
+    ghost invariant = { λ k. IsKernel k.names k.terms (record { theorems = k.theorems.items; assumptions = k.assumptions.items; definitions = k.definitions.items; signature = k.signature; places = k.places.entries }) };
 }
 
 impl Kernel {
@@ -63,6 +67,7 @@ impl Kernel {
             terms: Terms::new(alloc),
             theorems: Vec::new(alloc),
             assumptions: Vec::new(alloc),
+            places: IndexMap::new(alloc),
             definitions: Vec::new(alloc),
             signature: Signature::new(alloc),
         })
@@ -267,7 +272,7 @@ impl Kernel {
         requires concl { concl < length self.now.terms }
         ensures { result ≡ same_sequent names (theorem_at self.now th) (record { hyps = terms_at self.now hyps.now; concl = term_at self.now concl }) }
     {
-        self.theorems[th.0].states(&self.terms, hyps, concl)
+        self.theorems[th.0].states(self.alloc, &self.terms, hyps, concl)
     }
 
     /// The definitions, in the order in which they were accepted.

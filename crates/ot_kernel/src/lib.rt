@@ -11,11 +11,13 @@ mod fault;
 mod hypotheses;
 mod instances;
 mod kernel;
+mod membership;
 mod open_types;
 mod pairs;
 mod rules;
 mod theorem;
 mod type_operators;
+mod within;
 
 pub use definition::Definition;
 pub use fault::RuleFault;

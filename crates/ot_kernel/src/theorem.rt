@@ -6,6 +6,7 @@ ghost use Rattle.ot_plain.specs.Naming.{numbers};
 use crate::hypotheses::has_terms;
 use ot_alpha::alpha_eq;
 use ot_term::{TermId, Terms};
+use std::alloc::Global;
 use std::marker::Model;
 
 /// A theorem: hypotheses, no two of them alike up to the names of binders, and a conclusion.
@@ -20,7 +21,13 @@ impl Theorem {
     ghost use Rattle.ot_kernel.specs.Spelled.{IsInside};
 
     // Whether this is the theorem's sequent.
-    pub(crate) fn states(&self, terms: &Terms, hyps: &[TermId], concl: TermId) -> bool
+    pub(crate) fn states(
+        &self,
+        alloc: Global,
+        terms: &Terms,
+        hyps: &[TermId],
+        concl: TermId,
+    ) -> bool
         requires inside { IsInside (length terms.now.terms) self.now }
         requires hyps { All (λ i. i < length terms.now.terms) hyps.now }
         requires concl { concl < length terms.now.terms }
@@ -30,10 +37,10 @@ impl Theorem {
         if !alpha_eq(terms, self.concl, concl) {
             return false;
         }
-        if !has_terms(terms, hyps, &self.hyps) {
+        if !has_terms(alloc, terms, hyps, &self.hyps) {
             return false;
         }
-        has_terms(terms, &self.hyps, hyps)
+        has_terms(alloc, terms, &self.hyps, hyps)
     }
 }
 

@@ -1,24 +1,13 @@
-use Rattle.std.proofs.Common.{◌≡◌, ◌+◌, cond, Some, List, ℕ, drop, map, sym, ap, ◌∙◌}
-use Rattle.std.specs.Prelude.{find}
-use Rattle.ot_plain.specs.Hol.{same_sequent}
-use Rattle.ot_plain.specs.Naming.{names}
-use Rattle.ot_kernel.specs.State.{term_at, terms_at, theorem_at}
+use Rattle.std.proofs.Common.{◌-◌, length, take, drop, sym, ◌∙◌}
+use Rattle.std.proofs.lemmas.List.{take_rest}
 use Rattle.ot_kernel.specs.Spelled.{sequent_of}
-use Rattle.ot_kernel.proofs.Supposed.{find-next}
+use Rattle.ot_kernel.proofs.FirstPlaces.{found-behind}
 use Rattle.ot_kernel.proofs.kernel.Kernel.assumption_of.Goals as goal
-use Rattle.ot_kernel.proofs.kernel.Kernel.assumption_of.Goals.{After-same}
 
-tested : (c : After-same) → c.same.result ≡ same_sequent names (theorem_at c.args.self.now c.id-item.result) (sequent_of c.args.self.now.terms c.args.theorem.now)
-tested c =
-    let s = c.args.self.now in
-    c.same.ensures ∙ ap (λ (is : List ℕ). same_sequent names (theorem_at s c.id-item.result) (record { hyps = terms_at s is; concl = term_at s c.args.theorem.now.concl })) c.deref.ensures.value
-
-next : (c : After-same) → find (λ r. same_sequent names r (sequent_of c.args.self.now.terms c.args.theorem.now)) c.args.self.now.assumptions
-    ≡ cond c.same.result (Some (theorem_at c.args.self.now c.id-item.result)) (find (λ r. same_sequent names r (sequent_of c.args.self.now.terms c.args.theorem.now)) (map (theorem_at c.args.self.now) (drop (c.loop-id.id-index + 1) c.assumptions-id-items.result.now)))
-next c = c.loop-id.invariant ∙ find-next (theorem_at c.args.self.now) _ c.assumptions-id-items.result.now c.loop-id.id-index c.id-item.result c.same.result c.loop-id-test.true c.id-item.is (tested c)
-
-pub returns-then-same-clause-first : goal.returns-then-same-clause-first
-returns-then-same-clause-first c = sym (rw c.if-same.true at (next (goal.at.returns-then-same-clause-first c).After-same))
-
-pub loop-id-preserved : goal.loop-id-preserved
-loop-id-preserved c = rw c.if-same.false at (next (goal.at.loop-id-preserved c).After-same)
+pub returns-clause-first : goal.returns-clause-first
+returns-clause-first c =
+    let now = c.args.self.now in
+    let ids = c.assumptions.result.now in
+    let n = c.first_place-from.result in
+    c.first_same.ensures.first
+    ∙ sym (found-behind now ids (take (length ids - n) (drop n ids)) n (sequent_of now.terms c.args.theorem.now) c.assumptions.ensures.sequents (take_rest ids n) c.first_place-from.ensures.none)

@@ -2,7 +2,7 @@ use Rattle.std.proofs.Common.{◌≡◌, drop}
 use Rattle.ot_plain.specs.Hol.{is_in}
 use Rattle.ot_plain.specs.Naming.{numbers}
 use Rattle.ot_kernel.specs.Numbered.{tm_at, tms_at}
-use Rattle.ot_kernel.proofs.hypotheses.has_term.Given as goal
+use Rattle.ot_kernel.proofs.membership.has_term.Given as goal
 
 abbrev pub invariant-loop-u : goal.invariant-loop-u
 invariant-loop-u l =

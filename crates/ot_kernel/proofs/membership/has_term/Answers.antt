@@ -4,7 +4,7 @@ use Rattle.ot_plain.specs.Hol.{is_in}
 use Rattle.ot_plain.specs.Naming.{numbers}
 use Rattle.ot_kernel.specs.Numbered.{tm_at, tms_at}
 use Rattle.ot_kernel.proofs.Comparing.{in_next}
-use Rattle.ot_kernel.proofs.hypotheses.has_term.Goals as goal
+use Rattle.ot_kernel.proofs.membership.has_term.Goals as goal
 
 pub returns-then-alpha_eq : goal.returns-then-alpha_eq
 returns-then-alpha_eq c =
