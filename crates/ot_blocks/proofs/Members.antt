@@ -1,25 +1,29 @@
 -- Members of lists, by the test and by recursion.
-use Rattle.std.proofs.Common.{◌≡◌, ℕ, List, [], ◌∷◌, ◌++◌, ◌⊎◌, true, false, inl, inr, sym, ap, ◌∙◌, refl, eqb}
-use Rattle.std.proofs.lemmas.Bool.{or_cases, or_left, or_right, eqb-true, eq-eqb, both_ways}
-use Rattle.ot_plain.specs.Lists.{IsMember, AreDistinct}
-use Rattle.ot_blocks.specs.Order.{is_in}
+use Rattle.std.specs.Prelude.{◌≤◌, length}
+use Rattle.std.specs.List.{list_any}
+use Rattle.std.specs.Bool.{Decides}
+use Rattle.std.proofs.Common.{◌≡◌, Bool, List, [], ◌∷◌, ◌++◌, ◌⊎◌, true, false, inl, inr, sym, ap, ◌∙◌, refl, subst, arith}
+use Rattle.std.proofs.lemmas.Bool.{or_cases, or_left, or_right, both_ways}
+use Rattle.std.proofs.lemmas.List.{length-append}
+use Rattle.ot_plain.specs.Lists.{IsMember, IsPart, AreDistinct}
 
-pub member_from_test : (bs : List ℕ) (b : ℕ) → is_in bs b ≡ true → IsMember b bs
-member_from_test [] b e = cc
-member_from_test (x ∷ xs) b e = elim (or_cases (eqb x b) (is_in xs b) e) [
-  | inl same ↦ inl (eqb-true x b same)
-  | inr later ↦ inr (member_from_test xs b later)
-]
+module _ {K : Type 0} (same : K → K → Bool) (tells : (x y : K) → Decides (same x y) (x ≡ y)) where
+  pub member_from_test : (ks : List K) (k : K) → list_any (λ x. same x k) ks ≡ true → IsMember k ks
+  member_from_test [] k e = cc
+  member_from_test (x ∷ xs) k e = elim (or_cases (same x k) (list_any (λ y. same y k) xs) e) [
+    | inl s ↦ inl ((tells x k).0 s)
+    | inr later ↦ inr (member_from_test xs k later)
+  ]
 
-pub test_from_member : (bs : List ℕ) (b : ℕ) → IsMember b bs → is_in bs b ≡ true
-test_from_member [] b m = absurd m
-test_from_member (x ∷ xs) b m = elim m [
-  | inl same ↦ or_left (eqb x b) (is_in xs b) (eq-eqb x b same)
-  | inr later ↦ or_right (eqb x b) (is_in xs b) (test_from_member xs b later)
-]
+  pub test_from_member : (ks : List K) (k : K) → IsMember k ks → list_any (λ x. same x k) ks ≡ true
+  test_from_member [] k m = absurd m
+  test_from_member (x ∷ xs) k m = elim m [
+    | inl s ↦ or_left (same x k) (list_any (λ y. same y k) xs) ((tells x k).1 s)
+    | inr later ↦ or_right (same x k) (list_any (λ y. same y k) xs) (test_from_member xs k later)
+  ]
 
-pub apart_from_test : (bs : List ℕ) (b : ℕ) → is_in bs b ≡ false → ¬ (IsMember b bs)
-apart_from_test bs b e m = both_ways (is_in bs b) e (test_from_member bs b m)
+  pub apart_from_test : (ks : List K) (k : K) → list_any (λ x. same x k) ks ≡ false → ¬ (IsMember k ks)
+  apart_from_test ks k e m = both_ways (list_any (λ x. same x k) ks) e (test_from_member ks k m)
 
 module _ {X : Type 0} where
   pub member_left : (x : X) (xs ys : List X) → IsMember x xs → IsMember x (xs ++ ys)
@@ -61,3 +65,25 @@ module _ {X : Type 0} where
         | inl h ↦ inl (ap (λ w. w ∷ zs) same ∙ ap (λ w. f ∷ w) h.0, h.1)
         | inr h ↦ inr (h.0, ap (λ w. w ∷ zs) same ∙ ap (λ w. f ∷ w) h.1)
       ]
+
+  -- a member, with what stands before and behind it
+  pub split_member : (x : X) (ys : List X) → IsMember x ys → (front : List X) × (back : List X) × (ys ≡ front ++ x ∷ back)
+  split_member x [] m = absurd m
+  split_member x (y ∷ ys) (inl e) = ([], ys, ap (λ z. z ∷ ys) e)
+  split_member x (y ∷ ys) (inr m) = let (front, back, e) = split_member x ys m in (y ∷ front, back, ap (λ zs. y ∷ zs) e)
+
+  without_one : (x z : X) (front back : List X) → IsMember z (front ++ x ∷ back) → ¬ (x ≡ z) → IsMember z (front ++ back)
+  without_one x z [] back m n = elim m [ inl e ↦ absurd (n e) | inr h ↦ h ]
+  without_one x z (y ∷ front) back m n = elim m [ inl e ↦ inl e | inr h ↦ inr (without_one x z front back h n) ]
+
+  -- a list whose members are distinct and stand in another one is no longer than that one
+  pub distinct_length : (xs ys : List X) → AreDistinct xs → IsPart xs ys → length xs ≤ length ys
+  distinct_length [] ys d p = omega arith
+  distinct_length (x ∷ xs) ys d p =
+      let (front, back, e) = split_member x ys (p x (inl refl)) in
+      let rest : IsPart xs (front ++ back) = λ z m. without_one x z front back (subst (λ w. IsMember z w) e (p z (inr m))) (λ same. d.0 (subst (λ w. IsMember w xs) (sym same) m)) in
+      let most = distinct_length xs (front ++ back) d.1 rest in
+      let l1 = length-append front (x ∷ back) in
+      let l2 = length-append front back in
+      let l3 : length ys ≡ length (front ++ x ∷ back) = ap length e in
+      omega (arith, most, l1, l2, l3)

@@ -1,6 +1,7 @@
 -- What the walk gives: an order, or a cycle.
-use Rattle.std.proofs.Common.{◌≡◌, ℕ, zero, suc, List, [], ◌∷◌, ◌++◌, length, false, inl, inr, refl, sym, subst}
+use Rattle.std.proofs.Common.{◌≡◌, ℕ, zero, suc, List, [], ◌∷◌, ◌++◌, length, false, inl, inr, refl, sym, subst, eqb}
 use Rattle.std.proofs.lemmas.Bool.{cases_Bool}
+use Rattle.std.proofs.lemmas.Bool.Decides.{Decides-eqb}
 use Rattle.ot_plain.specs.Lists.{IsMember, IsPart, AreDistinct}
 use Rattle.ot_blocks.specs.Order.{Order, Ordered, LeadsBack, TooDeep, ◌>>=◌, walk_imports, walk_block, order_of, imports_at, is_in}
 use Rattle.ot_blocks.specs.Ordering.{Reaches, Here, Along, HasCycleAt, GivesOrder, GivesCycle}
@@ -105,7 +106,7 @@ module _ (g : List (List Import)) (main : ℕ) where
       elim (cases_Bool (is_in done i.block)) [
         | inl known ↦ rw known
             (gives_more (AddsImports path done is) (AddsImports path done (i ∷ is)) (HasCycleAt g main) (walk_imports visit path is done)
-            (λ new a. (a.0, with_first done is new i (a.0.keeps i.block (member_from_test done i.block known)) a.1))
+            (λ new a. (a.0, with_first done is new i (a.0.keeps i.block (member_from_test eqb Decides-eqb done i.block known)) a.1))
             (imports_give visit path b visits reached path_reach is done others s))
         | inr fresh ↦ elim (cases_Bool (is_in path i.block)) [
           | inl back ↦ rw (fresh, back) record {
@@ -114,7 +115,7 @@ module _ (g : List (List Import)) (main : ℕ) where
             back = i;
             is_import = own;
             in_line = refl;
-            returns = path_reach i.block (member_from_test path i.block back);
+            returns = path_reach i.block (member_from_test eqb Decides-eqb path i.block back);
           }
           | inr new_block ↦ rw (fresh, new_block)
               (gives_bind (AddsLast path done i.block) (AddsImports path done (i ∷ is)) (HasCycleAt g main) (visit done i.block) (walk_imports visit path is)
@@ -140,11 +141,11 @@ module _ (g : List (List Import)) (main : ℕ) where
     where
       with_last : (more : List ℕ) → AddsImports (b ∷ path) done (imports_at g b) more → Adds path done (more ++ b ∷ [])
       with_last more a = record {
-        sound = one_more more b a.0.sound (λ m. apart_from_test done b fresh (a.0.apart b (inl refl) m)) reached a.1;
+        sound = one_more more b a.0.sound (λ m. apart_from_test eqb Decides-eqb done b fresh (a.0.apart b (inl refl) m)) reached a.1;
         keeps = λ c m. member_left c more (b ∷ []) (a.0.keeps c m);
         apart = λ c p m. elim (member_push c more b m) [
           | inl h ↦ a.0.apart c (inr p) h
-          | inr e ↦ absurd (apart_from_test path b new (subst (λ z. IsMember z path) (sym e) p))
+          | inr e ↦ absurd (apart_from_test eqb Decides-eqb path b new (subst (λ z. IsMember z path) (sym e) p))
         ];
       }
 

@@ -54,7 +54,9 @@ fn text(bytes: &[u8]) -> &str
     str::from_utf8(bytes).unwrap()
 }
 
-fn name_part(full: &[u8]) -> &[u8]
+/// The name of a package, from its full name: what stands before the last `-`, or nothing where
+/// there is none.
+pub fn name_part(full: &[u8]) -> &[u8]
     ensures { result.now ≡ name_part full.now }
 {
     let len = len_to_last(full, b'-');

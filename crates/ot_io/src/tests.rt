@@ -123,6 +123,14 @@ fn passes_on_what_readers_and_writers_do(rt: HostRuntime) -> Result<(), Fail> {
     Ok(())
 }
 
+/// Opens a file and reads from it, over any files.
+fn read_from<F: Files>(files: &mut F, path: &str, buffer: &mut [u8]) -> Result<usize, Failed> {
+    match files.open_file(path) {
+        Ok(()) => files.read(buffer),
+        Err(_) => Err(Failed),
+    }
+}
+
 #[test]
 fn tells_missing_files_from_failures(rt: HostRuntime) -> Result<(), Fail> {
     let mut files = DirFiles::new(&rt);
@@ -145,5 +153,8 @@ fn tells_missing_files_from_failures(rt: HostRuntime) -> Result<(), Fail> {
     );
     files.close();
     assert_eq!(rt; Source::read(&mut files, &mut buffer), Ok(0));
+    buffer = [1; 8];
+    assert_eq!(rt; read_from(&mut files, "/dev/zero", &mut buffer), Ok(8));
+    assert_eq!(rt; buffer, [0; 8]);
     Ok(())
 }

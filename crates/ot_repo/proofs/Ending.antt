@@ -5,7 +5,7 @@ use Rattle.std.proofs.lemmas.Bool.{cases_Bool}
 use Rattle.ot_plain.specs.Lists.{IsMember, IsPart, AreDistinct}
 use Rattle.ot_repo.specs.Walk.{Edge, Walk, Walked, Stops, TooDeep, ◌>>=◌, followed, is_in, arrive, walk_edges, walk_key}
 use Rattle.ot_repo.specs.Walks.{HasEdge, EndsAlways}
-use Rattle.ot_repo.proofs.Members.{apart_from_test, distinct_length}
+use Rattle.ot_blocks.proofs.Members.{apart_from_test, distinct_length}
 
 module _ {K E : Type 0} where
   bind_ends : (w : Walk K E) (f : List K → Walk K E) → w ≢ TooDeep → ((ks : List K) → f ks ≢ TooDeep) → (w >>= f) ≢ TooDeep

@@ -1,5 +1,3 @@
--- Members of lists, by the test and by recursion.
-pub mod Members
 -- What a walk gives.
 pub mod Walking
 -- The order of first edges.

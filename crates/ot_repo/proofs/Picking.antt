@@ -14,7 +14,7 @@ use Rattle.ot_theory.specs.Lines.{LineText}
 use Rattle.ot_blocks.specs.Paths.{is_package, name_part}
 use Rattle.ot_repo.specs.Required.{BadIndex, full_names, names_of, picked_by_name}
 use Rattle.ot_repo.specs.Reading.{texts_of, ArePackages}
-use Rattle.ot_repo.proofs.Members.{member_push}
+use Rattle.ot_blocks.proofs.Members.{member_push}
 
 -- ---- lines
 

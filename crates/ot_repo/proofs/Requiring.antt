@@ -18,7 +18,7 @@ use Rattle.ot_repo.specs.Walks.{HasEdge, Reaches, Leads, LeadInto, HasStop, Stay
 use Rattle.ot_repo.specs.Walks as walks
 use Rattle.ot_repo.specs.Required.{Refusal, NotInstalled, theory_at, requirements, index_path, index_at, picked, edge_of, edges_in, edges_of, walked, required_listed, required_over, required_by}
 use Rattle.ot_repo.specs.Laws.{ArePicked, Requires, IsNeeded, ByTag, ByPackage, LeadsTo, Same, Along, IsRequired, IsFile, First, OfPackage, IsRefused, BadFile, NoPackage, Round, AreRequired, GivesRequired, GivesRefusal, RequiredEnds}
-use Rattle.ot_repo.proofs.Members.{member_push}
+use Rattle.ot_blocks.proofs.Members.{member_push}
 use Rattle.ot_repo.proofs.Walking.{gives_walk, gives_stop}
 use Rattle.ot_repo.proofs.Turns.{gives_turns}
 use Rattle.ot_repo.proofs.Ending.{ends_always}

@@ -23,7 +23,7 @@ use Rattle.ot_repo.specs.declared.requirements.Requirement.{Requirement}
 use Rattle.ot_repo.specs.declared.walk.Waiting.{Waiting}
 use Rattle.ot_repo.specs.declared.walk.Mark.{Mark}
 use Rattle.ot_repo.specs.declared.walk.Mark.TheVariants.{Open, Done}
-use Rattle.ot_repo.proofs.Members.{member_end, member_left}
+use Rattle.ot_blocks.proofs.Members.{member_end, member_left}
 use Rattle.ot_repo.proofs.Ending.{ends_always}
 use Rattle.ot_repo.proofs.Requiring.{some_ok, stays}
 use Rattle.ot_repo.proofs.Tags.{listed_reversed}

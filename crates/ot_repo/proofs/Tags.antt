@@ -19,7 +19,7 @@ use Rattle.ot_blocks.proofs.Collecting.{no_tag, map_more}
 use Rattle.ot_repo.specs.Required.{TheoryTooLarge, NotInstalled, RequiresCycle, is_requirement, picked, picked_by_name, edge_of, text_at, in_file, requirements, required_over, required_by, required}
 use Rattle.ot_repo.specs.Reading.{texts_of, edge_at, AreListed}
 use Rattle.ot_repo.specs.declared.requirements.Requirement.{Requirement}
-use Rattle.ot_repo.proofs.Members.{member_push}
+use Rattle.ot_blocks.proofs.Members.{member_push}
 use Rattle.ot_repo.proofs.Picking.{by_name_more, picked_so_far, so_far_more}
 use Rattle.ot_repo.proofs.Requiring.{picked_member, member_reverse}
 

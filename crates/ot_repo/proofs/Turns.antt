@@ -5,7 +5,7 @@ use Rattle.std.proofs.lemmas.Bool.{cases_Bool}
 use Rattle.ot_plain.specs.Lists.{IsMember, AreDistinct}
 use Rattle.ot_repo.specs.Walk.{Edge, Walk, Walked, Stops, TooDeep, ◌>>=◌, followed, is_in, arrive, walk_edges, walk_key}
 use Rattle.ot_repo.specs.Walks.{GivesTurns}
-use Rattle.ot_repo.proofs.Members.{member_left, member_end, split_member}
+use Rattle.ot_blocks.proofs.Members.{member_left, member_end, split_member}
 use Rattle.ot_repo.proofs.Walking.{gives_walk}
 
 module _ {K E : Type 0} where

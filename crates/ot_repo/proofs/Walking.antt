@@ -5,7 +5,7 @@ use Rattle.std.proofs.lemmas.Bool.{cases_Bool}
 use Rattle.ot_plain.specs.Lists.{IsMember, IsPart, AreDistinct}
 use Rattle.ot_repo.specs.Walk.{Edge, Walk, Walked, Stops, TooDeep, ◌>>=◌, followed, is_in, arrive, walk_edges, walk_key, walk_from}
 use Rattle.ot_repo.specs.Walks.{HasEdge, Reaches, First, Further, Leads, Here, Along, LeadInto, IsReached, HasStop, NoEdges, NoTarget, Cycle, GivesWalk, GivesStop}
-use Rattle.ot_repo.proofs.Members.{member_from_test, apart_from_test, member_left, member_end, member_push, distinct_push, cut_push}
+use Rattle.ot_blocks.proofs.Members.{member_from_test, apart_from_test, member_left, member_end, member_push, distinct_push, cut_push}
 
 -- ---- answers
 

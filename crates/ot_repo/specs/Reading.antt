@@ -7,27 +7,20 @@ use Rattle.std.specs.Str.{bytes_eq}
 use Rattle.ot_io.specs.Folder.{Folder}
 use Rattle.ot_plain.specs.Answers.{◌>>=◌, some_or}
 use Rattle.ot_plain.specs.Lists.{IsMember}
-use Rattle.ot_theory.specs.Lines.{LineText}
 use Rattle.ot_blocks.specs.Paths.{is_package}
 use Rattle.ot_repo.specs.Walk.{Edge}
 use Rattle.ot_repo.specs.Required.{Refusal, NotInstalled, RequiresCycle, file_at, picked}
-use Rattle.ot_repo.specs.declared.lines.Line.{Line}
 use Rattle.ot_repo.specs.declared.index.Index.{Index}
 use Rattle.ot_repo.specs.declared.requirements.Requirement.{Requirement}
 use Rattle.ot_repo.specs.declared.requirements.File.{File}
 use Rattle.ot_repo.specs.declared.walk.Mark.{Mark}
 use Rattle.ot_repo.specs.declared.walk.Mark.TheVariants.{Open, Done}
 
--- ---- files and lines
+-- ---- files
 
 -- the bytes of a file, where it has no more than so many
 abbrev pub sized_at : Folder → ℕ → List ℕ → Result (Option (List ℕ)) Refusal
 sized_at folder max path = file_at folder path >>= λ bytes. Ok (if nat_le (length bytes) max then Some bytes else None)
-
--- the first of the lines was taken, or there was none
-abbrev pub TakesLine : Option Line → List LineText → List LineText → Type 0
-TakesLine None old new = (old ≡ []) × (new ≡ [])
-TakesLine (Some line) old new = old ≡ record { number = line.number; text = line.text.now } ∷ new
 
 -- ---- the list of installed packages
 

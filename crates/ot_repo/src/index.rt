@@ -8,10 +8,9 @@ ghost use Rattle.ot_repo.specs.Answers.{Gives, IsInside};
 ghost use Rattle.ot_repo.specs.Reading.{texts_of, listed_in, ArePackages, IsIndex, value_in};
 
 use crate::fault::RepoFault;
-use crate::lines::next_line;
-use crate::names::name_part;
-use ot_blocks::is_package;
+use ot_blocks::{is_package, name_part};
 use ot_plain::Memory;
+use ot_theory::next_line;
 use std::alloc::Global;
 use std::collections::HashMap;
 

@@ -5,7 +5,6 @@
 mod fault;
 mod index;
 mod laws;
-mod lines;
 mod names;
 mod packages;
 mod reading;

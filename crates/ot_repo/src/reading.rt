@@ -1,6 +1,5 @@
 // The files that are read.
-ghost use Rattle.std.specs.Prelude.{◌≡◌, ◌≤◌, ◌+◌, List, Some, take, IfOk, IfErr, IfSome};
-ghost use Rattle.ot_io.specs.Causes.{Rose};
+ghost use Rattle.std.specs.Prelude.{◌≡◌, ◌≤◌, List, Some, IfErr};
 ghost use Rattle.ot_io.specs.Folder.{Folder};
 ghost use Rattle.ot_theory.specs.Theory.{theory};
 ghost use Rattle.ot_theory.specs.Answers.{theory_of};
@@ -10,19 +9,12 @@ ghost use Rattle.std.specs.Option.{option_map};
 ghost use Rattle.ot_repo.specs.Reading.{sized_at};
 
 use crate::fault::RepoFault;
-use ot_io::{Failed, Files, OpenFault, Source};
+use ot_io::{Files, OpenFault, ReadFault, read_front};
 use ot_theory::{Theory, TheoryError, parse};
 use std::alloc::Global;
 
 /// The most bytes that the list of installed packages may have.
 const INDEX_LIMIT: usize = 1_048_576;
-
-/// Why the bytes of an open file aren't read.
-#[derive(Clone, Copy, Debug, PartialEq, Eq)]
-pub(crate) enum ReadError {
-    Failed,
-    Memory,
-}
 
 /// The text of a theory file, which is within this limit.
 pub(crate) fn theory_text<F: Files>(
@@ -91,11 +83,11 @@ fn file_text<F: Files>(
     match files.open_file(path) {
         Ok(()) => match read_front(alloc, files, max_bytes) {
             Ok(text) => Ok(Some(text).filter(|text| text.len() <= max_bytes)),
-            Err(ReadError::Failed) => {
+            Err(ReadFault::Failed) => {
                 let path = String::from_str(alloc, path)?;
                 Err(RepoFault::ReadFault { path })
             }
-            Err(ReadError::Memory) => Err(RepoFault::Memory),
+            Err(ReadFault::Memory) => Err(RepoFault::Memory),
         },
         Err(OpenFault::Missing) => {
             let path = String::from_str(alloc, path)?;
@@ -106,39 +98,6 @@ fn file_text<F: Files>(
             Err(RepoFault::ReadFault { path })
         }
     }
-}
-
-/// The bytes that a source has left, or its first ones where it has more than so many: one more
-/// than that.
-fn read_front<S: Source>(
-    alloc: Global,
-    source: &mut S,
-    max_bytes: usize,
-) -> Result<Vec<u8>, ReadError>
-    ensures bytes { IfOk result (λ bytes. IfSome (S.left source.old)
-        (λ left. bytes.items ≡ take (max_bytes + 1) left)) }
-    ensures cause { IfErr result (λ e. e ≡ ReadError.Failed
-        → Rose (S.faults source.old) (S.faults source.new)) }
-    ensures later { S.faults source.old ≤ S.faults source.new }
-    ensures folder { S.folder source.new ≡ S.folder source.old }
-    ensures misses { S.misses source.new ≡ S.misses source.old }
-    ensures at { S.at source.new ≡ S.at source.old }
-{
-    let mut bytes = Vec::new(alloc);
-    let mut buffer = [0u8; 4096];
-    'reading: while bytes.len() <= max_bytes {
-        let want = (max_bytes - bytes.len()).min(4095) + 1;
-        match source.read(&mut buffer[..want]) {
-            Ok(0) => break,
-            Ok(count) => {
-                let Ok(()) = bytes.extend_from_slice(&buffer[..count]) else {
-                    return Err(ReadError::Memory);
-                };
-            }
-            Err(Failed) => return Err(ReadError::Failed),
-        }
-    }
-    Ok(bytes)
 }
 
 /// The theory file that a text is.

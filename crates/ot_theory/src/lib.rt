@@ -18,6 +18,7 @@ pub use fault::{TheoryError, TheoryFault};
 pub use interpretation::{SymbolWord, split_interpret};
 pub use keys::{Key, key_of};
 pub use laws::{one_interpretation, one_path, places};
+pub use lines::{Line, next_line};
 pub use theory::{Block, Tag, Theory, parse};
 
 #[cfg(test)]

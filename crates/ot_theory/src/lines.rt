@@ -5,15 +5,17 @@ ghost use Rattle.ot_theory.specs.Lines.{TakesLine, lines_at, line_count};
 use ot_lines::{is_skipped, piece_len, trimmed};
 
 /// A line that isn't passed over, trimmed.
-#[derive(Clone, Copy)]
-pub(crate) struct Line<'a> {
+#[derive(Clone, Copy, Debug)]
+pub struct Line<'a> {
     /// Counted from 1.
     pub number: u64,
     pub text: &'a [u8],
 }
 
-/// The next line from a place on, behind so many others.
-pub(crate) fn next_line<'a>(text: &'a [u8], at: &mut usize, number: &mut u64) -> Option<Line<'a>>
+/// The next line of a text that isn't passed over, from the place `at` on, behind `number` other
+/// lines; None where there is no further one. Both numbers go behind the lines that were looked at.
+/// Lines end at a line feed, are trimmed, and are passed over where they are empty or begin with `#`.
+pub fn next_line<'a>(text: &'a [u8], at: &mut usize, number: &mut u64) -> Option<Line<'a>>
     requires place { at.old ≤ length text.now }
     requires numbered { number.old ≤ at.old }
     ensures line { TakesLine result

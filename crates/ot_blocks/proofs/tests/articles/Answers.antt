@@ -1,8 +1,9 @@
 -- The values are quoted paths.
-use Rattle.std.proofs.Common.{◌≡◌, ℕ, List, ◌∷◌, ◌++◌, [], length, true, false, refl, ltb}
+use Rattle.std.proofs.Common.{◌≡◌, ℕ, List, ◌∷◌, ◌++◌, [], length, true, false, refl, eqb, ltb}
 use Rattle.std.specs.Prelude.{codes}
 use Rattle.std.specs.List.{list_all}
 use Rattle.std.proofs.lemmas.Bool.{ltb-true}
+use Rattle.std.proofs.lemmas.Bool.Decides.{Decides-eqb}
 use Rattle.std.proofs.lemmas.Str.{IsUtf8-from_ascii}
 use Rattle.ot_theory.specs.Values.{IsPath}
 use Rattle.ot_blocks.specs.Order.{is_in}
@@ -15,7 +16,7 @@ quoted inner some ascii plain = record {
   inner = inner;
   some = ltb-true 0 (length inner) some;
   utf8 = IsUtf8-from_ascii inner (ascii_from_all (λ b. ltb b 128) (λ b. ltb-true b 128) inner ascii);
-  plain = apart_from_test inner 34 plain;
+  plain = apart_from_test eqb Decides-eqb inner 34 plain;
   text = refl;
 }
 

@@ -1,0 +1,50 @@
+ghost use Rattle.std.specs.Prelude.{◌≡◌, ◌≤◌, ◌+◌, length, take, IfOk, IfErr, IfSome};
+ghost use Rattle.ot_io.specs.Causes.{Rose};
+
+use crate::source::{Failed, Source};
+use std::alloc::Global;
+
+/// Why the front of a source isn't read.
+#[derive(Clone, Copy, Debug, PartialEq, Eq)]
+pub enum ReadFault {
+    /// The source failed.
+    Failed,
+    Memory,
+}
+
+/// The bytes that a source has left, or its first ones where it has more than `max_bytes`: one more
+/// than that. No more are read, whatever the answer is.
+///
+/// `Failed` comes only where the source failed in this call.
+pub fn read_front<S: Source>(
+    alloc: Global,
+    source: &mut S,
+    max_bytes: usize,
+) -> Result<Vec<u8>, ReadFault>
+    ensures bytes { IfOk result (λ bytes. IfSome (S.left source.old)
+        (λ left. bytes.items ≡ take (max_bytes + 1) left)) }
+    ensures few { IfSome (S.left source.old) (λ left. IfSome (S.left source.new)
+        (λ rest. length left ≤ length rest + (max_bytes + 1))) }
+    ensures cause { IfErr result (λ e. e ≡ ReadFault.Failed
+        → Rose (S.faults source.old) (S.faults source.new)) }
+    ensures later { S.faults source.old ≤ S.faults source.new }
+    ensures folder { S.folder source.new ≡ S.folder source.old }
+    ensures misses { S.misses source.new ≡ S.misses source.old }
+    ensures at { S.at source.new ≡ S.at source.old }
+{
+    let mut bytes = Vec::new(alloc);
+    let mut buffer = [0u8; 4096];
+    'reading: while bytes.len() <= max_bytes {
+        let want = (max_bytes - bytes.len()).min(4095) + 1;
+        match source.read(&mut buffer[..want]) {
+            Ok(0) => break,
+            Ok(count) => {
+                let Ok(()) = bytes.extend_from_slice(&buffer[..count]) else {
+                    return Err(ReadFault::Memory);
+                };
+            }
+            Err(Failed) => return Err(ReadFault::Failed),
+        }
+    }
+    Ok(bytes)
+}
