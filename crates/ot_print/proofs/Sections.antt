@@ -2,7 +2,7 @@
 use Rattle.std.specs.Prelude.{◌≡◌, ℕ, suc, ◌+◌, ◌<◌, ◌≤◌, Bool, true, false, List, [], ◌∷◌, ◌++◌, map, length, codes}
 use Rattle.std.proofs.Common.{refl, sym, ◌∙◌, ap, append_assoc, arith, length-append, get_or}
 use Rattle.ot_text.specs.Texts.{number_text}
-use Rattle.ot_print.specs.Texts.{items_text, section_text}
+use Rattle.ot_text.specs.Sections.{items_text, section_text}
 use Rattle.ot_text.specs.Gathered.{bytes_in}
 use Rattle.ot_text.specs.Pages.{Printed, IsPut}
 use Rattle.ot_text.proofs.Putting.{Puts, puts-more, same-text}

@@ -8,7 +8,7 @@ use Rattle.ot_term.specs.declared.term.VarKey.{VarKey}
 use Rattle.ot_kernel.specs.State.{State, name_at, variable_at}
 use Rattle.ot_kernel.specs.Definitions.{pairs_at}
 use Rattle.ot_text.specs.Texts.{name_text, sequent_text}
-use Rattle.ot_print.specs.Texts.{pair_text, pairs_text, further_pairs, names_text, further_names, head_text}
+use Rattle.ot_text.specs.Sections.{pair_text, pairs_text, further_pairs, names_text, further_names, head_text}
 use Rattle.ot_text.specs.Separated.{separator}
 
 -- the pairs from the first or from a further one on

@@ -3,7 +3,8 @@ ghost use Rattle.std.specs.Prelude.{◌≡◌, ◌<◌, ◌++◌, codes, ◌∷�
 ghost use Rattle.std.specs.List.{All};
 ghost use Rattle.ot_kernel.specs.State.{theorem_at};
 ghost use Rattle.ot_text.specs.Texts.{number_text, ascending, sequent_text};
-ghost use Rattle.ot_print.specs.Texts.{items_text, section_text, summary_text as text_of};
+ghost use Rattle.ot_text.specs.Sections.{items_text, section_text};
+ghost use Rattle.ot_print.specs.Texts.{summary_text as text_of};
 ghost use Rattle.ot_text.specs.Gathered.{texts_of};
 ghost use Rattle.ot_text.specs.Pages.{IsPut, printed, Appended};
 

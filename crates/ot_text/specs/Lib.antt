@@ -1,5 +1,6 @@
 -- What a reader has to believe of the printed texts, and the law that a text names one thing.
 pub mod Texts
+pub mod Sections
 pub mod Laws
 pub mod Pages
 pub mod Separated

@@ -1,6 +1,6 @@
 use Rattle.std.proofs.Common.{map, drop}
 use Rattle.ot_kernel.specs.State.{name_at}
-use Rattle.ot_print.specs.Texts.{names_text}
+use Rattle.ot_text.specs.Sections.{names_text}
 use Rattle.ot_text.specs.Pages.{printed}
 use Rattle.ot_text.proofs.Putting.{Leaves}
 use Rattle.ot_print.proofs.Separating.{names_from}

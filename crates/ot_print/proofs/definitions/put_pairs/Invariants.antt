@@ -1,6 +1,6 @@
 use Rattle.std.proofs.Common.{drop}
 use Rattle.ot_kernel.specs.Definitions.{pairs_at}
-use Rattle.ot_print.specs.Texts.{pairs_text}
+use Rattle.ot_text.specs.Sections.{pairs_text}
 use Rattle.ot_text.specs.Pages.{printed}
 use Rattle.ot_text.proofs.Putting.{Leaves}
 use Rattle.ot_print.proofs.Separating.{pairs_from}

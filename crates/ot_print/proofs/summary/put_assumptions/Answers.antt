@@ -2,7 +2,7 @@ use Rattle.std.proofs.Common.{Err, ◌<◌, sym, ap, ◌∙◌, subst}
 use Rattle.std.specs.Prelude.{codes, map}
 use Rattle.ot_kernel.specs.State.{theorem_at}
 use Rattle.ot_text.specs.Texts.{ascending, sequent_text}
-use Rattle.ot_print.specs.Texts.{section_text}
+use Rattle.ot_text.specs.Sections.{section_text}
 use Rattle.ot_text.specs.Gathered.{bytes_in}
 use Rattle.ot_text.proofs.Putting.{same-text, gives-up}
 use Rattle.ot_text.proofs.Gathering.{texts-through}

@@ -1,6 +1,6 @@
 use Rattle.std.proofs.Common.{map, sym, arith}
 use Rattle.ot_kernel.proofs.Namings.{length-map}
-use Rattle.ot_print.specs.Texts.{items_text}
+use Rattle.ot_text.specs.Sections.{items_text}
 use Rattle.ot_text.specs.Pages.{printed}
 use Rattle.ot_text.proofs.Putting.{then, same-text, puts-all, nothing}
 use Rattle.ot_print.proofs.Sections.{items-more, section-pieces}

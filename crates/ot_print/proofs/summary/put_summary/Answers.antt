@@ -3,7 +3,7 @@ use Rattle.std.specs.Prelude.{codes}
 use Rattle.ot_kernel.specs.State.{theorem_at}
 use Rattle.ot_kernel.specs.Definitions.{definition_at}
 use Rattle.ot_text.specs.Texts.{ascending, sequent_text}
-use Rattle.ot_print.specs.Texts.{definition_text, section_text}
+use Rattle.ot_text.specs.Sections.{definition_text, section_text}
 use Rattle.ot_text.proofs.Putting.{then, same-text}
 use Rattle.ot_text.proofs.Gathering.{texts-through}
 use Rattle.ot_print.proofs.summary.put_summary.Goals as goal

@@ -1,5 +1,5 @@
 use Rattle.std.proofs.Common.{map}
-use Rattle.ot_print.specs.Texts.{items_text}
+use Rattle.ot_text.specs.Sections.{items_text}
 use Rattle.ot_text.specs.Pages.{printed}
 use Rattle.ot_text.specs.Gathered.{texts_of}
 use Rattle.ot_text.proofs.Putting.{Leaves}
