@@ -3,6 +3,7 @@ ghost use Rattle.std.specs.Prelude.{◌≡◌, ◌≤◌, ◌++◌, map, IsTrue,
 ghost use Rattle.ot_io.specs.Folder.{has_distinct_paths};
 ghost use Rattle.ot_io.specs.FileList.{folder_of};
 
+mod hostile;
 mod tables;
 mod theories;
 
@@ -60,18 +61,18 @@ fn answered(alloc: Global, words: &[&str], article: &[u8], outside: Outside) -> 
     requires write { 1 ≤ outside.write.0 }
     requires say { 1 ≤ outside.say.0 }
 {
-    let files = one_file(alloc, article)?;
+    let files = one_file(alloc, "a.art", article)?;
     answered_over(alloc, words, files, article, outside)
 }
 
-/// The one file.
-fn one_file(alloc: Global, article: &[u8]) -> Result<Vec<(String, Vec<u8>)>, Fail>
+/// One file with this path and these bytes.
+fn one_file(alloc: Global, path: &str, bytes: &[u8]) -> Result<Vec<(String, Vec<u8>)>, Fail>
     ensures { IfOk result (λ files. IsTrue (has_distinct_paths (folder_of files.items))) }
 {
     let mut files = Vec::new(alloc);
     files.push((
-        String::from_str(alloc, "a.art")?,
-        Vec::from_slice(alloc, article)?,
+        String::from_str(alloc, path)?,
+        Vec::from_slice(alloc, bytes)?,
     ))?;
     Ok(files)
 }

@@ -1,4 +1,4 @@
-ghost use Rattle.std.specs.Prelude.{◌≡◌, ◌<◌, ◌++◌, length, IfOk, IsSomeAnd, OnOk, codes};
+ghost use Rattle.std.specs.Prelude.{◌≡◌, ◌≢◌, ◌<◌, ◌++◌, length, IfOk, IsSomeAnd, OnOk, codes};
 ghost use Rattle.std.specs.Fmt.{signed_decimal};
 ghost use Rattle.ot_plain.specs.Renamed.{map_symbol};
 ghost use Rattle.ot_kernel.specs.State.{name_at};
@@ -78,7 +78,8 @@ pub fn fault_line(
     number: u64,
     fault: Fault,
 ) -> Result<Vec<u8>, Memory>
-    requires { IsSymbolIn kernel.now fault }
+    requires symbol { IsSymbolIn kernel.now fault }
+    requires apart { fault ≢ Fault.Memory }
     ensures { IfOk result (λ line. IsSomeAnd (fault_of (name_at kernel.now) fault) (λ f. line.items ≡ fault_line path.now number f)) }
 {
     let mut line = line_start(alloc, path, number)?;
@@ -114,7 +115,8 @@ fn kind_text(kind: Kind) -> &'static str
 
 /// Appends the text of a fault. Want of memory is none of an article's.
 fn add_fault(alloc: Global, kernel: &Kernel, fault: Fault, out: &mut Vec<u8>) -> Result<(), Memory>
-    requires { IsSymbolIn kernel.now fault }
+    requires symbol { IsSymbolIn kernel.now fault }
+    requires apart { fault ≢ Fault.Memory }
     ensures { OnOk result (IsSomeAnd (fault_of (name_at kernel.now) fault) (λ f. out.new.items ≡ out.old.items ++ fault_text f)) }
 {
     match fault {
@@ -150,7 +152,7 @@ fn add_fault(alloc: Global, kernel: &Kernel, fault: Fault, out: &mut Vec<u8>) ->
         Fault::NotApplication => add(out, "conclusion is not an application"),
         Fault::BadTypeVars => add(out, "bad type variable list"),
         Fault::Nesting => add(out, "nested deeper than 4096"),
-        Fault::Memory => Err(Memory),
+        Fault::Memory => unreachable!(),
     }
 }
 

@@ -1,5 +1,5 @@
 -- How the code's answers stand to the stated ones. After a read fault, and where memory ran out, the answer is open.
-use Rattle.std.specs.Prelude.{◌≡◌, ◌<◌, ◌≤◌, ℕ, List, length, map, Option, Some, Result, Ok, Err, Vec, IfSome, string_bytes}
+use Rattle.std.specs.Prelude.{◌≡◌, ◌≢◌, ◌<◌, ◌≤◌, ℕ, List, length, map, Option, Some, Result, Ok, Err, Vec, IfSome, string_bytes}
 use Rattle.std.specs.Global.{Global}
 use Rattle.std.specs.List.{All}
 use Rattle.ot_plain.specs.Names.{Name}
@@ -16,6 +16,7 @@ use Rattle.ot_machine.specs.States.{State}
 use Rattle.ot_machine.specs.Run.{Outcome, Ended, Stopped}
 use Rattle.ot_machine.specs.declared.fault.ArticleFault.{ArticleFault}
 use Rattle.ot_machine.specs.declared.fault.ArticleFault.TheVariants as article
+use Rattle.ot_machine.specs.declared.fault.Fault.TheVariants as machine
 use Rattle.ot_machine.specs.declared.machine.Export as code
 use Rattle.ot_link.specs.Stops.{InArticle, InTheory, InStructure, TooLarge, Missing, Linked, Setting}
 use Rattle.ot_link.specs.Blocks.{Ran}
@@ -63,9 +64,9 @@ EndsAs k (Err article.Memory) o = Unit {0}
 abbrev pub AreExportsIn : kernel.State → Vec code.Export Global → Type 0
 AreExportsIn k exports = All (λ e. e.th < length k.theorems) exports.items
 
--- the symbol that a fault names, where it names one, is of the kernel
+-- the symbol that a fault names, where it names one, is of the kernel; and no article's fault is want of memory
 abbrev pub NamesSymbolIn : kernel.State → LinkFault → Type 0
-NamesSymbolIn k (link.Article path line fault) = IsSymbolIn k fault
+NamesSymbolIn k (link.Article path line fault) = IsSymbolIn k fault × (fault ≢ machine.Memory)
 NamesSymbolIn k (link.Theory path line fault) = Unit {0}
 NamesSymbolIn k (link.Structure path line fault) = Unit {0}
 NamesSymbolIn k (link.TheoryTooLarge path) = Unit {0}

@@ -1,5 +1,5 @@
 // Articles as they are run in a context.
-ghost use Rattle.std.specs.Prelude.{◌≡◌, ◌≤◌, ◌^◌, Some, Err, IfOk, IfErr, IfSome, string_bytes};
+ghost use Rattle.std.specs.Prelude.{◌≡◌, ◌≢◌, ◌≤◌, ◌^◌, ℕ, Some, Err, IfOk, IfErr, IfSome, string_bytes};
 ghost use Rattle.ot_io.specs.Causes.{Rose};
 ghost use Rattle.ot_io.specs.Folder.{Folder};
 ghost use Rattle.ot_kernel.specs.State.{Keeps};
@@ -15,7 +15,7 @@ ghost use Rattle.ot_link.specs.Answers.{setting_of, Comes, ran_of, EndsAs, AreEx
 use crate::fault::LinkFault;
 use crate::setting::Setting;
 use ot_io::{Files, OpenFault, Source};
-use ot_machine::{ArticleFault, Context, Export, Machine, Session};
+use ot_machine::{ArticleFault, Context, Export, Fault, Machine, Session};
 use std::alloc::Global;
 
 /// Runs the article of a path, and gives its exports.
@@ -62,6 +62,7 @@ fn run_source<S: Source>(
         (run (context_of session.old.kernel context.now) (lines_of setting.entry.limits.now.article_bytes bytes) (record { article = fresh_article; run = run_of session.old.kernel }))) }
     ensures exports { IfOk result (AreExportsIn session.new.kernel) }
     ensures symbols { IfErr result (NamesSymbolInArticle session.new.kernel) }
+    ensures apart { (line : ℕ) → result ≢ Err (ArticleFault.At line Fault.Memory) }
     ensures grown { Keeps session.old.kernel session.new.kernel }
     ensures cause { result ≡ Err ArticleFault.ReadFault → Rose (S.faults source.old) (S.faults source.new) }
     ensures later { S.faults source.old ≤ S.faults source.new }

@@ -1,6 +1,5 @@
 // Theory files as they are read and planned.
-ghost use Rattle.std.specs.Prelude.{◌≡◌, ◌≤◌, ◌+◌, ◌^◌, ◌<◌, ℕ, List, Option, Some, length, take, IfOk, IfErr, IfSome, codes, true};
-ghost use Rattle.ot_io.specs.Causes.{Rose};
+ghost use Rattle.std.specs.Prelude.{◌≡◌, ◌≤◌, ℕ, List, Option, Some, IfOk, IfErr, codes, true};
 ghost use Rattle.ot_io.specs.Folder.{Folder};
 ghost use Rattle.ot_kernel.specs.State.{State};
 ghost use Rattle.ot_theory.specs.Theory.{theory, has_block};
@@ -16,16 +15,9 @@ ghost use Rattle.ot_link.specs.Answers.{setting_of, Comes, NamesSymbolIn, HasCau
 use crate::fault::LinkFault;
 use crate::setting::Setting;
 use ot_blocks::{Plan, PlanFault, plan_blocks};
-use ot_io::{Failed, Files, OpenFault, Source};
+use ot_io::{Files, OpenFault, ReadFault, read_front};
 use ot_theory::{Block, Theory, TheoryError, parse};
 use std::alloc::Global;
-
-/// Why the bytes of an open file aren't read.
-#[derive(Clone, Copy, Debug, PartialEq, Eq)]
-pub(crate) enum ReadError {
-    Failed,
-    Memory,
-}
 
 /// The text of a theory file, which is within its limit. No more than one byte past the limit is read.
 pub(crate) fn theory_text<F: Files>(
@@ -52,11 +44,11 @@ pub(crate) fn theory_text<F: Files>(
                     Err(LinkFault::TheoryTooLarge { path })
                 }
             }
-            Err(ReadError::Failed) => {
+            Err(ReadFault::Failed) => {
                 let path = String::from_str(alloc, path)?;
                 Err(LinkFault::ReadFault { path })
             }
-            Err(ReadError::Memory) => Err(LinkFault::Memory),
+            Err(ReadFault::Memory) => Err(LinkFault::Memory),
         },
         Err(OpenFault::Missing) => {
             let path = String::from_str(alloc, path)?;
@@ -67,39 +59,6 @@ pub(crate) fn theory_text<F: Files>(
             Err(LinkFault::ReadFault { path })
         }
     }
-}
-
-/// The bytes that a source has left, or its first ones where it has more than so many: one more than that. No more are read,
-/// whatever the answer is.
-fn read_front<S: Source>(
-    alloc: Global,
-    source: &mut S,
-    max_bytes: usize,
-) -> Result<Vec<u8>, ReadError>
-    requires { max_bytes + 1 < 2 ^ 64 }
-    ensures bytes { IfOk result (λ bytes. IfSome (S.left source.old) (λ left. bytes.items ≡ take (max_bytes + 1) left)) }
-    ensures few { IfSome (S.left source.old) (λ left. IfSome (S.left source.new) (λ rest. length left ≤ length rest + (max_bytes + 1))) }
-    ensures cause { IfErr result (λ e. e ≡ ReadError.Failed → Rose (S.faults source.old) (S.faults source.new)) }
-    ensures later { S.faults source.old ≤ S.faults source.new }
-    ensures folder { S.folder source.new ≡ S.folder source.old }
-    ensures misses { S.misses source.new ≡ S.misses source.old }
-    ensures at { S.at source.new ≡ S.at source.old }
-{
-    let mut bytes = Vec::new(alloc);
-    let mut buffer = [0u8; 4096];
-    'reading: while bytes.len() <= max_bytes {
-        let want = (max_bytes + 1 - bytes.len()).min(buffer.len());
-        match source.read(&mut buffer[..want]) {
-            Ok(0) => break,
-            Ok(count) => {
-                let Ok(()) = bytes.extend_from_slice(&buffer[..count]) else {
-                    return Err(ReadError::Memory);
-                };
-            }
-            Err(Failed) => return Err(ReadError::Failed),
-        }
-    }
-    Ok(bytes)
 }
 
 /// The theory file that a text is.

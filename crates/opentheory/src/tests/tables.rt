@@ -585,7 +585,7 @@ const SAMPLE: &[u8] =
 const BOTH_DOUBLED: &[u8] =
     b"4 ref 406 ref appTerm 406 ref appTerm 406 def pop 4 ref 407 ref appTerm 407 ref appTerm 407 def pop";
 
-pub const REPEATED: [Repeated; 7] = [
+pub const REPEATED: [Repeated; 8] = [
     (
         &[b"6 version nil"],
         b"nil cons",
@@ -614,7 +614,16 @@ pub const REPEATED: [Repeated; 7] = [
         NONE,
     ),
     (
-        &[b"6 version \"d\" typeOp 0 def nil opType"],
+        &[b"6 version \"t\" typeOp 0 def nil opType"],
+        b"1 def pop 0 ref 1 ref nil cons opType",
+        4095,
+        b"#",
+        "check",
+        Status::Accepted,
+        NONE,
+    ),
+    (
+        &[b"6 version \"t\" typeOp 0 def nil opType"],
         b"1 def pop 0 ref 1 ref nil cons opType",
         4096,
         b"#",

@@ -152,3 +152,11 @@ pub const CHAIN: [Entry; 19] = [
 ];
 
 pub const TOO_DEEP: &[u8] = b"opentheory: p/p-1/p.thy:2: packages nested deeper than 16\n";
+
+/// A package that asks for itself.
+pub const SELF: [Entry; 2] = [
+    ("u.thy", b"main {\npackage: a-1.0\n}\n", b""),
+    ("packages/a-1.0/a.thy", b"main {\npackage: a-1.0\n}\n", b""),
+];
+
+pub const PACKAGE_CYCLE: &[u8] = b"opentheory: packages/a-1.0/a.thy:2: package cycle\n";
