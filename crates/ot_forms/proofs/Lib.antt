@@ -6,11 +6,13 @@ pub mod Spellings
 pub mod RoundTrip
 pub mod Padding
 pub mod Hiding
+pub mod SymbolWords
 pub mod OperatorWords
 pub mod Growing
 pub mod TypeLaw
 pub mod Marks
 pub mod Terms
+pub mod WholeTerms
 pub mod Printed
 pub mod FirstRefusal
 pub mod SignWords

@@ -18,7 +18,8 @@ use Rattle.ot_forms.specs.Printing.{binder_name, is_relation, operator_of, with_
 use Rattle.ot_forms.specs.Reading.{Reading, Got, term_at}
 use Rattle.ot_forms.proofs.Readers.{Reads}
 use Rattle.ot_forms.proofs.Types.{IsEnd}
-use Rattle.ot_forms.proofs.Terms.{SaysConstant, IsConstantEnd, term-reads}
+use Rattle.ot_forms.proofs.Terms.{SaysConstant, IsConstantEnd}
+use Rattle.ot_forms.proofs.WholeTerms.{term-reads}
 use Rattle.ot_forms.specs.Words.{IsNotation}
 use Rattle.ot_forms.proofs.TypeLaw.{reads}
 use Rattle.ot_forms.proofs.BareWords.{and_true}

@@ -13,7 +13,8 @@ use Rattle.ot_forms.proofs.Spellings.{variable-reads}
 use Rattle.ot_forms.proofs.Marks.{part-reads, signs-reads}
 use Rattle.ot_forms.specs.Words.{IsNotation}
 use Rattle.ot_forms.proofs.ConstantWords.{constant-reads}
-use Rattle.ot_forms.proofs.Terms.{SaysTerm, term-reads, opened-reads, brace-reads}
+use Rattle.ot_forms.proofs.Terms.{SaysTerm, opened-reads, brace-reads}
+use Rattle.ot_forms.proofs.WholeTerms.{term-reads}
 use Rattle.ot_forms.proofs.Halting.{StopsAt, OpensTooMany, stops, opens}
 use Rattle.ot_forms.proofs.Growing.{left, Grows, Shrinks, reads-shrinks, IsPlain, plain-grows, literal-plain, literal-shrinks, mapped-plain, kept-plain, next-grows, mapped-grows, mapped-shrinks, next-shrinks, cond-grows, mapped-left}
 use Rattle.ot_forms.proofs.TypeLaw.{cond-plain, bare-plain, variable-plain, quoted-plain, reads, grows, shrinks}

@@ -1,4 +1,4 @@
--- Terms: their reader reads each text of a written term, and halts where no text of one goes on.
+-- Terms behind an opening parenthesis or brace: their readers read each such text, and halt where none goes on.
 use Rattle.std.specs.Prelude.{◌≡◌, ◌≤◌, ℕ, zero, suc, ◌+◌, ◌-◌, ◌==◌, ◌||◌, ◌&&◌, not, Bool, true, false, cond, List, [], ◌∷◌, ◌++◌, length, codes}
 use Rattle.std.specs.List.{list_all}
 use Rattle.std.proofs.Common.{refl, sym, ◌∙◌, ap, subst, append_assoc, length-append, inl, inr, arith, lit<}
@@ -8,8 +8,8 @@ use Rattle.ot_plain.specs.Names.{Name, IsName, spelled}
 use Rattle.ot_plain.specs.Trees.{Ty, TyVar, Symbol, ConSymbol}
 use Rattle.ot_forms.specs.Words.{is_inner, is_letter, is_part, is_sign, is_operator, is_bare, dotted, same_text, variable_word, word}
 use Rattle.ot_forms.specs.Forms.{type_text, HasNames, most_open_type, Written, Writtens, Place, FreeAs, ConAs, Equal, Infix, Applied, Binding, NoMore, More, term_text, terms_text, IsWritten, AreWritten, most_open, most_open_all}
-use Rattle.ot_forms.specs.Reading.{NoForm, OneTooMany, Reading, Got, Halted, next, mapped, literal_at, bare_at, part_at, signs_at, variable_at, is_single, first_part, joined_by, free_at, further_terms_at, application_at, operation_at, behind_term_at, behind_bare_at, spaced_at, named_at, quoted_variable_at, headed_at, binding_at, plain_inside_at, unquoted_inside_at, inside_term_at, closed_term_at, braced_at, term_by, term_at, type_at}
-use Rattle.ot_forms.proofs.Readers.{Follows, Reads, Joined, Image, Begins, HasByte, Is, Any, Either, picked, join, told, mapped-reads, mapped-follows, pick, literal-reads, behind, same_at, at_byte, at_end, halts_here, ends_here, unchanged, second-read, first-halted, same-reads, weaken}
+use Rattle.ot_forms.specs.Reading.{Reading, Got, Halted, next, mapped, literal_at, bare_at, part_at, signs_at, variable_at, is_single, first_part, joined_by, free_at, further_terms_at, application_at, operation_at, behind_term_at, behind_bare_at, spaced_at, named_at, quoted_variable_at, headed_at, binding_at, plain_inside_at, unquoted_inside_at, inside_term_at, closed_term_at, braced_at}
+use Rattle.ot_forms.proofs.Readers.{Follows, Reads, Joined, Image, Begins, HasByte, Is, Any, Either, picked, join, told, mapped-reads, mapped-follows, pick, literal-reads, behind, at_byte, at_end, ends_here, unchanged, second-read, first-halted, same-reads, weaken}
 use Rattle.ot_forms.proofs.Types.{ends_word, IsEnd, IsLast, ends_arguments, SaysVariable, SaysType, differs, other_byte}
 use Rattle.ot_forms.proofs.BareWords.{SaysBare, bare-reads, both_true, and_true}
 use Rattle.ot_forms.proofs.Spellings.{variable-reads, bare-byte}
@@ -34,10 +34,10 @@ module _ (hidden : List (Symbol Name)) where
     pub fine : IsWritten w
     pub within : most_open w ≤ m
 
-  abbrev some_term : Written
+  abbrev pub some_term : Written
   some_term = Place (codes "a")
 
-  some-says : (m : ℕ) → SaysTerm m some_term (codes "a")
+  pub some-says : (m : ℕ) → SaysTerm m some_term (codes "a")
   some-says m = record { text = refl; fine = refl; within = omega arith }
 
   abbrev some_type : Ty Name
@@ -50,7 +50,7 @@ module _ (hidden : List (Symbol Name)) where
   last-end [] e = refl
   last-end (b ∷ r) e = (both_true (not (is_inner b || (b == 46))) (not (b == 32)) e).0
 
-  end-part : (r : List ℕ) → IsEnd r → IsPartEnd r
+  pub end-part : (r : List ℕ) → IsEnd r → IsPartEnd r
   end-part [] e = refl
   end-part (b ∷ r) e = go (is_inner b) (b == 46) e where
     go : (p q : Bool) → not (p || q) ≡ true → not p ≡ true
@@ -746,81 +746,3 @@ module _ (hidden : List (Symbol Name)) where
 
     pub brace-reads : Reads Brace Any (braced_at constant_at type term)
     brace-reads = told Braced Brace Any (braced_at constant_at type term) braced-reads brace-says says-brace
-
-  -- ---- a term, by its first byte
-  module _ (m : ℕ) (opened braced : List ℕ → Reading Written) where
-    part-complete : (x r : List ℕ) → is_part x ≡ true → IsEnd r → part_at (x ++ r) ≡ Got x r
-    part-complete [] r h e = cc
-    part-complete (b ∷ x) r h e = let k = both_true (is_letter b) (list_all is_inner x) h in
-        part-reads.complete (b ∷ x) (b ∷ x) r (record { first_byte = b; rest = x; is = refl; begins = k.0; inner_is = k.1; text = refl }) (end-part r e)
-
-    by-complete : ((w : Written) (x r : List ℕ) → SaysTerm m w (40 ∷ x) → opened (x ++ r) ≡ Got w r) → ((w : Written) (x r : List ℕ) → SaysTerm m w (123 ∷ x) → braced (x ++ r) ≡ Got w r)
-        → (w : Written) (x r : List ℕ) → SaysTerm m w x → IsEnd r → term_by opened braced (x ++ r) ≡ Got w r
-    by-complete ho hb w x r h e = ap (λ z. term_by opened braced (z ++ r)) h.text ∙ go w (record { text = refl; fine = h.fine; within = h.within }) where
-      go : (w : Written) → SaysTerm m w (term_text hidden w) → term_by opened braced (term_text hidden w ++ r) ≡ Got w r
-      go (Place []) h = let f = h.fine in cc
-      go (Place (b ∷ x)) h = let k = both_true (is_letter b) (list_all is_inner x) h.fine in
-          (λ i. cond (differs is_letter 40 b refl k.0 i) (opened (x ++ r)) (cond (differs is_letter 123 b refl k.0 i) (braced (x ++ r)) (mapped Place (part_at (b ∷ (x ++ r))))))
-          ∙ ap (mapped Place) (part-complete (b ∷ x) r h.fine e)
-      go (FreeAs n t) h = ho (FreeAs n t) _ r h
-      go (ConAs n t) h = hb (ConAs n t) _ r h
-      go (Equal a b) h = ho (Equal a b) _ r h
-      go (Infix o a b) h = ho (Infix o a b) _ r h
-      go (Applied f a more) h = ho (Applied f a more) _ r h
-      go (Binding x t a) h = ho (Binding x t a) _ r h
-
-    place-says : (x y : List ℕ) → SaysPart x y → SaysTerm m (Place x) y
-    place-says x y h = record { text = h.text; fine = subst (λ z. is_part z ≡ true) (sym h.is) (λ i. h.begins i && h.inner_is i); within = omega arith }
-
-    by-follows : ((s : List ℕ) → Follows (SaysTerm m) (term_by opened braced) (40 ∷ s) (opened s)) → ((s : List ℕ) → Follows (SaysTerm m) (term_by opened braced) (123 ∷ s) (braced s)) → (s : List ℕ) → Follows (SaysTerm m) (term_by opened braced) s (term_by opened braced s)
-    by-follows ho hb [] = halts_here (SaysTerm m) (term_by opened braced) [] NoForm some_term (codes "a") (some-says m) (at_end (λ z. term_by opened braced z ≡ Halted NoForm z) refl)
-    by-follows ho hb (b ∷ s) = paren (b == 40) refl where
-      brace : (t : Bool) → (b == 40) ≡ false → (b == 123) ≡ t → Follows (SaysTerm m) (term_by opened braced) (b ∷ s) (cond t (braced s) (mapped Place (part_at (b ∷ s))))
-      brace true d e = subst (λ c. Follows (SaysTerm m) (term_by opened braced) (c ∷ s) (braced s)) (sym (eqb-true b 123 e)) (hb s)
-      brace false d e = same_at (SaysTerm m) (λ z. mapped Place (part_at z)) (term_by opened braced) b
-          (λ t i. cond (d i) (opened t) (cond (e i) (braced t) (mapped Place (part_at (b ∷ t))))) s (mapped Place (part_at (b ∷ s)))
-          (mapped-follows SaysPart (SaysTerm m) part_at Place place-says (b ∷ s) (part_at (b ∷ s)) (part-reads.follows (b ∷ s)))
-
-      paren : (t : Bool) → (b == 40) ≡ t → Follows (SaysTerm m) (term_by opened braced) (b ∷ s) (cond t (opened s) (cond (b == 123) (braced s) (mapped Place (part_at (b ∷ s)))))
-      paren true e = subst (λ c. Follows (SaysTerm m) (term_by opened braced) (c ∷ s) (opened s)) (sym (eqb-true b 40 e)) (ho s)
-      paren false e = brace (b == 123) e refl
-
-  -- no term without a parenthesis or a brace begins with one
-  no_paren : (w : Written) (x : List ℕ) (b : ℕ) → ((b == 40) || (b == 123)) ≡ true → SaysTerm 0 w (b ∷ x) → ⊥
-  no_paren (Place []) x b e h = let f = h.fine in cc
-  no_paren (Place (c ∷ z)) x b e h = let k = both_true (is_letter c) (list_all is_inner z) h.fine in let q : b ≡ c = let t = h.text in cc in let w : is_letter b ≡ true = ap is_letter q ∙ k.0 in no_letter b w e
-    where
-      no_letter : (b : ℕ) → is_letter b ≡ true → ((b == 40) || (b == 123)) ≡ true → ⊥
-      no_letter b w e = let z : ((b == 40) || (b == 123)) ≡ false = λ i. differs is_letter 40 b refl w i || differs is_letter 123 b refl w i in cc
-  no_paren (FreeAs n t) x b e h = let k = h.within in omega (arith, k)
-  no_paren (ConAs n t) x b e h = let k = h.within in omega (arith, k)
-  no_paren (Equal a c) x b e h = let k = h.within in omega (arith, k)
-  no_paren (Infix o a c) x b e h = let k = h.within in omega (arith, k)
-  no_paren (Applied f a more) x b e h = let k = h.within in omega (arith, k)
-  no_paren (Binding z t a) x b e h = let k = h.within in omega (arith, k)
-
-  module _ (constant_at : List ℕ → Reading Name) (hc : Reads SaysConstant IsConstantEnd constant_at) (hy : (n : ℕ) → Reads (SaysType hidden n) IsEnd (type_at hidden n)) where
-    -- the reader of terms with room for n open parentheses and braces reads exactly the texts of written terms with at most n open, and halts where none of them goes on
-    pub term-reads : (n : ℕ) → Reads (SaysTerm n) IsEnd (term_at hidden constant_at n)
-    term-reads zero = record {
-      complete = by-complete 0 (λ s. Halted OneTooMany (40 ∷ s)) (λ s. Halted OneTooMany (123 ∷ s)) (λ w x r h. absurd (no_paren w x 40 refl h)) (λ w x r h. absurd (no_paren w x 123 refl h));
-      follows = by-follows 0 (λ s. Halted OneTooMany (40 ∷ s)) (λ s. Halted OneTooMany (123 ∷ s))
-          (λ s. halts_here (SaysTerm 0) (term_at hidden constant_at 0) (40 ∷ s) OneTooMany some_term (codes "a") (some-says 0) (at_byte 40 s (λ z. term_at hidden constant_at 0 z ≡ Halted OneTooMany z) (λ t. refl)))
-          (λ s. halts_here (SaysTerm 0) (term_at hidden constant_at 0) (123 ∷ s) OneTooMany some_term (codes "a") (some-says 0) (at_byte 123 s (λ z. term_at hidden constant_at 0 z ≡ Halted OneTooMany z) (λ t. refl)));
-    }
-    term-reads (suc n) =
-        let ht = term-reads n in
-        let ho = opened-reads n constant_at (type_at hidden n) (term_at hidden constant_at n) hc (hy n) ht in
-        let hb = brace-reads n constant_at (type_at hidden n) (term_at hidden constant_at n) hc (hy n) ht in
-        let opened = closed_term_at constant_at (type_at hidden n) (term_at hidden constant_at n) in
-        let braced = braced_at constant_at (type_at hidden n) (term_at hidden constant_at n) in
-        record {
-          complete = by-complete (suc n) opened braced (λ w x r h. ho.complete w x r h tt) (λ w x r h. hb.complete w x r h tt);
-          follows = by-follows (suc n) opened braced
-              (λ s. no_change (term_at hidden constant_at (suc n)) (40 ∷ s) (opened s) (behind (λ w x. SaysTerm (suc n) w (40 ∷ x)) (SaysTerm (suc n)) opened (term_at hidden constant_at (suc n)) (λ u. u) 40 (λ z. sym (unchanged (opened z))) (λ w x h. h) s (opened s) (ho.follows s)))
-              (λ s. no_change (term_at hidden constant_at (suc n)) (123 ∷ s) (braced s) (behind (λ w x. SaysTerm (suc n) w (123 ∷ x)) (SaysTerm (suc n)) braced (term_at hidden constant_at (suc n)) (λ u. u) 123 (λ z. sym (unchanged (braced z))) (λ w x h. h) s (braced s) (hb.follows s)));
-        }
-      where
-        no_change : (f : List ℕ → Reading Written) (s : List ℕ) (o : Reading Written) → Follows (SaysTerm (suc n)) f s (mapped (λ u. u) o) → Follows (SaysTerm (suc n)) f s o
-        no_change f s (Got a r) h = h
-        no_change f s (Halted k r) h = h

@@ -1,0 +1,16 @@
+-- Lemmas on matching.
+pub mod Once
+pub mod Pairs
+pub mod Matches
+pub mod Rows
+pub mod Adding
+pub mod Walking
+pub mod Leading
+-- Names, copied.
+pub mod Components
+-- Plain trees.
+pub mod Equations
+-- The numbers of a kernel.
+pub mod Spelled
+-- Maps, and the steps of the matcher.
+pub mod Holding

@@ -1,0 +1,124 @@
+// What a kernel's numbers stand for, one node at a time.
+ghost use Rattle.std.specs.Prelude.{◌≡◌, ◌<◌, ◌↔◌, length, map, Some, IfOk, MatchOption};
+ghost use Rattle.ot_plain.specs.Lists.{IsMember};
+ghost use Rattle.ot_plain.specs.Names.{Name as NameValue, same_name};
+ghost use Rattle.ot_plain.specs.Naming.{names};
+ghost use Rattle.ot_plain.specs.Trees.{Variable, NApp, NAbs};
+ghost use Rattle.ot_plain.specs.Hol.{same_ty, same_tm, same_var, named_type, IsFreeIn};
+ghost use Rattle.ot_kernel.specs.State.{name_at, type_at, variable_at, named_at, term_at};
+ghost use Rattle.ot_match.specs.Nodes.{type_tree, IsTypeNode, term_tree, IsTermNode, IsKey, AreKeysIn, IsNoApplication, IsNoAbstraction};
+
+use crate::names::is_same_name;
+use ot_alpha::alpha_eq;
+use ot_kernel::Kernel;
+use ot_plain::{Memory, Name, NameId};
+use ot_term::{TermId, TermNode, VarKey};
+use ot_type::{TypeId, TypeNode};
+use std::alloc::Global;
+
+/// The node of a type.
+pub(crate) fn type_node(kernel: &Kernel, id: TypeId) -> &TypeNode
+    requires { id < length kernel.now.types }
+    ensures tree { type_at kernel.now id ≡ type_tree kernel.now result.now }
+    ensures inside { IsTypeNode kernel.now id result.now }
+{
+    kernel.sound();
+    kernel.terms().types().node(id)
+}
+
+/// The node of a term.
+pub(crate) fn term_node(kernel: &Kernel, id: TermId) -> &TermNode
+    requires { id < length kernel.now.terms }
+    ensures tree { named_at kernel.now.terms id ≡ term_tree kernel.now result.now }
+    ensures inside { IsTermNode kernel.now id result.now }
+{
+    kernel.sound();
+    kernel.terms().node(id)
+}
+
+/// The function and the argument of an application.
+pub(crate) fn application(kernel: &Kernel, id: TermId) -> Option<(TermId, TermId)>
+    requires { id < length kernel.now.terms }
+    ensures { MatchOption result (IsNoApplication (named_at kernel.now.terms id)) (λ p.
+        (named_at kernel.now.terms id ≡ NApp (named_at kernel.now.terms p.0) (named_at kernel.now.terms p.1))
+        × (p.0 < length kernel.now.terms) × (p.1 < length kernel.now.terms)) }
+{
+    match term_node(kernel, id) {
+        TermNode::App(f, x) => Some((*f, *x)),
+        TermNode::Var(_) | TermNode::Const(_, _) | TermNode::Abs(_, _) => None,
+    }
+}
+
+/// The variable and the body of an abstraction.
+pub(crate) fn abstraction(kernel: &Kernel, id: TermId) -> Option<(VarKey, TermId)>
+    requires { id < length kernel.now.terms }
+    ensures { MatchOption result (IsNoAbstraction (named_at kernel.now.terms id)) (λ p.
+        (named_at kernel.now.terms id ≡ NAbs (variable_at kernel.now p.0) (named_at kernel.now.terms p.1))
+        × IsKey kernel.now p.0 × (p.1 < length kernel.now.terms)) }
+{
+    match term_node(kernel, id) {
+        TermNode::Abs(v, body) => Some((*v, *body)),
+        TermNode::Var(_) | TermNode::Const(_, _) | TermNode::App(_, _) => None,
+    }
+}
+
+/// Whether a number of a name stands for this name.
+pub(crate) fn is_name(kernel: &Kernel, name: &Name, id: NameId) -> bool
+    requires { id < length kernel.now.names }
+    ensures { result ≡ same_name name.now (name_at kernel.now id) }
+{
+    is_same_name(name, kernel.names().get(id))
+}
+
+/// Whether two types are one.
+pub(crate) fn same_type(kernel: &Kernel, a: TypeId, b: TypeId) -> bool
+    requires left { a < length kernel.now.types }
+    requires right { b < length kernel.now.types }
+    ensures { result ≡ same_ty names (type_at kernel.now a) (type_at kernel.now b) }
+{
+    kernel.sound();
+    let _terms = kernel.terms();
+    a == b
+}
+
+/// Whether two terms are one, up to the names of their binders.
+pub(crate) fn same_term(kernel: &Kernel, a: TermId, b: TermId) -> bool
+    requires left { a < length kernel.now.terms }
+    requires right { b < length kernel.now.terms }
+    ensures { result ≡ same_tm names (term_at kernel.now a) (term_at kernel.now b) }
+{
+    kernel.sound();
+    alpha_eq(kernel.terms(), a, b)
+}
+
+/// Whether two variables are one.
+pub(crate) fn same_variable(kernel: &Kernel, v: &VarKey, w: &VarKey) -> bool
+    requires left { IsKey kernel.now v.now }
+    requires right { IsKey kernel.now w.now }
+    ensures { result ≡ same_var names (variable_at kernel.now v.now) (variable_at kernel.now w.now) }
+{
+    kernel.sound();
+    let _terms = kernel.terms();
+    v.name == w.name && v.ty == w.ty
+}
+
+/// The type of a term.
+pub(crate) fn type_of(kernel: &Kernel, id: TermId) -> TypeId
+    requires { id < length kernel.now.terms }
+    ensures typed { named_type names (named_at kernel.now.terms id) ≡ Some (type_at kernel.now result) }
+    ensures below { result < length kernel.now.types }
+{
+    kernel.sound();
+    kernel.terms().type_of(id)
+}
+
+/// The free variables of a term.
+pub(crate) fn free_vars(alloc: Global, kernel: &Kernel, id: TermId) -> Result<Vec<VarKey>, Memory>
+    requires { id < length kernel.now.terms }
+    ensures inside { IfOk result (λ vars. AreKeysIn kernel.now vars.items) }
+    ensures free { IfOk result (λ vars. (v : Variable NameValue)
+        → IsMember v (map (variable_at kernel.now) vars.items) ↔ IsFreeIn names v (named_at kernel.now.terms id)) }
+{
+    kernel.sound();
+    kernel.terms().free_vars(alloc, id)
+}
