@@ -1,0 +1,6 @@
+use Rattle.ot_nodes.proofs.ItemLemmas.{name-within}
+use Rattle.ot_nodes.proofs.NodeLemmas.{entry-name, name-no-type, name-no-term}
+use Rattle.ot_nodes.proofs.table.Nodes.name_of.Goals as goal
+
+pub entry-requires : goal.entry-requires
+entry-requires c = rw c.id.view_is (name-within _ _ c.requires)

@@ -1,0 +1,73 @@
+-- A definition that passes its conditions may be next, and its theorems are theorems.
+use Rattle.std.specs.List.{flat_map}
+use Rattle.std.proofs.Common.{◌≡◌, List, [], ◌∷◌, map, Result, Ok, Err, refl, sym, ap, subst, inl, inr}
+use Rattle.ot_plain.specs.Lists.{IsMember}
+use Rattle.ot_plain.specs.Trees.{Alphabet, Variable, Tm, Sequent, Definition, ConDef, ListDef, TyDef}
+use Rattle.ot_plain.specs.Hol.{IsNext, defined, used}
+use Rattle.ot_plain.specs.Answers.{unless}
+use Rattle.ot_laws.specs.Theorem.{IsTheorem}
+use Rattle.ot_laws.proofs.Tests.{Tells}
+use Rattle.ot_laws.proofs.Steps.{same_Ok, bind-ok, unless-ok}
+use Rattle.ot_laws.proofs.Definitions.{HasPremise}
+use Rattle.ot_laws.proofs.Sets.{IsMember-left, IsMember-right, IsMember-cases}
+use Rattle.ot_records.specs.Tokens.{LogFault, BadStep}
+use Rattle.ot_records.specs.Conditions.{checked_const, checked_list, checked_type}
+use Rattle.ot_records.specs.Next.{AreSymbolsOf}
+use Rattle.ot_records.specs.Steps.{or_bad, is_well_typed, all_defined, all_used, constant_step, constants_step, type_operator_step}
+use Rattle.ot_records.proofs.NextLemmas.{constants_are_next, lists_are_next, types_are_next}
+use Rattle.ot_records.proofs.StepSound.{well_typed-is}
+
+module _ {X Y : Type 0} (f : X → List Y) where
+  flat-from : (y : Y) (x : X) (xs : List X) → IsMember x xs → IsMember y (f x) → IsMember y (flat_map f xs)
+  flat-from y x (z ∷ xs) (inl e) m = IsMember-left y (f z) (flat_map f xs) (subst (λ w. IsMember y (f w)) (sym e) m)
+  flat-from y x (z ∷ xs) (inr i) m = IsMember-right y (f z) (flat_map f xs) (flat-from y x xs i m)
+  flat-from y x [] i m = absurd i
+
+  flat-to : (y : Y) (xs : List X) → IsMember y (flat_map f xs) → (x : X) × IsMember x xs × IsMember y (f x)
+  flat-to y [] i = absurd i
+  flat-to y (x ∷ xs) i = elim (IsMember-cases y (f x) (flat_map f xs) i) [
+    | inl m ↦ (x, inl refl, m)
+    | inr m ↦ let r = flat-to y xs m in (r.0, inr r.1, r.2)
+  ]
+
+or_bad-ok : {A E : Type 0} (r : Result A E) (x : A) → or_bad r ≡ Ok x → r ≡ Ok x
+or_bad-ok (Ok y) x h = ap Ok (same_Ok y x h)
+or_bad-ok (Err e) x h = cc
+
+module _ {N : Type 0} (alphabet : Alphabet N) where
+  all_symbols : (dl : List (Definition N)) → AreSymbolsOf alphabet dl (all_defined alphabet dl) (all_used alphabet dl)
+  all_symbols dl = record {
+    defined = λ s. (λ m. flat-to (defined alphabet) s dl m, λ r. flat-from (defined alphabet) s r.0 dl r.1 r.2);
+    used = λ s. (λ m. flat-to (used alphabet) s dl m, λ r. flat-from (used alphabet) s r.0 dl r.1 r.2);
+  }
+
+-- a definition that may be next, of a premise that is a sequent
+pub record IsAcceptable {N : Type 0} (alphabet : Alphabet N) (al : List (Sequent N)) (dl : List (Definition N)) (d : Definition N) : Type 0 where
+  pub next : IsNext alphabet al dl d
+  pub premise : HasPremise alphabet d
+
+module _ {N : Type 0} (alphabet : Alphabet N) (tells : Tells alphabet) (al : List (Sequent N)) (dl : List (Definition N)) where
+  as-given : (d e : Definition N) → ◌≡◌ {A = Result (Definition N) LogFault} (Ok d) (Ok e) → IsAcceptable alphabet al dl d → IsAcceptable alphabet al dl e
+  as-given d e h a = subst (IsAcceptable alphabet al dl) (same_Ok d e h) a
+
+  pub constant-acceptable : (n : N) (t : Tm N) (d : Definition N) → constant_step alphabet dl n t ≡ Ok d → IsAcceptable alphabet al dl d
+  constant-acceptable n t d h =
+      let (u, p, k) = bind-ok (unless BadStep (is_well_typed alphabet t)) _ d h in
+      let w = well_typed-is alphabet t (unless-ok BadStep (is_well_typed alphabet t) u p) in
+      let (v, r, l) = bind-ok (or_bad (checked_const alphabet (all_defined alphabet dl) (all_used alphabet dl) n t)) _ d k in
+      as-given (ConDef n t) d l
+      (record { next = constants_are_next alphabet tells al dl (all_defined alphabet dl) (all_used alphabet dl) n t (all_symbols alphabet dl) w (or_bad-ok (checked_const alphabet (all_defined alphabet dl) (all_used alphabet dl) n t) tt r); premise = tt })
+
+  pub constants-acceptable : (ps : List (N × Variable N)) (q : Sequent N) (d : Definition N) → IsTheorem alphabet al dl q → constants_step alphabet dl ps q ≡ Ok d → IsAcceptable alphabet al dl d
+  constants-acceptable ps q d t h =
+      let check : Result (Unit {0}) _ = checked_list alphabet (all_defined alphabet dl) (all_used alphabet dl) (map (λ p. p.0) ps) (map (λ p. p.1) ps) q in
+      let (v, r, l) = bind-ok (or_bad check) _ d h in
+      as-given (ListDef ps q) d l
+      (record { next = lists_are_next alphabet tells al dl (all_defined alphabet dl) (all_used alphabet dl) ps q (all_symbols alphabet dl) t (or_bad-ok check tt r); premise = t.sequent })
+
+  pub type_operator-acceptable : (n abs rep : N) (vars : List N) (q : Sequent N) (d : Definition N) → IsTheorem alphabet al dl q → type_operator_step alphabet dl n abs rep vars q ≡ Ok d → IsAcceptable alphabet al dl d
+  type_operator-acceptable n abs rep vars q d t h =
+      let check : Result (Unit {0}) _ = checked_type alphabet (all_defined alphabet dl) (all_used alphabet dl) n abs rep vars q in
+      let (v, r, l) = bind-ok (or_bad check) _ d h in
+      as-given (TyDef n abs rep vars q) d l
+      (record { next = types_are_next alphabet tells al dl (all_defined alphabet dl) (all_used alphabet dl) n abs rep vars q (all_symbols alphabet dl) t (or_bad-ok check tt r); premise = t.sequent })

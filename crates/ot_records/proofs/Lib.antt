@@ -1,0 +1,8 @@
+-- Lemmas on proof logs.
+pub mod Membership
+pub mod NextLemmas
+pub mod StepSound
+pub mod DefinitionSound
+pub mod StateSound
+pub mod CheckSound
+pub mod Walking

@@ -1,0 +1,10 @@
+//! The sample article, as small or large as is wanted.
+#![tactic(auto)]
+
+mod laws;
+mod sample;
+#[cfg(test)]
+mod tests;
+
+pub use laws::sample_lines;
+pub use sample::sample_article;
