@@ -14,7 +14,7 @@ use Rattle.ot_term.specs.declared.term.VarKey.{VarKey}
 use Rattle.ot_term.specs.declared.term.TermNode.{TermNode}
 use Rattle.ot_term.specs.declared.term.TermNode.TheVariants.{Var, Const, App, Abs}
 use Rattle.ot_term.proofs.Gathering.{take_item}
-use Rattle.ot_define.specs.Conditions.{given_by, given, only, terms_given}
+use Rattle.ot_laws.specs.Conditions.{given_by, given, only, terms_given}
 use Rattle.ot_define.specs.Answers.{tm_at, listed}
 
 -- ---- a hypothesis

@@ -11,8 +11,8 @@ use Rattle.ot_plain.specs.Trees.{Alphabet}
 use Rattle.ot_laws.proofs.Sets.{same_set-self, IsMember-left, IsMember-right, IsMember-cases}
 use Rattle.ot_laws.proofs.Tests.{cases_of}
 use Rattle.ot_term.proofs.Distinct.{distinct_members}
-use Rattle.ot_define.specs.Conditions.{are_distinct}
-use Rattle.ot_define.proofs.Membership.{any-is, part-same_set, are_distinct-is}
+use Rattle.ot_laws.specs.Conditions.{are_distinct}
+use Rattle.ot_laws.proofs.Membership.{any-is, part-same_set, are_distinct-is}
 
 module _ {X : Type 0} (eq : X → X → Bool) where
   -- the set after more is what it was, and then what is new

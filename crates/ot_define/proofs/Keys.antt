@@ -27,9 +27,9 @@ use Rattle.ot_term.proofs.Gathering.{take_item}
 use Rattle.ot_laws.proofs.Typing.{type_of-is, type-nameless}
 use Rattle.ot_define.specs.Answers.{tm_at}
 use Rattle.ot_term.proofs.GatherLemmas.{same_set-map}
-use Rattle.ot_define.specs.Conditions.{same_symbol, is_among, is_closed_but, keeps_type_vars, are_distinct}
+use Rattle.ot_laws.specs.Conditions.{same_symbol, is_among, is_closed_but, keeps_type_vars, are_distinct}
 use Rattle.ot_define.specs.Signature.{with_symbols}
-use Rattle.ot_define.proofs.Membership.{part-is, part-same_set, is_closed_but-is, are_distinct-is}
+use Rattle.ot_laws.proofs.Membership.{part-is, part-same_set, is_closed_but-is, are_distinct-is}
 
 -- ---- symbols
 same-symbol : (s t : Code) → symbol_eq s t ≡ same_symbol numbers (symbol_of s) (symbol_of t)

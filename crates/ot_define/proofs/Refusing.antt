@@ -11,10 +11,10 @@ use Rattle.ot_plain.specs.Answers.{◌>>=◌, unless, some_or}
 use Rattle.std.proofs.lemmas.List.Folds.{list_all_at, list_all_more}
 use Rattle.ot_laws.proofs.Tests.{Tells}
 use Rattle.ot_laws.proofs.Steps.{unless-ok}
-use Rattle.ot_define.specs.Conditions.{same_symbol, is_among, refuse_first, refuse_defined, checked_symbols}
+use Rattle.ot_laws.specs.Conditions.{same_symbol, is_among, refuse_first, refuse_defined, checked_symbols}
 use Rattle.ot_define.specs.Answers.{Checks, define_fault}
 use Rattle.ot_define.specs.declared.fault.DefineFault.{DefineFault}
-use Rattle.ot_define.proofs.Membership.{is_among-same_set}
+use Rattle.ot_laws.proofs.Membership.{is_among-same_set}
 
 module _ {N : Type 0} (alphabet : Alphabet N) where
   pub refuse_first-agree : (fault : Symbol N → Fault N) (p q : Symbol N → Bool) → ((s : Symbol N) → p s ≡ q s) → (ss : List (Symbol N)) → refuse_first alphabet fault p ss ≡ refuse_first alphabet fault q ss

@@ -8,7 +8,7 @@ use Rattle.ot_plain.specs.Naming.{numbers}
 use Rattle.ot_plain.specs.Faults.{Fault, Primitive, AlreadyDefined, SymbolInUse, NotClosed, TypeVarEscapes, BadDefinitionList, HypothesesPresent, NotApplication, BadTypeVars}
 use Rattle.ot_term.specs.TermTable.{term_at}
 use Rattle.ot_term.specs.Symbols.{symbol_of}
-use Rattle.ot_define.specs.Conditions.{is_closed, is_closed_but, keeps_type_vars}
+use Rattle.ot_laws.specs.Conditions.{is_closed, is_closed_but, keeps_type_vars}
 use Rattle.ot_define.specs.declared.fault.DefineFault.{DefineFault}
 use Rattle.ot_define.specs.declared.fault.DefineFault.TheVariants as code
 

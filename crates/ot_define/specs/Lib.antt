@@ -1,6 +1,4 @@
--- The conditions of definitions, and what contracts see of a signature.
-pub mod Conditions
+-- What contracts see of a signature.
 pub mod Codes
 pub mod Signature
 pub mod Answers
-pub mod Laws

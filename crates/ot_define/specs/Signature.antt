@@ -3,7 +3,7 @@ use Rattle.std.specs.Prelude.{ℕ, List, [], ◌∷◌, ◌++◌, if◌then◌el
 use Rattle.std.specs.Coded.{Coded, code_by, coded×, coded_list}
 use Rattle.ot_plain.specs.Trees.{Symbol}
 use Rattle.ot_plain.specs.Naming.{numbers}
-use Rattle.ot_define.specs.Conditions.{is_among}
+use Rattle.ot_laws.specs.Conditions.{is_among}
 use Rattle.ot_define.specs.Codes.{coded_symbol}
 
 pub record Symbols : Type 0 where

@@ -2,7 +2,7 @@
 ghost use Rattle.std.specs.Prelude.{◌≡◌, ◌<◌, length};
 ghost use Rattle.ot_term.specs.declared.term.SymbolKind.TheVariants.{Con};
 ghost use Rattle.ot_plain.specs.Naming.{numbers};
-ghost use Rattle.ot_define.specs.Conditions.{checked_const};
+ghost use Rattle.ot_laws.specs.Conditions.{checked_const};
 ghost use Rattle.ot_define.specs.Answers.{Checks, tm_at};
 
 use crate::fault::DefineFault;

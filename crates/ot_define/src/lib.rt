@@ -3,7 +3,6 @@
 
 mod constants;
 mod fault;
-mod laws;
 mod lists;
 mod premise;
 mod sets;
@@ -11,5 +10,4 @@ mod signature;
 mod types;
 
 pub use fault::DefineFault;
-pub use laws::{constants_law, lists_law, types_law};
 pub use signature::Signature;

@@ -8,7 +8,7 @@ ghost use Rattle.ot_plain.specs.Naming.{numbers};
 ghost use Rattle.ot_plain.specs.Answers.{unless};
 ghost use Rattle.ot_term.specs.TermTable.{variable_of};
 ghost use Rattle.ot_term.specs.Symbols.{symbol_of};
-ghost use Rattle.ot_define.specs.Conditions.{is_closed_but, keeps_type_vars};
+ghost use Rattle.ot_laws.specs.Conditions.{is_closed_but, keeps_type_vars};
 ghost use Rattle.ot_define.specs.Answers.{Checks, tm_at, sequent_at};
 
 use crate::fault::DefineFault;

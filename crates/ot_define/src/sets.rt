@@ -4,7 +4,7 @@ ghost use Rattle.std.specs.Bool.{Decides};
 ghost use Rattle.std.specs.List.{list_all, list_any};
 ghost use Rattle.indexmap.specs.IndexSet.{insert_key};
 ghost use Rattle.ot_plain.specs.Naming.{numbers};
-ghost use Rattle.ot_define.specs.Conditions.{are_distinct};
+ghost use Rattle.ot_laws.specs.Conditions.{are_distinct};
 
 use indexmap::IndexSet;
 use ot_plain::Memory;

@@ -5,7 +5,7 @@ ghost use Rattle.ot_plain.specs.Faults.{Primitive, SymbolInUse};
 ghost use Rattle.ot_plain.specs.Hol.{primitives, symbols_of};
 ghost use Rattle.ot_plain.specs.Naming.{numbers};
 ghost use Rattle.ot_term.specs.Symbols.{symbol_of};
-ghost use Rattle.ot_define.specs.Conditions.{checked_symbols, is_among, refuse_defined, refuse_first};
+ghost use Rattle.ot_laws.specs.Conditions.{checked_symbols, is_among, refuse_defined, refuse_first};
 ghost use Rattle.ot_define.specs.Answers.{Checks, sequent_at};
 
 use crate::fault::DefineFault;

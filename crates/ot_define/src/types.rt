@@ -7,7 +7,7 @@ ghost use Rattle.ot_term.specs.declared.term.SymbolKind.TheVariants.{TyOp};
 ghost use Rattle.ot_plain.specs.Hol.{vars_tm};
 ghost use Rattle.ot_plain.specs.Naming.{numbers};
 ghost use Rattle.ot_plain.specs.Answers.{unless};
-ghost use Rattle.ot_define.specs.Conditions.{are_distinct, are_names_of, checked_type, function_of};
+ghost use Rattle.ot_laws.specs.Conditions.{are_distinct, are_names_of, checked_type, function_of};
 ghost use Rattle.ot_define.specs.Answers.{Checks, tm_at, sequent_at};
 
 use crate::constants::constant_symbol;

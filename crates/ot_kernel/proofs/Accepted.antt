@@ -10,7 +10,7 @@ use Rattle.ot_plain.specs.Naming.{names, name_of, IsNameTable}
 use Rattle.ot_plain.specs.Renamed.{map_symbol}
 use Rattle.ot_plain.specs.Table.{Extends}
 use Rattle.ot_plain.proofs.TableLemmas.{get_or-Extends}
-use Rattle.ot_define.specs.Laws.{AreSymbolsOf}
+use Rattle.ot_laws.specs.Next.{AreSymbolsOf}
 use Rattle.ot_define.specs.Signature.{Symbols}
 use Rattle.ot_term.specs.Term.{TermTable}
 use Rattle.ot_term.specs.declared.term.VarKey.{VarKey}

@@ -21,9 +21,9 @@ use Rattle.ot_laws.proofs.Tests.{tells_names, tells_numbers}
 use Rattle.ot_laws.proofs.Theorems.{grown-theorem, defined-theorem}
 use Rattle.ot_term.specs.Term.{TermTable}
 use Rattle.ot_term.proofs.GatherLemmas.{same_set-map}
-use Rattle.ot_define.specs.Conditions.{is_among}
+use Rattle.ot_laws.specs.Conditions.{is_among}
 use Rattle.ot_define.specs.Signature.{Symbols, with_symbols}
-use Rattle.ot_define.proofs.Membership.{is_among-is}
+use Rattle.ot_laws.proofs.Membership.{is_among-is}
 use Rattle.ot_kernel.specs.declared.theorem.Theorem.{Theorem}
 use Rattle.ot_kernel.specs.declared.definition.Definition as code
 use Rattle.ot_kernel.specs.State.{State, name_at, IsSoundState}

@@ -9,9 +9,9 @@ use Rattle.ot_plain.specs.Faults.{Fault, Primitive, AlreadyDefined, SymbolInUse,
 use Rattle.ot_plain.specs.Answers.{◌>>=◌, unless, some_or}
 use Rattle.ot_laws.proofs.Sets.{IsMember-left, IsMember-right, IsMember-cases}
 use Rattle.ot_laws.proofs.Tests.{Tells}
-use Rattle.ot_define.specs.Conditions.{is_among, refuse_first, refuse_defined, checked_symbols, is_closed, is_closed_but, are_names_of, keeps_type_vars, are_distinct, is_empty, function_of, terms_given, checked_const, checked_list, checked_type}
-use Rattle.ot_define.specs.Laws.{AreSymbolsOf}
-use Rattle.ot_define.proofs.Membership.{is_among-same_set}
+use Rattle.ot_laws.specs.Conditions.{is_among, refuse_first, refuse_defined, checked_symbols, is_closed, is_closed_but, are_names_of, keeps_type_vars, are_distinct, is_empty, function_of, terms_given, checked_const, checked_list, checked_type}
+use Rattle.ot_laws.specs.Next.{AreSymbolsOf}
+use Rattle.ot_laws.proofs.Membership.{is_among-same_set}
 use Rattle.ot_kernel.specs.Defining.{all_defined, all_used}
 
 -- ---- the members of all lists

@@ -22,10 +22,10 @@ use Rattle.ot_laws.proofs.Steps.{within_limit-ok}
 use Rattle.ot_laws.proofs.Tests.{tells_names}
 use Rattle.ot_term.specs.Term.{TermTable}
 use Rattle.ot_define.specs.Answers.{Checks}
-use Rattle.ot_define.specs.Conditions.{is_closed, keeps_type_vars, checked_const}
-use Rattle.ot_define.specs.Laws.{AreSymbolsOf}
+use Rattle.ot_laws.specs.Conditions.{is_closed, keeps_type_vars, checked_const}
+use Rattle.ot_laws.specs.Next.{AreSymbolsOf}
 use Rattle.ot_define.specs.declared.fault.DefineFault.{DefineFault}
-use Rattle.ot_define.proofs.Next.{constants_are_next}
+use Rattle.ot_laws.proofs.Next.{constants_are_next}
 use Rattle.ot_kernel.specs.declared.theorem.Theorem.{Theorem}
 use Rattle.ot_kernel.specs.declared.definition.Definition as kind
 use Rattle.ot_kernel.specs.declared.definition.Definition.TheVariants as code

@@ -23,10 +23,10 @@ use Rattle.ot_term.specs.Term.{TermTable}
 use Rattle.ot_term.specs.TermTable.{variable_of}
 use Rattle.ot_term.specs.declared.term.VarKey.{VarKey}
 use Rattle.ot_define.specs.Answers.{Checks, sequent_at}
-use Rattle.ot_define.specs.Conditions.{checked_list}
-use Rattle.ot_define.specs.Laws.{AreSymbolsOf}
+use Rattle.ot_laws.specs.Conditions.{checked_list}
+use Rattle.ot_laws.specs.Next.{AreSymbolsOf}
 use Rattle.ot_define.specs.declared.fault.DefineFault.{DefineFault}
-use Rattle.ot_define.proofs.Next.{lists_are_next}
+use Rattle.ot_laws.proofs.Next.{lists_are_next}
 use Rattle.ot_kernel.specs.declared.theorem.Theorem.{Theorem}
 use Rattle.ot_kernel.specs.declared.definition.Definition as kind
 use Rattle.ot_kernel.specs.State.{State, name_at, variable_at, term_at, terms_at, theorem_at}

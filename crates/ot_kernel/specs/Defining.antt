@@ -6,7 +6,7 @@ use Rattle.ot_plain.specs.Hol.{is_shallow_sequent, theorems, defined, used}
 use Rattle.ot_plain.specs.Faults.{Fault, Nesting}
 use Rattle.ot_plain.specs.Answers.{◌>>=◌, unless}
 use Rattle.std.specs.List.{list_all}
-use Rattle.ot_define.specs.Conditions.{checked_const, checked_list, checked_type}
+use Rattle.ot_laws.specs.Conditions.{checked_const, checked_list, checked_type}
 
 module _ {N : Type 0} (alphabet : Alphabet N) where
   -- ---- the symbols of a run

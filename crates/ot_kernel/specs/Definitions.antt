@@ -6,7 +6,7 @@ use Rattle.ot_plain.specs.Trees.{Variable, Tm, App, Sequent, Symbol, ConSymbol, 
 use Rattle.ot_plain.specs.Hol.{theorems}
 use Rattle.ot_plain.specs.Naming.{names, name_of}
 use Rattle.ot_plain.specs.Renamed.{map_symbol}
-use Rattle.ot_define.specs.Laws.{AreSymbolsOf}
+use Rattle.ot_laws.specs.Next.{AreSymbolsOf}
 use Rattle.ot_define.specs.Signature.{Symbols}
 use Rattle.ot_term.specs.declared.term.VarKey.{VarKey}
 use Rattle.ot_kernel.specs.declared.definition.Definition as code

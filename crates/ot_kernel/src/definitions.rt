@@ -7,7 +7,7 @@ ghost use Rattle.ot_plain.specs.Hol.{symbols_of, symbols_all, theorems, IsNext};
 ghost use Rattle.ot_plain.specs.Naming.{names as name_alphabet, numbers};
 ghost use Rattle.ot_plain.specs.Renamed.{map_symbol};
 ghost use Rattle.ot_term.specs.declared.term.SymbolKind.TheVariants.{Con};
-ghost use Rattle.ot_define.specs.Conditions.{checked_const, checked_list};
+ghost use Rattle.ot_laws.specs.Conditions.{checked_const, checked_list};
 ghost use Rattle.ot_kernel.specs.State.{name_at, variable_at, term_at, terms_at, theorem_at, Keeps};
 ghost use Rattle.ot_kernel.specs.Definitions.{number_of};
 ghost use Rattle.ot_kernel.specs.Spelled.{sequent_of, IsInside};

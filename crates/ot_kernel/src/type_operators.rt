@@ -6,7 +6,7 @@ ghost use Rattle.ot_plain.specs.Hol.{theorems, theorems_at, IsNext};
 ghost use Rattle.ot_plain.specs.Naming.{names as name_alphabet, numbers};
 ghost use Rattle.ot_laws.specs.Theorem.{IsTheorem};
 ghost use Rattle.ot_term.specs.declared.term.SymbolKind.TheVariants.{TyOp};
-ghost use Rattle.ot_define.specs.Conditions.{checked_type};
+ghost use Rattle.ot_laws.specs.Conditions.{checked_type};
 ghost use Rattle.ot_kernel.specs.State.{name_at, theorem_at, Keeps};
 ghost use Rattle.ot_kernel.specs.Spelled.{sequent_of, IsInside};
 ghost use Rattle.ot_kernel.specs.Numbered.{tm_at};

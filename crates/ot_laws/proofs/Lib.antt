@@ -20,3 +20,5 @@ pub mod Theorems
 pub mod Steps
 pub mod Sound
 pub mod Laws
+pub mod Membership
+pub mod Next

@@ -3,3 +3,5 @@ pub mod Walk
 pub mod Theorem
 pub mod Limits
 pub mod Laws
+pub mod Conditions
+pub mod Next

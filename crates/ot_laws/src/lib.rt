@@ -5,6 +5,7 @@ ghost use Rattle.std.specs.Prelude.{ℕ, List};
 ghost use Rattle.ot_plain.specs.Naming.{names, numbers};
 ghost use Rattle.ot_plain.specs.Trees.{Sequent, Definition};
 ghost use Rattle.ot_plain.specs.Names.{Name};
+ghost use Rattle.ot_laws.specs.Next.{ConstantsAreNext, ListsAreNext, TypesAreNext};
 ghost use Rattle.ot_laws.specs.Laws.{NamelessForm, NamelessFree, NamelessTyping, NamelessLimit, NamedSubstitution, BindersCanBePicked, BetaIsSubstitution, SubstitutionTyping, TestsDecide, HypothesesAreSets, SizeCountsParts, Growth, DerivableAreSequents, TermRulesAreSound, RulesAreSound};
 
 /// The two ways to the nameless form of a term agree, and the same variables are free in it.
@@ -87,4 +88,22 @@ pub fn term_rules_law()
 pub fn rules_are_sound_law()
     ensures of_names { (al : List (Sequent Name)) (dl : List (Definition Name)) → RulesAreSound names al dl }
     ensures of_numbers { (al : List (Sequent ℕ)) (dl : List (Definition ℕ)) → RulesAreSound numbers al dl }
+{}
+
+/// A constant that passes its conditions may be defined next.
+pub fn constants_law()
+    ensures of_names { ConstantsAreNext names }
+    ensures of_numbers { ConstantsAreNext numbers }
+{}
+
+/// A list of constants that passes its conditions may be defined next, from a theorem.
+pub fn lists_law()
+    ensures of_names { ListsAreNext names }
+    ensures of_numbers { ListsAreNext numbers }
+{}
+
+/// A type that passes its conditions may be defined next, from a theorem.
+pub fn types_law()
+    ensures of_names { TypesAreNext names }
+    ensures of_numbers { TypesAreNext numbers }
 {}

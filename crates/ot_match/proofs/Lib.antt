@@ -9,7 +9,6 @@ pub mod Leading
 -- Names, copied.
 pub mod Components
 -- Plain trees.
-pub mod Equations
 -- The numbers of a kernel.
 pub mod Spelled
 -- Maps, and the steps of the matcher.

@@ -3,43 +3,10 @@ use Rattle.std.specs.Prelude.{◌≡◌, ◌<◌, ℕ, List, [], ◌∷◌, map,
 use Rattle.std.specs.List.{All}
 use Rattle.std.specs.Option.{option_map}
 use Rattle.ot_plain.specs.Names.{Name}
-use Rattle.ot_plain.specs.Trees.{Ty, Tys, TyVar, TyOp, NoTys, MoreTys, Variable, Tm, Free, Con, Bound, App, Abs}
 use Rattle.ot_plain.specs.Hol.{TypeMap, TermMap}
 use Rattle.ot_plain.specs.Naming.{names}
-use Rattle.ot_plain.specs.declared.tree.Ty as types
-use Rattle.ot_plain.specs.declared.tree.Tm as terms
 use Rattle.ot_kernel.specs.State.{State, type_at, term_at}
 use Rattle.ot_match.specs.declared.find.Match.{Match}
-
--- ---- plain trees
-
--- types in a row
-abbrev pub tys_of : List (Ty Name) → Tys Name
-tys_of [] = NoTys
-tys_of (t ∷ ts) = MoreTys t (tys_of ts)
-
--- one level of a type, with each argument already seen
-abbrev pub type_step : types.Ty-F (Ty Name) → Ty Name
-type_step (types.Ty-F.Var n) = TyVar n
-type_step (types.Ty-F.Op n args) = TyOp n (tys_of args.items)
-
--- the type that a plain tree writes
-abbrev pub type_of_tree : types.Ty → Ty Name
-type_of_tree = types.fold-Ty (Ty Name) type_step
-
--- one level of a term, with each term inside already seen
-abbrev pub term_step : terms.Tm-F (Tm Name) → Tm Name
-term_step (terms.Tm-F.Free n t) = Free (record { name = n; ty = type_of_tree t })
-term_step (terms.Tm-F.Con n t) = Con n (type_of_tree t)
-term_step (terms.Tm-F.Bound k) = Bound k
-term_step (terms.Tm-F.App f x) = App f.value x.value
-term_step (terms.Tm-F.Abs t b) = Abs (type_of_tree t) b.value
-
--- the term that a plain tree writes
-abbrev pub term_of_tree : terms.Tm → Tm Name
-term_of_tree = terms.fold-Tm (Tm Name) term_step
-
--- ---- the maps
 
 abbrev pub types_of : State → List (Name × ℕ) → TypeMap names
 types_of s ps = map (λ p. (p.0, type_at s p.1)) ps

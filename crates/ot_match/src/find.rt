@@ -3,7 +3,8 @@ ghost use Rattle.std.specs.Option.{option_map};
 ghost use Rattle.ot_plain.specs.Naming.{names};
 ghost use Rattle.ot_kernel.specs.State.{term_at};
 ghost use Rattle.ot_match.specs.Matching.{matched};
-ghost use Rattle.ot_match.specs.Found.{term_of_tree, maps_of, IsMatchIn};
+ghost use Rattle.ot_plain.specs.PlainTrees.{term_of_tree};
+ghost use Rattle.ot_match.specs.Found.{maps_of, IsMatchIn};
 
 use crate::terms::{Binders, match_term};
 use ot_kernel::Kernel;

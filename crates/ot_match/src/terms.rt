@@ -8,7 +8,8 @@ ghost use Rattle.ot_plain.specs.Trees.{Variable, Free, Con, Bound};
 ghost use Rattle.ot_plain.specs.Hol.{same_var, nameless_in, place};
 ghost use Rattle.ot_kernel.specs.State.{variable_at, named_at, term_at, type_at};
 ghost use Rattle.ot_match.specs.Walk.{Maps, put_term, walk_term};
-ghost use Rattle.ot_match.specs.Found.{type_of_tree, term_of_tree, terms_of, maps_of, AreTermsIn, IsMatchIn};
+ghost use Rattle.ot_plain.specs.PlainTrees.{type_of_tree, term_of_tree};
+ghost use Rattle.ot_match.specs.Found.{terms_of, maps_of, AreTermsIn, IsMatchIn};
 ghost use Rattle.ot_match.specs.Nodes.{IsKey, AreKeysIn, binders_at, AreKeys};
 ghost use Rattle.ot_match.specs.Steps.{answered, any_bound, Meets};
 
@@ -216,7 +217,7 @@ fn is_bound_at(kernel: &Kernel, binders: &Binders<'_>, number: u64, id: TermId) 
 
 /// Matches a term under binders. The recursion is as deep as the pattern.
 #[cycle(terms)]
-#[tactic(auto, using(crate::proofs::Equations::term_steps))]
+#[tactic(auto, using(ot_plain::proofs::PlainTrees::term_steps))]
 pub(crate) fn match_term(
     alloc: Global,
     kernel: &Kernel,

@@ -6,7 +6,8 @@ ghost use Rattle.ot_plain.specs.Names.{same_name};
 ghost use Rattle.ot_plain.specs.Naming.{names};
 ghost use Rattle.ot_kernel.specs.State.{type_at, types_at};
 ghost use Rattle.ot_match.specs.Walk.{put_type, walk_type, walk_types};
-ghost use Rattle.ot_match.specs.Found.{type_of_tree, tys_of, types_of, AreTypesIn};
+ghost use Rattle.ot_plain.specs.PlainTrees.{type_of_tree, tys_of};
+ghost use Rattle.ot_match.specs.Found.{types_of, AreTypesIn};
 ghost use Rattle.ot_match.specs.Steps.{answered};
 
 use crate::names::{copy_name, is_same_name};
@@ -54,7 +55,7 @@ fn put_type(
 
 /// Matches a type.
 #[cycle(types)]
-#[tactic(auto, using(crate::proofs::Equations::type_steps))]
+#[tactic(auto, using(ot_plain::proofs::PlainTrees::type_steps))]
 pub(crate) fn match_type(
     alloc: Global,
     kernel: &Kernel,

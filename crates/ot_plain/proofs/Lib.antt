@@ -7,3 +7,4 @@ pub mod InternedLemmas
 pub mod Line
 pub mod Lift
 pub mod Naming
+pub mod PlainTrees

@@ -14,3 +14,4 @@ pub mod Bounds
 pub mod Table
 pub mod Interned
 pub mod Codes
+pub mod PlainTrees

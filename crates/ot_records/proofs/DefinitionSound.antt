@@ -11,10 +11,10 @@ use Rattle.ot_laws.proofs.Steps.{same_Ok, bind-ok, unless-ok}
 use Rattle.ot_laws.proofs.Definitions.{HasPremise}
 use Rattle.ot_laws.proofs.Sets.{IsMember-left, IsMember-right, IsMember-cases}
 use Rattle.ot_records.specs.Tokens.{LogFault, BadStep}
-use Rattle.ot_records.specs.Conditions.{checked_const, checked_list, checked_type}
-use Rattle.ot_records.specs.Next.{AreSymbolsOf}
+use Rattle.ot_laws.specs.Conditions.{checked_const, checked_list, checked_type}
+use Rattle.ot_laws.specs.Next.{AreSymbolsOf}
 use Rattle.ot_records.specs.Steps.{or_bad, is_well_typed, all_defined, all_used, constant_step, constants_step, type_operator_step}
-use Rattle.ot_records.proofs.NextLemmas.{constants_are_next, lists_are_next, types_are_next}
+use Rattle.ot_laws.proofs.Next.{constants_are_next, lists_are_next, types_are_next}
 use Rattle.ot_records.proofs.StepSound.{well_typed-is}
 
 module _ {X Y : Type 0} (f : X → List Y) where

@@ -1,6 +1,4 @@
 -- Lemmas on proof logs.
-pub mod Membership
-pub mod NextLemmas
 pub mod StepSound
 pub mod DefinitionSound
 pub mod StateSound

@@ -1,7 +1,5 @@
 -- What a reader of the contracts has to believe: a proof log, its tokens and records, and what it ends with.
 pub mod Tokens
-pub mod Conditions
-pub mod Next
 pub mod Steps
 pub mod State
 pub mod Records

@@ -5,7 +5,7 @@ use Rattle.ot_plain.specs.Trees.{Alphabet, Ty, Variable, Tm, App, Abs, Sequent, 
 use Rattle.ot_plain.specs.Hol.{same_ty, same_var, fun_ty, bool_ty, as_fun_ty, depth_ty, type_in, type_of, close, opened, depth_tm, TypeMap, TermMap, subst_tm, same_tm, equation, as_equation, minus, union, once_each, is_free_in_some, sequent_of, defined, used}
 use Rattle.ot_plain.specs.Answers.{◌>>=◌, unless, some_or}
 use Rattle.ot_plain.specs.Rules.{has_type}
-use Rattle.ot_records.specs.Conditions.{checked_const, checked_list, checked_type}
+use Rattle.ot_laws.specs.Conditions.{checked_const, checked_list, checked_type}
 use Rattle.ot_records.specs.Tokens.{LogFault, BadStep}
 
 -- how deep a log may nest: somewhat deeper than an article, since some of its words stand for several records

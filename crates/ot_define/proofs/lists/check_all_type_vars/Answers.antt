@@ -5,7 +5,7 @@ use Rattle.std.proofs.lemmas.List.Folds.{list_all-map}
 use Rattle.ot_plain.specs.Answers.{unless}
 use Rattle.ot_plain.specs.Faults.{TypeVarEscapes}
 use Rattle.ot_plain.specs.Naming.{numbers}
-use Rattle.ot_define.specs.Conditions.{keeps_type_vars}
+use Rattle.ot_laws.specs.Conditions.{keeps_type_vars}
 use Rattle.ot_define.specs.Answers.{Checks, tm_at}
 use Rattle.ot_define.proofs.Refusing.{checks-one}
 use Rattle.ot_define.proofs.lists.check_all_type_vars.Goals as goal

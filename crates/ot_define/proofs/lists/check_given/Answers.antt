@@ -4,7 +4,7 @@ use Rattle.ot_plain.specs.Answers.{◌>>=◌, unless}
 use Rattle.ot_plain.specs.Faults.{Fault, NotClosed, TypeVarEscapes}
 use Rattle.ot_plain.specs.Naming.{numbers}
 use Rattle.ot_term.specs.TermTable.{variable_of}
-use Rattle.ot_define.specs.Conditions.{is_closed, is_closed_but, keeps_type_vars}
+use Rattle.ot_laws.specs.Conditions.{is_closed, is_closed_but, keeps_type_vars}
 use Rattle.ot_define.specs.Answers.{Checks, checked_given, tm_at}
 use Rattle.ot_define.proofs.Refusing.{Stated, checks-then, checks-stop, unless-both}
 use Rattle.ot_define.proofs.lists.check_given.Goals as goal

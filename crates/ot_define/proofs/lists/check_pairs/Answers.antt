@@ -4,7 +4,7 @@ use Rattle.ot_plain.specs.Faults.{BadDefinitionList}
 use Rattle.ot_plain.specs.Hol.{same_var}
 use Rattle.ot_plain.specs.Naming.{numbers}
 use Rattle.ot_term.specs.TermTable.{variable_of}
-use Rattle.ot_define.specs.Conditions.{are_distinct}
+use Rattle.ot_laws.specs.Conditions.{are_distinct}
 use Rattle.ot_define.specs.declared.fault.DefineFault.TheVariants as code
 use Rattle.ot_define.proofs.Refusing.{checks-unless}
 use Rattle.ot_define.proofs.lists.check_pairs.Goals as goal

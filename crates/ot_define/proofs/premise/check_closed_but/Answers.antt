@@ -5,7 +5,7 @@ use Rattle.ot_plain.specs.Naming.{numbers}
 use Rattle.ot_term.specs.declared.term.VarKey.{VarKey}
 use Rattle.ot_term.specs.TermTable.{variable_of}
 use Rattle.ot_term.proofs.Distinct.{key_eq, key-is}
-use Rattle.ot_define.specs.Conditions.{is_closed_but}
+use Rattle.ot_laws.specs.Conditions.{is_closed_but}
 use Rattle.ot_define.specs.Answers.{tm_at}
 use Rattle.ot_define.specs.declared.fault.DefineFault.TheVariants as code
 use Rattle.ot_define.proofs.Refusing.{checks-unless}

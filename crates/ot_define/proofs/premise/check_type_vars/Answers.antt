@@ -7,7 +7,7 @@ use Rattle.ot_plain.specs.Trees.{Ty}
 use Rattle.ot_plain.specs.Naming.{numbers}
 use Rattle.ot_type.specs.TypeTable.{type_at}
 use Rattle.ot_term.specs.TermTable.{term_at}
-use Rattle.ot_define.specs.Conditions.{keeps_type_vars}
+use Rattle.ot_laws.specs.Conditions.{keeps_type_vars}
 use Rattle.ot_define.specs.Answers.{tm_at}
 use Rattle.ot_define.specs.declared.fault.DefineFault.TheVariants as code
 use Rattle.ot_define.proofs.Refusing.{checks-unless}

@@ -4,7 +4,7 @@ use Rattle.ot_plain.specs.Faults.{Primitive}
 use Rattle.ot_plain.specs.Hol.{primitives}
 use Rattle.ot_plain.specs.Naming.{numbers}
 use Rattle.ot_term.specs.Symbols.{symbol_of}
-use Rattle.ot_define.specs.Conditions.{is_among}
+use Rattle.ot_laws.specs.Conditions.{is_among}
 use Rattle.ot_define.proofs.Refusing.{first-some, first-none}
 use Rattle.ot_define.proofs.signature.refuse_primitive.Goals as goal
 

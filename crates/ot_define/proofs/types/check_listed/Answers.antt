@@ -5,10 +5,10 @@ use Rattle.ot_plain.specs.Faults.{BadTypeVars}
 use Rattle.ot_plain.specs.Hol.{vars_tm}
 use Rattle.ot_plain.specs.Naming.{numbers}
 use Rattle.ot_laws.proofs.Sets.{same_set-self}
-use Rattle.ot_define.specs.Conditions.{are_distinct, are_names_of}
+use Rattle.ot_laws.specs.Conditions.{are_distinct, are_names_of}
 use Rattle.ot_define.specs.Answers.{tm_at}
 use Rattle.ot_define.specs.declared.fault.DefineFault.TheVariants as code
-use Rattle.ot_define.proofs.Membership.{part-same_set}
+use Rattle.ot_laws.proofs.Membership.{part-same_set}
 use Rattle.ot_define.proofs.Refusing.{checks-unless}
 use Rattle.ot_define.proofs.types.check_listed.Goals as goal
 

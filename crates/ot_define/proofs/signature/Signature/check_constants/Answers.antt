@@ -2,7 +2,7 @@ use Rattle.std.proofs.Common.{List, map, subst, ap, ◌∙◌}
 use Rattle.ot_plain.specs.Hol.{symbols_of}
 use Rattle.ot_plain.specs.Naming.{numbers}
 use Rattle.ot_term.specs.Symbols.{symbol_of}
-use Rattle.ot_define.specs.Conditions.{checked_symbols}
+use Rattle.ot_laws.specs.Conditions.{checked_symbols}
 use Rattle.ot_define.specs.Answers.{Checks, sequent_at}
 use Rattle.ot_define.proofs.Keys.{constants-symbols}
 use Rattle.ot_define.proofs.signature.Signature.check_constants.Goals as goal

@@ -8,7 +8,7 @@ use Rattle.ot_plain.specs.Hol.{same_var, symbols_of}
 use Rattle.ot_plain.specs.Trees.{ConSymbol}
 use Rattle.ot_plain.specs.Naming.{numbers}
 use Rattle.ot_term.specs.TermTable.{variable_of}
-use Rattle.ot_define.specs.Conditions.{are_distinct, checked_symbols, terms_given}
+use Rattle.ot_laws.specs.Conditions.{are_distinct, checked_symbols, terms_given}
 use Rattle.ot_define.specs.Answers.{Checks, checked_given, tm_at, sequent_at}
 use Rattle.ot_define.proofs.Refusing.{checks-then, checks-some}
 use Rattle.ot_define.proofs.signature.Signature.check_list.Goals as goal

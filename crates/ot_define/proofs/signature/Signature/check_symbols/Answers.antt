@@ -6,7 +6,7 @@ use Rattle.ot_plain.specs.Naming.{numbers}
 use Rattle.ot_plain.specs.Answers.{◌>>=◌}
 use Rattle.ot_laws.proofs.Tests.{tells_numbers}
 use Rattle.ot_term.specs.Symbols.{symbol_of}
-use Rattle.ot_define.specs.Conditions.{is_among, refuse_first, refuse_defined}
+use Rattle.ot_laws.specs.Conditions.{is_among, refuse_first, refuse_defined}
 use Rattle.ot_define.specs.Answers.{Checks, sequent_at}
 use Rattle.ot_define.proofs.Refusing.{checks-then, checked-agree}
 use Rattle.ot_define.proofs.signature.Signature.check_symbols.Goals as goal

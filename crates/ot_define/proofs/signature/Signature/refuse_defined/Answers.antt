@@ -7,9 +7,9 @@ use Rattle.ot_laws.proofs.Tests.{tells_numbers}
 use Rattle.ot_term.specs.declared.term.Symbol.{Symbol}
 use Rattle.ot_term.specs.Symbols.{symbol_of}
 use Rattle.ot_term.proofs.Distinct.{symbol_eq}
-use Rattle.ot_define.specs.Conditions.{refuse_defined}
+use Rattle.ot_laws.specs.Conditions.{refuse_defined}
 use Rattle.ot_define.proofs.Refusing.{defined-taken, defined-next, refuse_defined-agree}
-use Rattle.ot_define.proofs.Membership.{is_among-same_set}
+use Rattle.ot_laws.proofs.Membership.{is_among-same_set}
 use Rattle.ot_define.proofs.Keys.{taken-more}
 use Rattle.ot_define.proofs.signature.Signature.refuse_defined.Goals as goal
 

@@ -7,7 +7,7 @@ use Rattle.ot_plain.specs.declared.tree.Ty as types
 use Rattle.ot_plain.specs.declared.tree.Ty.TheVariants as type_variants
 use Rattle.ot_plain.specs.declared.tree.Tm as terms
 use Rattle.ot_plain.specs.declared.tree.Tm.TheVariants as term_variants
-use Rattle.ot_match.specs.Found.{tys_of, type_step, type_of_tree, term_step, term_of_tree}
+use Rattle.ot_plain.specs.PlainTrees.{tys_of, type_step, type_of_tree, term_step, term_of_tree}
 
 pub type_Var : (n : Name) → type_of_tree (type_variants.Var n) ≡ TyVar n
 type_Var n = ap type_of_tree (sym (type_variants.rolls-Var n)) ∙ types.fold-roll-Ty (Ty Name) type_step (types.Ty-F.Var n)

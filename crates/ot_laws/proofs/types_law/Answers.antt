@@ -1,7 +1,7 @@
 use Rattle.ot_plain.specs.Naming.{names, numbers}
 use Rattle.ot_laws.proofs.Tests.{tells_names, tells_numbers}
-use Rattle.ot_define.proofs.Next.{types_are_next}
-use Rattle.ot_define.proofs.laws.types_law.Goals as goal
+use Rattle.ot_laws.proofs.Next.{types_are_next}
+use Rattle.ot_laws.proofs.types_law.Goals as goal
 
 pub returns-clause-of_names : goal.returns-clause-of_names
 returns-clause-of_names c = types_are_next names tells_names

@@ -4,7 +4,7 @@ use Rattle.ot_plain.specs.Lists.{IsMember}
 use Rattle.ot_plain.specs.Trees.{Alphabet, Variable, Tm, Sequent, Symbol, Definition, ConDef, ListDef, TyDef}
 use Rattle.ot_plain.specs.Hol.{IsWellTyped, IsNext, defined, used}
 use Rattle.ot_laws.specs.Theorem.{IsTheorem}
-use Rattle.ot_define.specs.Conditions.{checked_const, checked_list, checked_type}
+use Rattle.ot_laws.specs.Conditions.{checked_const, checked_list, checked_type}
 
 module _ {N : Type 0} (alphabet : Alphabet N) where
   -- the lists have just the symbols that the definitions define, and those that occur in them

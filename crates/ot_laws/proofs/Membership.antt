@@ -7,7 +7,7 @@ use Rattle.ot_plain.specs.Lists.{IsMember, IsPart, IsSameSet, AreDistinct}
 use Rattle.ot_plain.specs.Trees.{Alphabet, Variable, Tm, Free, Con, Bound, App, Abs, Symbol, ConSymbol, OpSymbol}
 use Rattle.ot_plain.specs.Hol.{IsFree, same_var}
 use Rattle.ot_laws.proofs.Tests.{Tells, same_var-is}
-use Rattle.ot_define.specs.Conditions.{same_symbol, is_among, is_closed_but, are_names_of, are_distinct}
+use Rattle.ot_laws.specs.Conditions.{same_symbol, is_among, is_closed_but, are_names_of, are_distinct}
 
 module _ {X : Type 0} (same : X → X → Bool) (is : (x y : X) → Decides (same x y) (x ≡ y)) where
   pub any-is : (x : X) (xs : List X) → Decides (list_any (same x) xs) (IsMember x xs)

@@ -1,7 +1,7 @@
 use Rattle.ot_plain.specs.Naming.{names, numbers}
 use Rattle.ot_laws.proofs.Tests.{tells_names, tells_numbers}
-use Rattle.ot_define.proofs.Next.{constants_are_next}
-use Rattle.ot_define.proofs.laws.constants_law.Goals as goal
+use Rattle.ot_laws.proofs.Next.{constants_are_next}
+use Rattle.ot_laws.proofs.constants_law.Goals as goal
 
 pub returns-clause-of_names : goal.returns-clause-of_names
 returns-clause-of_names c = constants_are_next names tells_names
