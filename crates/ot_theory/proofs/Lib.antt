@@ -10,9 +10,11 @@ pub mod Interpreting
 pub mod Steps
 -- Quoted paths.
 pub mod Paths
+-- Trimmed pieces, and the forms of lines.
+pub mod Trims
+pub mod LineForms
 -- What holds of each theory.
 pub mod Statements
 pub mod Soundness
--- Trimmed pieces, and where a theory's parts stand.
-pub mod Trims
+-- Where a theory's parts stand.
 pub mod Standing

@@ -1,21 +1,19 @@
 -- The keys, values and names of a theory stand in its text, in order.
-use Rattle.std.proofs.Common.{◌≡◌, ◌≤◌, ◌+◌, ℕ, List, [], ◌∷◌, ◌++◌, length, take, drop, Bool, true, false, refl, sym, ap, ◌∙◌, subst, arith, inl, inr, Some, None, append-nil, append_assoc, length-append}
-use Rattle.std.specs.Prelude.{Option, Ok, ◌⊎◌, codes, if◌then◌else◌}
+use Rattle.std.proofs.Common.{◌≡◌, ◌≤◌, ◌+◌, ℕ, List, [], ◌∷◌, ◌++◌, length, Bool, true, false, refl, sym, ap, ◌∙◌, subst, arith, inl, inr, Some, None, append-nil, append_assoc, length-append}
+use Rattle.std.specs.Prelude.{Option, Ok, ◌⊎◌}
 use Rattle.std.specs.List.{flat_map, concat}
 use Rattle.std.specs.Option.{option_to_list}
-use Rattle.std.specs.Str.{bytes_eq}
-use Rattle.std.proofs.lemmas.Bool.Decides.{eqb_tells}
-use Rattle.std.proofs.lemmas.List.{take-append-drop}
 use Rattle.std.proofs.lemmas.Grind.{flat_map-append}
-use Rattle.ot_lines.specs.Pieces.{pieces, IsWhole, IsOpen, AreWhole, text_of, is_skipped, trim_front}
+use Rattle.ot_lines.specs.Pieces.{pieces, IsWhole, IsOpen, AreWhole, text_of, is_skipped}
 use Rattle.ot_lines.proofs.Pieces.{one_cut-from}
 use Rattle.ot_theory.specs.Lines.{LineText, numbered, lines_of}
-use Rattle.ot_theory.specs.Forms.{LineForm, Statement, Opening, Closing, NoForm, form, form_after, identifier_len}
+use Rattle.ot_theory.specs.Forms.{LineForm, Statement, Opening, Closing, NoForm, form}
 use Rattle.ot_theory.specs.Theory.{TagText, BlockText, TheoryText, State, with_statement, read_lines, finish, no_lines, theory}
 use Rattle.ot_theory.specs.Places.{Part, tag_parts, block_parts, newlines, StandsAt, StandInOrder, InPlace}
 use Rattle.ot_theory.proofs.Steps.{same_ok, bind_ok, tag_at, OnSteps, by_step, first_line, ended, if_ok}
 use Rattle.ot_theory.proofs.Soundness.{all_blocks}
-use Rattle.ot_theory.proofs.Trims.{newlines-append, one_newline, end_kept, TextIn, text_in}
+use Rattle.ot_theory.proofs.Trims.{newlines-append, one_newline, TextIn, text_in}
+use Rattle.ot_theory.proofs.LineForms.{FormIn, form_in}
 
 -- ---- lines
 
@@ -88,33 +86,6 @@ form_parts line (Statement key value) = record { line = line; bytes = key } ∷ 
 form_parts line (Opening name) = record { line = line; bytes = name } ∷ []
 form_parts line Closing = []
 form_parts line NoForm = []
-
--- a key begins the text and a value ends it; a name begins it
-abbrev FormIn : LineForm → List ℕ → Type 0
-FormIn (Statement key value) text = (gap : List ℕ) × (text ≡ key ++ (gap ++ value))
-FormIn (Opening name) text = (rest : List ℕ) × (text ≡ name ++ rest)
-FormIn Closing text = Unit {0}
-FormIn NoForm text = Unit {0}
-
-after_in : (text word gap rest : List ℕ) → text ≡ word ++ (gap ++ rest) → FormIn (form_after word rest) text
-after_in text [] gap rest e = by_closing (bytes_eq rest (codes "}")) refl where
-  by_closing : (b : Bool) → bytes_eq rest (codes "}") ≡ b → FormIn (form_after [] rest) text
-  by_closing true is = rw is tt
-  by_closing false is = rw is tt
-after_in text (w ∷ ws) gap [] e = tt
-after_in text (w ∷ ws) gap (b ∷ bs) e = elim (eqb_tells b 58) [
-  | inl q ↦ let h = end_kept bs in rw q.0 (gap ++ b ∷ h.0, e ∙ ap (λ z. (w ∷ ws) ++ (gap ++ b ∷ z)) h.1 ∙ simp append_assoc)
-  | inr q ↦ rw q.0 (by_opening (bytes_eq (b ∷ bs) (codes "{")) refl)
-] where
-  by_opening : (t : Bool) → bytes_eq (b ∷ bs) (codes "{") ≡ t → FormIn (if bytes_eq (b ∷ bs) (codes "{") then Opening (w ∷ ws) else NoForm) text
-  by_opening true is = rw is (gap ++ b ∷ bs, e)
-  by_opening false is = rw is tt
-
-form_in : (text : List ℕ) → FormIn (form text) text
-form_in text =
-    let h = end_kept (drop (identifier_len text) text) in
-    after_in text (take (identifier_len text) text) h.0 (trim_front (drop (identifier_len text) text))
-    (sym (take-append-drop (identifier_len text) text) ∙ ap (λ z. take (identifier_len text) text ++ z) h.1)
 
 -- from an earlier place on, too
 earlier : (text : List ℕ) (from more : ℕ) (parts : List Part) → from ≤ more → StandInOrder text more parts → StandInOrder text from parts

@@ -166,8 +166,9 @@ renamings_more earlier t d new = rw (filter_map-append symbol_in earlier (t ∷ 
   by_symbol None is = rw (append-nil (filter_map symbol_in earlier)) d
   by_symbol (Some s) is = distinct_last s (filter_map symbol_in earlier) d (other_symbol earlier s (new s is))
 
-pub block_right : (b : BlockText) (t : TagText) → IsRightBlock b → Allowed (key_of t.key) t.value b.statements → IsRightBlock (with_statement b t)
-block_right b t p a = record {
+pub block_right : (b : BlockText) (t : TagText) → IsRightBlock b → ¬ (IsMember 10 t.value) → Allowed (key_of t.key) t.value b.statements → IsRightBlock (with_statement b t)
+block_right b t p plain a = record {
+  lines = all_append (λ (s : TagText). ¬ (IsMember 10 s.value)) b.statements (t ∷ []) p.lines (plain, tt);
   values = all_append (λ (s : TagText). IsRightValue (key_of s.key) s.value) b.statements (t ∷ []) p.values (a.right, tt);
   sources = sources_more b.statements t p.sources a.source;
   renamings = renamings_more b.statements t p.renamings a.renaming;

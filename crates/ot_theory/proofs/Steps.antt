@@ -1,6 +1,7 @@
 -- The lines that pass: what each of them is, and how the state goes on.
 use Rattle.std.proofs.Common.{◌≡◌, ℕ, List, [], ◌∷◌, ◌++◌, Bool, true, false, refl, sym, ap, ◌∙◌, subst, Some, None}
 use Rattle.std.specs.Prelude.{Option, Result, Ok, Err, not, codes, IfOk}
+use Rattle.std.specs.List.{AllByRecursion}
 use Rattle.ot_plain.specs.Answers.{◌>>=◌, unless}
 use Rattle.ot_theory.specs.Lines.{LineText}
 use Rattle.ot_theory.specs.Forms.{LineForm, Statement, Opening, Closing, NoForm, form}
@@ -80,12 +81,13 @@ first_line line lines s after e =
     let h = bind_ok (at_line line.number (line_step s line)) (read_lines lines) after e in
     (h.0, (at_line_ok line.number (line_step s line) h.0 h.1.0, h.1.1))
 
--- what each line keeps holds behind all of them
-pub kept : (P : State → Type 0) → ((s : State) (line : LineText) → P s → OnSteps s line P) → (lines : List LineText) (s after : State) → read_lines lines s ≡ Ok after → P s → P after
-kept P on [] s after e p = subst P (same_ok _ _ e) p
-kept P on (line ∷ lines) s after e p =
+-- what each of these lines keeps holds behind all of them
+pub kept : (Q : LineText → Type 0) (P : State → Type 0) → ((s : State) (line : LineText) → Q line → P s → OnSteps s line P)
+    → (lines : List LineText) (s after : State) → AllByRecursion Q lines → read_lines lines s ≡ Ok after → P s → P after
+kept Q P on [] s after q e p = subst P (same_ok _ _ e) p
+kept Q P on (line ∷ lines) s after q e p =
     let h = first_line line lines s after e in
-    kept P on lines h.0 after h.1.1 (by_step s line h.0 P (on s line p) h.1.0)
+    kept Q P on lines h.0 after q.1 h.1.1 (by_step s line h.0 P (on s line q.0 p) h.1.0)
 
 -- at the end no block is open, one is `main`, and the theory is what was read
 pub record Ends (s : State) (t : TheoryText) : Type 0 where

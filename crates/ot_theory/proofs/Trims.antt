@@ -20,6 +20,16 @@ no_newline (b ∷ bs) n = elim (eqb_tells b 10) [
   | inr q ↦ rw q.0 (omega (arith, no_newline bs (λ m. n (inr m))))
 ]
 
+pub newline_free : (xs : List ℕ) → newlines xs ≡ 0 → ¬ (IsMember 10 xs)
+newline_free [] e = λ m. m
+newline_free (b ∷ bs) e = by_byte (eqb_tells b 10) (newline_free bs) where
+  total : newlines (b ∷ bs) ≡ newlines (b ∷ []) + newlines bs
+  total = newlines-append (b ∷ []) bs
+
+  by_byte : ((b == 10) ≡ true × b ≡ 10) ⊎ ((b == 10) ≡ false × ¬ (b ≡ 10)) → (newlines bs ≡ 0 → ¬ (IsMember 10 bs)) → ¬ (IsMember 10 (b ∷ bs))
+  by_byte (inl q) rest = let one : newlines (b ∷ []) ≡ 1 = rw q.0 refl in absurd (omega (arith, total, one, e))
+  by_byte (inr q) rest = λ m. elim m [ inl is ↦ q.1 is | inr k ↦ rest (omega (arith, total, e)) k ]
+
 pub one_newline : (piece : List ℕ) → IsWhole piece → newlines piece ≡ 1
 one_newline piece w = ap newlines w.is ∙ newlines-append w.front (10 ∷ []) ∙ ap (λ n. n + 1) (no_newline w.front w.none)
 

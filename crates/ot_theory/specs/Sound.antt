@@ -1,7 +1,7 @@
 -- What holds of each theory that a text writes.
 use Rattle.std.specs.Prelude.{◌≡◌, ◌≤◌, List, ℕ, true, codes, map, count_by}
 use Rattle.std.specs.List.{AllByRecursion, filter_map}
-use Rattle.ot_plain.specs.Lists.{AreDistinct}
+use Rattle.ot_plain.specs.Lists.{IsMember, AreDistinct}
 use Rattle.ot_theory.specs.Forms.{is_identifier}
 use Rattle.ot_theory.specs.Values.{key_of, is_source, IsPath}
 use Rattle.ot_theory.specs.Interpretations.{IsInterpretation}
@@ -25,8 +25,10 @@ IsRightValue Interpret value = IsSomeInterpretation value
 IsRightValue Package value = Unit {0}
 IsRightValue Other value = Unit {0}
 
--- the values are right for their keys, the block has one source at most, and no two statements rename one symbol
+-- no value goes past its line, the values are right for their keys, the block has one source at most, and no two
+-- statements rename one symbol
 pub record IsRightBlock (b : BlockText) : Type 0 where
+  pub lines : AllByRecursion (λ t. ¬ (IsMember 10 t.value)) b.statements
   pub values : AllByRecursion (λ t. IsRightValue (key_of t.key) t.value) b.statements
   pub sources : count_by (λ t. is_source (key_of t.key)) b.statements ≤ 1
   pub renamings : AreDistinct (filter_map (λ t. renamed (key_of t.key) t.value) b.statements)

@@ -42,7 +42,7 @@ pub struct Theory<'a> {
 /// and where `main` is lacking, with that of the last line. Of each theory there is a block `main`, no
 /// two blocks have one name, a block has one `article:` or `package:` at most and no two `interpret:`
 /// for one symbol, and in the blocks the value of each `import:` is an identifier, that of each
-/// `article:` a quoted path, and that of each `interpret:` can be split.
+/// `article:` a quoted path, and that of each `interpret:` can be split, and no value has a newline.
 pub fn parse(alloc: Global, text: &[u8]) -> Result<Theory<'_>, TheoryError>
     ensures theory { Parses result (theory text.now) }
     ensures sound { IfOk result (λ t. IsSound (theory_of t)) }
