@@ -192,8 +192,8 @@ impl Kernel {
         self.conclude(Theorem { hyps, concl: t })
     }
 
-    // Whether a term is of the type of propositions.
-    pub(crate) fn is_proposition(&mut self, t: TermId) -> Result<bool, Memory>
+    /// Whether a term is of the type of propositions. Every number stands for what it stood for.
+    pub fn is_proposition(&mut self, t: TermId) -> Result<bool, Memory>
         requires { t < length self.old.terms }
         ensures ok { IfOk result (λ b. b ≡ has_type names (term_at self.old t) (bool_ty names)) }
         ensures keeps { Keeps self.old self.new }

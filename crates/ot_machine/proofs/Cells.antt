@@ -17,9 +17,11 @@ use Rattle.ot_machine.specs.declared.object.Object.TheVariants as objects
 use Rattle.ot_machine.specs.declared.object.List as items
 use Rattle.ot_machine.specs.declared.object.List.TheVariants as lists
 use Rattle.ot_machine.specs.declared.object.Cell as cell
+use Rattle.ot_machine.specs.declared.object.Entry as code_entry
+use Rattle.ot_machine.specs.declared.session.Session.{Session}
 use Rattle.ot_machine.specs.declared.machine.Machine.{Machine}
-use Rattle.ot_machine.specs.Meaning.{list_at, object_of, cell_of, cells_onto, cells_of, IsListIn, IsIn, IsCell, AreCells, entry_of, dictionary_of, export_of, lists_of, article_of, IsOf}
-use Rattle.ot_machine.specs.Rows.{consed}
+use Rattle.ot_machine.specs.Meaning.{list_at, object_of, cell_of, cells_onto, cells_of, IsListIn, IsIn, IsCell, AreCells, origin_or, entry_of, dictionary_of, export_of, version_of, lists_of, article_of, IsEntryIn, IsOf}
+use Rattle.ot_machine.specs.Makers.{consed}
 use Rattle.ot_machine.proofs.Kept.{dictionary-same}
 
 cells_onto-push : (k : kernel.State) (cs : List Objects) (more : List cell.Cell) (c : cell.Cell) → cells_onto k cs (more ++ c ∷ []) ≡ cells_onto k cs more ++ cell_of k (cells_onto k cs more) c ∷ []
@@ -50,12 +52,17 @@ module _ (k : kernel.State) (cs ds : List Objects) (e : Extends cs ds) where
   object-Extends (objects.Term t) h = refl
   object-Extends (objects.Theorem th) h = refl
 
-  pub stack-Extends : (os : List object.Object) → All (IsIn k (length cs)) os → map (entry_of k ds) os ≡ map (entry_of k cs) os
+-- ---- entries
+module _ (s : Session) (cs ds : List Objects) (e : Extends cs ds) where
+  entry-Extends : (x : code_entry.Entry) → IsEntryIn s (length cs) x → entry_of s ds x ≡ entry_of s cs x
+  entry-Extends x h = λ i. record { object = object-Extends s.kernel cs ds e x.object h.object i; origin = origin_or s x.object x.step }
+
+  pub stack-Extends : (es : List code_entry.Entry) → All (IsEntryIn s (length cs)) es → map (entry_of s ds) es ≡ map (entry_of s cs) es
   stack-Extends [] h = refl
-  stack-Extends (o ∷ os) h =
-      let a = object-Extends o (All-head (IsIn k (length cs)) o os h) in
-      let b = stack-Extends os (All-tail (IsIn k (length cs)) o os h) in
-      λ i. record { object = a i } ∷ b i
+  stack-Extends (x ∷ es) h =
+      let a = entry-Extends x (All-head (IsEntryIn s (length cs)) x es h) in
+      let b = stack-Extends es (All-tail (IsEntryIn s (length cs)) x es h) in
+      λ i. a i ∷ b i
 
 -- more cells
 pub list-more : (m n : ℕ) → m ≤ n → (l : items.List) → IsListIn m l → IsListIn n l
@@ -72,6 +79,9 @@ in-more k m n le (objects.Const i) h = h
 in-more k m n le (objects.Var v) h = h
 in-more k m n le (objects.Term t) h = h
 in-more k m n le (objects.Theorem th) h = h
+
+pub entry_in-more : (s : Session) (m n : ℕ) → m ≤ n → (x : code_entry.Entry) → IsEntryIn s m x → IsEntryIn s n x
+entry_in-more s m n le x h = record { object = in-more s.kernel m n le x.object h.object; step = h.step }
 
 -- ---- one more cell
 module _ (k : kernel.State) (cells : List cell.Cell) (c : cell.Cell) (are : AreCells k cells) where
@@ -139,41 +149,50 @@ abbrev pub with_cells : Machine → Vec cell.Cell Global → Machine
 with_cells m v = record m { cells = v }
 
 -- as many cells as before, and the same
-pub of-same_cells : (k : kernel.State) (m : Machine) (v : Vec cell.Cell Global) → v.items ≡ m.cells.items → IsOf k m → IsOf k (with_cells m v)
-of-same_cells k m v same h =
+pub of-same_cells : (s : Session) (m : Machine) (v : Vec cell.Cell Global) → v.items ≡ m.cells.items → IsOf s m → IsOf s (with_cells m v)
+of-same_cells s m v same h =
     let longer : length m.cells.items ≤ length v.items = omega (arith, ap length same) in
     record {
-      stack = λ i o p. in-more k (length m.cells.items) (length v.items) longer _ (h.stack i o p);
-      dictionary = λ q o p. in-more k (length m.cells.items) (length v.items) longer o (h.dictionary q o p);
+      run = h.run;
+      stack = λ i o p. entry_in-more s (length m.cells.items) (length v.items) longer _ (h.stack i o p);
+      dictionary = λ q o p. entry_in-more s (length m.cells.items) (length v.items) longer o (h.dictionary q o p);
       exports = h.exports;
-      cells = subst (AreCells k) (sym same) h.cells;
+      cells = subst (AreCells s.kernel) (sym same) h.cells;
     }
 
-module _ (k : kernel.State) (m : Machine) (v : Vec cell.Cell Global) (c : cell.Cell) (h : IsOf k m) (grown : v.items ≡ m.cells.items ++ c ∷ []) where
+module _ (s : Session) (m : Machine) (v : Vec cell.Cell Global) (c : cell.Cell) (h : IsOf s m) (grown : v.items ≡ m.cells.items ++ c ∷ []) where
   abbrev cells : List cell.Cell
   cells = m.cells.items
+
+  abbrev k : kernel.State
+  k = s.kernel
 
   lists-grown : cells_of k v.items ≡ after k cells c h.cells
   lists-grown = ap (cells_of k) grown ∙ cells-push k cells c h.cells
 
-  pub article-grown : article_of k (with_cells m v) ≡ article_of k m
+  entry-pushed : (x : code_entry.Entry) → IsEntryIn s (length cells) x → entry_of s (after k cells c h.cells) x ≡ entry_of s (cells_of k cells) x
+  entry-pushed x e = λ i. record { object = object-pushed k cells c h.cells x.object e.object i; origin = origin_or s x.object x.step }
+
+  pub article-grown : article_of s (with_cells m v) ≡ article_of s m
   article-grown = λ i. record {
-    stack = (ap (λ cs. map (entry_of k cs) m.stack.items) lists-grown ∙ stack) i;
-    dictionary = (ap (λ cs. dictionary_of k cs m.dictionary.entries) lists-grown ∙ dictionary) i;
-    exports = map (export_of k) m.exports.items;
+    stack = (ap (λ cs. map (entry_of s cs) m.stack.items) lists-grown ∙ stack) i;
+    dictionary = (ap (λ cs. dictionary_of s cs m.dictionary.entries) lists-grown ∙ dictionary) i;
+    exports = map (export_of s) m.exports.items;
     count = m.count;
+    version = version_of m.version;
   }
     where
-      stack : map (entry_of k (after k cells c h.cells)) m.stack.items ≡ map (entry_of k (cells_of k cells)) m.stack.items
-      stack = stack-Extends k (cells_of k cells) (after k cells c h.cells) (cells-extend k cells c h.cells) m.stack.items (subst (λ n. All (IsIn k n) m.stack.items) (sym (length-cells_of k cells)) h.stack)
+      stack : map (entry_of s (after k cells c h.cells)) m.stack.items ≡ map (entry_of s (cells_of k cells)) m.stack.items
+      stack = stack-Extends s (cells_of k cells) (after k cells c h.cells) (cells-extend k cells c h.cells) m.stack.items (subst (λ n. All (IsEntryIn s n) m.stack.items) (sym (length-cells_of k cells)) h.stack)
 
-      dictionary : dictionary_of k (after k cells c h.cells) m.dictionary.entries ≡ dictionary_of k (cells_of k cells) m.dictionary.entries
-      dictionary = dictionary-same k k (cells_of k cells) (after k cells c h.cells) m.dictionary.entries (λ q o p. object-pushed k cells c h.cells o (h.dictionary q o p))
+      dictionary : dictionary_of s (after k cells c h.cells) m.dictionary.entries ≡ dictionary_of s (cells_of k cells) m.dictionary.entries
+      dictionary = dictionary-same s s (cells_of k cells) (after k cells c h.cells) m.dictionary.entries (λ q o p. entry-pushed o (h.dictionary q o p))
 
-  pub of-grown : IsIn k (length cells) c.head → IsListIn (length cells) c.tail → c.nesting ≡ nesting (list (cell_of k (cells_of k cells) c)) → c.nesting ≤ depth_limit → IsOf k (with_cells m v)
+  pub of-grown : IsIn k (length cells) c.head → IsListIn (length cells) c.tail → c.nesting ≡ nesting (list (cell_of k (cells_of k cells) c)) → c.nesting ≤ depth_limit → IsOf s (with_cells m v)
   of-grown head tail nest shallow = record {
-    stack = λ i o p. in-more k (length cells) (length v.items) longer _ (h.stack i o p);
-    dictionary = λ q o p. in-more k (length cells) (length v.items) longer o (h.dictionary q o p);
+    run = h.run;
+    stack = λ i o p. entry_in-more s (length cells) (length v.items) longer _ (h.stack i o p);
+    dictionary = λ q o p. entry_in-more s (length cells) (length v.items) longer o (h.dictionary q o p);
     exports = h.exports;
     cells = subst (AreCells k) (sym grown) (are-pushed k cells c h.cells head tail nest shallow);
   }
@@ -182,7 +201,7 @@ module _ (k : kernel.State) (m : Machine) (v : Vec cell.Cell Global) (c : cell.C
       longer = omega (arith, ap length grown, length-append cells (c ∷ []))
 
   -- the list that the new cell stands for
-  pub list-grown : list_at (lists_of k (with_cells m v)) (lists.Cell (length cells)) ≡ cell_of k (cells_of k cells) c
+  pub list-grown : list_at (lists_of s (with_cells m v)) (lists.Cell (length cells)) ≡ cell_of k (cells_of k cells) c
   list-grown = ap (λ xs. list_at (cells_of k xs) (lists.Cell (length cells))) grown ∙ list-new k cells c h.cells
 
 -- a list that is made is within the limit

@@ -1,4 +1,4 @@
--- The run behind a definition.
+-- The theorems of a definition that the kernel accepts.
 use Rattle.std.specs.Prelude.{◌≡◌, ◌<◌, ◌+◌, ℕ, suc, List, [], ◌∷◌, ◌++◌, length, map, slice_index_or, Result, Ok, Err}
 use Rattle.std.proofs.Common.{refl, sym, ap, ◌∙◌, arith, length-append}
 use Rattle.std.proofs.lemmas.List.{map-append, get_or_at, get_or-append-add, length_push}
@@ -8,42 +8,9 @@ use Rattle.ot_plain.specs.Hol.{theorems, theorems_at}
 use Rattle.ot_plain.specs.Naming.{names}
 use Rattle.ot_plain.specs.Faults as faults
 use Rattle.ot_plain.specs.Answers.{◌>>=◌, some_or}
-use Rattle.ot_define.specs.Conditions.{function_of}
+use Rattle.ot_laws.specs.Conditions.{function_of}
 use Rattle.ot_kernel.specs.Defining.{Defining, zipped, const_definition, list_definition, type_definition}
 use Rattle.ot_kernel.specs.State as kernel
-use Rattle.ot_machine.specs.States.{Made, RunState}
-use Rattle.ot_machine.specs.Rows.{definitions_of, defined}
-use Rattle.ot_machine.specs.Meaning.{run_of}
-
-abbrev made : Definition Name → Made
-made d = record { definition = d }
-
-definitions_of-made : (dl : List (Definition Name)) → definitions_of (map made dl) ≡ dl
-definitions_of-made [] = refl
-definitions_of-made (d ∷ dl) = ap (λ rest. d ∷ rest) (definitions_of-made dl)
-
--- what is stated of a definition that the rule gives
-abbrev with_run : RunState → Definition Name → Result (List (Sequent Name) × RunState) (faults.Fault Name)
-with_run run d = Ok (theorems names d, record run { definitions = run.definitions ++ made d ∷ [] })
-
--- the kernel's definition is the stated one
-pub defined-is : (k l : kernel.State) (rule : List (Definition Name) → Defining names) (d : Definition Name) (qs : List (Sequent Name)) → rule k.definitions ≡ Ok d → theorems names d ≡ qs → l.definitions ≡ k.definitions ++ d ∷ [] → l.assumptions ≡ k.assumptions → defined rule (run_of k) ≡ Ok (qs, run_of l)
-defined-is k l rule d qs given same taken kept =
-    ap (λ dl. rule dl >>= with_run (run_of k)) (definitions_of-made k.definitions)
-    ∙ ap (λ r. r >>= with_run (run_of k)) given
-    ∙ (λ i. Ok (
-      same i,
-      record {
-        assumptions = map (λ q. record { sequent = q }) (sym kept i);
-        definitions = (sym (map-append made k.definitions (d ∷ [])) ∙ ap (map made) (sym taken)) i;
-      },
-    ))
-
--- and so is its refusal
-pub defined-refused : (k : kernel.State) (rule : List (Definition Name) → Defining names) (f : faults.Fault Name) → rule k.definitions ≡ Err f → defined rule (run_of k) ≡ Err f
-defined-refused k rule f refused =
-    ap (λ dl. rule dl >>= with_run (run_of k)) (definitions_of-made k.definitions)
-    ∙ ap (λ r. r >>= with_run (run_of k)) refused
 
 -- ---- the theorem of a constant
 
@@ -56,7 +23,7 @@ once-ok : {Y E : Type 0} (r : Result (Unit {0}) E) (x d : Y) → (r >>= λ _. Ok
 once-ok (Ok u) x d e = cc
 once-ok (Err f) x d e = cc
 
-first-ok : {Y E : Type 0} (r : Result (Unit {0}) E) (rest : Unit {0} → Result Y E) (d : Y) → (r >>= rest) ≡ Ok d → r ≡ Ok tt
+pub first-ok : {Y E : Type 0} (r : Result (Unit {0}) E) (rest : Unit {0} → Result Y E) (d : Y) → (r >>= rest) ≡ Ok d → r ≡ Ok tt
 first-ok (Ok u) rest d e = refl
 first-ok (Err f) rest d e = cc
 
@@ -84,7 +51,7 @@ list-theorem k l ns vs p d id given there at =
 -- ---- the theorems of a type
 
 -- two theorems more, at the end
-double : (k l : kernel.State) (qs : List (Sequent Name)) (q r : Sequent Name) (i j : ℕ) → qs ≡ q ∷ r ∷ [] → l.theorems ≡ k.theorems ++ qs → i ≡ length k.theorems → j ≡ suc (length k.theorems) → (qs ≡ kernel.theorem_at l i ∷ kernel.theorem_at l j ∷ []) × (i < length l.theorems) × (j < length l.theorems)
+pub double : (k l : kernel.State) (qs : List (Sequent Name)) (q r : Sequent Name) (i j : ℕ) → qs ≡ q ∷ r ∷ [] → l.theorems ≡ k.theorems ++ qs → i ≡ length k.theorems → j ≡ suc (length k.theorems) → (qs ≡ kernel.theorem_at l i ∷ kernel.theorem_at l j ∷ []) × (i < length l.theorems) × (j < length l.theorems)
 double k l qs q r i j e there at next =
     let last : Sequent Name = record { hyps = []; concl = Bound 0 } in
     let grown : l.theorems ≡ k.theorems ++ q ∷ r ∷ [] = there ∙ ap (λ z. k.theorems ++ z) e in
@@ -118,7 +85,3 @@ type-theorems k l n abs rep vs p d i j given there at next =
     let is : TyDef n abs rep vs p ≡ d = twice-ok _ _ _ _ given in
     let two = two-theorems n abs rep vs p.concl _ _ (first-ok _ _ _ given) in
     double k l (theorems names d) two.first two.second i j (ap (theorems names) (sym is) ∙ two.are) there at next
-
--- the run is as it was, where its parts are
-pub run-same : (k l : kernel.State) → kernel.SameBasis k l → run_of l ≡ run_of k
-run-same k l same = λ i. record { assumptions = map (λ q. record { sequent = q }) (same.assumptions i); definitions = map made (same.definitions i) }

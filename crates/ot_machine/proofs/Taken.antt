@@ -1,33 +1,35 @@
--- The run behind an axiom.
-use Rattle.std.specs.Prelude.{◌≡◌, ℕ, List, [], ◌∷◌, ◌++◌, map, find, is_some, Bool, true, false, cond, if◌then◌else◌, Option, Some, None, Ok, Err}
+-- What is used for a sequent: a theorem of the context, an assumption, or a new one.
+use Rattle.std.specs.Prelude.{◌≡◌, ◌+◌, ◌<◌, ◌&&◌, ℕ, List, [], ◌∷◌, ◌++◌, length, map, find, Bool, true, false, cond, Option, Some, None, Result, Ok, Err, MatchBool}
 use Rattle.std.specs.Bool.{Decides}
-use Rattle.std.specs.List.{AllByRecursion, list_all}
-use Rattle.std.specs.Option.{option_or, unwrap_or}
-use Rattle.std.proofs.Common.{refl, sym, ap, ◌∙◌, subst}
-use Rattle.std.proofs.lemmas.List.{map-append}
-use Rattle.std.proofs.lemmas.List.Folds.{find-append}
+use Rattle.std.specs.List.{list_all}
+use Rattle.std.proofs.Common.{refl, sym, ap, ◌∙◌, subst, arith, drop, get_or}
+use Rattle.std.proofs.lemmas.List.{drop_more}
+use Rattle.std.proofs.Math.ListN.{get_or-map}
 use Rattle.ot_plain.specs.Names.{Name}
 use Rattle.ot_plain.specs.Trees.{Tm, Sequent}
-use Rattle.ot_plain.specs.Hol.{bool_ty, once_each, same_sequent, HasType, IsSequent}
+use Rattle.ot_plain.specs.Hol.{bool_ty, once_each, same_tm, same_sequent, all_in}
 use Rattle.ot_plain.specs.Naming.{names}
-use Rattle.ot_plain.specs.Faults.{Fault}
+use Rattle.ot_plain.specs.Faults.{Fault, NotBool}
 use Rattle.ot_plain.specs.Rules.{has_type}
-use Rattle.ot_plain.specs.Answers.{◌>>=◌}
-use Rattle.ot_laws.proofs.Tests.{tells_names, has_type-is}
-use Rattle.ot_laws.proofs.Hypotheses.{same_sequent-is, same_set-once_each}
-use Rattle.ot_laws.proofs.Typed.{part-typed}
-use Rattle.ot_kernel.specs.Axioms.{axiom_rule, known, with_sequent}
+use Rattle.ot_plain.specs.Answers.{◌>>=◌, unless}
+use Rattle.ot_plain.specs.declared.command.Cmd.TheVariants as words
+use Rattle.ot_laws.proofs.Tests.{tells_names}
+use Rattle.ot_laws.proofs.Hypotheses.{all_in-is, same_sequent-is, same_set-once_each}
+use Rattle.ot_kernel.specs.Axioms.{axiom_rule}
 use Rattle.ot_kernel.specs.State as kernel
-use Rattle.ot_machine.specs.States.{Given, RunState, Context}
-use Rattle.ot_machine.specs.Rows.{sequents_of, assumed}
-use Rattle.ot_machine.specs.Meaning.{run_of}
-use Rattle.ot_machine.proofs.Defined.{twice-ok}
+use Rattle.ot_trace.specs.Origins.{Origin, Origins, Make}
+use Rattle.ot_machine.specs.States.{Entry, Given, RunState, Context}
+use Rattle.ot_machine.specs.Rows.{given_as, or_assumed, theorem_entry}
+use Rattle.ot_machine.specs.Discharge.{weakened, given_for, or_weakened, discharged}
+use Rattle.ot_machine.specs.Assumptions.{term_entries, assumed_new, used}
+use Rattle.ot_machine.specs.declared.session.Session.{Session}
+use Rattle.ot_machine.specs.Meaning.{origin_of, givens_of}
 
 -- ---- a sequent, and the same with each hypothesis once
 abbrev pub stated : List (Tm Name) → Tm Name → Sequent Name
 stated hyps p = record { hyps = hyps; concl = p }
 
-abbrev once : List (Tm Name) → Tm Name → Sequent Name
+abbrev pub once : List (Tm Name) → Tm Name → Sequent Name
 once hyps p = record { hyps = once_each names hyps; concl = p }
 
 same-test : {P Q : Type 0} (a b : Bool) → Decides a P → Decides b Q → (P → Q) → (Q → P) → a ≡ b
@@ -42,78 +44,86 @@ same-once r hyps p =
     (λ s. (record { to = λ x i. each.to x (s.0.to x i); back = λ x i. s.0.back x (each.back x i) }, s.1))
     (λ s. (record { to = λ x i. each.back x (s.0.to x i); back = λ x i. s.0.back x (each.to x i) }, s.1))
 
-find-once : (qs : List (Sequent Name)) (hyps : List (Tm Name)) (p : Tm Name) → find (λ r. same_sequent names r (stated hyps p)) qs ≡ find (λ r. same_sequent names r (once hyps p)) qs
-find-once qs hyps p = λ i. find (λ r. same-once r hyps p i) qs
+pub as-once : (gs : List Given) (hyps : List (Tm Name)) (p : Tm Name) → given_as (once hyps p) gs ≡ given_as (stated hyps p) gs
+as-once gs hyps p = λ i. find (λ (g : Given). sym (same-once g.sequent hyps p) i) gs
 
--- ---- a sequent that is a theorem is of propositions, so the rule takes it
-abbrev IsProposition : Tm Name → Type 0
-IsProposition h = HasType names h (bool_ty names)
+within-once : (rs hyps : List (Tm Name)) → all_in names rs hyps ≡ all_in names rs (once_each names hyps)
+within-once rs hyps =
+    let each = same_set-once_each names tells_names hyps in
+    same-test (all_in names rs hyps) (all_in names rs (once_each names hyps)) (all_in-is names tells_names rs hyps) (all_in-is names tells_names rs (once_each names hyps)) (λ s x i. each.to x (s x i)) (λ s x i. each.back x (s x i))
 
-all-typed : (hs : List (Tm Name)) → AllByRecursion IsProposition hs → list_all (λ h. has_type names h (bool_ty names)) hs ≡ true
-all-typed [] a = refl
-all-typed (h ∷ hs) a = rw ((has_type-is names tells_names h (bool_ty names)).1 a.0, all-typed hs a.1) refl
+pub for-once : (gs : List Given) (hyps : List (Tm Name)) (p : Tm Name) → given_for (once hyps p) gs ≡ given_for (stated hyps p) gs
+for-once gs hyps p = λ i. find (λ (g : Given). sym (within-once g.sequent.hyps hyps) i && same_tm names g.sequent.concl p) gs
 
-taken : (hyps : List (Tm Name)) (p : Tm Name) (r : Sequent Name) → IsSequent names r → same_sequent names r (stated hyps p) ≡ true → axiom_rule hyps p ≡ Ok (once hyps p)
-taken hyps p r s same =
-    let parts = (same_sequent-is names tells_names r (stated hyps p)).0 same in
-    let typed = part-typed names r.hyps hyps p parts.0.back (record { hyps = s.hyps; concl = subst IsProposition parts.1 s.concl }) in
-    rw ((has_type-is names tells_names p (bool_ty names)).1 typed.concl, all-typed hyps typed.hyps) refl
+-- ---- propositions
+abbrev pub is_proposition : Tm Name → Bool
+is_proposition t = has_type names t (bool_ty names)
 
-found-holds : {X : Type 0} (test : X → Bool) (xs : List X) (x : X) → find test xs ≡ Some x → test x ≡ true
-found-holds test [] x e = cc
-found-holds test (y ∷ ys) x e = by (test y) refl e (found-holds test ys x)
-  where
-    by : (b : Bool) → test y ≡ b → cond b (Some y) (find test ys) ≡ Some x → (find test ys ≡ Some x → test x ≡ true) → test x ≡ true
-    by true is e rest = let same : y ≡ x = cc in ap test (sym same) ∙ is
-    by false is e rest = rest e
+pub rule-takes : (hyps : List (Tm Name)) (p : Tm Name) → is_proposition p ≡ true → list_all is_proposition hyps ≡ true → axiom_rule hyps p ≡ Ok (once hyps p)
+rule-takes hyps p a b = (λ i. unless NotBool (a i) >>= λ _. unless NotBool (b i) >>= λ _. Ok (once hyps p))
 
--- ---- what is stated of a sequent that is found, or isn't
-abbrev with_found : RunState → Sequent Name → Option (Sequent Name) → Sequent Name × RunState
-with_found run q found = (unwrap_or found q, record run { assumptions = if is_some found then run.assumptions else run.assumptions ++ record { sequent = q } ∷ [] })
+pub rule-refuses : (hyps : List (Tm Name)) (p : Tm Name) → is_proposition p ≡ false → axiom_rule hyps p ≡ Err NotBool
+rule-refuses hyps p a = (λ i. unless NotBool (a i) >>= λ _. unless NotBool (list_all is_proposition hyps) >>= λ _. Ok (once hyps p))
 
-abbrev after_rule : Context → RunState → Sequent Name → Sequent Name × RunState
-after_rule c run q = with_found run q (find (λ r. same_sequent names r q) (sequents_of c.theorems ++ sequents_of run.assumptions))
+pub rule-refuses-some : (hyps : List (Tm Name)) (p : Tm Name) → is_proposition p ≡ true → list_all is_proposition hyps ≡ false → axiom_rule hyps p ≡ Err NotBool
+rule-refuses-some hyps p a b = (λ i. unless NotBool (a i) >>= λ _. unless NotBool (b i) >>= λ _. Ok (once hyps p))
 
--- the context's theorem is the stated one, and nothing is added
-pub assumed-given : (c : Context) (run : RunState) (hyps : List (Tm Name)) (p : Tm Name) (q : Sequent Name) → IsSequent names q → Some q ≡ find (λ r. same_sequent names r (stated hyps p)) (sequents_of c.theorems) → assumed c hyps p run ≡ Ok (q, run)
-assumed-given c run hyps p q s found =
-    let test = λ (r : Sequent Name). same_sequent names r (once hyps p) in
-    let there = sequents_of run.assumptions in
-    ap (λ r. r >>= λ q. Ok (after_rule c run q)) (taken hyps p q s (found-holds _ (sequents_of c.theorems) q (sym found)))
-    ∙ ap (λ o. Ok (with_found run (once hyps p) o)) (find-append test (sequents_of c.theorems) there ∙ ap (λ o. option_or o (find test there)) (sym (find-once (sequents_of c.theorems) hyps p) ∙ sym found))
+-- by the test of the conclusion, and then of the hypotheses
+pub rule-of : (hyps : List (Tm Name)) (p : Tm Name) (b : Bool) → is_proposition p ≡ true → b ≡ list_all is_proposition hyps → MatchBool b (axiom_rule hyps p ≡ Ok (once hyps p)) (axiom_rule hyps p ≡ Err NotBool)
+rule-of hyps p true a e = rule-takes hyps p a (sym e)
+rule-of hyps p false a e = rule-refuses-some hyps p a (sym e)
 
-abbrev given : Sequent Name → Given
-given q = record { sequent = q }
+module _ (c : Context) (run : RunState) (hyps : List (Tm Name)) (p : Tm Name) (o : Origin Name) (os : Origins Name) where
+  abbrev new_given : Sequent Name → Given
+  new_given q = record { sequent = q; origin = Make words.Axiom os }
 
-sequents_of-given : (qs : List (Sequent Name)) → sequents_of (map given qs) ≡ qs
-sequents_of-given [] = refl
-sequents_of-given (q ∷ qs) = ap (λ rest. q ∷ rest) (sequents_of-given qs)
+  abbrev with_rule : Result (Sequent Name) (Fault Name) → Result (Entry × RunState) (Fault Name)
+  with_rule r = r >>= λ q. discharged c (term_entries hyps o) (new_given q) run
 
--- one more given for one more sequent
-givens : (b : Bool) (qs : List (Sequent Name)) (q : Sequent Name) → map given (if b then qs else qs ++ q ∷ []) ≡ (if b then map given qs else map given qs ++ given q ∷ [])
-givens true qs q = refl
-givens false qs q = map-append given qs (q ∷ [])
+  pub used-refused : (f : Fault Name) → axiom_rule hyps p ≡ Err f → used c hyps p o os run ≡ Err f
+  used-refused f e = ap with_rule e
 
--- where no theorem of the context is the sequent, the kernel's assumption of it is the stated one
-pub assumed-is : (c : Context) (k l : kernel.State) (hyps : List (Tm Name)) (p : Tm Name) (q : Sequent Name) (th : ℕ) → None ≡ find (λ r. same_sequent names r (stated hyps p)) (sequents_of c.theorems) → axiom_rule hyps p ≡ Ok q → kernel.theorem_at l th ≡ known k.assumptions q → l.assumptions ≡ with_sequent k.assumptions q → l.definitions ≡ k.definitions
-    → assumed c hyps p (run_of k) ≡ Ok (kernel.theorem_at l th, run_of l)
-assumed-is c k l hyps p q th none rule made taken same =
-    let is : once hyps p ≡ q = twice-ok _ _ _ _ rule in
-    let test = λ (r : Sequent Name). same_sequent names r q in
-    let there = sequents_of (run_of k).assumptions in
-    let elsewhere : find test (sequents_of c.theorems) ≡ None = sym (find-once (sequents_of c.theorems) hyps p ∙ ap (λ z. find (λ r. same_sequent names r z) (sequents_of c.theorems)) is) ∙ sym none in
-    let b = is_some (find test k.assumptions) in
-    ap (λ r. r >>= λ q. Ok (after_rule c (run_of k) q)) rule
-    ∙ ap (λ o. Ok (with_found (run_of k) q o)) (find-append test (sequents_of c.theorems) there ∙ ap (λ o. option_or o (find test there)) elsewhere)
-    ∙ ap (λ qs. Ok (with_found (run_of k) q (find test qs))) (sequents_of-given k.assumptions)
-    ∙ (λ i. Ok (
-      sym made i,
-      record {
-        assumptions = (sym (givens b k.assumptions q) ∙ ap (map given) (sym taken)) i;
-        definitions = map (λ d. record { definition = d }) (sym same i);
-      },
-    ))
+  abbrev with_assumed : Option Given → Result (Entry × RunState) (Fault Name)
+  with_assumed f = let t = or_assumed f (new_given (once hyps p)) run in Ok (theorem_entry t.0, t.1)
 
--- and so is its refusal
-pub assumed-refused : (c : Context) (run : RunState) (hyps : List (Tm Name)) (p : Tm Name) (f : Fault Name) → axiom_rule hyps p ≡ Err f → assumed c hyps p run ≡ Err f
-assumed-refused c run hyps p f refused = ap (λ r. r >>= λ q. Ok (after_rule c run q)) refused
+  module _ (rule : axiom_rule hyps p ≡ Ok (once hyps p)) where
+    by-find : (f : Option Given) → given_for (stated hyps p) c.theorems ≡ f → used c hyps p o os run ≡ or_weakened f (term_entries hyps o) (new_given (once hyps p)) run
+    by-find f e = ap with_rule rule ∙ ap (λ f. or_weakened f (term_entries hyps o) (new_given (once hyps p)) run) (for-once c.theorems hyps p ∙ e)
+
+    -- a theorem of the context, weakened
+    pub used-given : (g : Given) → Some g ≡ given_for (stated hyps p) c.theorems → used c hyps p o os run ≡ (weakened (term_entries hyps o) (theorem_entry g) >>= λ e. Ok (e, run))
+    used-given g found = by-find (Some g) (sym found)
+
+    -- an assumption that is there
+    pub used-there : (g : Given) → None ≡ given_for (stated hyps p) c.theorems → Some g ≡ given_as (stated hyps p) run.assumptions → used c hyps p o os run ≡ Ok (theorem_entry g, run)
+    used-there g none found =
+        by-find None (sym none) ∙ ap with_assumed (as-once run.assumptions hyps p ∙ sym found)
+
+    -- a new one
+    pub used-assumes : None ≡ given_for (stated hyps p) c.theorems → None ≡ given_as (stated hyps p) run.assumptions → used c hyps p o os run ≡ assumed_new hyps p (Make words.Axiom os) run
+    used-assumes none nowhere =
+        by-find None (sym none) ∙ ap with_assumed (as-once run.assumptions hyps p ∙ sym nowhere)
+        ∙ sym (ap (λ r. r >>= λ q. Ok (theorem_entry (new_given q), record run { assumptions = run.assumptions ++ new_given q ∷ [] })) rule)
+
+-- along what it is stated of
+pub used-same : (c d : Context) (hs ks : List (Tm Name)) (p q : Tm Name) (o u : Origin Name) (os us : Origins Name) (r w : RunState) → c ≡ d → hs ≡ ks → p ≡ q → o ≡ u → os ≡ us → r ≡ w → used c hs p o os r ≡ used d ks q u us w
+used-same c d hs ks p q o u os us r w x a b e f g = λ i. used (x i) (a i) (b i) (e i) (f i) (g i)
+
+pub assumed-same : (hs ks : List (Tm Name)) (p q : Tm Name) (o u : Origin Name) (r w : RunState) → hs ≡ ks → p ≡ q → o ≡ u → r ≡ w → assumed_new hs p o r ≡ assumed_new ks q u w
+assumed-same hs ks p q o u r w a b e f = λ i. assumed_new (a i) (b i) (e i) (f i)
+
+-- ---- a search, one given after another
+-- the assumptions from a place on
+pub givens-from : (s : Session) (qs : List (Sequent Name)) (is : List ℕ) (i : ℕ) (q : Sequent Name) (j : ℕ) → i < length qs → length is ≡ length qs → q ≡ get_or qs i q → j ≡ get_or is i j → givens_of s (drop i qs) (drop i is) ≡ record { sequent = q; origin = origin_of s j } ∷ givens_of s (drop (i + 1) qs) (drop (i + 1) is)
+givens-from s qs is i q j lt same e f =
+    (λ k. givens_of s ((drop_more qs i q lt ∙ ap (λ z. z ∷ drop (i + 1) qs) (sym e)) k) ((drop_more is i j (omega (arith, lt, same)) ∙ ap (λ z. z ∷ drop (i + 1) is) (sym f)) k))
+
+pub found-here : (q : Sequent Name) (all rest : List Given) (x : Given) → given_as q all ≡ given_as q (x ∷ rest) → same_sequent names x.sequent q ≡ true → Some x ≡ given_as q all
+found-here q all rest x e same = sym (e ∙ ap (λ b. cond b (Some x) (given_as q rest)) same)
+
+pub not-here : (q : Sequent Name) (all rest : List Given) (x : Given) → given_as q all ≡ given_as q (x ∷ rest) → same_sequent names x.sequent q ≡ false → given_as q all ≡ given_as q rest
+not-here q all rest x e same = e ∙ ap (λ b. cond b (Some x) (given_as q rest)) same
+
+-- what a number at a place stands for
+pub theorem-from : (k : kernel.State) (ths : List ℕ) (i th : ℕ) → map (kernel.theorem_at k) ths ≡ k.assumptions → th ≡ get_or ths i th → kernel.theorem_at k th ≡ get_or k.assumptions i (kernel.theorem_at k th)
+theorem-from k ths i th all e = ap (kernel.theorem_at k) e ∙ sym (get_or-map (kernel.theorem_at k) ths i th) ∙ ap (λ qs. get_or qs i (kernel.theorem_at k th)) all

@@ -10,11 +10,12 @@ use Rattle.ot_machine.specs.declared.fault.ArticleFault.TheVariants as article
 use Rattle.ot_machine.specs.Faults.{fault_of}
 use Rattle.ot_kernel.specs.State as kernel
 use Rattle.ot_machine.specs.declared.machine.Machine.{Machine}
+use Rattle.ot_machine.specs.declared.session.Session.{Session}
 use Rattle.ot_machine.specs.Objects.{no_objects, more_objects}
 use Rattle.ot_machine.specs.declared.object.Object as object
 use Rattle.ot_machine.specs.declared.object.List as items
 use Rattle.ot_machine.specs.declared.object.Cell as cell
-use Rattle.ot_machine.specs.Meaning.{state_of, object_of, list_at, cells_of, length_bound, IsOf, IsIn, IsListIn}
+use Rattle.ot_machine.specs.Meaning.{state_of, object_of, list_at, cells_of, length_bound, IsOf, IsIn, IsListIn, Grows}
 use Rattle.ot_machine.specs.States.{State, Context}
 use Rattle.ot_machine.specs.Run.{Ended, Stopped, run, IsReached}
 
@@ -62,8 +63,8 @@ abbrev pub NamesSymbolIn : kernel.State → ArticleFault → Type 0
 NamesSymbolIn k (article.At line fault) = IsSymbolIn k fault
 NamesSymbolIn k e = Unit {0}
 
--- a row was taken: the state moved by it, the kernel grew, and the machine is still of its session
-pub record Turns (result : Result (Unit {0}) Fault) (row : State → Result State (faults.Fault Name)) (k : kernel.State) (m : Machine) (l : kernel.State) (n : Machine) : Type 0 where
-  pub moves : Moves l result (row (state_of k m)) (state_of k m) (state_of l n)
-  pub grown : kernel.Keeps k l
-  pub of : IsOf l n
+-- a row was taken: the state moved by it, the session grew, and the machine is still of it
+pub record Turns (result : Result (Unit {0}) Fault) (row : State → Result State (faults.Fault Name)) (s : Session) (m : Machine) (t : Session) (n : Machine) : Type 0 where
+  pub moves : Moves t.kernel result (row (state_of s m)) (state_of s m) (state_of t n)
+  pub grown : Grows s t
+  pub of : IsOf t n

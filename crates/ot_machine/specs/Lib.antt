@@ -1,16 +1,32 @@
--- The stated machine, and what the code's objects stand for.
+-- The stated machine, its laws, and what the code's objects stand for.
 pub mod Objects
 pub mod States
 pub mod Places
 pub mod Parts
 pub mod Substitutions
 pub mod DefinitionLists
+pub mod Makers
 pub mod Rows
+pub mod Discharge
+pub mod Values
+pub mod Version5
+pub mod Nodes
+pub mod Canonical
+pub mod OpenTypes
 pub mod Step
 pub mod Run
 pub mod Faults
 pub mod Conversions
 pub mod Meaning
 pub mod Contexts
+pub mod RenamedLists
+pub mod Assumptions
+pub mod Stays
+pub mod Defining
 pub mod Answers
 pub mod Commanded
+pub mod Lawful
+pub mod NamesIn
+pub mod Writable
+pub mod LawfulLaws
+pub mod Marks

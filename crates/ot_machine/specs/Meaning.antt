@@ -1,14 +1,19 @@
--- What a machine stands for, over the kernel of its session.
-use Rattle.std.specs.Prelude.{◌≡◌, ◌<◌, ◌≤◌, ℕ, suc, ℤ, List, [], ◌∷◌, ◌++◌, length, map, slice_get, slice_index_or, Some}
+-- What a machine stands for, over its session.
+use Rattle.std.specs.Prelude.{◌≡◌, ◌<◌, ◌≤◌, ℕ, suc, ℤ, pos, List, [], ◌∷◌, ◌++◌, length, map, slice_get, slice_index_or, Option, Some, None}
 use Rattle.std.specs.List.{All}
 use Rattle.std.specs.Map.{lookup}
 use Rattle.std.specs.BTreeMap.{is_at}
 use Rattle.std.specs.Ordering.{int_cmp}
 use Rattle.std.specs.FinMap.{FinMap, from_entries}
+use Rattle.ot_plain.specs.Table.{Extends}
 use Rattle.ot_plain.specs.Hol.{depth_limit}
+use Rattle.ot_plain.specs.Names.{Name}
+use Rattle.ot_plain.specs.Trees.{Sequent, Definition}
 use Rattle.ot_kernel.specs.State as kernel
 use Rattle.ot_machine.specs.Objects.{Object, Objects, number, name, list, type_op, a_type, constant, variable, term, theorem, no_objects, more_objects, nesting}
-use Rattle.ot_machine.specs.States.{Entry, Export, ArticleState, RunState, State}
+use Rattle.ot_machine.specs.States.{Entry, Export, Given, Made, Version, open_version, version_5, version_6, ArticleState, RunState, State}
+use Rattle.ot_trace.specs.Origins.{Origin, Origins, Number, Named, Make, Define, Outcome, NoOrigins, MoreOrigins, map_origin}
+use Rattle.ot_trace.specs.Trace as trace
 use Rattle.ot_machine.specs.declared.object.Object as object
 use Rattle.ot_machine.specs.declared.object.Object.TheVariants as objects
 use Rattle.ot_machine.specs.declared.object.List as items
@@ -17,7 +22,11 @@ use Rattle.ot_machine.specs.declared.object.Cell as cell
 use Rattle.ot_machine.specs.declared.object.Command as code_command
 use Rattle.ot_machine.specs.declared.object.Command.TheVariants as commands
 use Rattle.ot_machine.specs.Step.{Command, numeral, named, order}
+use Rattle.ot_machine.specs.declared.object.Entry as code_entry
 use Rattle.ot_machine.specs.declared.machine.Export as code
+use Rattle.ot_machine.specs.declared.machine.Version as code_version
+use Rattle.ot_machine.specs.declared.machine.Version.TheVariants as versions
+use Rattle.ot_machine.specs.declared.session.Session.{Session}
 use Rattle.ot_machine.specs.declared.machine.Machine.{Machine}
 
 -- ---- objects, over the lists that the cells stand for
@@ -93,51 +102,144 @@ IsCommandIn k (commands.Numeral n) = Unit {0}
 IsCommandIn k (commands.Named n) = n < length k.names
 IsCommandIn k (commands.Order c) = Unit {0}
 
+-- ---- origins
+
+-- the origin of a number of the trace, over names
+abbrev pub origin_of : Session → ℕ → Origin Name
+origin_of s i = map_origin (kernel.name_at s.kernel) (trace.origin_at s.trace i)
+
+-- the names of an origin are of the first n
+abbrev mutual
+  pub AreNamesBelow : ℕ → Origin ℕ → Type 0
+  AreNamesBelow n (Number k) = Unit {0}
+  AreNamesBelow n (Named m) = m < n
+  AreNamesBelow n (Make w os) = AreAllNamesBelow n os
+  AreNamesBelow n (Define w os) = AreAllNamesBelow n os
+  AreNamesBelow n (Outcome j d) = AreNamesBelow n d
+
+  pub AreAllNamesBelow : ℕ → Origins ℕ → Type 0
+  AreAllNamesBelow n NoOrigins = Unit {0}
+  AreAllNamesBelow n (MoreOrigins o os) = AreNamesBelow n o × AreAllNamesBelow n os
+
+-- ---- a run
+
+-- the givens of sequents and their steps, as far as there are both
+abbrev pub givens_of : Session → List (Sequent Name) → List ℕ → List Given
+givens_of s (q ∷ qs) (i ∷ is) = record { sequent = q; origin = origin_of s i } ∷ givens_of s qs is
+givens_of s _ _ = []
+
+abbrev pub made_of : Session → List (Definition Name) → List ℕ → List Made
+made_of s (d ∷ ds) (i ∷ is) = record { definition = d; origin = origin_of s i } ∷ made_of s ds is
+made_of s _ _ = []
+
+abbrev pub run_of : Session → RunState
+run_of s = record { assumptions = givens_of s s.kernel.assumptions s.assumption_steps.items; definitions = made_of s s.kernel.definitions s.definition_steps.items }
+
+-- the trace has names of the kernel alone, and each assumption and each definition has its step
+pub record IsRun (s : Session) : Type 0 where
+  pub named : All (AreNamesBelow (length s.kernel.names)) s.trace
+  pub assumptions : All (λ i. i < length s.trace) s.assumption_steps.items
+  pub each_assumption : length s.assumption_steps.items ≡ length s.kernel.assumptions
+  pub definitions : All (λ i. i < length s.trace) s.definition_steps.items
+  pub each_definition : length s.definition_steps.items ≡ length s.kernel.definitions
+
 -- ---- a machine
 
-abbrev pub entry_of : kernel.State → List Objects → object.Object → Entry
-entry_of k cs o = record { object = object_of k cs o }
+-- a number without a step has its own origin
+abbrev pub own_origin : object.Object → Origin Name
+own_origin (objects.Number k) = Number k
+own_origin o = Number (pos 0)
 
-abbrev pub dictionary_of : kernel.State → List Objects → List (ℤ × object.Object) → FinMap int_cmp Entry
-dictionary_of k cs es = from_entries (map (λ e. (e.0, entry_of k cs e.1)) es)
+abbrev pub origin_or : Session → object.Object → Option ℕ → Origin Name
+origin_or s o (Some i) = origin_of s i
+origin_or s o None = own_origin o
 
-abbrev pub export_of : kernel.State → code.Export → Export
-export_of k e = record { sequent = kernel.theorem_at k e.th }
+abbrev pub entry_of : Session → List Objects → code_entry.Entry → Entry
+entry_of s cs e = record { object = object_of s.kernel cs e.object; origin = origin_or s e.object e.step }
 
--- what the machine's lists stand for
-abbrev pub lists_of : kernel.State → Machine → List Objects
-lists_of k m = cells_of k m.cells.items
+abbrev pub dictionary_of : Session → List Objects → List (ℤ × code_entry.Entry) → FinMap int_cmp Entry
+dictionary_of s cs es = from_entries (map (λ e. (e.0, entry_of s cs e.1)) es)
 
-abbrev pub article_of : kernel.State → Machine → ArticleState
-article_of k m = record {
-  stack = map (entry_of k (lists_of k m)) m.stack.items;
-  dictionary = dictionary_of k (lists_of k m) m.dictionary.entries;
-  exports = map (export_of k) m.exports.items;
-  count = m.count;
+abbrev pub export_of : Session → code.Export → Export
+export_of s e = record {
+  sequent = kernel.theorem_at s.kernel e.th;
+  roots = record { theorem = origin_of s e.theorem; list = origin_of s e.list; term = origin_of s e.term };
 }
 
-abbrev pub run_of : kernel.State → RunState
-run_of k = record { assumptions = map (λ q. record { sequent = q }) k.assumptions; definitions = map (λ d. record { definition = d }) k.definitions }
+abbrev pub version_of : code_version.Version → Version
+version_of versions.Open = open_version
+version_of versions.Five = version_5
+version_of versions.Six = version_6
+
+-- what the machine's lists stand for
+abbrev pub lists_of : Session → Machine → List Objects
+lists_of s m = cells_of s.kernel m.cells.items
+
+abbrev pub article_of : Session → Machine → ArticleState
+article_of s m = record {
+  stack = map (entry_of s (lists_of s m)) m.stack.items;
+  dictionary = dictionary_of s (lists_of s m) m.dictionary.entries;
+  exports = map (export_of s) m.exports.items;
+  count = m.count;
+  version = version_of m.version;
+}
 
 -- the state that a machine and its session stand for
-abbrev pub state_of : kernel.State → Machine → State
-state_of k m = record { article = article_of k m; run = run_of k }
+abbrev pub state_of : Session → Machine → State
+state_of s m = record { article = article_of s m; run = run_of s }
 
--- the machine's numbers are of the kernel
-pub record IsOf (k : kernel.State) (m : Machine) : Type 0 where
-  pub stack : All (IsIn k (length m.cells.items)) m.stack.items
-  pub dictionary : (q : ℤ) (o : object.Object) → lookup (is_at (int_cmp q)) m.dictionary.entries ≡ Some o → IsIn k (length m.cells.items) o
-  pub exports : All (λ e. e.th < length k.theorems) m.exports.items
-  pub cells : AreCells k m.cells.items
+-- a step is of the trace, and every object but a number has one
+abbrev pub IsNumber : object.Object → Type 0
+IsNumber (objects.Number k) = Unit {0}
+IsNumber o = ⊥
 
--- a kernel that grew leaves what the machine stands for
-pub record Carries (old new : kernel.State) (m : Machine) : Type 0 where
-  pub grown : kernel.Keeps old new
+abbrev pub HasStep : List (Origin ℕ) → object.Object → Option ℕ → Type 0
+HasStep ts o (Some i) = i < length ts
+HasStep ts o None = IsNumber o
+
+-- an entry's numbers are of the kernel and of the first n cells, and its step of the trace
+pub record IsEntryIn (s : Session) (n : ℕ) (e : code_entry.Entry) : Type 0 where
+  pub object : IsIn s.kernel n e.object
+  pub step : HasStep s.trace e.object e.step
+
+pub record IsExportIn (s : Session) (e : code.Export) : Type 0 where
+  pub th : e.th < length s.kernel.theorems
+  pub theorem : e.theorem < length s.trace
+  pub list : e.list < length s.trace
+  pub term : e.term < length s.trace
+
+-- the machine's numbers are of the session
+pub record IsOf (s : Session) (m : Machine) : Type 0 where
+  pub run : IsRun s
+  pub stack : All (IsEntryIn s (length m.cells.items)) m.stack.items
+  pub dictionary : (q : ℤ) (e : code_entry.Entry) → lookup (is_at (int_cmp q)) m.dictionary.entries ≡ Some e → IsEntryIn s (length m.cells.items) e
+  pub exports : All (IsExportIn s) m.exports.items
+  pub cells : AreCells s.kernel m.cells.items
+
+-- ---- a session that grew
+
+-- its kernel and its trace grew
+pub record Grows (old new : Session) : Type 0 where
+  pub kernel : kernel.Keeps old.kernel new.kernel
+  pub trace : Extends old.trace new.trace
+
+-- the kernel alone grew, and what the machine stands for stays
+pub record Carries (old new : Session) (m : Machine) : Type 0 where
+  pub grown : kernel.Keeps old.kernel new.kernel
+  pub trace : new.trace ≡ old.trace
   pub article : article_of new m ≡ article_of old m
   pub lists : lists_of new m ≡ lists_of old m
   pub of : IsOf new m
 
 -- and what the run stands for
-pub record Leaves (old new : kernel.State) (m : Machine) : Type 0 where
+pub record Leaves (old new : Session) (m : Machine) : Type 0 where
   pub machine : Carries old new m
   pub run : run_of new ≡ run_of old
+
+-- the trace alone grew, and all that the machine and the run stand for stays
+pub record Traces (old new : Session) (m : Machine) : Type 0 where
+  pub kernel : new.kernel ≡ old.kernel
+  pub grown : Extends old.trace new.trace
+  pub article : article_of new m ≡ article_of old m
+  pub run : run_of new ≡ run_of old
+  pub of : IsOf new m

@@ -1,5 +1,5 @@
 -- What stands at a place of the stack, of which kind.
-use Rattle.std.specs.Prelude.{◌-◌, ℕ, suc, ℤ, List, [], ◌∷◌, ◌++◌, take, length, map, Result, Ok, Err, slice_get, nat_lt, if◌then◌else◌}
+use Rattle.std.specs.Prelude.{◌-◌, ℕ, suc, ℤ, List, [], ◌∷◌, ◌++◌, take, drop, length, map, Result, Ok, Err, slice_get, nat_lt, if◌then◌else◌}
 use Rattle.ot_plain.specs.Names.{Name}
 use Rattle.ot_plain.specs.Trees.{Ty, Tys, NoTys, MoreTys, Variable, Tm, Sequent}
 use Rattle.ot_plain.specs.Faults.{Fault, StackEmpty, WrongKind}
@@ -7,6 +7,7 @@ use Rattle.ot_plain.specs.Answers.{◌>>=◌, some_or}
 use Rattle.ot_plain.specs.declared.kind.Kind.{Kind}
 use Rattle.ot_plain.specs.declared.kind.Kind.TheVariants as kinds
 use Rattle.ot_machine.specs.Objects.{Object, Objects, number, name, list, type_op, a_type, constant, variable, term, theorem, no_objects, more_objects, kind_of}
+use Rattle.ot_trace.specs.Origins.{Origin, Origins, from_list}
 use Rattle.ot_machine.specs.States.{Entry}
 
 -- what stands at a place, 0 at the top
@@ -20,17 +21,25 @@ object_at n stack = entry_at n stack >>= λ e. Ok e.object
 abbrev pub dropped : ℕ → List Entry → List Entry
 dropped n stack = take (length stack - n) stack
 
--- one more object on the stack
-abbrev pub pushed : Object → List Entry → List Entry
-pushed o stack = stack ++ record { object = o } ∷ []
+-- the top n entries, the lowest first
+abbrev pub top : ℕ → List Entry → List Entry
+top n stack = drop (length stack - n) stack
 
--- an object in the place of the top n
-abbrev pub replaced : ℕ → Object → List Entry → List Entry
-replaced n o stack = pushed o (dropped n stack)
+-- one more entry on the stack
+abbrev pub pushed : Entry → List Entry → List Entry
+pushed e stack = stack ++ e ∷ []
 
--- objects in the place of the top n
-abbrev pub exchanged : ℕ → List Object → List Entry → List Entry
-exchanged n os stack = dropped n stack ++ map (λ o. record { object = o }) os
+-- an entry in the place of the top n
+abbrev pub replaced : ℕ → Entry → List Entry → List Entry
+replaced n e stack = pushed e (dropped n stack)
+
+-- entries in the place of the top n
+abbrev pub exchanged : ℕ → List Entry → List Entry → List Entry
+exchanged n es stack = dropped n stack ++ es
+
+-- the origins of entries, as operands
+abbrev pub origins_of : List Entry → Origins Name
+origins_of es = from_list (map (λ e. e.origin) es)
 
 -- ---- an object of one kind
 
@@ -121,3 +130,10 @@ terms_on n stack = list_on n stack >>= as_each as_term
 
 abbrev pub names_on : ℕ → List Entry → Result (List Name) (Fault Name)
 names_on n stack = list_on n stack >>= as_each as_name
+
+-- the list at a place, and its origin
+abbrev pub list_entry : ℕ → List Entry → Result (Objects × Origin Name) (Fault Name)
+list_entry n stack = do
+  e ← entry_at n stack
+  os ← as_list e.object
+  Ok (os, e.origin)

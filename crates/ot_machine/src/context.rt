@@ -1,25 +1,24 @@
 // What an article is run in.
-ghost use Rattle.std.specs.Prelude.{◌≡◌, ◌<◌, length, map, find, IfOk, IfSome};
+ghost use Rattle.std.specs.Prelude.{◌≡◌, ◌<◌, length, map, IfOk};
 ghost use Rattle.std.specs.List.{All};
-ghost use Rattle.std.specs.Option.{option_map};
-ghost use Rattle.ot_plain.specs.Hol.{same_sequent};
 ghost use Rattle.ot_plain.specs.Naming.{names};
 ghost use Rattle.ot_interp.specs.Interpretation.{renamed};
-ghost use Rattle.ot_kernel.specs.State.{name_at, term_at, theorem_at};
+ghost use Rattle.ot_kernel.specs.State.{name_at};
 ghost use Rattle.ot_machine.specs.Contexts.{context_of, IsContextOf};
-ghost use Rattle.ot_machine.specs.Rows.{sequents_of};
 
 use crate::session::Session;
 use ot_interp::Interp;
 use ot_kernel::ThmId;
 use ot_plain::{Memory, NameId};
-use ot_term::{TermId, VarKey};
+use ot_term::VarKey;
+use ot_trace::StepId;
 use std::alloc::Global;
 
-/// A theorem that comes from another article.
+/// A theorem that comes from another article, and the step that made it.
 #[derive(Clone, Copy, Debug, PartialEq, Eq)]
 pub struct Given {
     pub th: ThmId,
+    pub step: StepId,
 }
 
 /// How an article's names of symbols are read, and the theorems that come from other articles, in order.
@@ -32,9 +31,9 @@ pub struct Context<'a> {
 impl Session {
     /// The name of a constant that an article calls by this name.
     pub(crate) fn constant_named(&self, ctx: &Context<'_>, name: NameId) -> NameId
-        requires context { IsContextOf self.now.kernel ctx.now }
+        requires context { IsContextOf self.now ctx.now }
         requires name { name < length self.now.kernel.names }
-        ensures renamed { name_at self.now.kernel result ≡ renamed names (context_of self.now.kernel ctx.now).interpretation.constants (name_at self.now.kernel name) }
+        ensures renamed { name_at self.now.kernel result ≡ renamed names (context_of self.now ctx.now).interpretation.constants (name_at self.now.kernel name) }
         ensures inside { result < length self.now.kernel.names }
     {
         self.kernel.sound();
@@ -48,9 +47,9 @@ impl Session {
         ctx: &Context<'_>,
         pairs: &[(NameId, VarKey)],
     ) -> Result<Vec<NameId>, Memory>
-        requires context { IsContextOf self.now.kernel ctx.now }
+        requires context { IsContextOf self.now ctx.now }
         requires names { All (λ p. p.0 < length self.now.kernel.names) pairs.now }
-        ensures renamed { IfOk result (λ v. map (name_at self.now.kernel) v.items ≡ map (λ p. renamed names (context_of self.now.kernel ctx.now).interpretation.constants (name_at self.now.kernel p.0)) pairs.now) }
+        ensures renamed { IfOk result (λ v. map (name_at self.now.kernel) v.items ≡ map (λ p. renamed names (context_of self.now ctx.now).interpretation.constants (name_at self.now.kernel p.0)) pairs.now) }
         ensures inside { IfOk result (λ v. All (λ n. n < length self.now.kernel.names) v.items) }
     {
         let mut names = Vec::new(alloc);
@@ -62,28 +61,12 @@ impl Session {
 
     /// The name of a type operator that an article calls by this name.
     pub(crate) fn type_op_named(&self, ctx: &Context<'_>, name: NameId) -> NameId
-        requires context { IsContextOf self.now.kernel ctx.now }
+        requires context { IsContextOf self.now ctx.now }
         requires name { name < length self.now.kernel.names }
-        ensures renamed { name_at self.now.kernel result ≡ renamed names (context_of self.now.kernel ctx.now).interpretation.type_ops (name_at self.now.kernel name) }
+        ensures renamed { name_at self.now.kernel result ≡ renamed names (context_of self.now ctx.now).interpretation.type_ops (name_at self.now.kernel name) }
         ensures inside { result < length self.now.kernel.names }
     {
         self.kernel.sound();
         ctx.interp.type_op(name)
-    }
-
-    /// The first theorem of the context that is this sequent.
-    pub(crate) fn given(&self, ctx: &Context<'_>, hyps: &[TermId], concl: TermId) -> Option<ThmId>
-        requires context { IsContextOf self.now.kernel ctx.now }
-        requires hyps { All (λ t. t < length self.now.kernel.terms) hyps.now }
-        requires concl { concl < length self.now.kernel.terms }
-        ensures within { IfSome result (λ th. th < length self.now.kernel.theorems) }
-        ensures first { option_map (theorem_at self.now.kernel) result ≡ find (λ r. same_sequent names r (record { hyps = map (term_at self.now.kernel) hyps.now; concl = term_at self.now.kernel concl })) (sequents_of (context_of self.now.kernel ctx.now).theorems) }
-    {
-        for given in ctx.theorems {
-            if self.kernel.same(given.th, hyps, concl) {
-                return Some(given.th);
-            }
-        }
-        None
     }
 }

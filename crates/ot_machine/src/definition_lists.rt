@@ -23,9 +23,9 @@ impl Session {
         machine: &Machine,
         list: List,
     ) -> Result<Vec<(NameId, VarKey)>, Fault>
-        requires of { IsOf self.now.kernel machine.now }
+        requires of { IsOf self.now machine.now }
         requires inside { IsListIn (length machine.now.cells.items) list }
-        ensures read { Makes self.now.kernel (λ v. map (λ p. (name_at self.now.kernel p.0, variable_at self.now.kernel p.1)) v.items) result (pairs_of (list_at (lists_of self.now.kernel machine.now) list)) }
+        ensures read { Makes self.now.kernel (λ v. map (λ p. (name_at self.now.kernel p.0, variable_at self.now.kernel p.1)) v.items) result (pairs_of (list_at (lists_of self.now machine.now) list)) }
         ensures names { IfOk result (λ v. All (λ p. p.0 < length self.now.kernel.names) v.items) }
         ensures variables { IfOk result (λ v. All (λ p. (p.1.name < length self.now.kernel.names) × (p.1.ty < length self.now.kernel.types)) v.items) }
     {
@@ -41,9 +41,9 @@ impl Session {
 
     /// A name and a variable.
     fn definition_pair(&self, machine: &Machine, pair: Object) -> Result<(NameId, VarKey), Fault>
-        requires of { IsOf self.now.kernel machine.now }
+        requires of { IsOf self.now machine.now }
         requires inside { IsIn self.now.kernel (length machine.now.cells.items) pair }
-        ensures read { Makes self.now.kernel (λ p. (name_at self.now.kernel p.0, variable_at self.now.kernel p.1)) result (definition_pair (object_of self.now.kernel (lists_of self.now.kernel machine.now) pair)) }
+        ensures read { Makes self.now.kernel (λ p. (name_at self.now.kernel p.0, variable_at self.now.kernel p.1)) result (definition_pair (object_of self.now.kernel (lists_of self.now machine.now) pair)) }
         ensures name { IfOk result (λ p. p.0 < length self.now.kernel.names) }
         ensures variable { IfOk result (λ p. (p.1.name < length self.now.kernel.names) × (p.1.ty < length self.now.kernel.types)) }
     {

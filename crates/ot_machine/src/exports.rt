@@ -11,21 +11,38 @@ use crate::machine::{Export, Machine};
 use crate::session::Session;
 use ot_kernel::ThmId;
 use ot_plain::Memory;
+use ot_trace::StepId;
 
 impl Session {
-    /// Exports a theorem, where its sequent isn't exported already.
-    pub(crate) fn export(&self, machine: &mut Machine, theorem: ThmId) -> Result<(), Memory>
-        requires of { IsOf self.now.kernel machine.old }
-        requires inside { theorem < length self.now.kernel.theorems }
-        ensures ok { OnOk result (article_of self.now.kernel machine.new ≡ (let s = article_of self.now.kernel machine.old in record s { exports = exported (theorem_at self.now.kernel theorem) s.exports })) }
-        ensures err { OnErr result (article_of self.now.kernel machine.new ≡ article_of self.now.kernel machine.old) }
-        ensures of { IsOf self.now.kernel machine.new }
+    /// Exports a theorem, where its sequent isn't exported already, with the steps of the theorem, of its list and of its
+    /// term.
+    pub(crate) fn export(
+        &self,
+        machine: &mut Machine,
+        th: ThmId,
+        theorem: StepId,
+        list: StepId,
+        term: StepId,
+    ) -> Result<(), Memory>
+        requires of { IsOf self.now machine.old }
+        requires th { th < length self.now.kernel.theorems }
+        requires theorem { theorem < length self.now.trace }
+        requires list { list < length self.now.trace }
+        requires term { term < length self.now.trace }
+        ensures ok { OnOk result (article_of self.now machine.new ≡ (let s = article_of self.now machine.old in record s { exports = exported (export_of self.now (record { th = th; theorem = theorem; list = list; term = term })) s.exports })) }
+        ensures err { OnErr result (article_of self.now machine.new ≡ article_of self.now machine.old) }
+        ensures of { IsOf self.now machine.new }
         ensures stack { vec_len machine.new.stack ≡ vec_len machine.old.stack }
     {
-        if self.is_exported(&machine.exports, theorem) {
+        if self.is_exported(&machine.exports, th) {
             return Ok(());
         }
-        machine.exports.push(Export { th: theorem })?;
+        machine.exports.push(Export {
+            th,
+            theorem,
+            list,
+            term,
+        })?;
         Ok(())
     }
 
@@ -34,7 +51,7 @@ impl Session {
     pub fn is_exported(&self, exports: &[Export], theorem: ThmId) -> bool
         requires exports { All (λ e. e.th < length self.now.kernel.theorems) exports.now }
         requires inside { theorem < length self.now.kernel.theorems }
-        ensures { result ≡ is_exported (theorem_at self.now.kernel theorem) (map (export_of self.now.kernel) exports.now) }
+        ensures { result ≡ is_exported (theorem_at self.now.kernel theorem) (map (export_of self.now) exports.now) }
     {
         for export in exports {
             if self.is_same(theorem, export.th) {

@@ -19,7 +19,6 @@ pub enum Fault {
     BadName,
     BadNumber,
     NumberRange,
-    VersionMissing,
     VersionUnsupported(i64),
     VersionLate,
     StackEmpty,

@@ -4,9 +4,10 @@ ghost use Rattle.std.specs.List.{All};
 ghost use Rattle.ot_kernel.specs.State.{name_at, type_at, term_at};
 ghost use Rattle.ot_plain.specs.Hol.{depth_limit};
 ghost use Rattle.ot_machine.specs.Objects.{list as a_list, nesting};
-ghost use Rattle.ot_machine.specs.Meaning.{object_of, list_at, lists_of, article_of, IsOf, IsIn, IsListIn};
+ghost use Rattle.ot_machine.specs.Meaning.{object_of, origin_of, list_at, lists_of, article_of, IsOf, IsIn, IsListIn};
 ghost use Rattle.ot_machine.specs.Places.{as_name, as_type, as_term, as_each, types_on, terms_on, names_on};
-ghost use Rattle.ot_machine.specs.Rows.{consed, constants_of};
+ghost use Rattle.ot_machine.specs.Makers.{consed};
+ghost use Rattle.ot_machine.specs.Rows.{constants_of, origin_at};
 ghost use Rattle.ot_machine.specs.Answers.{Makes};
 
 use crate::fault::Fault;
@@ -15,6 +16,7 @@ use crate::object::{Cell, List, Object};
 use crate::session::Session;
 use ot_plain::{DEPTH_LIMIT, Kind, Memory, NameId};
 use ot_term::TermId;
+use ot_trace::StepId;
 use ot_type::TypeId;
 use std::alloc::Global;
 
@@ -26,13 +28,13 @@ impl Session {
         head: Object,
         tail: List,
     ) -> Result<List, Fault>
-        requires of { IsOf self.now.kernel machine.old }
+        requires of { IsOf self.now machine.old }
         requires head { IsIn self.now.kernel (length machine.old.cells.items) head }
         requires tail { IsListIn (length machine.old.cells.items) tail }
-        ensures made { Makes self.now.kernel (λ l. a_list (list_at (lists_of self.now.kernel machine.new) l)) result (consed (object_of self.now.kernel (lists_of self.now.kernel machine.old) head) (list_at (lists_of self.now.kernel machine.old) tail)) }
+        ensures made { Makes self.now.kernel (λ l. a_list (list_at (lists_of self.now machine.new) l)) result (consed (object_of self.now.kernel (lists_of self.now machine.old) head) (list_at (lists_of self.now machine.old) tail)) }
         ensures inside { IfOk result (IsListIn (length machine.new.cells.items)) }
-        ensures kept { article_of self.now.kernel machine.new ≡ article_of self.now.kernel machine.old }
-        ensures of { IsOf self.now.kernel machine.new }
+        ensures kept { article_of self.now machine.new ≡ article_of self.now machine.old }
+        ensures of { IsOf self.now machine.new }
         ensures stack { machine.new.stack ≡ machine.old.stack }
     {
         let nesting = self
@@ -52,12 +54,12 @@ impl Session {
 
     /// The list of these constants.
     pub(crate) fn constants(&self, machine: &mut Machine, names: &[NameId]) -> Result<List, Memory>
-        requires of { IsOf self.now.kernel machine.old }
+        requires of { IsOf self.now machine.old }
         requires names { All (λ n. n < length self.now.kernel.names) names.now }
-        ensures made { IfOk result (λ l. list_at (lists_of self.now.kernel machine.new) l ≡ constants_of (map (name_at self.now.kernel) names.now)) }
+        ensures made { IfOk result (λ l. list_at (lists_of self.now machine.new) l ≡ constants_of (map (name_at self.now.kernel) names.now)) }
         ensures inside { IfOk result (IsListIn (length machine.new.cells.items)) }
-        ensures kept { article_of self.now.kernel machine.new ≡ article_of self.now.kernel machine.old }
-        ensures of { IsOf self.now.kernel machine.new }
+        ensures kept { article_of self.now machine.new ≡ article_of self.now machine.old }
+        ensures of { IsOf self.now machine.new }
         ensures stack { machine.new.stack ≡ machine.old.stack }
     {
         let mut list = List::Nil;
@@ -75,9 +77,9 @@ impl Session {
 
     /// How deep lists lie in each other in an object.
     fn nesting(&self, machine: &Machine, object: &Object) -> u32
-        requires of { IsOf self.now.kernel machine.now }
+        requires of { IsOf self.now machine.now }
         requires inside { IsIn self.now.kernel (length machine.now.cells.items) object.now }
-        ensures nesting { result ≡ nesting (object_of self.now.kernel (lists_of self.now.kernel machine.now) object.now) }
+        ensures nesting { result ≡ nesting (object_of self.now.kernel (lists_of self.now machine.now) object.now) }
         ensures shallow { result ≤ depth_limit }
     {
         match object {
@@ -88,9 +90,9 @@ impl Session {
 
     /// How deep lists lie in each other in a list.
     fn list_nesting(&self, machine: &Machine, list: &List) -> u32
-        requires of { IsOf self.now.kernel machine.now }
+        requires of { IsOf self.now machine.now }
         requires inside { IsListIn (length machine.now.cells.items) list.now }
-        ensures nesting { result ≡ nesting (a_list (list_at (lists_of self.now.kernel machine.now) list.now)) }
+        ensures nesting { result ≡ nesting (a_list (list_at (lists_of self.now machine.now) list.now)) }
         ensures shallow { result ≤ depth_limit }
     {
         match list {
@@ -106,8 +108,8 @@ impl Session {
         machine: &Machine,
         place: usize,
     ) -> Result<Vec<TypeId>, Fault>
-        requires { IsOf self.now.kernel machine.now }
-        ensures found { Makes self.now.kernel (λ v. map (type_at self.now.kernel) v.items) result (types_on place (article_of self.now.kernel machine.now).stack) }
+        requires { IsOf self.now machine.now }
+        ensures found { Makes self.now.kernel (λ v. map (type_at self.now.kernel) v.items) result (types_on place (article_of self.now machine.now).stack) }
         ensures inside { IfOk result (λ v. All (λ i. i < length self.now.kernel.types) v.items) }
     {
         let list = self.list_on(machine, place)?;
@@ -116,9 +118,9 @@ impl Session {
 
     /// The types of a list.
     fn types_of(&self, alloc: Global, machine: &Machine, list: List) -> Result<Vec<TypeId>, Fault>
-        requires of { IsOf self.now.kernel machine.now }
+        requires of { IsOf self.now machine.now }
         requires inside { IsListIn (length machine.now.cells.items) list }
-        ensures found { Makes self.now.kernel (λ v. map (type_at self.now.kernel) v.items) result (as_each as_type (list_at (lists_of self.now.kernel machine.now) list)) }
+        ensures found { Makes self.now.kernel (λ v. map (type_at self.now.kernel) v.items) result (as_each as_type (list_at (lists_of self.now machine.now) list)) }
         ensures inside { IfOk result (λ v. All (λ i. i < length self.now.kernel.types) v.items) }
     {
         let mut types = Vec::new(alloc);
@@ -134,26 +136,33 @@ impl Session {
         Ok(types)
     }
 
-    /// The terms of the list at a place.
+    /// The terms of the list at a place, and its step.
     pub(crate) fn terms_on(
         &self,
         alloc: Global,
         machine: &Machine,
         place: usize,
-    ) -> Result<Vec<TermId>, Fault>
-        requires { IsOf self.now.kernel machine.now }
-        ensures found { Makes self.now.kernel (λ v. map (term_at self.now.kernel) v.items) result (terms_on place (article_of self.now.kernel machine.now).stack) }
-        ensures inside { IfOk result (λ v. All (λ i. i < length self.now.kernel.terms) v.items) }
+    ) -> Result<(Vec<TermId>, StepId), Fault>
+        requires { IsOf self.now machine.now }
+        ensures found { Makes self.now.kernel (λ p. map (term_at self.now.kernel) p.0.items) result (terms_on place (article_of self.now machine.now).stack) }
+        ensures origin { IfOk result (λ p. origin_of self.now p.1 ≡ origin_at place (article_of self.now machine.now).stack) }
+        ensures inside { IfOk result (λ p. All (λ i. i < length self.now.kernel.terms) p.0.items) }
+        ensures step { IfOk result (λ p. p.1 < length self.now.trace) }
     {
-        let list = self.list_on(machine, place)?;
-        self.terms_of(alloc, machine, list)
+        let (list, step) = self.list_entry(machine, place)?;
+        Ok((self.terms_of(alloc, machine, list)?, step))
     }
 
     /// The terms of a list.
-    fn terms_of(&self, alloc: Global, machine: &Machine, list: List) -> Result<Vec<TermId>, Fault>
-        requires of { IsOf self.now.kernel machine.now }
+    pub(crate) fn terms_of(
+        &self,
+        alloc: Global,
+        machine: &Machine,
+        list: List,
+    ) -> Result<Vec<TermId>, Fault>
+        requires of { IsOf self.now machine.now }
         requires inside { IsListIn (length machine.now.cells.items) list }
-        ensures found { Makes self.now.kernel (λ v. map (term_at self.now.kernel) v.items) result (as_each as_term (list_at (lists_of self.now.kernel machine.now) list)) }
+        ensures found { Makes self.now.kernel (λ v. map (term_at self.now.kernel) v.items) result (as_each as_term (list_at (lists_of self.now machine.now) list)) }
         ensures inside { IfOk result (λ v. All (λ i. i < length self.now.kernel.terms) v.items) }
     {
         let mut terms = Vec::new(alloc);
@@ -169,26 +178,28 @@ impl Session {
         Ok(terms)
     }
 
-    /// The names of the list at a place.
+    /// The names of the list at a place, and its step.
     pub(crate) fn names_on(
         &self,
         alloc: Global,
         machine: &Machine,
         place: usize,
-    ) -> Result<Vec<NameId>, Fault>
-        requires { IsOf self.now.kernel machine.now }
-        ensures found { Makes self.now.kernel (λ v. map (name_at self.now.kernel) v.items) result (names_on place (article_of self.now.kernel machine.now).stack) }
-        ensures inside { IfOk result (λ v. All (λ i. i < length self.now.kernel.names) v.items) }
+    ) -> Result<(Vec<NameId>, StepId), Fault>
+        requires { IsOf self.now machine.now }
+        ensures found { Makes self.now.kernel (λ p. map (name_at self.now.kernel) p.0.items) result (names_on place (article_of self.now machine.now).stack) }
+        ensures origin { IfOk result (λ p. origin_of self.now p.1 ≡ origin_at place (article_of self.now machine.now).stack) }
+        ensures inside { IfOk result (λ p. All (λ i. i < length self.now.kernel.names) p.0.items) }
+        ensures step { IfOk result (λ p. p.1 < length self.now.trace) }
     {
-        let list = self.list_on(machine, place)?;
-        self.names_of(alloc, machine, list)
+        let (list, step) = self.list_entry(machine, place)?;
+        Ok((self.names_of(alloc, machine, list)?, step))
     }
 
     /// The names of a list.
     fn names_of(&self, alloc: Global, machine: &Machine, list: List) -> Result<Vec<NameId>, Fault>
-        requires of { IsOf self.now.kernel machine.now }
+        requires of { IsOf self.now machine.now }
         requires inside { IsListIn (length machine.now.cells.items) list }
-        ensures found { Makes self.now.kernel (λ v. map (name_at self.now.kernel) v.items) result (as_each as_name (list_at (lists_of self.now.kernel machine.now) list)) }
+        ensures found { Makes self.now.kernel (λ v. map (name_at self.now.kernel) v.items) result (as_each as_name (list_at (lists_of self.now machine.now) list)) }
         ensures inside { IfOk result (λ v. All (λ i. i < length self.now.kernel.names) v.items) }
     {
         let mut names = Vec::new(alloc);

@@ -1,10 +1,11 @@
 ghost use Rattle.std.specs.Prelude.{◌≡◌, ◌≢◌, ◌<◌, ◌≤◌, ◌^◌, ℕ, [], length, Err, IfSome, IfErr, OnOk};
 ghost use Rattle.ot_io.specs.Causes.{Rose};
-ghost use Rattle.ot_kernel.specs.State.{State, Keeps};
+ghost use Rattle.ot_kernel.specs.State.{State};
 ghost use Rattle.ot_scan.specs.Lines.{lines_of};
 ghost use Rattle.ot_scan.specs.Words.{word_value};
 ghost use Rattle.ot_machine.specs.States.{fresh_article};
-ghost use Rattle.ot_machine.specs.Meaning.{article_of, state_of, command_at, IsOf, IsCommandIn};
+ghost use Rattle.ot_machine.specs.declared.session.Session.{Session as SessionState};
+ghost use Rattle.ot_machine.specs.Meaning.{article_of, state_of, command_at, version_of, IsRun, IsOf, Grows, IsCommandIn};
 ghost use Rattle.ot_machine.specs.Contexts.{context_of, IsContextOf};
 ghost use Rattle.ot_machine.specs.Step.{step, row, word_row, version_rule};
 ghost use Rattle.ot_machine.specs.Run.{line_step};
@@ -13,38 +14,51 @@ ghost use Rattle.ot_machine.specs.Answers.{Makes, Moves, Turns, Runs, NamesSymbo
 
 use crate::context::Context;
 use crate::fault::{ArticleFault, Fault, refusal};
-use crate::object::{Cell, Command, Object};
+use crate::object::{Cell, Command, Entry, Object};
 use crate::rows;
 use crate::session::Session;
 use ot_io::Source;
 use ot_kernel::ThmId;
 use ot_plain::Cmd;
 use ot_scan::{Lines, Word, command as read_word};
+use ot_trace::StepId;
 use std::alloc::Global;
 use std::collections::BTreeMap;
 
-/// A theorem that an article exports.
+/// A theorem that an article exports, and the steps that made it, its list of hypotheses and its conclusion.
 #[derive(Clone, Copy, Debug, PartialEq, Eq)]
 pub struct Export {
     pub th: ThmId,
+    pub theorem: StepId,
+    pub list: StepId,
+    pub term: StepId,
+}
+
+/// The version of an article: open as long as it may be 5 or 6.
+#[derive(Clone, Copy, Debug, PartialEq, Eq)]
+pub(crate) enum Version {
+    Open,
+    Five,
+    Six,
 }
 
 /// The machine of one article.
 #[derive(Drop)]
 pub struct Machine {
     pub(crate) alloc: Global,
-    pub(crate) stack: Vec<Object>,
-    pub(crate) dictionary: BTreeMap<i64, Object>,
+    pub(crate) stack: Vec<Entry>,
+    pub(crate) dictionary: BTreeMap<i64, Entry>,
     pub(crate) exports: Vec<Export>,
     pub(crate) cells: Vec<Cell>,
     count: u64,
+    version: Version,
 }
 
 impl Machine {
     /// A machine before the first command of an article, for any session.
     pub fn new(alloc: Global) -> Machine
-        ensures fresh { (k : State) → article_of k result ≡ fresh_article }
-        ensures of { (k : State) → IsOf k result }
+        ensures fresh { (s : SessionState) → article_of s result ≡ fresh_article }
+        ensures of { (s : SessionState) → IsRun s → IsOf s result }
     {
         Machine {
             alloc,
@@ -53,6 +67,7 @@ impl Machine {
             exports: Vec::new(alloc),
             cells: Vec::new(alloc),
             count: 0,
+            version: Version::Open,
         }
     }
 
@@ -71,15 +86,16 @@ impl Machine {
         ctx: &Context<'_>,
         word: Word<'_>,
     ) -> Result<(), Fault>
-        requires of { IsOf session.old.kernel self.old }
-        requires context { IsContextOf session.old.kernel ctx.now }
-        ensures moves { Moves session.new.kernel result (step (context_of session.old.kernel ctx.now) (state_of session.old.kernel self.old) (word_value word.entry)) (state_of session.old.kernel self.old) (state_of session.new.kernel self.new) }
-        ensures of { IsOf session.new.kernel self.new }
-        ensures grown { Keeps session.old.kernel session.new.kernel }
+        requires of { IsOf session.old self.old }
+        requires context { IsContextOf session.old ctx.now }
+        ensures moves { Moves session.new.kernel result (step (context_of session.old ctx.now) (state_of session.old self.old) (word_value word.entry)) (state_of session.old self.old) (state_of session.new self.new) }
+        ensures of { IsOf session.new self.new }
+        ensures grown { Grows session.old session.new }
     {
         let command = session.command(self, word)?;
-        check_version(self.count, &command)?;
-        self.row(session, ctx, command)?;
+        let version = version_behind(self.version, self.count, &command)?;
+        self.row(session, ctx, version, command)?;
+        self.version = version;
         self.count = self.count.saturating_add(1);
         Ok(())
     }
@@ -95,13 +111,13 @@ impl Machine {
         source: &mut S,
         max_bytes: u64,
     ) -> Result<(), ArticleFault>
-        requires of { IsOf session.old.kernel self.old }
-        requires context { IsContextOf session.old.kernel ctx.now }
+        requires of { IsOf session.old self.old }
+        requires context { IsContextOf session.old ctx.now }
         requires max_bytes { max_bytes ≤ 2 ^ 32 }
-        ensures runs { IfSome (S.left source.old) (λ bytes. Runs session.new.kernel result (context_of session.old.kernel ctx.now) (lines_of max_bytes bytes) (state_of session.old.kernel self.old) (state_of session.new.kernel self.new)) }
-        ensures led { LeadsTo (context_of session.old.kernel ctx.now) (state_of session.old.kernel self.old) (state_of session.new.kernel self.new) }
-        ensures of { IsOf session.new.kernel self.new }
-        ensures grown { Keeps session.old.kernel session.new.kernel }
+        ensures runs { IfSome (S.left source.old) (λ bytes. Runs session.new.kernel result (context_of session.old ctx.now) (lines_of max_bytes bytes) (state_of session.old self.old) (state_of session.new self.new)) }
+        ensures led { LeadsTo (context_of session.old ctx.now) (state_of session.old self.old) (state_of session.new self.new) }
+        ensures of { IsOf session.new self.new }
+        ensures grown { Grows session.old session.new }
         ensures symbols { IfErr result (NamesSymbolIn session.new.kernel) }
         ensures apart { (line : ℕ) → result ≢ Err (ArticleFault.At line Fault.Memory) }
         ensures spent { OnOk result (IfSome (S.left source.old) (λ _. IfSome (S.left source.new) (λ bytes. bytes ≡ []))) }
@@ -127,47 +143,51 @@ impl Machine {
 
     /// The text of a line that holds a command.
     fn line(&mut self, session: &mut Session, ctx: &Context<'_>, text: &[u8]) -> Result<(), Fault>
-        requires of { IsOf session.old.kernel self.old }
-        requires context { IsContextOf session.old.kernel ctx.now }
+        requires of { IsOf session.old self.old }
+        requires context { IsContextOf session.old ctx.now }
         requires some { 0 < length text.now }
-        ensures moves { Moves session.new.kernel result (line_step (context_of session.old.kernel ctx.now) (state_of session.old.kernel self.old) text.now) (state_of session.old.kernel self.old) (state_of session.new.kernel self.new) }
-        ensures of { IsOf session.new.kernel self.new }
-        ensures grown { Keeps session.old.kernel session.new.kernel }
+        ensures moves { Moves session.new.kernel result (line_step (context_of session.old ctx.now) (state_of session.old self.old) text.now) (state_of session.old self.old) (state_of session.new self.new) }
+        ensures of { IsOf session.new self.new }
+        ensures grown { Grows session.old session.new }
     {
         let word = read_word(text)?;
         self.step(session, ctx, word)
     }
 
-    /// The row of a command.
+    /// The row of a command, in an article of a version.
     fn row(
         &mut self,
         session: &mut Session,
         ctx: &Context<'_>,
+        version: Version,
         command: Command,
     ) -> Result<(), Fault>
-        requires of { IsOf session.old.kernel self.old }
-        requires context { IsContextOf session.old.kernel ctx.now }
+        requires of { IsOf session.old self.old }
+        requires context { IsContextOf session.old ctx.now }
         requires inside { IsCommandIn session.old.kernel command }
-        ensures { Turns result (row (context_of session.old.kernel ctx.now) (command_at session.old.kernel command)) session.old.kernel self.old session.new.kernel self.new }
+        ensures { Turns result (row (version_of version) (context_of session.old ctx.now) (command_at session.old.kernel command)) session.old self.old session.new self.new }
     {
         match command {
             Command::Numeral(number) => {
-                session.push(self, Object::Number(number))?;
+                session.push(self, Object::Number(number), None)?;
                 Ok(())
             }
-            Command::Named(name) => {
-                session.push(self, Object::Name(name))?;
-                Ok(())
-            }
-            Command::Order(order) => self.order(session, ctx, order),
+            Command::Named(name) => rows::name(session, self, name),
+            Command::Order(order) => self.order(session, ctx, version, order),
         }
     }
 
-    /// The row of a word.
-    fn order(&mut self, session: &mut Session, ctx: &Context<'_>, order: Cmd) -> Result<(), Fault>
-        requires of { IsOf session.old.kernel self.old }
-        requires context { IsContextOf session.old.kernel ctx.now }
-        ensures { Turns result (word_row (context_of session.old.kernel ctx.now) order) session.old.kernel self.old session.new.kernel self.new }
+    /// The row of a word, in an article of a version.
+    fn order(
+        &mut self,
+        session: &mut Session,
+        ctx: &Context<'_>,
+        version: Version,
+        order: Cmd,
+    ) -> Result<(), Fault>
+        requires of { IsOf session.old self.old }
+        requires context { IsContextOf session.old ctx.now }
+        ensures { Turns result (word_row (version_of version) (context_of session.old ctx.now) order) session.old self.old session.new self.new }
     {
         let alloc = self.alloc;
         match order {
@@ -203,21 +223,24 @@ impl Machine {
             Cmd::Thm => rows::thm(alloc, session, self),
             Cmd::DefineConst => rows::define_const(session, self, ctx),
             Cmd::DefineConstList => rows::define_const_list(alloc, session, self, ctx),
-            Cmd::DefineTypeOp => rows::define_type_op(alloc, session, self, ctx),
+            Cmd::DefineTypeOp => rows::define_type(alloc, session, self, ctx, version),
         }
     }
 }
 
-/// The rule on the first two commands, after so many.
-fn check_version(count: u64, command: &Command) -> Result<(), Fault>
-    ensures { (k : State) → Makes k (λ u. u) result (version_rule count (command_at k command.now)) }
+/// The version behind a command, after so many: `6 version` makes an article of version 6, any other beginning one of
+/// version 5, and `version` stands nowhere else.
+fn version_behind(version: Version, count: u64, command: &Command) -> Result<Version, Fault>
+    ensures { (k : State) → Makes k version_of result (version_rule (version_of version) count (command_at k command.now)) }
 {
     let is_version = matches!(command, Command::Order(Cmd::Version));
-    match count {
-        0 if !matches!(command, Command::Numeral(_)) => Err(Fault::VersionMissing),
-        1 if !is_version => Err(Fault::VersionMissing),
-        0 | 1 => Ok(()),
+    let is_number = matches!(command, Command::Numeral(_));
+    match (version, count) {
+        (Version::Open, 0) if is_number => Ok(Version::Open),
+        (Version::Open, 0) if !is_version => Ok(Version::Five),
+        (Version::Open, 1) if is_version => Ok(Version::Six),
+        (Version::Open, 1) => Ok(Version::Five),
         _ if is_version => Err(Fault::VersionLate),
-        _ => Ok(()),
+        _ => Ok(version),
     }
 }

@@ -9,9 +9,15 @@ ghost use Rattle.ot_machine.specs.Step.{command_of};
 ghost use Rattle.ot_machine.specs.Meaning.{IsOf, Leaves, command_at, IsCommandIn};
 ghost use Rattle.ot_machine.specs.Answers.{Makes};
 
+mod accepted;
+mod axioms;
+mod canonical;
 mod definitions;
+mod open_types;
+mod renamed;
 mod terms;
 mod theorems;
+mod weakening;
 
 use crate::fault::Fault;
 use crate::machine::Machine;
@@ -29,10 +35,10 @@ impl Session {
         machine: &Machine,
         text: &[u8],
     ) -> Result<NameId, Fault>
-        requires { IsOf self.old.kernel machine.now }
+        requires { IsOf self.old machine.now }
         ensures made { Makes self.new.kernel (name_at self.new.kernel) result (some_or BadName (name_read text.now)) }
         ensures inside { IfOk result (λ n. n < length self.new.kernel.names) }
-        ensures kept { Leaves self.old.kernel self.new.kernel machine.now }
+        ensures kept { Leaves self.old self.new machine.now }
     {
         if !Name::is_name(text) {
             return Err(Fault::BadName);
@@ -46,10 +52,10 @@ impl Session {
 
     /// The command of a word.
     pub(crate) fn command(&mut self, machine: &Machine, word: Word<'_>) -> Result<Command, Fault>
-        requires { IsOf self.old.kernel machine.now }
+        requires { IsOf self.old machine.now }
         ensures made { Makes self.new.kernel (command_at self.new.kernel) result (command_of (word_value word.entry)) }
         ensures inside { IfOk result (IsCommandIn self.new.kernel) }
-        ensures kept { Leaves self.old.kernel self.new.kernel machine.now }
+        ensures kept { Leaves self.old self.new machine.now }
     {
         match word {
             Word::Number(number) => Ok(Command::Numeral(number)),

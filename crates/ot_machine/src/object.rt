@@ -3,6 +3,7 @@ ghost use Rattle.std.specs.Prelude.{◌≡◌};
 use ot_kernel::ThmId;
 use ot_plain::{Cmd, Kind, NameId};
 use ot_term::{TermId, VarKey};
+use ot_trace::StepId;
 use ot_type::TypeId;
 
 /// A list of objects: the empty one, or a cell of the machine.
@@ -24,6 +25,13 @@ pub enum Object {
     Var(VarKey),
     Term(TermId),
     Theorem(ThmId),
+}
+
+/// An object, and the step that made it. A number alone may have none: it has its own when a command takes it as an operand.
+#[derive(Clone, Copy, Debug, PartialEq, Eq)]
+pub struct Entry {
+    pub object: Object,
+    pub step: Option<StepId>,
 }
 
 /// A list that isn't empty, with its nesting.

@@ -4,8 +4,8 @@ mod stack;
 mod terms;
 mod theorems;
 
-pub use definitions::{define_const, define_const_list, define_type_op};
-pub use stack::{cons, def, hd_tl, nil, pop, refer, remove, version};
+pub use definitions::{define_const, define_const_list, define_type};
+pub use stack::{cons, def, hd_tl, name, nil, pop, refer, remove, version};
 pub use terms::{
     abs_term, app_term, const_term, constant, op_type, type_op, var, var_term, var_type,
 };

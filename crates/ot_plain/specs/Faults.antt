@@ -10,7 +10,6 @@ pub data Fault (N : Type 0) : Type 0 where
   BadName : Fault N
   BadNumber : Fault N
   NumberRange : Fault N
-  VersionMissing : Fault N
   VersionUnsupported : ℤ → Fault N
   VersionLate : Fault N
   StackEmpty : Fault N

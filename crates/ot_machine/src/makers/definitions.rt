@@ -1,68 +1,207 @@
-// Definitions that the kernel accepts for a machine of this session. Each names its symbols, so numbers keep their names.
+// Definitions that the kernel accepts for a machine of this session, with their steps. Each names its symbols, so numbers
+// keep their names.
 ghost use Rattle.std.specs.Prelude.{◌≡◌, ◌<◌, ◌∷◌, [], length, map, IfOk, OnErr};
 ghost use Rattle.std.specs.List.{All};
 ghost use Rattle.ot_plain.specs.Naming.{names};
 ghost use Rattle.ot_kernel.specs.State.{name_at, variable_at, term_at, theorem_at};
-ghost use Rattle.ot_kernel.specs.Defining.{const_definition, list_definition, type_definition};
-ghost use Rattle.ot_machine.specs.Rows.{defined};
-ghost use Rattle.ot_machine.specs.Meaning.{run_of, IsOf, Carries};
+ghost use Rattle.ot_kernel.specs.Defining.{const_definition, list_definition};
+ghost use Rattle.ot_plain.specs.declared.command.Cmd.TheVariants as words;
+ghost use Rattle.ot_interp.specs.Interpretation.{renamed};
+ghost use Rattle.ot_trace.specs.Origins.{Named, Define, from_list, constant_origin, renamed_pairs};
+ghost use Rattle.ot_machine.specs.Objects.{theorem};
+ghost use Rattle.ot_machine.specs.Rows.{defined, const_defining, list_defining, type_defining, constants_origin, origin_at};
+ghost use Rattle.ot_machine.specs.Defining.{closed_defined, operator_theorems, AreOperatorSteps, IsOperatorOf};
+ghost use Rattle.ot_machine.specs.Contexts.{context_of, IsContextOf};
+ghost use Rattle.ot_machine.specs.Meaning.{article_of, origin_of, run_of, IsOf, Grows, Traces};
 ghost use Rattle.ot_machine.specs.Answers.{Makes};
 
+use crate::context::Context;
 use crate::fault::Fault;
 use crate::machine::Machine;
 use crate::session::Session;
 use ot_kernel::ThmId;
-use ot_plain::NameId;
+use ot_plain::{Cmd, Memory, NameId};
 use ot_term::{TermId, VarKey};
+use ot_trace::StepId;
+
+/// A constant that was defined: its step, and its theorem with the step of that.
+#[derive(Clone, Copy, Debug, PartialEq, Eq)]
+pub(crate) struct DefinedConstant {
+    pub symbol: StepId,
+    pub theorem: ThmId,
+    pub step: StepId,
+}
+
+/// A type operator that was defined: the steps of the operator and of the two constants, and the two theorems with their
+/// steps.
+#[derive(Clone, Copy, Debug, PartialEq, Eq)]
+pub(crate) struct DefinedOperator {
+    pub op: StepId,
+    pub abs: StepId,
+    pub rep: StepId,
+    pub abs_rep: ThmId,
+    pub abs_rep_step: StepId,
+    pub rep_abs: ThmId,
+    pub rep_abs_step: StepId,
+}
+
+/// The steps of a type operator, of its two constants, and of its definition.
+#[derive(Clone, Copy, Debug, PartialEq, Eq)]
+pub(crate) struct OperatorSteps {
+    pub op: StepId,
+    pub abs: StepId,
+    pub rep: StepId,
+    pub definition: StepId,
+}
 
 impl Session {
-    /// The theorem of a constant that is defined as a term. The run has the definition from then on.
+    /// The theorem of a constant that is defined as the term on the top of the stack. The run has the definition from then
+    /// on.
     pub(crate) fn constant_definition(
         &mut self,
         machine: &Machine,
         name: NameId,
         term: TermId,
-    ) -> Result<ThmId, Fault>
-        requires of { IsOf self.old.kernel machine.now }
+        term_step: StepId,
+    ) -> Result<DefinedConstant, Fault>
+        requires of { IsOf self.old machine.now }
         requires name { name < length self.old.kernel.names }
         requires term { term < length self.old.kernel.terms }
-        ensures made { Makes self.new.kernel (λ th. (theorem_at self.new.kernel th ∷ [], run_of self.new.kernel)) result (defined (λ ds. const_definition names ds (name_at self.old.kernel name) (term_at self.old.kernel term)) (run_of self.old.kernel)) }
-        ensures refused { OnErr result (run_of self.new.kernel ≡ run_of self.old.kernel) }
-        ensures inside { IfOk result (λ th. th < length self.new.kernel.theorems) }
-        ensures kept { Carries self.old.kernel self.new.kernel machine.now }
+        requires term_step { term_step < length self.old.trace }
+        requires origin { origin_of self.old term_step ≡ origin_at 0 (article_of self.old machine.now).stack }
+        ensures made { Makes self.new.kernel (λ d. (record { object = theorem (theorem_at self.new.kernel d.theorem); origin = origin_of self.new d.step } ∷ [], run_of self.new)) result (defined (λ ds. const_definition names ds (name_at self.old.kernel name) (term_at self.old.kernel term)) (const_defining (name_at self.old.kernel name) (article_of self.old machine.now).stack) (run_of self.old)) }
+        ensures symbol { IfOk result (λ d. origin_of self.new d.symbol ≡ constant_origin (Named (name_at self.old.kernel name))) }
+        ensures refused { OnErr result (run_of self.new ≡ run_of self.old) }
+        ensures name { name_at self.new.kernel name ≡ name_at self.old.kernel name }
+        ensures inside { name < length self.new.kernel.names }
+        ensures symbol_step { IfOk result (λ d. d.symbol < length self.new.trace) }
+        ensures theorem { IfOk result (λ d. d.theorem < length self.new.kernel.theorems) }
+        ensures step { IfOk result (λ d. d.step < length self.new.trace) }
+        ensures grown { Grows self.old self.new }
+        ensures article { article_of self.new machine.now ≡ article_of self.old machine.now }
+        ensures of { IsOf self.new machine.now }
     {
-        match self.kernel.define_const(name, term) {
-            Ok(theorem) => Ok(theorem),
-            Err(fault) => Err(Fault::from(fault)),
-        }
+        let (symbol, definition) = self.constant_defining(machine, name, term_step)?;
+        let step = self.outcome_step(machine, 1, definition)?;
+        let theorem = self.accept_constant(machine, name, term, definition)?;
+        Ok(DefinedConstant {
+            symbol,
+            theorem,
+            step,
+        })
     }
 
-    /// The theorem of constants that are defined for the variables of a theorem. The run has the definition from then on.
-    pub(crate) fn list_definition(
+    /// The steps of a constant and of its definition by the term of a step.
+    fn constant_defining(
+        &mut self,
+        machine: &Machine,
+        name: NameId,
+        term_step: StepId,
+    ) -> Result<(StepId, StepId), Memory>
+        requires of { IsOf self.old machine.now }
+        requires name { name < length self.old.kernel.names }
+        requires term_step { term_step < length self.old.trace }
+        ensures symbol { IfOk result (λ p. origin_of self.new p.0 ≡ constant_origin (Named (name_at self.old.kernel name))) }
+        ensures definition { IfOk result (λ p. origin_of self.new p.1 ≡ Define words.DefineConst (from_list (Named (name_at self.old.kernel name) ∷ origin_of self.old term_step ∷ []))) }
+        ensures symbol_step { IfOk result (λ p. p.0 < length self.new.trace) }
+        ensures definition_step { IfOk result (λ p. p.1 < length self.new.trace) }
+        ensures kept { Traces self.old self.new machine.now }
+    {
+        let (name_step, symbol) = self.symbol_steps(machine, Cmd::Const, name)?;
+        let definition = self.defining_step(
+            machine,
+            Cmd::DefineConst,
+            &[name_step, term_step],
+            &[symbol],
+        )?;
+        Ok((symbol, definition))
+    }
+
+    /// The step of the list of these constants.
+    pub(crate) fn constants_step(
         &mut self,
         machine: &Machine,
         constants: &[NameId],
+    ) -> Result<StepId, Memory>
+        requires of { IsOf self.old machine.now }
+        requires inside { All (λ n. n < length self.old.kernel.names) constants.now }
+        ensures made { IfOk result (λ i. origin_of self.new i ≡ constants_origin (map (name_at self.old.kernel) constants.now)) }
+        ensures inside { IfOk result (λ i. i < length self.new.trace) }
+        ensures kept { Traces self.old self.new machine.now }
+    {
+        let mut list = self.made_of(machine, Cmd::Nil, &[])?;
+        let mut rest = constants;
+        'names: while let Some((name, front)) = rest.split_last() {
+            let (_, head) = self.symbol_steps(machine, Cmd::Const, *name)?;
+            list = self.made_of(machine, Cmd::Cons, &[head, list])?;
+            rest = front;
+        }
+        Ok(list)
+    }
+
+    /// The theorem of constants that are defined for the variables of the theorem on the top of the stack, with its step.
+    /// Below it stands the list of their names and variables. The run has the definition from then on.
+    pub(crate) fn list_definition(
+        &mut self,
+        machine: &Machine,
+        ctx: &Context<'_>,
+        constants: &[NameId],
         variables: &[VarKey],
-        theorem: ThmId,
-    ) -> Result<ThmId, Fault>
-        requires of { IsOf self.old.kernel machine.now }
+        list_step: StepId,
+        premise: ThmId,
+        premise_step: StepId,
+    ) -> Result<(ThmId, StepId), Fault>
+        requires of { IsOf self.old machine.now }
+        requires context { IsContextOf self.old ctx.now }
         requires constants { All (λ n. n < length self.old.kernel.names) constants.now }
         requires variables { All (λ v. (v.name < length self.old.kernel.names) × (v.ty < length self.old.kernel.types)) variables.now }
         requires pairs { length constants.now ≡ length variables.now }
-        requires theorem { theorem < length self.old.kernel.theorems }
-        ensures made { Makes self.new.kernel (λ th. (theorem_at self.new.kernel th ∷ [], run_of self.new.kernel)) result (defined (λ ds. list_definition names ds (map (name_at self.old.kernel) constants.now) (map (variable_at self.old.kernel) variables.now) (theorem_at self.old.kernel theorem)) (run_of self.old.kernel)) }
-        ensures refused { OnErr result (run_of self.new.kernel ≡ run_of self.old.kernel) }
-        ensures inside { IfOk result (λ th. th < length self.new.kernel.theorems) }
-        ensures kept { Carries self.old.kernel self.new.kernel machine.now }
+        requires premise { premise < length self.old.kernel.theorems }
+        requires list_step { list_step < length self.old.trace }
+        requires list_origin { origin_of self.old list_step ≡ origin_at 1 (article_of self.old machine.now).stack }
+        requires premise_step { premise_step < length self.old.trace }
+        requires premise_origin { origin_of self.old premise_step ≡ origin_at 0 (article_of self.old machine.now).stack }
+        ensures made { Makes self.new.kernel (λ d. (record { object = theorem (theorem_at self.new.kernel d.0); origin = origin_of self.new d.1 } ∷ [], run_of self.new)) result (defined (λ ds. list_definition names ds (map (name_at self.old.kernel) constants.now) (map (variable_at self.old.kernel) variables.now) (theorem_at self.old.kernel premise)) (list_defining (context_of self.old ctx.now) (article_of self.old machine.now).stack) (run_of self.old)) }
+        ensures refused { OnErr result (run_of self.new ≡ run_of self.old) }
+        ensures theorem { IfOk result (λ d. d.0 < length self.new.kernel.theorems) }
+        ensures step { IfOk result (λ d. d.1 < length self.new.trace) }
+        ensures grown { Grows self.old self.new }
+        ensures article { article_of self.new machine.now ≡ article_of self.old machine.now }
+        ensures of { IsOf self.new machine.now }
     {
-        match self.kernel.define_list(constants, variables, theorem) {
-            Ok(theorem) => Ok(theorem),
-            Err(fault) => Err(Fault::from(fault)),
-        }
+        let definition = self.list_defining(machine, ctx, list_step, premise_step)?;
+        let step = self.outcome_step(machine, 1, definition)?;
+        let theorem = self.accept_list(machine, constants, variables, premise, definition)?;
+        Ok((theorem, step))
     }
 
-    /// The two theorems of a type operator that is taken from a type, and of the constants between the two types. The run
-    /// has the definition from then on.
+    /// The step of the definition of a list of constants by a list of their names and variables and a theorem.
+    fn list_defining(
+        &mut self,
+        machine: &Machine,
+        ctx: &Context<'_>,
+        list_step: StepId,
+        premise_step: StepId,
+    ) -> Result<StepId, Memory>
+        requires of { IsOf self.old machine.now }
+        requires context { IsContextOf self.old ctx.now }
+        requires list_step { list_step < length self.old.trace }
+        requires premise_step { premise_step < length self.old.trace }
+        ensures made { IfOk result (λ i. origin_of self.new i ≡ Define words.DefineConstList (from_list (renamed_pairs (renamed names (context_of self.old ctx.now).interpretation.constants) (origin_of self.old list_step) ∷ origin_of self.old premise_step ∷ []))) }
+        ensures inside { IfOk result (λ i. i < length self.new.trace) }
+        ensures kept { Traces self.old self.new machine.now }
+    {
+        let (list, symbols) = self.renamed_list(machine, ctx, list_step)?;
+        Ok(self.defining_step(
+            machine,
+            Cmd::DefineConstList,
+            &[list, premise_step],
+            &symbols,
+        )?)
+    }
+
+    /// The two theorems of a type operator that is taken from a type, and of the constants between the two types, by the
+    /// theorem on the top of the stack and the list of type variables below it. The run has the definition from then on.
     pub(crate) fn type_definition(
         &mut self,
         machine: &Machine,
@@ -70,23 +209,85 @@ impl Session {
         abs: NameId,
         rep: NameId,
         variables: &[NameId],
-        theorem: ThmId,
-    ) -> Result<(ThmId, ThmId), Fault>
-        requires of { IsOf self.old.kernel machine.now }
+        list_step: StepId,
+        premise: ThmId,
+        premise_step: StepId,
+    ) -> Result<DefinedOperator, Fault>
+        requires of { IsOf self.old machine.now }
         requires name { name < length self.old.kernel.names }
         requires abs { abs < length self.old.kernel.names }
         requires rep { rep < length self.old.kernel.names }
         requires variables { All (λ n. n < length self.old.kernel.names) variables.now }
-        requires theorem { theorem < length self.old.kernel.theorems }
-        ensures made { Makes self.new.kernel (λ ths. (theorem_at self.new.kernel ths.0 ∷ theorem_at self.new.kernel ths.1 ∷ [], run_of self.new.kernel)) result (defined (λ ds. type_definition names ds (name_at self.old.kernel name) (name_at self.old.kernel abs) (name_at self.old.kernel rep) (map (name_at self.old.kernel) variables.now) (theorem_at self.old.kernel theorem)) (run_of self.old.kernel)) }
-        ensures refused { OnErr result (run_of self.new.kernel ≡ run_of self.old.kernel) }
-        ensures first { IfOk result (λ ths. ths.0 < length self.new.kernel.theorems) }
-        ensures second { IfOk result (λ ths. ths.1 < length self.new.kernel.theorems) }
-        ensures kept { Carries self.old.kernel self.new.kernel machine.now }
+        requires premise { premise < length self.old.kernel.theorems }
+        requires list_step { list_step < length self.old.trace }
+        requires list_origin { origin_of self.old list_step ≡ origin_at 1 (article_of self.old machine.now).stack }
+        requires premise_step { premise_step < length self.old.trace }
+        requires premise_origin { origin_of self.old premise_step ≡ origin_at 0 (article_of self.old machine.now).stack }
+        ensures made { Makes self.new.kernel (λ d. (operator_theorems self.new d, run_of self.new)) result
+            (closed_defined (name_at self.old.kernel name) (name_at self.old.kernel abs) (name_at self.old.kernel rep) (map (name_at self.old.kernel) variables.now) (theorem_at self.old.kernel premise)
+            (type_defining (name_at self.old.kernel name) (name_at self.old.kernel abs) (name_at self.old.kernel rep) (article_of self.old machine.now).stack) (run_of self.old)) }
+        ensures operator { IfOk result (IsOperatorOf self.old self.new name abs rep) }
+        ensures refused { OnErr result (run_of self.new ≡ run_of self.old) }
+        ensures grown { Grows self.old self.new }
+        ensures article { article_of self.new machine.now ≡ article_of self.old machine.now }
+        ensures of { IsOf self.new machine.now }
     {
-        match self.kernel.define_type(name, abs, rep, variables, theorem) {
-            Ok(theorems) => Ok(theorems),
-            Err(fault) => Err(Fault::from(fault)),
-        }
+        let steps = self.type_defining(machine, name, abs, rep, list_step, premise_step)?;
+        let abs_rep_step = self.outcome_step(machine, 1, steps.definition)?;
+        let rep_abs_step = self.outcome_step(machine, 2, steps.definition)?;
+        let (abs_rep, rep_abs) = self.accept_type(
+            machine,
+            name,
+            abs,
+            rep,
+            variables,
+            premise,
+            steps.definition,
+        )?;
+        Ok(DefinedOperator {
+            op: steps.op,
+            abs: steps.abs,
+            rep: steps.rep,
+            abs_rep,
+            abs_rep_step,
+            rep_abs,
+            rep_abs_step,
+        })
+    }
+
+    /// The steps of a type operator, of its two constants, and of its definition by a list of type variables and a theorem.
+    pub(crate) fn type_defining(
+        &mut self,
+        machine: &Machine,
+        name: NameId,
+        abs: NameId,
+        rep: NameId,
+        list_step: StepId,
+        premise_step: StepId,
+    ) -> Result<OperatorSteps, Memory>
+        requires of { IsOf self.old machine.now }
+        requires name { name < length self.old.kernel.names }
+        requires abs { abs < length self.old.kernel.names }
+        requires rep { rep < length self.old.kernel.names }
+        requires list_step { list_step < length self.old.trace }
+        requires premise_step { premise_step < length self.old.trace }
+        ensures made { IfOk result (AreOperatorSteps self.old self.new name abs rep list_step premise_step) }
+        ensures kept { Traces self.old self.new machine.now }
+    {
+        let (name_step, op) = self.symbol_steps(machine, Cmd::TypeOp, name)?;
+        let (abs_name, abs) = self.symbol_steps(machine, Cmd::Const, abs)?;
+        let (rep_name, rep) = self.symbol_steps(machine, Cmd::Const, rep)?;
+        let definition = self.defining_step(
+            machine,
+            Cmd::DefineTypeOp,
+            &[name_step, abs_name, rep_name, list_step, premise_step],
+            &[op, abs, rep],
+        )?;
+        Ok(OperatorSteps {
+            op,
+            abs,
+            rep,
+            definition,
+        })
     }
 }

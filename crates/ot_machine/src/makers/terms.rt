@@ -19,12 +19,12 @@ use ot_type::TypeId;
 impl Session {
     /// The type variable of a name.
     pub(crate) fn type_variable(&mut self, machine: &Machine, name: NameId) -> Result<TypeId, Fault>
-        requires of { IsOf self.old.kernel machine.now }
+        requires of { IsOf self.old machine.now }
         requires name { name < length self.old.kernel.names }
         ensures made { IfOk result (λ t. type_at self.new.kernel t ≡ TyVar (name_at self.old.kernel name)) }
         ensures memory { OnErr result (result ≡ Err Fault.Memory) }
         ensures inside { IfOk result (λ t. t < length self.new.kernel.types) }
-        ensures kept { Leaves self.old.kernel self.new.kernel machine.now }
+        ensures kept { Leaves self.old self.new machine.now }
     {
         Ok(self.kernel.type_var(name)?)
     }
@@ -36,12 +36,12 @@ impl Session {
         name: NameId,
         args: &[TypeId],
     ) -> Result<TypeId, Fault>
-        requires of { IsOf self.old.kernel machine.now }
+        requires of { IsOf self.old machine.now }
         requires name { name < length self.old.kernel.names }
         requires args { All (λ t. t < length self.old.kernel.types) args.now }
         ensures made { Makes self.new.kernel (type_at self.new.kernel) result (op_rule names (name_at self.old.kernel name) (arguments (map (type_at self.old.kernel) args.now))) }
         ensures inside { IfOk result (λ t. t < length self.new.kernel.types) }
-        ensures kept { Leaves self.old.kernel self.new.kernel machine.now }
+        ensures kept { Leaves self.old self.new machine.now }
     {
         Ok(self.kernel.type_op(name, args)?)
     }
@@ -52,13 +52,13 @@ impl Session {
         machine: &Machine,
         variable: VarKey,
     ) -> Result<TermId, Fault>
-        requires of { IsOf self.old.kernel machine.now }
+        requires of { IsOf self.old machine.now }
         requires name { variable.name < length self.old.kernel.names }
         requires ty { variable.ty < length self.old.kernel.types }
         ensures made { IfOk result (λ t. term_at self.new.kernel t ≡ Free (variable_at self.old.kernel variable)) }
         ensures memory { OnErr result (result ≡ Err Fault.Memory) }
         ensures inside { IfOk result (λ t. t < length self.new.kernel.terms) }
-        ensures kept { Leaves self.old.kernel self.new.kernel machine.now }
+        ensures kept { Leaves self.old self.new machine.now }
     {
         Ok(self.kernel.var(variable)?)
     }
@@ -70,13 +70,13 @@ impl Session {
         name: NameId,
         ty: TypeId,
     ) -> Result<TermId, Fault>
-        requires of { IsOf self.old.kernel machine.now }
+        requires of { IsOf self.old machine.now }
         requires name { name < length self.old.kernel.names }
         requires ty { ty < length self.old.kernel.types }
         ensures made { IfOk result (λ t. term_at self.new.kernel t ≡ Con (name_at self.old.kernel name) (type_at self.old.kernel ty)) }
         ensures memory { OnErr result (result ≡ Err Fault.Memory) }
         ensures inside { IfOk result (λ t. t < length self.new.kernel.terms) }
-        ensures kept { Leaves self.old.kernel self.new.kernel machine.now }
+        ensures kept { Leaves self.old self.new machine.now }
     {
         Ok(self.kernel.constant(name, ty)?)
     }
@@ -88,12 +88,12 @@ impl Session {
         f: TermId,
         x: TermId,
     ) -> Result<TermId, Fault>
-        requires of { IsOf self.old.kernel machine.now }
+        requires of { IsOf self.old machine.now }
         requires f { f < length self.old.kernel.terms }
         requires x { x < length self.old.kernel.terms }
         ensures made { Makes self.new.kernel (term_at self.new.kernel) result (app_rule names (term_at self.old.kernel f) (term_at self.old.kernel x)) }
         ensures inside { IfOk result (λ t. t < length self.new.kernel.terms) }
-        ensures kept { Leaves self.old.kernel self.new.kernel machine.now }
+        ensures kept { Leaves self.old self.new machine.now }
     {
         Ok(self.kernel.app(f, x)?)
     }
@@ -105,13 +105,13 @@ impl Session {
         variable: VarKey,
         body: TermId,
     ) -> Result<TermId, Fault>
-        requires of { IsOf self.old.kernel machine.now }
+        requires of { IsOf self.old machine.now }
         requires name { variable.name < length self.old.kernel.names }
         requires ty { variable.ty < length self.old.kernel.types }
         requires body { body < length self.old.kernel.terms }
         ensures made { Makes self.new.kernel (term_at self.new.kernel) result (abs_rule names (variable_at self.old.kernel variable) (term_at self.old.kernel body)) }
         ensures inside { IfOk result (λ t. t < length self.new.kernel.terms) }
-        ensures kept { Leaves self.old.kernel self.new.kernel machine.now }
+        ensures kept { Leaves self.old self.new machine.now }
     {
         Ok(self.kernel.abs(variable, body)?)
     }

@@ -1,32 +1,27 @@
 // Theorems that the kernel makes for a machine of this session.
-ghost use Rattle.std.specs.Prelude.{◌≡◌, ◌<◌, length, map, IfOk, OnErr};
-ghost use Rattle.std.specs.List.{All};
+ghost use Rattle.std.specs.Prelude.{◌≡◌, ◌<◌, length, IfOk};
 ghost use Rattle.ot_plain.specs.Naming.{names};
 ghost use Rattle.ot_plain.specs.Rules.{refl_rule, assume_rule, eq_mp_rule, abs_thm_rule, app_thm_rule, deduct_antisym_rule, beta_conv_rule, subst_rule, sym_rule, trans_rule, prove_hyp_rule};
-ghost use Rattle.ot_kernel.specs.State.{name_at, variable_at, term_at, theorem_at};
+ghost use Rattle.ot_kernel.specs.State.{variable_at, term_at, theorem_at};
 ghost use Rattle.ot_kernel.specs.Pairs.{type_pairs, term_pairs, IsSubstIn};
-ghost use Rattle.ot_machine.specs.Rows.{assumed};
-ghost use Rattle.ot_machine.specs.Meaning.{run_of, IsOf, Carries, Leaves};
-ghost use Rattle.ot_machine.specs.Contexts.{context_of, IsContextOf};
+ghost use Rattle.ot_machine.specs.Meaning.{IsOf, Leaves};
 ghost use Rattle.ot_machine.specs.Answers.{Makes};
 
-use crate::context::Context;
 use crate::fault::Fault;
 use crate::machine::Machine;
 use crate::session::Session;
 use ot_kernel::ThmId;
 use ot_subst::Subst;
 use ot_term::{TermId, VarKey};
-use std::alloc::Global;
 
 impl Session {
     /// The theorem that a term equals itself.
     pub(crate) fn reflexivity(&mut self, machine: &Machine, term: TermId) -> Result<ThmId, Fault>
-        requires of { IsOf self.old.kernel machine.now }
+        requires of { IsOf self.old machine.now }
         requires term { term < length self.old.kernel.terms }
         ensures made { Makes self.new.kernel (theorem_at self.new.kernel) result (refl_rule names (term_at self.old.kernel term)) }
         ensures inside { IfOk result (λ th. th < length self.new.kernel.theorems) }
-        ensures kept { Leaves self.old.kernel self.new.kernel machine.now }
+        ensures kept { Leaves self.old self.new machine.now }
     {
         match self.kernel.refl(term) {
             Ok(theorem) => Ok(theorem),
@@ -36,11 +31,11 @@ impl Session {
 
     /// The theorem that a term follows from itself.
     pub(crate) fn assumption(&mut self, machine: &Machine, term: TermId) -> Result<ThmId, Fault>
-        requires of { IsOf self.old.kernel machine.now }
+        requires of { IsOf self.old machine.now }
         requires term { term < length self.old.kernel.terms }
         ensures made { Makes self.new.kernel (theorem_at self.new.kernel) result (assume_rule names (term_at self.old.kernel term)) }
         ensures inside { IfOk result (λ th. th < length self.new.kernel.theorems) }
-        ensures kept { Leaves self.old.kernel self.new.kernel machine.now }
+        ensures kept { Leaves self.old self.new machine.now }
     {
         match self.kernel.assume(term) {
             Ok(theorem) => Ok(theorem),
@@ -55,12 +50,12 @@ impl Session {
         lower: ThmId,
         top: ThmId,
     ) -> Result<ThmId, Fault>
-        requires of { IsOf self.old.kernel machine.now }
+        requires of { IsOf self.old machine.now }
         requires lower { lower < length self.old.kernel.theorems }
         requires top { top < length self.old.kernel.theorems }
         ensures made { Makes self.new.kernel (theorem_at self.new.kernel) result (eq_mp_rule names (theorem_at self.old.kernel lower) (theorem_at self.old.kernel top)) }
         ensures inside { IfOk result (λ th. th < length self.new.kernel.theorems) }
-        ensures kept { Leaves self.old.kernel self.new.kernel machine.now }
+        ensures kept { Leaves self.old self.new machine.now }
     {
         match self.kernel.eq_mp(lower, top) {
             Ok(theorem) => Ok(theorem),
@@ -75,13 +70,13 @@ impl Session {
         variable: VarKey,
         premise: ThmId,
     ) -> Result<ThmId, Fault>
-        requires of { IsOf self.old.kernel machine.now }
+        requires of { IsOf self.old machine.now }
         requires name { variable.name < length self.old.kernel.names }
         requires ty { variable.ty < length self.old.kernel.types }
         requires premise { premise < length self.old.kernel.theorems }
         ensures made { Makes self.new.kernel (theorem_at self.new.kernel) result (abs_thm_rule names (variable_at self.old.kernel variable) (theorem_at self.old.kernel premise)) }
         ensures inside { IfOk result (λ th. th < length self.new.kernel.theorems) }
-        ensures kept { Leaves self.old.kernel self.new.kernel machine.now }
+        ensures kept { Leaves self.old self.new machine.now }
     {
         match self.kernel.abs_thm(variable, premise) {
             Ok(theorem) => Ok(theorem),
@@ -96,12 +91,12 @@ impl Session {
         lower: ThmId,
         top: ThmId,
     ) -> Result<ThmId, Fault>
-        requires of { IsOf self.old.kernel machine.now }
+        requires of { IsOf self.old machine.now }
         requires lower { lower < length self.old.kernel.theorems }
         requires top { top < length self.old.kernel.theorems }
         ensures made { Makes self.new.kernel (theorem_at self.new.kernel) result (app_thm_rule names (theorem_at self.old.kernel lower) (theorem_at self.old.kernel top)) }
         ensures inside { IfOk result (λ th. th < length self.new.kernel.theorems) }
-        ensures kept { Leaves self.old.kernel self.new.kernel machine.now }
+        ensures kept { Leaves self.old self.new machine.now }
     {
         match self.kernel.app_thm(lower, top) {
             Ok(theorem) => Ok(theorem),
@@ -116,12 +111,12 @@ impl Session {
         lower: ThmId,
         top: ThmId,
     ) -> Result<ThmId, Fault>
-        requires of { IsOf self.old.kernel machine.now }
+        requires of { IsOf self.old machine.now }
         requires lower { lower < length self.old.kernel.theorems }
         requires top { top < length self.old.kernel.theorems }
         ensures made { Makes self.new.kernel (theorem_at self.new.kernel) result (deduct_antisym_rule names (theorem_at self.old.kernel lower) (theorem_at self.old.kernel top)) }
         ensures inside { IfOk result (λ th. th < length self.new.kernel.theorems) }
-        ensures kept { Leaves self.old.kernel self.new.kernel machine.now }
+        ensures kept { Leaves self.old self.new machine.now }
     {
         match self.kernel.deduct_antisym(lower, top) {
             Ok(theorem) => Ok(theorem),
@@ -135,11 +130,11 @@ impl Session {
         machine: &Machine,
         term: TermId,
     ) -> Result<ThmId, Fault>
-        requires of { IsOf self.old.kernel machine.now }
+        requires of { IsOf self.old machine.now }
         requires term { term < length self.old.kernel.terms }
         ensures made { Makes self.new.kernel (theorem_at self.new.kernel) result (beta_conv_rule names (term_at self.old.kernel term)) }
         ensures inside { IfOk result (λ th. th < length self.new.kernel.theorems) }
-        ensures kept { Leaves self.old.kernel self.new.kernel machine.now }
+        ensures kept { Leaves self.old self.new machine.now }
     {
         match self.kernel.beta_conv(term) {
             Ok(theorem) => Ok(theorem),
@@ -149,11 +144,11 @@ impl Session {
 
     /// An equation, turned round.
     pub(crate) fn symmetry(&mut self, machine: &Machine, premise: ThmId) -> Result<ThmId, Fault>
-        requires of { IsOf self.old.kernel machine.now }
+        requires of { IsOf self.old machine.now }
         requires premise { premise < length self.old.kernel.theorems }
         ensures made { Makes self.new.kernel (theorem_at self.new.kernel) result (sym_rule names (theorem_at self.old.kernel premise)) }
         ensures inside { IfOk result (λ th. th < length self.new.kernel.theorems) }
-        ensures kept { Leaves self.old.kernel self.new.kernel machine.now }
+        ensures kept { Leaves self.old self.new machine.now }
     {
         match self.kernel.sym(premise) {
             Ok(theorem) => Ok(theorem),
@@ -168,12 +163,12 @@ impl Session {
         lower: ThmId,
         top: ThmId,
     ) -> Result<ThmId, Fault>
-        requires of { IsOf self.old.kernel machine.now }
+        requires of { IsOf self.old machine.now }
         requires lower { lower < length self.old.kernel.theorems }
         requires top { top < length self.old.kernel.theorems }
         ensures made { Makes self.new.kernel (theorem_at self.new.kernel) result (trans_rule names (theorem_at self.old.kernel lower) (theorem_at self.old.kernel top)) }
         ensures inside { IfOk result (λ th. th < length self.new.kernel.theorems) }
-        ensures kept { Leaves self.old.kernel self.new.kernel machine.now }
+        ensures kept { Leaves self.old self.new machine.now }
     {
         match self.kernel.trans(lower, top) {
             Ok(theorem) => Ok(theorem),
@@ -188,12 +183,12 @@ impl Session {
         lower: ThmId,
         top: ThmId,
     ) -> Result<ThmId, Fault>
-        requires of { IsOf self.old.kernel machine.now }
+        requires of { IsOf self.old machine.now }
         requires lower { lower < length self.old.kernel.theorems }
         requires top { top < length self.old.kernel.theorems }
         ensures made { Makes self.new.kernel (theorem_at self.new.kernel) result (prove_hyp_rule names (theorem_at self.old.kernel lower) (theorem_at self.old.kernel top)) }
         ensures inside { IfOk result (λ th. th < length self.new.kernel.theorems) }
-        ensures kept { Leaves self.old.kernel self.new.kernel machine.now }
+        ensures kept { Leaves self.old self.new machine.now }
     {
         match self.kernel.prove_hyp(lower, top) {
             Ok(theorem) => Ok(theorem),
@@ -208,41 +203,14 @@ impl Session {
         maps: &Subst,
         premise: ThmId,
     ) -> Result<ThmId, Fault>
-        requires of { IsOf self.old.kernel machine.now }
+        requires of { IsOf self.old machine.now }
         requires maps { IsSubstIn self.old.kernel maps.now }
         requires premise { premise < length self.old.kernel.theorems }
         ensures made { Makes self.new.kernel (theorem_at self.new.kernel) result (subst_rule names (type_pairs self.old.kernel maps.now.types) (term_pairs self.old.kernel maps.now) (theorem_at self.old.kernel premise)) }
         ensures inside { IfOk result (λ th. th < length self.new.kernel.theorems) }
-        ensures kept { Leaves self.old.kernel self.new.kernel machine.now }
+        ensures kept { Leaves self.old self.new machine.now }
     {
         match self.kernel.subst(maps, premise) {
-            Ok(theorem) => Ok(theorem),
-            Err(fault) => Err(Fault::from(fault)),
-        }
-    }
-
-    /// The theorem of a sequent: the first of the context that is it, else the assumption of it, which the run has from then on.
-    pub(crate) fn axiom(
-        &mut self,
-        machine: &Machine,
-        ctx: &Context<'_>,
-        hyps: &[TermId],
-        concl: TermId,
-    ) -> Result<ThmId, Fault>
-        requires of { IsOf self.old.kernel machine.now }
-        requires context { IsContextOf self.old.kernel ctx.now }
-        requires hyps { All (λ t. t < length self.old.kernel.terms) hyps.now }
-        requires concl { concl < length self.old.kernel.terms }
-        ensures made { Makes self.new.kernel (λ th. (theorem_at self.new.kernel th, run_of self.new.kernel)) result (assumed (context_of self.old.kernel ctx.now) (map (term_at self.old.kernel) hyps.now) (term_at self.old.kernel concl) (run_of self.old.kernel)) }
-        ensures refused { OnErr result (run_of self.new.kernel ≡ run_of self.old.kernel) }
-        ensures inside { IfOk result (λ th. th < length self.new.kernel.theorems) }
-        ensures kept { Carries self.old.kernel self.new.kernel machine.now }
-    {
-        if let Some(given) = self.given(ctx, hyps, concl) {
-            self.kernel.sound();
-            return Ok(given);
-        }
-        match self.kernel.axiom(hyps, concl) {
             Ok(theorem) => Ok(theorem),
             Err(fault) => Err(Fault::from(fault)),
         }

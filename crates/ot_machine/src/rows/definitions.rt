@@ -1,14 +1,16 @@
 // The rows of the commands that add a definition, of symbols as the context reads their names.
-ghost use Rattle.ot_machine.specs.Meaning.{IsOf};
+ghost use Rattle.ot_machine.specs.Meaning.{version_of, IsOf};
 ghost use Rattle.ot_machine.specs.Answers.{Turns};
 ghost use Rattle.ot_machine.specs.Contexts.{context_of, IsContextOf};
 ghost use Rattle.ot_machine.specs.Rows.{define_const_row, define_const_list_row, define_type_op_row};
+ghost use Rattle.ot_machine.specs.Version5.{define_type_op_5_row};
+ghost use Rattle.ot_machine.specs.Step.{define_type_row};
 
 use crate::context::Context;
 use crate::definition_lists::variables_of;
 use crate::fault::Fault;
-use crate::machine::Machine;
-use crate::object::Object;
+use crate::machine::{Machine, Version};
+use crate::object::{Entry, Object};
 use crate::session::Session;
 use std::alloc::Global;
 
@@ -18,15 +20,27 @@ pub fn define_const(
     machine: &mut Machine,
     ctx: &Context<'_>,
 ) -> Result<(), Fault>
-    requires of { IsOf session.old.kernel machine.old }
-    requires context { IsContextOf session.old.kernel ctx.now }
-    ensures { Turns result (define_const_row (context_of session.old.kernel ctx.now)) session.old.kernel machine.old session.new.kernel machine.new }
+    requires of { IsOf session.old machine.old }
+    requires context { IsContextOf session.old ctx.now }
+    ensures { Turns result (define_const_row (context_of session.old ctx.now)) session.old machine.old session.new machine.new }
 {
-    let term = session.term_on(machine, 0)?;
+    let (term, term_step) = session.term_entry(machine, 0)?;
     let name = session.name_on(machine, 1)?;
     let named = session.constant_named(ctx, name);
-    let theorem = session.constant_definition(machine, named, term)?;
-    session.exchange(machine, &[Object::Const(named), Object::Theorem(theorem)]);
+    let defined = session.constant_definition(machine, named, term, term_step)?;
+    session.exchange(
+        machine,
+        &[
+            Entry {
+                object: Object::Const(named),
+                step: Some(defined.symbol),
+            },
+            Entry {
+                object: Object::Theorem(defined.theorem),
+                step: Some(defined.step),
+            },
+        ],
+    );
     Ok(())
 }
 
@@ -37,53 +51,172 @@ pub fn define_const_list(
     machine: &mut Machine,
     ctx: &Context<'_>,
 ) -> Result<(), Fault>
-    requires of { IsOf session.old.kernel machine.old }
-    requires context { IsContextOf session.old.kernel ctx.now }
-    ensures { Turns result (define_const_list_row (context_of session.old.kernel ctx.now)) session.old.kernel machine.old session.new.kernel machine.new }
+    requires of { IsOf session.old machine.old }
+    requires context { IsContextOf session.old ctx.now }
+    ensures { Turns result (define_const_list_row (context_of session.old ctx.now)) session.old machine.old session.new machine.new }
 {
-    let premise = session.theorem_on(machine, 0)?;
-    let list = session.list_on(machine, 1)?;
+    let (premise, premise_step) = session.theorem_entry(machine, 0)?;
+    let (list, list_step) = session.list_entry(machine, 1)?;
     let pairs = session.pairs_of(alloc, machine, list)?;
     let names = session.constants_named(alloc, ctx, &pairs)?;
     let variables = variables_of(alloc, &pairs)?;
     // The list of the constants is made first, so that nothing is refused after the definition.
     let constants = session.constants(machine, &names)?;
-    let theorem = session.list_definition(machine, &names, &variables, premise)?;
+    let step = session.constants_step(machine, &names)?;
+    let (theorem, theorem_step) = session.list_definition(
+        machine,
+        ctx,
+        &names,
+        &variables,
+        list_step,
+        premise,
+        premise_step,
+    )?;
     session.exchange(
         machine,
-        &[Object::List(constants), Object::Theorem(theorem)],
+        &[
+            Entry {
+                object: Object::List(constants),
+                step: Some(step),
+            },
+            Entry {
+                object: Object::Theorem(theorem),
+                step: Some(theorem_step),
+            },
+        ],
     );
     Ok(())
 }
 
-/// `defineTypeOp` defines a type operator by a theorem on the elements of a type.
-pub fn define_type_op(
+/// `defineTypeOp` defines a type operator by a theorem on the elements of a type. Its theorems are those of the article's
+/// version.
+pub fn define_type(
+    alloc: Global,
+    session: &mut Session,
+    machine: &mut Machine,
+    ctx: &Context<'_>,
+    version: Version,
+) -> Result<(), Fault>
+    requires of { IsOf session.old machine.old }
+    requires context { IsContextOf session.old ctx.now }
+    ensures { Turns result (define_type_row (version_of version) (context_of session.old ctx.now)) session.old machine.old session.new machine.new }
+{
+    match version {
+        Version::Six => define_type_op(alloc, session, machine, ctx),
+        Version::Open => define_type_op_5(alloc, session, machine, ctx),
+        Version::Five => define_type_op_5(alloc, session, machine, ctx),
+    }
+}
+
+/// In an article of version 6: equations of abstractions.
+fn define_type_op(
     alloc: Global,
     session: &mut Session,
     machine: &mut Machine,
     ctx: &Context<'_>,
 ) -> Result<(), Fault>
-    requires of { IsOf session.old.kernel machine.old }
-    requires context { IsContextOf session.old.kernel ctx.now }
-    ensures { Turns result (define_type_op_row (context_of session.old.kernel ctx.now)) session.old.kernel machine.old session.new.kernel machine.new }
+    requires of { IsOf session.old machine.old }
+    requires context { IsContextOf session.old ctx.now }
+    ensures { Turns result (define_type_op_row (context_of session.old ctx.now)) session.old machine.old session.new machine.new }
 {
-    let premise = session.theorem_on(machine, 0)?;
-    let variables = session.names_on(alloc, machine, 1)?;
+    let (premise, premise_step) = session.theorem_entry(machine, 0)?;
+    let (variables, list_step) = session.names_on(alloc, machine, 1)?;
     let rep = session.name_on(machine, 2)?;
     let abs = session.name_on(machine, 3)?;
     let name = session.name_on(machine, 4)?;
     let rep = session.constant_named(ctx, rep);
     let abs = session.constant_named(ctx, abs);
     let name = session.type_op_named(ctx, name);
-    let (abs_rep, rep_abs) = session.type_definition(machine, name, abs, rep, &variables, premise)?;
+    let defined = session.type_definition(
+        machine,
+        name,
+        abs,
+        rep,
+        &variables,
+        list_step,
+        premise,
+        premise_step,
+    )?;
     session.exchange(
         machine,
         &[
-            Object::TypeOp(name),
-            Object::Const(abs),
-            Object::Const(rep),
-            Object::Theorem(abs_rep),
-            Object::Theorem(rep_abs),
+            Entry {
+                object: Object::TypeOp(name),
+                step: Some(defined.op),
+            },
+            Entry {
+                object: Object::Const(abs),
+                step: Some(defined.abs),
+            },
+            Entry {
+                object: Object::Const(rep),
+                step: Some(defined.rep),
+            },
+            Entry {
+                object: Object::Theorem(defined.abs_rep),
+                step: Some(defined.abs_rep_step),
+            },
+            Entry {
+                object: Object::Theorem(defined.rep_abs),
+                step: Some(defined.rep_abs_step),
+            },
+        ],
+    );
+    Ok(())
+}
+
+/// In an article of version 5: equations for variables.
+fn define_type_op_5(
+    alloc: Global,
+    session: &mut Session,
+    machine: &mut Machine,
+    ctx: &Context<'_>,
+) -> Result<(), Fault>
+    requires of { IsOf session.old machine.old }
+    requires context { IsContextOf session.old ctx.now }
+    ensures { Turns result (define_type_op_5_row (context_of session.old ctx.now)) session.old machine.old session.new machine.new }
+{
+    let (premise, premise_step) = session.theorem_entry(machine, 0)?;
+    let (variables, list_step) = session.names_on(alloc, machine, 1)?;
+    let rep = session.name_on(machine, 2)?;
+    let abs = session.name_on(machine, 3)?;
+    let name = session.name_on(machine, 4)?;
+    let rep = session.constant_named(ctx, rep);
+    let abs = session.constant_named(ctx, abs);
+    let name = session.type_op_named(ctx, name);
+    let defined = session.open_type_definition(
+        machine,
+        name,
+        abs,
+        rep,
+        &variables,
+        list_step,
+        premise,
+        premise_step,
+    )?;
+    session.exchange(
+        machine,
+        &[
+            Entry {
+                object: Object::TypeOp(name),
+                step: Some(defined.op),
+            },
+            Entry {
+                object: Object::Const(abs),
+                step: Some(defined.abs),
+            },
+            Entry {
+                object: Object::Const(rep),
+                step: Some(defined.rep),
+            },
+            Entry {
+                object: Object::Theorem(defined.abs_rep),
+                step: Some(defined.abs_rep_step),
+            },
+            Entry {
+                object: Object::Theorem(defined.rep_abs),
+                step: Some(defined.rep_abs_step),
+            },
         ],
     );
     Ok(())

@@ -1,6 +1,5 @@
 use Rattle.std.proofs.Common.{◌≡◌, ◌≤◌, ◌-◌}
-use Rattle.ot_kernel.specs.State.{Keeps}
-use Rattle.ot_machine.specs.Meaning.{state_of, IsOf}
+use Rattle.ot_machine.specs.Meaning.{state_of, IsOf, Grows}
 use Rattle.ot_machine.specs.Contexts.{context_of}
 use Rattle.ot_machine.specs.Commanded.{LeadsTo}
 use Rattle.ot_machine.proofs.Followed.{Follows}
@@ -8,10 +7,10 @@ use Rattle.ot_machine.proofs.machine.Machine.run_article.Given as goal
 
 abbrev pub invariant-lines : goal.invariant-lines
 invariant-lines g l = record {
-  so_far : Follows (context_of l.fn.session.kernel l.ctx) l.max_bytes (state_of l.fn.session.kernel l.fn.self) (state_of l.session.kernel l.self) l.lines (g.S.Source.left l.fn.source) (g.S.Source.left l.source);
-  led : LeadsTo (context_of l.fn.session.kernel l.ctx) (state_of l.fn.session.kernel l.fn.self) (state_of l.session.kernel l.self);
-  of : IsOf l.session.kernel l.self;
-  grown : Keeps l.fn.session.kernel l.session.kernel;
+  so_far : Follows (context_of l.fn.session l.ctx) l.max_bytes (state_of l.fn.session l.fn.self) (state_of l.session l.self) l.lines (g.S.Source.left l.fn.source) (g.S.Source.left l.source);
+  led : LeadsTo (context_of l.fn.session l.ctx) (state_of l.fn.session l.fn.self) (state_of l.session l.self);
+  of : IsOf l.session l.self;
+  grown : Grows l.fn.session l.session;
   later : g.S.Source.faults l.fn.source ≤ g.S.Source.faults l.source;
   folder : g.S.Source.folder l.source ≡ g.S.Source.folder l.fn.source;
   misses : g.S.Source.misses l.source ≡ g.S.Source.misses l.fn.source;

@@ -11,10 +11,14 @@ use Rattle.ot_plain.specs.Naming.{names}
 use Rattle.ot_interp.specs.Interpretation.{renamed}
 use Rattle.ot_kernel.specs.State.{State, name_at, variable_at, theorem_at}
 use Rattle.ot_machine.specs.Objects.{list, theorem}
-use Rattle.ot_machine.specs.Rows.{constants_of, with_defined, define_const_list_row}
+use Rattle.ot_machine.specs.States.{Entry}
+use Rattle.ot_machine.specs.Rows.{constants_of, constants_origin, constants_entry, origin_at, with_defined, define_const_list_row}
 use Rattle.ot_machine.specs.Contexts.{context_of}
-use Rattle.ot_machine.specs.Meaning.{list_at, run_of, state_of}
-use Rattle.ot_machine.proofs.Turning.{state-defined, refused-turn, const_list-read}
+use Rattle.ot_machine.specs.Meaning.{list_at, origin_of, state_of}
+use Rattle.ot_machine.proofs.Kept.{lists, origin-kept, traces-grow, grows-on}
+use Rattle.ot_machine.proofs.Traced.{traced-origin}
+use Rattle.ot_machine.proofs.InContext.{context-kept, of_context-kept}
+use Rattle.ot_machine.proofs.Turning.{state-defined, refused-turn, list_stated-same, const_list-read}
 use Rattle.ot_machine.proofs.rows.definitions.define_const_list.Goals as goal
 
 abbrev variable_of : ℕ × VarKey → VarKey
@@ -44,56 +48,91 @@ pub constants-requires-clause-names : goal.constants-requires-clause-names
 constants-requires-clause-names c =
     subst (All (IsNameIn c.args.session.now.kernel)) (sym c.deref-3.ensures.value) c.in_ok-names.ensures.inside
 
+pub constants_step-requires-clause-inside : goal.constants_step-requires-clause-inside
+constants_step-requires-clause-inside c =
+    subst (All (IsNameIn c.args.session.now.kernel)) (sym c.deref-4.ensures.value) c.in_ok-names.ensures.inside
+
+-- the kernel is as it was before the steps of the constants
 pub list_definition-requires-clause-constants : goal.list_definition-requires-clause-constants
 list_definition-requires-clause-constants c =
-    subst (All (IsNameIn c.args.session.now.kernel)) (sym c.deref-4.ensures.value) c.in_ok-names.ensures.inside
+    subst (λ k. All (IsNameIn k) c.deref-5.result.now) (sym c.in_ok-step.ensures.kept.kernel) (subst (All (IsNameIn c.args.session.now.kernel)) (sym c.deref-5.ensures.value) c.in_ok-names.ensures.inside)
 
 pub list_definition-requires-clause-variables : goal.list_definition-requires-clause-variables
 list_definition-requires-clause-variables c =
     let P = IsVariableIn c.args.session.now.kernel in
-    subst (All P) (sym (c.deref-5.ensures.value ∙ c.in_ok-variables.ensures ∙ ap (map variable_of) c.deref-2.ensures.value)) (All-map P variable_of _ c.in_ok-pairs.ensures.variables)
+    subst (λ k. All (IsVariableIn k) c.deref-6.result.now) (sym c.in_ok-step.ensures.kept.kernel)
+    (subst (All P) (sym (c.deref-6.ensures.value ∙ c.in_ok-variables.ensures ∙ ap (map variable_of) c.deref-2.ensures.value)) (All-map P variable_of _ c.in_ok-pairs.ensures.variables))
+
+pub list_definition-requires-clause-context : goal.list_definition-requires-clause-context
+list_definition-requires-clause-context c =
+    of_context-kept c.args.session.now c.constants_step.new.self c.requires.of.run (traces-grow _ _ _ c.in_ok-step.ensures.kept) c.args.ctx.now c.requires.context
+
+pub list_definition-requires-clause-list_origin : goal.list_definition-requires-clause-list_origin
+list_definition-requires-clause-list_origin c =
+    let s = c.args.session.now in
+    traced-origin s c.constants_step.new.self c.constants.new.machine c.in_ok-constants.ensures.of c.in_ok-step.ensures.kept c.in_ok-list.list_step c.in_ok-list.ensures.step
+    ∙ c.in_ok-list.ensures.origin
+    ∙ ap (λ a. origin_at 1 a.stack) (sym (c.in_ok-step.ensures.kept.article ∙ c.in_ok-constants.ensures.kept))
+
+pub list_definition-requires-clause-premise_origin : goal.list_definition-requires-clause-premise_origin
+list_definition-requires-clause-premise_origin c =
+    let s = c.args.session.now in
+    traced-origin s c.constants_step.new.self c.constants.new.machine c.in_ok-constants.ensures.of c.in_ok-step.ensures.kept c.in_ok-premise.premise_step c.in_ok-premise.ensures.step
+    ∙ c.in_ok-premise.ensures.origin
+    ∙ ap (λ a. origin_at 0 a.stack) (sym (c.in_ok-step.ensures.kept.article ∙ c.in_ok-constants.ensures.kept))
 
 pub returns-in_err-theorem : goal.returns-in_err-theorem
 returns-in_err-theorem c =
-    let k = c.args.session.now.kernel in
-    let l = c.list_definition.new.self.kernel in
+    let s = c.args.session.now in
+    let k = s.kernel in
+    let t0 = c.constants_step.new.self in
+    let t = c.list_definition.new.self in
     let m = c.args.machine.now in
     let made = c.constants.new.machine in
-    let s = state_of k m in
+    let st = state_of s m in
+    let traced = c.in_ok-step.ensures.kept in
+    let grown = traces-grow s t0 made traced in
     let there = c.in_err-theorem.ensures in
-    let ns = map (name_at k) c.deref-4.result.now in
-    let vs = map (variable_at k) c.deref-5.result.now in
-    let ctx = context_of k c.args.ctx.now in
-    let row = const_list-read ctx s (theorem_at k c.in_ok-premise.premise) _ _ ns vs c.in_ok-premise.ensures.found c.in_ok-list.ensures.found c.in_ok-pairs.ensures.read
-    (names-read k ctx.interpretation.constants _ _ _ (c.in_ok-names.ensures.renamed ∙ ap (map (renaming k ctx.interpretation.constants)) c.deref.ensures.value) c.deref-4.ensures.value)
-    (variables-read k _ _ (c.deref-5.ensures.value ∙ c.in_ok-variables.ensures ∙ ap (map variable_of) c.deref-2.ensures.value)) in
-    refused-turn _ c.in_err-theorem.field-0.0 (define_const_list_row ctx) k m l made (search rules)
-    (λ i. record { article = (there.kept.article ∙ c.in_ok-constants.ensures.kept) i; run = there.refused i })
-    (there.made.0, λ f p. row ∙ ap (λ r. r >>= λ d. Ok (with_defined 2 (list (constants_of ns) ∷ []) d s)) (there.made.1 f p))
-    there.kept.grown there.kept.of
+    let is = c.deref-5.result.now in
+    let vs = c.deref-6.result.now in
+    let ctx = context_of s c.args.ctx.now in
+    let row = const_list-read ctx st (theorem_at k c.in_ok-premise.premise) _ _ (map (name_at k) is) (map (variable_at k) vs) c.in_ok-premise.ensures.found c.in_ok-list.ensures.found c.in_ok-pairs.ensures.read
+    (names-read k ctx.interpretation.constants _ _ _ (c.in_ok-names.ensures.renamed ∙ ap (map (renaming k ctx.interpretation.constants)) c.deref.ensures.value) c.deref-5.ensures.value)
+    (variables-read k _ _ (c.deref-6.ensures.value ∙ c.in_ok-variables.ensures ∙ ap (map variable_of) c.deref-2.ensures.value)) in
+    let same = list_stated-same s t0 m made c.args.ctx.now is vs c.in_ok-premise.premise traced.kernel (context-kept s t0 c.requires.of.run grown c.args.ctx.now c.requires.context) (traced.article ∙ c.in_ok-constants.ensures.kept) traced.run in
+    refused-turn _ c.in_err-theorem.field-0.0 (define_const_list_row ctx) s m t made (search rules)
+    (λ i. record { article = (there.article ∙ traced.article ∙ c.in_ok-constants.ensures.kept) i; run = (there.refused ∙ traced.run) i })
+    (there.made.0, λ f p. row ∙ ap (λ r. r >>= λ d. Ok (with_defined 2 (constants_entry (map (name_at k) is) ∷ []) d st)) (sym same ∙ there.made.1 f p))
+    (grows-on grown there.grown) there.of
 
 pub returns : goal.returns
 returns c =
-    let k = c.args.session.now.kernel in
-    let l = c.list_definition.new.self.kernel in
+    let s = c.args.session.now in
+    let k = s.kernel in
+    let t0 = c.constants_step.new.self in
+    let t = c.list_definition.new.self in
     let m = c.args.machine.now in
     let made = c.constants.new.machine in
-    let s = state_of k m in
+    let st = state_of s m in
+    let traced = c.in_ok-step.ensures.kept in
+    let grown = traces-grow s t0 made traced in
     let there = c.in_ok-theorem.ensures in
-    let ns = map (name_at k) c.deref-4.result.now in
-    let vs = map (variable_at k) c.deref-5.result.now in
-    let ctx = context_of k c.args.ctx.now in
-    let row = const_list-read ctx s (theorem_at k c.in_ok-premise.premise) _ _ ns vs c.in_ok-premise.ensures.found c.in_ok-list.ensures.found c.in_ok-pairs.ensures.read
-    (names-read k ctx.interpretation.constants _ _ _ (c.in_ok-names.ensures.renamed ∙ ap (map (renaming k ctx.interpretation.constants)) c.deref.ensures.value) c.deref-4.ensures.value)
-    (variables-read k _ _ (c.deref-5.ensures.value ∙ c.in_ok-variables.ensures ∙ ap (map variable_of) c.deref-2.ensures.value)) in
-    let q = theorem_at l c.in_ok-theorem.theorem in
-    let constants = ap (λ cs. list_at cs c.in_ok-constants.constants) there.kept.lists ∙ c.in_ok-constants.ensures.made ∙ ap (λ is. constants_of (map (name_at k) is)) (c.deref-3.ensures.value ∙ sym c.deref-4.ensures.value) in
+    let is = c.deref-5.result.now in
+    let vs = c.deref-6.result.now in
+    let ns = map (name_at k) is in
+    let ctx = context_of s c.args.ctx.now in
+    let row = const_list-read ctx st (theorem_at k c.in_ok-premise.premise) _ _ ns (map (variable_at k) vs) c.in_ok-premise.ensures.found c.in_ok-list.ensures.found c.in_ok-pairs.ensures.read
+    (names-read k ctx.interpretation.constants _ _ _ (c.in_ok-names.ensures.renamed ∙ ap (map (renaming k ctx.interpretation.constants)) c.deref.ensures.value) c.deref-5.ensures.value)
+    (variables-read k _ _ (c.deref-6.ensures.value ∙ c.in_ok-variables.ensures ∙ ap (map variable_of) c.deref-2.ensures.value)) in
+    let same = list_stated-same s t0 m made c.args.ctx.now is vs c.in_ok-premise.premise traced.kernel (context-kept s t0 c.requires.of.run grown c.args.ctx.now c.requires.context) (traced.article ∙ c.in_ok-constants.ensures.kept) traced.run in
+    let q : Entry = record { object = theorem (theorem_at t.kernel c.in_ok-theorem.theorem); origin = origin_of t c.in_ok-theorem.theorem_step } in
+    let constants = ap (λ cs. list_at cs c.in_ok-constants.constants) (lists s t made c.in_ok-constants.ensures.of (grows-on grown there.grown)) ∙ c.in_ok-constants.ensures.made ∙ ap (λ is. constants_of (map (name_at k) is)) (c.deref-3.ensures.value ∙ sym c.deref-5.ensures.value) in
+    let origin = origin-kept t0 t traced.of.run there.grown c.in_ok-step.step c.in_ok-step.ensures.inside ∙ c.in_ok-step.ensures.made ∙ ap (λ is. constants_origin (map (name_at k) is)) (c.deref-4.ensures.value ∙ sym c.deref-5.ensures.value) in
     record {
       moves = row
-          ∙ ap (λ r. r >>= λ d. Ok (with_defined 2 (list (constants_of ns) ∷ []) d s)) there.made
-          ∙ ap (λ a. Ok (with_defined 2 (list (constants_of ns) ∷ []) (q ∷ [], run_of l) (record { article = a; run = run_of k }))) (sym c.in_ok-constants.ensures.kept)
-          ∙ ap Ok (state-defined k l made c.exchange.new.machine 2 _ (list (constants_of ns) ∷ []) (q ∷ []) there.kept.article c.exchange.ensures.changed
-          (λ i. list (constants i) ∷ theorem q ∷ []));
-      grown = there.kept.grown;
+          ∙ ap (λ r. r >>= λ d. Ok (with_defined 2 (constants_entry ns ∷ []) d st)) (sym same ∙ there.made)
+          ∙ ap Ok (state-defined s t m made c.exchange.new.machine 2 _ (constants_entry ns ∷ []) (q ∷ []) (there.article ∙ traced.article ∙ c.in_ok-constants.ensures.kept) c.exchange.ensures.changed
+          (λ i. record { object = list (constants i); origin = origin i } ∷ q ∷ []));
+      grown = grows-on grown there.grown;
       of = c.exchange.ensures.of;
     }

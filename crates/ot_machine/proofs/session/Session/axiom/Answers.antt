@@ -1,33 +1,67 @@
-use Rattle.std.specs.Prelude.{[], map}
-use Rattle.ot_plain.specs.Trees.{Bound}
-use Rattle.ot_kernel.specs.State.{term_at, theorem_at}
-use Rattle.ot_machine.specs.Meaning.{run_of}
-use Rattle.ot_machine.specs.Contexts.{context_of}
-use Rattle.ot_machine.proofs.Kept.{carries}
-use Rattle.ot_machine.proofs.Taken.{assumed-given, assumed-is, assumed-refused}
-use Rattle.ot_machine.proofs.Refusals.{refuses-rule}
+use Rattle.std.specs.Prelude.{Ok, Err, MatchBool}
+use Rattle.std.proofs.Common.{◌≡◌, refl, map, ap, sym, subst, ◌∙◌}
+use Rattle.ot_plain.specs.Faults as faults
+use Rattle.ot_kernel.specs.Axioms.{axiom_rule}
+use Rattle.ot_kernel.specs.State.{term_at}
+use Rattle.ot_machine.specs.declared.fault.Fault.TheVariants as code
+use Rattle.ot_machine.specs.Answers.{Makes}
+use Rattle.ot_machine.specs.Places.{top, origins_of}
+use Rattle.ot_machine.specs.Rows.{theorem_entry}
+use Rattle.ot_machine.specs.Contexts.{context_of, given_of}
+use Rattle.ot_machine.specs.Meaning.{origin_of, run_of, article_of}
+use Rattle.ot_machine.proofs.Kept.{grows-on}
+use Rattle.ot_machine.proofs.InContext.{context-kept, of_context-kept}
+use Rattle.ot_machine.proofs.Refusals.{refuses-named}
+use Rattle.ot_machine.proofs.Stated.{on-err-map}
+use Rattle.ot_machine.proofs.Taken.{once, used-refused, used-same}
+use Rattle.ot_machine.proofs.Weakening.{stays-origin, stays-term, stays-terms, terms-inside}
 use Rattle.ot_machine.proofs.session.Session.axiom.Goals as goal
 
-pub returns-in-Some-clause-made : goal.returns-in-Some-clause-made
-returns-in-Some-clause-made c =
-    let k = c.args.self.now.kernel in
-    assumed-given (context_of k c.args.ctx.now) (run_of k) (map (term_at k) c.args.hyps.now) (term_at k c.args.concl) (theorem_at k c.in-Some.given)
-    (c.sound.ensures.theorems c.in-Some.given (record { hyps = []; concl = Bound 0 }) (rw c.in-Some.is at c.given.ensures.within)).sequent
-    (rw c.in-Some.is at c.given.ensures.first)
+pub returns-then-not-proper-clause-made : goal.returns-then-not-proper-clause-made
+returns-then-not-proper-clause-made c =
+    let s = c.args.self.now in
+    let hs = map (term_at s.kernel) c.args.hyps.now in
+    let p = term_at s.kernel c.args.concl in
+    let rule = subst (λ b. MatchBool b (axiom_rule hs p ≡ Ok (once hs p)) (axiom_rule hs p ≡ Err faults.NotBool)) c.if-not-proper.true c.in_ok-proper.ensures.proper in
+    refuses-named c.is_proper.new.self.kernel code.NotBool faults.NotBool _ (λ read. refl) tt
+    (used-refused (context_of s c.args.ctx.now) (run_of s) hs p (origin_of s c.args.list_step) (origins_of (top 2 (article_of s c.args.machine.now).stack)) faults.NotBool rule)
 
-pub returns-in-Err-clause-kept : goal.returns-in-Err-clause-kept
-returns-in-Err-clause-kept c = carries _ _ _ c.requires.of c.axiom.ensures.keeps
+pub returns-then-not-proper-clause-grown : goal.returns-then-not-proper-clause-grown
+returns-then-not-proper-clause-grown c = c.in_ok-proper.ensures.stays.grown
 
-pub returns-in-Err-clause-made : goal.returns-in-Err-clause-made
-returns-in-Err-clause-made c =
-    let k = c.args.self.now.kernel in
-    rw c.from.ensures (refuses-rule c.axiom.new.self _ _ (λ read. ((c.in-Err.ensures.assumes.1 read).0, λ f q. assumed-refused (context_of k c.args.ctx.now) (run_of k) (map (term_at k) c.args.hyps.now) (term_at k c.args.concl) f ((c.in-Err.ensures.assumes.1 read).1 f q))))
+pub proper_axiom-requires-clause-context : goal.proper_axiom-requires-clause-context
+proper_axiom-requires-clause-context c = of_context-kept c.args.self.now c.is_proper.new.self c.requires.of.run c.in_ok-proper.ensures.stays.grown c.args.ctx.now c.requires.context
 
-pub returns-in-Ok-clause-kept : goal.returns-in-Ok-clause-kept
-returns-in-Ok-clause-kept c = carries _ _ _ c.requires.of c.axiom.ensures.keeps
+pub proper_axiom-requires-clause-hyps : goal.proper_axiom-requires-clause-hyps
+proper_axiom-requires-clause-hyps c = terms-inside c.args.self.now c.is_proper.new.self c.args.machine.now c.requires.of c.in_ok-proper.ensures.stays c.args.hyps.now c.requires.hyps
 
-pub returns-in-Ok-clause-made : goal.returns-in-Ok-clause-made
-returns-in-Ok-clause-made c =
-    let k = c.args.self.now.kernel in
-    let a = c.in-Ok.ensures.assumes in
-    assumed-is (context_of k c.args.ctx.now) k c.axiom.new.self (map (term_at k) c.args.hyps.now) (term_at k c.args.concl) a.0 c.in-Ok.theorem (rw c.in_default.is at c.given.ensures.first) a.1 a.3 a.4 a.5
+pub proper_axiom-requires-clause-proper : goal.proper_axiom-requires-clause-proper
+proper_axiom-requires-clause-proper c =
+    let s = c.args.self.now in
+    let t = c.is_proper.new.self in
+    let m = c.args.machine.now in
+    let stays = c.in_ok-proper.ensures.stays in
+    let hs = map (term_at s.kernel) c.args.hyps.now in
+    let p = term_at s.kernel c.args.concl in
+    let a = stays-terms s t m c.requires.of stays c.args.hyps.now c.requires.hyps in
+    let b = stays-term s t m c.requires.of stays c.args.concl c.requires.concl in
+    let rule = subst (λ b. MatchBool b (axiom_rule hs p ≡ Ok (once hs p)) (axiom_rule hs p ≡ Err faults.NotBool)) c.if-not-proper.false c.in_ok-proper.ensures.proper in
+    (λ j. axiom_rule (a j) (b j)) ∙ rule ∙ (λ j. Ok (once (sym a j) (sym b j)))
+
+pub returns-clause-made : goal.returns-clause-made
+returns-clause-made c =
+    let s = c.args.self.now in
+    let t = c.is_proper.new.self in
+    let u = c.proper_axiom.new.self in
+    let m = c.args.machine.now in
+    let stays = c.in_ok-proper.ensures.stays in
+    let same = used-same (context_of t c.args.ctx.now) (context_of s c.args.ctx.now) _ _ _ _ _ _ _ _ _ _
+    (context-kept s t c.requires.of.run stays.grown c.args.ctx.now c.requires.context) (stays-terms s t m c.requires.of stays c.args.hyps.now c.requires.hyps) (stays-term s t m c.requires.of stays c.args.concl c.requires.concl)
+    (stays-origin s t m c.requires.of stays c.args.list_step c.requires.list_step) (ap (λ a. origins_of (top 2 a.stack)) stays.article) stays.run in
+    subst (Makes u.kernel (λ g. (theorem_entry (given_of u g), run_of u)) c.proper_axiom.result) same c.proper_axiom.ensures.made
+
+pub returns-clause-refused : goal.returns-clause-refused
+returns-clause-refused c = on-err-map c.proper_axiom.result (λ e. e ∙ c.in_ok-proper.ensures.stays.run) c.proper_axiom.ensures.refused
+
+pub returns-clause-grown : goal.returns-clause-grown
+returns-clause-grown c = grows-on c.in_ok-proper.ensures.stays.grown c.proper_axiom.ensures.grown

@@ -1,36 +1,87 @@
+use Rattle.std.specs.Prelude.{Ok}
+use Rattle.std.proofs.Common.{rules, ◌≡◌, ◌∷◌, [], ap, sym, subst, ◌∙◌, arith}
 use Rattle.ot_plain.specs.Naming.{names}
-use Rattle.ot_kernel.specs.State.{name_at, term_at}
+use Rattle.ot_plain.specs.declared.command.Cmd.TheVariants as words
+use Rattle.ot_kernel.specs.State.{name_at, term_at, theorem_at}
 use Rattle.ot_kernel.specs.Defining.{const_definition}
-use Rattle.ot_machine.proofs.Kept.{carries}
-use Rattle.ot_machine.proofs.Defined.{defined-is, defined-refused, const-theorem, run-same}
-use Rattle.ot_machine.proofs.Refusals.{refuses-definition}
+use Rattle.ot_trace.specs.Origins.{Origin, Named, Define, Outcome, from_list}
+use Rattle.ot_machine.specs.Objects.{theorem}
+use Rattle.ot_machine.specs.Rows.{defined, const_defining}
+use Rattle.ot_machine.specs.Answers.{Refuses}
+use Rattle.ot_machine.specs.Meaning.{origin_of, article_of, run_of}
+use Rattle.ot_machine.proofs.Kept.{origin-kept, traces-grow, grows-on}
+use Rattle.ot_machine.proofs.Refusals.{refused}
+use Rattle.ot_machine.proofs.Stated.{on-err, const-same}
+use Rattle.ot_machine.proofs.Traced.{traces-on, traced-origin}
+use Rattle.ot_machine.proofs.Turning.{name-kept}
 use Rattle.ot_machine.proofs.session.Session.constant_definition.Goals as goal
 
-pub returns-in-Err-clause-made : goal.returns-in-Err-clause-made
-returns-in-Err-clause-made c =
-    let k = c.args.self.now.kernel in
-    rw c.from.ensures (refuses-definition c.define_const.new.self _ _ (c.in-Err.ensures.defines.1.0, λ f q. defined-refused k (λ ds. const_definition names ds (name_at k c.args.name) (term_at k c.args.term)) f (c.in-Err.ensures.defines.1.1 f q)) c.in-Err.ensures.symbols)
+pub returns-in_err-symbol-clause-grown : goal.returns-in_err-symbol-clause-grown
+returns-in_err-symbol-clause-grown c = traces-grow _ _ _ c.in_err-symbol.ensures.kept
 
-pub returns-in-Err-clause-refused : goal.returns-in-Err-clause-refused
-returns-in-Err-clause-refused c =
-    run-same _ _ c.in-Err.ensures.defines.0.basis
+pub returns-in_err-step-clause-grown : goal.returns-in_err-step-clause-grown
+returns-in_err-step-clause-grown c = grows-on (traces-grow _ _ _ c.in_ok-symbol.ensures.kept) (traces-grow _ _ _ c.in_err-step.ensures.kept)
 
-pub returns-in-Err-clause-kept : goal.returns-in-Err-clause-kept
-returns-in-Err-clause-kept c = carries _ _ _ c.requires.of c.define_const.ensures.keeps
+-- the definition is stated of the session as it was
+pub returns-in_err-theorem-clause-made : goal.returns-in_err-theorem-clause-made
+returns-in_err-theorem-clause-made c =
+    let s = c.args.self.now in
+    let m = c.args.machine.now in
+    let t1 = c.constant_defining.new.self in
+    let t2 = c.outcome_step.new.self in
+    let t = c.accept_constant.new.self in
+    let one = c.in_ok-symbol.ensures.kept in
+    let two = c.in_ok-step.ensures.kept in
+    let traced = traces-on s t1 t2 m one two in
+    let j = c.in_ok-symbol.definition in
+    let origin = traced-origin t1 t2 m one.of two j c.in_ok-symbol.ensures.definition_step ∙ c.in_ok-symbol.ensures.definition ∙ ap (λ o. Define words.DefineConst (from_list (Named (name_at s.kernel c.args.name) ∷ o ∷ []))) c.requires.origin in
+    let same = const-same t2.kernel s.kernel _ _ (run_of t2) (run_of s) traced.kernel origin traced.run c.args.name c.args.term in
+    refused t.kernel _ _ c.in_err-theorem.field-0.0 _ (search rules) (subst (Refuses t.kernel c.in_err-theorem.field-0.0) same c.in_err-theorem.ensures.made)
 
-pub returns-in-Ok-clause-made : goal.returns-in-Ok-clause-made
-returns-in-Ok-clause-made c =
-    let k = c.args.self.now.kernel in
-    let l = c.define_const.new.self in
-    let a = c.in-Ok.ensures.defines in
-    let made = const-theorem k l (name_at k c.args.name) (term_at k c.args.term) a.0 c.in-Ok.theorem a.1 a.3 a.4 in
-    defined-is k l (λ ds. const_definition names ds (name_at k c.args.name) (term_at k c.args.term)) a.0 _ a.1 made.0 a.2 a.5
+pub returns-in_err-theorem-clause-refused : goal.returns-in_err-theorem-clause-refused
+returns-in_err-theorem-clause-refused c = on-err c.from_residual-in_err-theorem.result (c.in_err-theorem.ensures.refused ∙ c.in_ok-step.ensures.kept.run ∙ c.in_ok-symbol.ensures.kept.run)
 
-pub returns-in-Ok-clause-inside : goal.returns-in-Ok-clause-inside
-returns-in-Ok-clause-inside c =
-    let k = c.args.self.now.kernel in
-    let a = c.in-Ok.ensures.defines in
-    (const-theorem k c.define_const.new.self (name_at k c.args.name) (term_at k c.args.term) a.0 c.in-Ok.theorem a.1 a.3 a.4).1
+pub returns-in_err-theorem-clause-grown : goal.returns-in_err-theorem-clause-grown
+returns-in_err-theorem-clause-grown c = grows-on (grows-on (traces-grow _ _ _ c.in_ok-symbol.ensures.kept) (traces-grow _ _ _ c.in_ok-step.ensures.kept)) c.in_err-theorem.ensures.grown
 
-pub returns-in-Ok-clause-kept : goal.returns-in-Ok-clause-kept
-returns-in-Ok-clause-kept c = carries _ _ _ c.requires.of c.define_const.ensures.keeps
+pub returns-in_err-theorem-clause-name : goal.returns-in_err-theorem-clause-name
+returns-in_err-theorem-clause-name c =
+    let all = grows-on (grows-on (traces-grow _ _ _ c.in_ok-symbol.ensures.kept) (traces-grow _ _ _ c.in_ok-step.ensures.kept)) c.in_err-theorem.ensures.grown in
+    name-kept c.args.self.now.kernel c.accept_constant.new.self.kernel all.kernel c.args.name c.requires.name
+
+pub returns-clause-made : goal.returns-clause-made
+returns-clause-made c =
+    let s = c.args.self.now in
+    let m = c.args.machine.now in
+    let t1 = c.constant_defining.new.self in
+    let t2 = c.outcome_step.new.self in
+    let t = c.accept_constant.new.self in
+    let one = c.in_ok-symbol.ensures.kept in
+    let two = c.in_ok-step.ensures.kept in
+    let traced = traces-on s t1 t2 m one two in
+    let j = c.in_ok-symbol.definition in
+    let there = c.in_ok-theorem.ensures in
+    let later = traced-origin t1 t2 m one.of two j c.in_ok-symbol.ensures.definition_step in
+    let origin = later ∙ c.in_ok-symbol.ensures.definition ∙ ap (λ o. Define words.DefineConst (from_list (Named (name_at s.kernel c.args.name) ∷ o ∷ []))) c.requires.origin in
+    let same = const-same t2.kernel s.kernel _ _ (run_of t2) (run_of s) traced.kernel origin traced.run c.args.name c.args.term in
+    let step = origin-kept t2 t two.of.run there.grown c.in_ok-step.step c.in_ok-step.ensures.inside ∙ c.in_ok-step.ensures.made ∙ ap (Outcome 1) (sym later) in
+    sym same ∙ there.made ∙ (λ i. Ok (record { object = theorem (theorem_at t.kernel c.in_ok-theorem.theorem); origin = sym step i } ∷ [], run_of t))
+
+pub returns-clause-symbol : goal.returns-clause-symbol
+returns-clause-symbol c =
+    let m = c.args.machine.now in
+    let t1 = c.constant_defining.new.self in
+    let t2 = c.outcome_step.new.self in
+    let t = c.accept_constant.new.self in
+    let one = c.in_ok-symbol.ensures.kept in
+    let two = c.in_ok-step.ensures.kept in
+    let all = grows-on (traces-grow t1 t2 m two) c.in_ok-theorem.ensures.grown in
+    origin-kept t1 t one.of.run all c.in_ok-symbol.symbol c.in_ok-symbol.ensures.symbol_step ∙ c.in_ok-symbol.ensures.symbol
+
+pub returns-clause-grown : goal.returns-clause-grown
+returns-clause-grown c = grows-on (grows-on (traces-grow _ _ _ c.in_ok-symbol.ensures.kept) (traces-grow _ _ _ c.in_ok-step.ensures.kept)) c.in_ok-theorem.ensures.grown
+
+pub returns-clause-name : goal.returns-clause-name
+returns-clause-name c =
+    let all = grows-on (grows-on (traces-grow _ _ _ c.in_ok-symbol.ensures.kept) (traces-grow _ _ _ c.in_ok-step.ensures.kept)) c.in_ok-theorem.ensures.grown in
+    name-kept c.args.self.now.kernel c.accept_constant.new.self.kernel all.kernel c.args.name c.requires.name

@@ -23,7 +23,7 @@ names-preserved c =
     let split = c.in-Some.ensures.cases.0 in
     let made = consed-made _ _ _ c.in-Ok.ensures.made in
     let view = ap (map (name_at k)) split ∙ map-append (name_at k) c.in-Some.front.now (c.in-Some.name.now ∷ []) in
-    let os = list_at (lists_of k c.names.machine) c.names.list in
+    let os = list_at (lists_of c.args.self.now c.names.machine) c.names.list in
     record {
       of = c.in-Ok.ensures.of;
       inside = c.in-Ok.ensures.inside;

@@ -1,34 +1,68 @@
-use Rattle.std.specs.Prelude.{map}
+use Rattle.std.specs.Prelude.{Ok}
+use Rattle.std.proofs.Common.{rules, ◌≡◌, ◌∷◌, [], map, ap, sym, subst, ◌∙◌}
 use Rattle.ot_plain.specs.Naming.{names}
+use Rattle.ot_plain.specs.declared.command.Cmd.TheVariants as words
+use Rattle.ot_interp.specs.Interpretation.{renamed}
 use Rattle.ot_kernel.specs.State.{name_at, variable_at, theorem_at}
 use Rattle.ot_kernel.specs.Defining.{list_definition}
-use Rattle.ot_machine.proofs.Kept.{carries}
-use Rattle.ot_machine.proofs.Defined.{defined-is, defined-refused, list-theorem, run-same}
-use Rattle.ot_machine.proofs.Refusals.{refuses-definition}
+use Rattle.ot_trace.specs.Origins.{Origin, Define, Outcome, from_list, renamed_pairs}
+use Rattle.ot_machine.specs.Objects.{theorem}
+use Rattle.ot_machine.specs.Rows.{defined}
+use Rattle.ot_machine.specs.Contexts.{context_of}
+use Rattle.ot_machine.specs.Answers.{Refuses}
+use Rattle.ot_machine.specs.Meaning.{origin_of, run_of}
+use Rattle.ot_machine.proofs.Kept.{origin-kept, traces-grow, grows-on}
+use Rattle.ot_machine.proofs.Refusals.{refused}
+use Rattle.ot_machine.proofs.Stated.{on-err, list-same}
+use Rattle.ot_machine.proofs.Traced.{traces-on, traced-origin}
 use Rattle.ot_machine.proofs.session.Session.list_definition.Goals as goal
 
-pub returns-in-Err-clause-made : goal.returns-in-Err-clause-made
-returns-in-Err-clause-made c =
-    let k = c.args.self.now.kernel in
-    rw c.from.ensures (refuses-definition c.define_list.new.self _ _ (c.in-Err.ensures.defines.1.0, λ f q. defined-refused k (λ ds. list_definition names ds (map (name_at k) c.args.constants.now) (map (variable_at k) c.args.variables.now) (theorem_at k c.args.theorem)) f (c.in-Err.ensures.defines.1.1 f q)) c.in-Err.ensures.symbols)
+pub returns-in_err-definition-clause-grown : goal.returns-in_err-definition-clause-grown
+returns-in_err-definition-clause-grown c = traces-grow _ _ _ c.in_err-definition.ensures.kept
 
-pub returns-in-Err-clause-refused : goal.returns-in-Err-clause-refused
-returns-in-Err-clause-refused c = run-same _ _ c.in-Err.ensures.defines.0.basis
+pub returns-in_err-step-clause-grown : goal.returns-in_err-step-clause-grown
+returns-in_err-step-clause-grown c = grows-on (traces-grow _ _ _ c.in_ok-definition.ensures.kept) (traces-grow _ _ _ c.in_err-step.ensures.kept)
 
-pub returns-in-Err-clause-kept : goal.returns-in-Err-clause-kept
-returns-in-Err-clause-kept c = carries _ _ _ c.requires.of c.define_list.ensures.keeps
+pub returns-in_err-theorem-clause-made : goal.returns-in_err-theorem-clause-made
+returns-in_err-theorem-clause-made c =
+    let s = c.args.self.now in
+    let m = c.args.machine.now in
+    let t1 = c.list_defining.new.self in
+    let t2 = c.outcome_step.new.self in
+    let t = c.accept_list.new.self in
+    let one = c.in_ok-definition.ensures.kept in
+    let two = c.in_ok-step.ensures.kept in
+    let traced = traces-on s t1 t2 m one two in
+    let j = c.in_ok-definition.definition in
+    let read = renamed_pairs (renamed names (context_of s c.args.ctx.now).interpretation.constants) in
+    let origin = traced-origin t1 t2 m one.of two j c.in_ok-definition.ensures.inside ∙ c.in_ok-definition.ensures.made ∙ (λ i. Define words.DefineConstList (from_list (read (c.requires.list_origin i) ∷ c.requires.premise_origin i ∷ []))) in
+    let same = list-same t2.kernel s.kernel _ _ (run_of t2) (run_of s) traced.kernel origin traced.run c.args.constants.now c.args.variables.now c.args.premise in
+    refused t.kernel _ _ c.in_err-theorem.field-0.0 _ (search rules) (subst (Refuses t.kernel c.in_err-theorem.field-0.0) same c.in_err-theorem.ensures.made)
 
-pub returns-in-Ok-clause-made : goal.returns-in-Ok-clause-made
-returns-in-Ok-clause-made c =
-    let k = c.args.self.now.kernel in
-    let a = c.in-Ok.ensures.defines in
-    defined-is k c.define_list.new.self (λ ds. list_definition names ds (map (name_at k) c.args.constants.now) (map (variable_at k) c.args.variables.now) (theorem_at k c.args.theorem)) a.0 _ a.1 (list-theorem k c.define_list.new.self (map (name_at k) c.args.constants.now) (map (variable_at k) c.args.variables.now) (theorem_at k c.args.theorem) a.0 c.in-Ok.theorem a.1 a.3 a.4).0 a.2 a.5
+pub returns-in_err-theorem-clause-refused : goal.returns-in_err-theorem-clause-refused
+returns-in_err-theorem-clause-refused c = on-err c.from_residual-in_err-theorem.result (c.in_err-theorem.ensures.refused ∙ c.in_ok-step.ensures.kept.run ∙ c.in_ok-definition.ensures.kept.run)
 
-pub returns-in-Ok-clause-kept : goal.returns-in-Ok-clause-kept
-returns-in-Ok-clause-kept c = carries _ _ _ c.requires.of c.define_list.ensures.keeps
+pub returns-in_err-theorem-clause-grown : goal.returns-in_err-theorem-clause-grown
+returns-in_err-theorem-clause-grown c = grows-on (grows-on (traces-grow _ _ _ c.in_ok-definition.ensures.kept) (traces-grow _ _ _ c.in_ok-step.ensures.kept)) c.in_err-theorem.ensures.grown
 
-pub returns-in-Ok-clause-inside : goal.returns-in-Ok-clause-inside
-returns-in-Ok-clause-inside c =
-    let k = c.args.self.now.kernel in
-    let a = c.in-Ok.ensures.defines in
-    (list-theorem k c.define_list.new.self (map (name_at k) c.args.constants.now) (map (variable_at k) c.args.variables.now) (theorem_at k c.args.theorem) a.0 c.in-Ok.theorem a.1 a.3 a.4).1
+pub returns-clause-made : goal.returns-clause-made
+returns-clause-made c =
+    let s = c.args.self.now in
+    let m = c.args.machine.now in
+    let t1 = c.list_defining.new.self in
+    let t2 = c.outcome_step.new.self in
+    let t = c.accept_list.new.self in
+    let one = c.in_ok-definition.ensures.kept in
+    let two = c.in_ok-step.ensures.kept in
+    let traced = traces-on s t1 t2 m one two in
+    let j = c.in_ok-definition.definition in
+    let there = c.in_ok-theorem.ensures in
+    let read = renamed_pairs (renamed names (context_of s c.args.ctx.now).interpretation.constants) in
+    let later = traced-origin t1 t2 m one.of two j c.in_ok-definition.ensures.inside in
+    let origin = later ∙ c.in_ok-definition.ensures.made ∙ (λ i. Define words.DefineConstList (from_list (read (c.requires.list_origin i) ∷ c.requires.premise_origin i ∷ []))) in
+    let same = list-same t2.kernel s.kernel _ _ (run_of t2) (run_of s) traced.kernel origin traced.run c.args.constants.now c.args.variables.now c.args.premise in
+    let step = origin-kept t2 t two.of.run there.grown c.in_ok-step.step c.in_ok-step.ensures.inside ∙ c.in_ok-step.ensures.made ∙ ap (Outcome 1) (sym later) in
+    sym same ∙ there.made ∙ (λ i. Ok (record { object = theorem (theorem_at t.kernel c.in_ok-theorem.theorem); origin = sym step i } ∷ [], run_of t))
+
+pub returns-clause-grown : goal.returns-clause-grown
+returns-clause-grown c = grows-on (grows-on (traces-grow _ _ _ c.in_ok-definition.ensures.kept) (traces-grow _ _ _ c.in_ok-step.ensures.kept)) c.in_ok-theorem.ensures.grown

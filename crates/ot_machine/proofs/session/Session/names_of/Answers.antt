@@ -14,7 +14,7 @@ use Rattle.ot_machine.proofs.session.Session.names_of.Goals as goal
 pub returns-in_default-head : goal.returns-in_default-head
 returns-in_default-head c =
     let k = c.args.self.now.kernel in
-    let cs = lists_of k c.args.machine.now in
+    let cs = lists_of c.args.self.now c.args.machine.now in
     let next = next_cell k c.args.machine.now.cells.items c.requires.of.cells c.cells.rest c.in-Cell.place c.index-cell.result.now c.in-Cell.is c.cells.invariant.inside c.index-cell.ensures in
     let head = c.index-cell.result.now.head in
     record {
@@ -34,7 +34,7 @@ cells-smaller c =
 pub cells-preserved : goal.cells-preserved
 cells-preserved c =
     let k = c.args.self.now.kernel in
-    let cs = lists_of k c.args.machine.now in
+    let cs = lists_of c.args.self.now c.args.machine.now in
     let next = next_cell k c.args.machine.now.cells.items c.requires.of.cells c.cells.rest c.in-Cell.place c.index-cell.result.now c.in-Cell.is c.cells.invariant.inside c.index-cell.ensures in
     let head = c.index-cell.result.now.head in
     let here : c.in-Name.name < length k.names = subst (IsIn k (length c.args.machine.now.cells.items)) c.in-Name.is next.head in

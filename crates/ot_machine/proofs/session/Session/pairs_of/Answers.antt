@@ -33,7 +33,7 @@ pair_at k p = (name_at k p.0, variable_at k p.1)
 pub pairs-preserved : goal.pairs-preserved
 pairs-preserved c =
     let k = c.args.self.now.kernel in
-    let cs = lists_of k c.args.machine.now in
+    let cs = lists_of c.args.self.now c.args.machine.now in
     let next = c.in-Some.ensures in
     let items = ap (map (pair_at k)) c.in_ok-push.ensures.items ∙ map-append (pair_at k) c.pairs.pairs.items (c.in_ok-pair.pair ∷ []) in
     record {

@@ -1,0 +1,493 @@
+// The two theorems of a type operator in an article of version 5, with the steps that derive them from its definition.
+ghost use Rattle.std.specs.Prelude.{◌≡◌, ◌<◌, ◌∷◌, [], codes, length, map, IfOk, OnErr};
+ghost use Rattle.std.specs.List.{All};
+ghost use Rattle.ot_plain.specs.Hol.{tys_of_vars};
+ghost use Rattle.ot_plain.specs.Naming.{names};
+ghost use Rattle.ot_plain.specs.Trees.{TyOp};
+ghost use Rattle.ot_plain.specs.declared.command.Cmd.TheVariants as words;
+ghost use Rattle.ot_kernel.specs.State.{name_at, theorem_at};
+ghost use Rattle.ot_trace.specs.Origins.{Named, make_one, make_two, type_op_origin};
+ghost use Rattle.ot_machine.specs.Defining.{open_defined, operator_theorems, IsOperatorOf};
+ghost use Rattle.ot_machine.specs.Rows.{type_defining, origin_at};
+ghost use Rattle.ot_machine.specs.Version5.{app, canon_tys};
+ghost use Rattle.ot_machine.specs.OpenTypes.{fun_origin, bool_origin, constant_at, variable_at, term_of, redex, composed, outcome_at, reduced, returned_origin, opened_origin, AreConstants, first_origin, second_origin, open_entries};
+ghost use Rattle.ot_machine.specs.Canonical.{Adds};
+ghost use Rattle.ot_machine.specs.Meaning.{article_of, origin_of, run_of, IsOf, Grows, Traces};
+ghost use Rattle.ot_machine.specs.Answers.{Makes};
+
+use crate::fault::Fault;
+use crate::machine::Machine;
+use crate::makers::canonical::Known;
+use crate::makers::definitions::DefinedOperator;
+use crate::nodes::{term_node, type_of};
+use crate::session::Session;
+use ot_kernel::ThmId;
+use ot_plain::{Cmd, Memory, NameId};
+use ot_term::TermNode;
+use ot_trace::StepId;
+
+/// The steps of the two constants of a type operator, and of the equality of its old type, as terms.
+#[derive(Clone, Copy, Debug, PartialEq, Eq)]
+pub(crate) struct OpenConstants {
+    pub abs: StepId,
+    pub rep: StepId,
+    pub equality: StepId,
+}
+
+impl Session {
+    // The step of the type that an operator makes of the types in the list of a step.
+    fn operated_step(
+        &mut self,
+        machine: &Machine,
+        op: NameId,
+        list: StepId,
+    ) -> Result<StepId, Memory>
+        requires of { IsOf self.old machine.now }
+        requires op { op < length self.old.kernel.names }
+        requires list { list < length self.old.trace }
+        ensures made { IfOk result (λ i. origin_of self.new i ≡ make_two words.OpType (type_op_origin (Named (name_at self.old.kernel op))) (origin_of self.old list)) }
+        ensures inside { IfOk result (λ i. i < length self.new.trace) }
+        ensures kept { Traces self.old self.new machine.now }
+    {
+        let (_, symbol) = self.symbol_steps(machine, Cmd::TypeOp, op)?;
+        Ok(self.made_of(machine, Cmd::OpType, &[symbol, list])?)
+    }
+
+    // The step of a function type.
+    fn function_step(
+        &mut self,
+        machine: &Machine,
+        from: StepId,
+        to: StepId,
+    ) -> Result<StepId, Memory>
+        requires of { IsOf self.old machine.now }
+        requires from { from < length self.old.trace }
+        requires to { to < length self.old.trace }
+        ensures made { IfOk result (λ i. origin_of self.new i ≡ fun_origin (origin_of self.old from) (origin_of self.old to)) }
+        ensures inside { IfOk result (λ i. i < length self.new.trace) }
+        ensures kept { Traces self.old self.new machine.now }
+    {
+        self.kernel.sound();
+        let nil = self.made_of(machine, Cmd::Nil, &[])?;
+        let last = self.made_of(machine, Cmd::Cons, &[to, nil])?;
+        let both = self.made_of(machine, Cmd::Cons, &[from, last])?;
+        Ok(self.operated_step(machine, NameId::ARROW, both)?)
+    }
+
+    // The step of the type of propositions.
+    fn boolean_step(&mut self, machine: &Machine) -> Result<StepId, Memory>
+        requires of { IsOf self.old machine.now }
+        ensures made { IfOk result (λ i. origin_of self.new i ≡ bool_origin) }
+        ensures inside { IfOk result (λ i. i < length self.new.trace) }
+        ensures kept { Traces self.old self.new machine.now }
+    {
+        self.kernel.sound();
+        let nil = self.made_of(machine, Cmd::Nil, &[])?;
+        Ok(self.operated_step(machine, NameId::BOOL, nil)?)
+    }
+
+    // The step of the equality of a type, as a term.
+    fn equality_step(&mut self, machine: &Machine, ty: StepId) -> Result<StepId, Memory>
+        requires of { IsOf self.old machine.now }
+        requires ty { ty < length self.old.trace }
+        ensures made { IfOk result (λ i. origin_of self.new i ≡ constant_at names.equals (fun_origin (origin_of self.old ty) (fun_origin (origin_of self.old ty) bool_origin))) }
+        ensures inside { IfOk result (λ i. i < length self.new.trace) }
+        ensures kept { Traces self.old self.new machine.now }
+    {
+        self.kernel.sound();
+        let truth = self.boolean_step(machine)?;
+        let test = self.function_step(machine, ty, truth)?;
+        let whole = self.function_step(machine, ty, test)?;
+        Ok(self.constant_step(machine, NameId::EQUALS, whole)?)
+    }
+
+    // The steps of the constants between an old and a new type, and of the equality of the old one.
+    fn constants_between(
+        &mut self,
+        machine: &Machine,
+        abs: NameId,
+        rep: NameId,
+        old: StepId,
+        new: StepId,
+    ) -> Result<OpenConstants, Memory>
+        requires of { IsOf self.old machine.now }
+        requires abs { abs < length self.old.kernel.names }
+        requires rep { rep < length self.old.kernel.names }
+        requires old { old < length self.old.trace }
+        requires new { new < length self.old.trace }
+        ensures made { IfOk result (AreConstants self.old self.new (name_at self.old.kernel abs) (name_at self.old.kernel rep) old new) }
+        ensures kept { Traces self.old self.new machine.now }
+    {
+        let to = self.function_step(machine, old, new)?;
+        let to_new = self.constant_step(machine, abs, to)?;
+        let from = self.function_step(machine, new, old)?;
+        let to_old = self.constant_step(machine, rep, from)?;
+        let equality = self.equality_step(machine, old)?;
+        Ok(OpenConstants {
+            abs: to_new,
+            rep: to_old,
+            equality,
+        })
+    }
+
+    // The step of the list of the type variables of these names.
+    fn type_variables_step(
+        &mut self,
+        machine: &Machine,
+        variables: &[NameId],
+    ) -> Result<StepId, Memory>
+        requires of { IsOf self.old machine.now }
+        requires inside { All (λ n. n < length self.old.kernel.names) variables.now }
+        ensures made { IfOk result (λ i. origin_of self.new i ≡ canon_tys (tys_of_vars names (map (name_at self.old.kernel) variables.now))) }
+        ensures inside { IfOk result (λ i. i < length self.new.trace) }
+        ensures kept { Traces self.old self.new machine.now }
+    {
+        let mut list = self.made_of(machine, Cmd::Nil, &[])?;
+        let mut rest = variables;
+        'names: while let Some((name, front)) = rest.split_last() {
+            let (_, head) = self.symbol_steps(machine, Cmd::VarType, *name)?;
+            list = self.made_of(machine, Cmd::Cons, &[head, list])?;
+            rest = front;
+        }
+        Ok(list)
+    }
+
+    // The steps of the variable of a name at the type of a step, and of it as a term.
+    fn variable_steps(
+        &mut self,
+        machine: &Machine,
+        name: NameId,
+        ty: StepId,
+    ) -> Result<(StepId, StepId), Memory>
+        requires of { IsOf self.old machine.now }
+        requires name { name < length self.old.kernel.names }
+        requires ty { ty < length self.old.trace }
+        ensures variable { IfOk result (λ p. origin_of self.new p.0 ≡ variable_at (name_at self.old.kernel name) (origin_of self.old ty)) }
+        ensures term { IfOk result (λ p. origin_of self.new p.1 ≡ term_of (variable_at (name_at self.old.kernel name) (origin_of self.old ty))) }
+        ensures variable_step { IfOk result (λ p. p.0 < length self.new.trace) }
+        ensures term_step { IfOk result (λ p. p.1 < length self.new.trace) }
+        ensures kept { Traces self.old self.new machine.now }
+    {
+        let variable = self.variable_step(machine, name, ty)?;
+        let term = self.made_of(machine, Cmd::VarTerm, &[variable])?;
+        Ok((variable, term))
+    }
+
+    // The step of the application of an abstraction.
+    fn redex_step(
+        &mut self,
+        machine: &Machine,
+        variable: StepId,
+        body: StepId,
+        argument: StepId,
+    ) -> Result<StepId, Memory>
+        requires of { IsOf self.old machine.now }
+        requires variable { variable < length self.old.trace }
+        requires body { body < length self.old.trace }
+        requires argument { argument < length self.old.trace }
+        ensures made { IfOk result (λ i. origin_of self.new i ≡ redex (origin_of self.old variable) (origin_of self.old body) (origin_of self.old argument)) }
+        ensures inside { IfOk result (λ i. i < length self.new.trace) }
+        ensures kept { Traces self.old self.new machine.now }
+    {
+        let function = self.made_of(machine, Cmd::AbsTerm, &[variable, body])?;
+        Ok(self.made_of(machine, Cmd::AppTerm, &[function, argument])?)
+    }
+
+    // The step of one function after another, at an argument.
+    fn composed_step(
+        &mut self,
+        machine: &Machine,
+        outer: StepId,
+        inner: StepId,
+        argument: StepId,
+    ) -> Result<StepId, Memory>
+        requires of { IsOf self.old machine.now }
+        requires outer { outer < length self.old.trace }
+        requires inner { inner < length self.old.trace }
+        requires argument { argument < length self.old.trace }
+        ensures made { IfOk result (λ i. origin_of self.new i ≡ composed (origin_of self.old outer) (origin_of self.old inner) (origin_of self.old argument)) }
+        ensures inside { IfOk result (λ i. i < length self.new.trace) }
+        ensures kept { Traces self.old self.new machine.now }
+    {
+        let value = self.made_of(machine, Cmd::AppTerm, &[inner, argument])?;
+        Ok(self.made_of(machine, Cmd::AppTerm, &[outer, value])?)
+    }
+
+    // The step of the theorem at a place of a definition, applied to a term.
+    fn outcome_at_step(
+        &mut self,
+        machine: &Machine,
+        place: u8,
+        definition: StepId,
+        argument: StepId,
+    ) -> Result<StepId, Memory>
+        requires of { IsOf self.old machine.now }
+        requires definition { definition < length self.old.trace }
+        requires argument { argument < length self.old.trace }
+        ensures made { IfOk result (λ i. origin_of self.new i ≡ outcome_at place (origin_of self.old definition) (origin_of self.old argument)) }
+        ensures inside { IfOk result (λ i. i < length self.new.trace) }
+        ensures kept { Traces self.old self.new machine.now }
+    {
+        let theorem = self.outcome_step(machine, place, definition)?;
+        let same = self.made_of(machine, Cmd::Refl, &[argument])?;
+        Ok(self.made_of(machine, Cmd::AppThm, &[theorem, same])?)
+    }
+
+    // The step of the theorem that two redexes come to the same, from that of their equation.
+    fn reduced_step(
+        &mut self,
+        machine: &Machine,
+        left: StepId,
+        theorem: StepId,
+        right: StepId,
+    ) -> Result<StepId, Memory>
+        requires of { IsOf self.old machine.now }
+        requires left { left < length self.old.trace }
+        requires theorem { theorem < length self.old.trace }
+        requires right { right < length self.old.trace }
+        ensures made { IfOk result (λ i. origin_of self.new i ≡ reduced (origin_of self.old left) (origin_of self.old theorem) (origin_of self.old right)) }
+        ensures inside { IfOk result (λ i. i < length self.new.trace) }
+        ensures kept { Traces self.old self.new machine.now }
+    {
+        let conversion = self.made_of(machine, Cmd::BetaConv, &[left])?;
+        let turned = self.made_of(machine, Cmd::Sym, &[conversion])?;
+        let start = self.made_of(machine, Cmd::Trans, &[turned, theorem])?;
+        let end = self.made_of(machine, Cmd::BetaConv, &[right])?;
+        Ok(self.made_of(machine, Cmd::Trans, &[start, end])?)
+    }
+
+    // The step of the theorem that a value of the new type comes back.
+    fn returned_step(
+        &mut self,
+        machine: &Machine,
+        definition: StepId,
+        abs: StepId,
+        rep: StepId,
+        new: StepId,
+    ) -> Result<StepId, Memory>
+        requires of { IsOf self.old machine.now }
+        requires definition { definition < length self.old.trace }
+        requires abs { abs < length self.old.trace }
+        requires rep { rep < length self.old.trace }
+        requires new { new < length self.old.trace }
+        ensures made { IfOk result (λ i. origin_of self.new i ≡ returned_origin (origin_of self.old definition) (origin_of self.old abs) (origin_of self.old rep) (origin_of self.old new)) }
+        ensures inside { IfOk result (λ i. i < length self.new.trace) }
+        ensures kept { Traces self.old self.new machine.now }
+    {
+        self.kernel.sound();
+        let (variable, a) = self.variable_steps(machine, NameId::A, new)?;
+        let round = self.composed_step(machine, abs, rep, a)?;
+        let left = self.redex_step(machine, variable, round, a)?;
+        let theorem = self.outcome_at_step(machine, 1, definition, a)?;
+        let right = self.redex_step(machine, variable, a, a)?;
+        Ok(self.reduced_step(machine, left, theorem, right)?)
+    }
+
+    // The step of rep (abs r) = r.
+    fn equation_step(
+        &mut self,
+        machine: &Machine,
+        constants: OpenConstants,
+        r: StepId,
+    ) -> Result<StepId, Memory>
+        requires of { IsOf self.old machine.now }
+        requires abs { constants.abs < length self.old.trace }
+        requires rep { constants.rep < length self.old.trace }
+        requires equality { constants.equality < length self.old.trace }
+        requires r { r < length self.old.trace }
+        ensures made { IfOk result (λ i. origin_of self.new i ≡ app (app (origin_of self.old constants.equality) (composed (origin_of self.old constants.rep) (origin_of self.old constants.abs) (origin_of self.old r))) (origin_of self.old r)) }
+        ensures inside { IfOk result (λ i. i < length self.new.trace) }
+        ensures kept { Traces self.old self.new machine.now }
+    {
+        let round = self.composed_step(machine, constants.rep, constants.abs, r)?;
+        let left = self.made_of(machine, Cmd::AppTerm, &[constants.equality, round])?;
+        Ok(self.made_of(machine, Cmd::AppTerm, &[left, r])?)
+    }
+
+    // The step of the theorem that the predicate holds just where a value of the old type comes back.
+    fn opened_step(
+        &mut self,
+        machine: &Machine,
+        definition: StepId,
+        constants: OpenConstants,
+        predicate: StepId,
+        old: StepId,
+    ) -> Result<StepId, Memory>
+        requires of { IsOf self.old machine.now }
+        requires definition { definition < length self.old.trace }
+        requires abs { constants.abs < length self.old.trace }
+        requires rep { constants.rep < length self.old.trace }
+        requires equality { constants.equality < length self.old.trace }
+        requires predicate { predicate < length self.old.trace }
+        requires old { old < length self.old.trace }
+        ensures made { IfOk result (λ i. origin_of self.new i ≡ opened_origin (origin_of self.old definition) (origin_of self.old constants.abs) (origin_of self.old constants.rep) (origin_of self.old constants.equality) (origin_of self.old predicate) (origin_of self.old old)) }
+        ensures inside { IfOk result (λ i. i < length self.new.trace) }
+        ensures kept { Traces self.old self.new machine.now }
+    {
+        self.kernel.sound();
+        let (variable, r) = self.variable_steps(machine, NameId::R, old)?;
+        let claim = self.made_of(machine, Cmd::AppTerm, &[predicate, r])?;
+        let left = self.redex_step(machine, variable, claim, r)?;
+        let equation = self.equation_step(machine, constants, r)?;
+        let right = self.redex_step(machine, variable, equation, r)?;
+        let theorem = self.outcome_at_step(machine, 2, definition, r)?;
+        let turned = self.made_of(machine, Cmd::Sym, &[theorem])?;
+        Ok(self.reduced_step(machine, left, turned, right)?)
+    }
+
+    // The steps of the two theorems that follow from a definition of a type operator, before it is accepted. A definition by
+    // what is no application has none, and isn't accepted.
+    fn open_steps(
+        &mut self,
+        machine: &Machine,
+        name: NameId,
+        abs: NameId,
+        rep: NameId,
+        variables: &[NameId],
+        premise: ThmId,
+        definition: StepId,
+    ) -> Result<(StepId, StepId), Memory>
+        requires of { IsOf self.old machine.now }
+        requires name { name < length self.old.kernel.names }
+        requires abs { abs < length self.old.kernel.names }
+        requires rep { rep < length self.old.kernel.names }
+        requires variables { All (λ n. n < length self.old.kernel.names) variables.now }
+        requires premise { premise < length self.old.kernel.theorems }
+        requires definition { definition < length self.old.trace }
+        ensures first { IfOk result (λ p. origin_of self.new p.0 ≡ first_origin (origin_of self.old definition) (name_at self.old.kernel abs) (name_at self.old.kernel rep) (TyOp (name_at self.old.kernel name) (tys_of_vars names (map (name_at self.old.kernel) variables.now))) (theorem_at self.old.kernel premise).concl) }
+        ensures second { IfOk result (λ p. origin_of self.new p.1 ≡ second_origin (origin_of self.old definition) (name_at self.old.kernel abs) (name_at self.old.kernel rep) (TyOp (name_at self.old.kernel name) (tys_of_vars names (map (name_at self.old.kernel) variables.now))) (theorem_at self.old.kernel premise).concl) }
+        ensures first_step { IfOk result (λ p. p.0 < length self.new.trace) }
+        ensures second_step { IfOk result (λ p. p.1 < length self.new.trace) }
+        ensures kept { Adds self.old self.new machine.now }
+    {
+        match *term_node(&self.kernel, self.kernel.concl(premise)) {
+            TermNode::App(p, t) => {
+                let mut known = Known::new(machine.alloc);
+                let ty = type_of(&self.kernel, t);
+                let predicate = self.term_origin(machine, 0, &[], p, &mut known)?;
+                let old = self.type_origin(machine, ty, &mut known.types)?;
+                let list = self.type_variables_step(machine, variables)?;
+                let new = self.operated_step(machine, name, list)?;
+                let constants = self.constants_between(machine, abs, rep, old, new)?;
+                let first = self.returned_step(
+                    machine,
+                    definition,
+                    constants.abs,
+                    constants.rep,
+                    new,
+                )?;
+                let second = self.opened_step(machine, definition, constants, predicate, old)?;
+                Ok((first, second))
+            }
+            _ => Ok((definition, definition)),
+        }
+    }
+
+    // The two theorems that follow from a definition of a type operator, which is accepted with its step.
+    fn accept_open_type(
+        &mut self,
+        machine: &Machine,
+        name: NameId,
+        abs: NameId,
+        rep: NameId,
+        variables: &[NameId],
+        premise: ThmId,
+        definition: StepId,
+    ) -> Result<(ThmId, ThmId), Fault>
+        requires of { IsOf self.old machine.now }
+        requires name { name < length self.old.kernel.names }
+        requires abs { abs < length self.old.kernel.names }
+        requires rep { rep < length self.old.kernel.names }
+        requires variables { All (λ n. n < length self.old.kernel.names) variables.now }
+        requires premise { premise < length self.old.kernel.theorems }
+        requires definition { definition < length self.old.trace }
+        ensures made { Makes self.new.kernel (λ p. (
+          open_entries
+              (first_origin (origin_of self.old definition) (name_at self.old.kernel abs) (name_at self.old.kernel rep) (TyOp (name_at self.old.kernel name) (tys_of_vars names (map (name_at self.old.kernel) variables.now))) (theorem_at self.old.kernel premise).concl)
+              (second_origin (origin_of self.old definition) (name_at self.old.kernel abs) (name_at self.old.kernel rep) (TyOp (name_at self.old.kernel name) (tys_of_vars names (map (name_at self.old.kernel) variables.now))) (theorem_at self.old.kernel premise).concl)
+              (theorem_at self.new.kernel p.0) (theorem_at self.new.kernel p.1),
+          run_of self.new,
+        )) result
+            (open_defined (name_at self.old.kernel name) (name_at self.old.kernel abs) (name_at self.old.kernel rep) (map (name_at self.old.kernel) variables.now) (theorem_at self.old.kernel premise) (origin_of self.old definition) (run_of self.old)) }
+        ensures refused { OnErr result (run_of self.new ≡ run_of self.old) }
+        ensures first { IfOk result (λ p. p.0 < length self.new.kernel.theorems) }
+        ensures second { IfOk result (λ p. p.1 < length self.new.kernel.theorems) }
+        ensures grown { Grows self.old self.new }
+        ensures article { article_of self.new machine.now ≡ article_of self.old machine.now }
+        ensures of { IsOf self.new machine.now }
+    {
+        self.kernel.sound();
+        self.definition_steps.push(definition)?;
+        match self
+            .kernel
+            .define_type_5(name, abs, rep, variables, premise)
+        {
+            Ok(theorems) => Ok((theorems.abs_open, theorems.rep_open)),
+            Err(fault) => {
+                let _ = self.definition_steps.pop();
+                Err(Fault::from(fault))
+            }
+        }
+    }
+
+    /// As `type_definition`, with the two theorems that an article of version 5 has: with variables in the place of binders.
+    pub(crate) fn open_type_definition(
+        &mut self,
+        machine: &Machine,
+        name: NameId,
+        abs: NameId,
+        rep: NameId,
+        variables: &[NameId],
+        list_step: StepId,
+        premise: ThmId,
+        premise_step: StepId,
+    ) -> Result<DefinedOperator, Fault>
+        requires of { IsOf self.old machine.now }
+        requires name { name < length self.old.kernel.names }
+        requires abs { abs < length self.old.kernel.names }
+        requires rep { rep < length self.old.kernel.names }
+        requires variables { All (λ n. n < length self.old.kernel.names) variables.now }
+        requires premise { premise < length self.old.kernel.theorems }
+        requires list_step { list_step < length self.old.trace }
+        requires list_origin { origin_of self.old list_step ≡ origin_at 1 (article_of self.old machine.now).stack }
+        requires premise_step { premise_step < length self.old.trace }
+        requires premise_origin { origin_of self.old premise_step ≡ origin_at 0 (article_of self.old machine.now).stack }
+        ensures made { Makes self.new.kernel (λ d. (operator_theorems self.new d, run_of self.new)) result
+            (open_defined (name_at self.old.kernel name) (name_at self.old.kernel abs) (name_at self.old.kernel rep) (map (name_at self.old.kernel) variables.now) (theorem_at self.old.kernel premise)
+            (type_defining (name_at self.old.kernel name) (name_at self.old.kernel abs) (name_at self.old.kernel rep) (article_of self.old machine.now).stack) (run_of self.old)) }
+        ensures operator { IfOk result (IsOperatorOf self.old self.new name abs rep) }
+        ensures refused { OnErr result (run_of self.new ≡ run_of self.old) }
+        ensures grown { Grows self.old self.new }
+        ensures article { article_of self.new machine.now ≡ article_of self.old machine.now }
+        ensures of { IsOf self.new machine.now }
+    {
+        let steps = self.type_defining(machine, name, abs, rep, list_step, premise_step)?;
+        let (abs_rep_step, rep_abs_step) = self.open_steps(
+            machine,
+            name,
+            abs,
+            rep,
+            variables,
+            premise,
+            steps.definition,
+        )?;
+        let (abs_rep, rep_abs) = self.accept_open_type(
+            machine,
+            name,
+            abs,
+            rep,
+            variables,
+            premise,
+            steps.definition,
+        )?;
+        Ok(DefinedOperator {
+            op: steps.op,
+            abs: steps.abs,
+            rep: steps.rep,
+            abs_rep,
+            abs_rep_step,
+            rep_abs,
+            rep_abs_step,
+        })
+    }
+}

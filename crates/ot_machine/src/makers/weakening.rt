@@ -1,0 +1,125 @@
+// A theorem of the context in the place of an axiom: the first with its conclusion and with hypotheses among its own, derived with
+// the others. Kernel and trace grow; the machine and the run stand for what they stood for.
+ghost use Rattle.std.specs.Prelude.{◌≡◌, ◌<◌, length, map, IfOk, IfSome};
+ghost use Rattle.std.specs.List.{All};
+ghost use Rattle.std.specs.Option.{option_map};
+ghost use Rattle.ot_kernel.specs.State.{term_at};
+ghost use Rattle.ot_machine.specs.Objects.{term};
+ghost use Rattle.ot_machine.specs.Rows.{theorem_entry};
+ghost use Rattle.ot_machine.specs.Discharge.{given_for, adding, weakened};
+ghost use Rattle.ot_machine.specs.Assumptions.{term_entries, supposing};
+ghost use Rattle.ot_machine.specs.Meaning.{origin_of, IsOf};
+ghost use Rattle.ot_machine.specs.Stays.{Stays};
+ghost use Rattle.ot_machine.specs.Contexts.{given_of, context_of, IsContextOf};
+ghost use Rattle.ot_machine.specs.Answers.{Makes};
+
+use crate::context::{Context, Given};
+use crate::fault::Fault;
+use crate::machine::Machine;
+use crate::session::Session;
+use ot_plain::Cmd;
+use ot_term::TermId;
+use ot_trace::StepId;
+
+impl Session {
+    /// The first theorem of the context with this conclusion and with hypotheses among these.
+    pub(crate) fn given_for(
+        &self,
+        ctx: &Context<'_>,
+        hyps: &[TermId],
+        concl: TermId,
+    ) -> Option<Given>
+        requires context { IsContextOf self.now ctx.now }
+        requires hyps { All (λ t. t < length self.now.kernel.terms) hyps.now }
+        requires concl { concl < length self.now.kernel.terms }
+        ensures theorem { IfSome result (λ g. g.th < length self.now.kernel.theorems) }
+        ensures step { IfSome result (λ g. g.step < length self.now.trace) }
+        ensures first { option_map (given_of self.now) result ≡ given_for (record { hyps = map (term_at self.now.kernel) hyps.now; concl = term_at self.now.kernel concl }) (context_of self.now ctx.now).theorems }
+    {
+        for given in ctx.theorems {
+            if self.kernel.is_within(given.th, hyps, concl) {
+                return Some(*given);
+            }
+        }
+        None
+    }
+
+    /// A theorem with each of these terms among its hypotheses. Their list has this step.
+    pub(crate) fn weakened(
+        &mut self,
+        machine: &Machine,
+        given: Given,
+        hyps: &[TermId],
+        list_step: StepId,
+    ) -> Result<Given, Fault>
+        requires of { IsOf self.old machine.now }
+        requires theorem { given.th < length self.old.kernel.theorems }
+        requires step { given.step < length self.old.trace }
+        requires hyps { All (λ t. t < length self.old.kernel.terms) hyps.now }
+        requires list_step { list_step < length self.old.trace }
+        ensures made { Makes self.new.kernel (λ g. theorem_entry (given_of self.new g)) result (weakened (term_entries (map (term_at self.old.kernel) hyps.now) (origin_of self.old list_step)) (theorem_entry (given_of self.old given))) }
+        ensures theorem { IfOk result (λ g. g.th < length self.new.kernel.theorems) }
+        ensures step { IfOk result (λ g. g.step < length self.new.trace) }
+        ensures stays { Stays self.old self.new machine.now }
+    {
+        let mut weaker = given;
+        let mut rest = list_step;
+        for hyp in hyps {
+            let step = self.operand_of(machine, rest, 0);
+            weaker = self.with_hypothesis(machine, weaker, *hyp, step)?;
+            rest = self.operand_of(machine, rest, 1);
+        }
+        Ok(weaker)
+    }
+
+    /// A theorem with a term among its hypotheses.
+    fn with_hypothesis(
+        &mut self,
+        machine: &Machine,
+        given: Given,
+        hyp: TermId,
+        step: StepId,
+    ) -> Result<Given, Fault>
+        requires of { IsOf self.old machine.now }
+        requires theorem { given.th < length self.old.kernel.theorems }
+        requires given_step { given.step < length self.old.trace }
+        requires hyp { hyp < length self.old.kernel.terms }
+        requires step { step < length self.old.trace }
+        ensures made { Makes self.new.kernel (λ g. theorem_entry (given_of self.new g)) result (supposing (record { object = term (term_at self.old.kernel hyp); origin = origin_of self.old step }) (theorem_entry (given_of self.old given))) }
+        ensures theorem { IfOk result (λ g. g.th < length self.new.kernel.theorems) }
+        ensures given_step { IfOk result (λ g. g.step < length self.new.trace) }
+        ensures stays { Stays self.old self.new machine.now }
+    {
+        if self.kernel.has_hyp(given.th, hyp) {
+            return Ok(given);
+        }
+        self.adding(machine, given, hyp, step)
+    }
+
+    /// A theorem with one hypothesis more: from hyp |- hyp and the theorem, their equation, and by it the theorem again.
+    fn adding(
+        &mut self,
+        machine: &Machine,
+        given: Given,
+        hyp: TermId,
+        step: StepId,
+    ) -> Result<Given, Fault>
+        requires of { IsOf self.old machine.now }
+        requires theorem { given.th < length self.old.kernel.theorems }
+        requires given_step { given.step < length self.old.trace }
+        requires hyp { hyp < length self.old.kernel.terms }
+        requires step { step < length self.old.trace }
+        ensures made { Makes self.new.kernel (λ g. theorem_entry (given_of self.new g)) result (adding (theorem_entry (given_of self.old given)) (record { object = term (term_at self.old.kernel hyp); origin = origin_of self.old step })) }
+        ensures theorem { IfOk result (λ g. g.th < length self.new.kernel.theorems) }
+        ensures given_step { IfOk result (λ g. g.step < length self.new.trace) }
+        ensures stays { Stays self.old self.new machine.now }
+    {
+        let assumed = self.assumption(machine, hyp)?;
+        let assumed_step = self.made_of(machine, Cmd::Assume, &[step])?;
+        let equation = self.antisymmetry(machine, assumed, given.th)?;
+        let equation_step = self.made_of(machine, Cmd::DeductAntisym, &[assumed_step, given.step])?;
+        let th = self.equality_rule(machine, equation, assumed)?;
+        let step = self.made_of(machine, Cmd::EqMp, &[equation_step, assumed_step])?;
+        Ok(Given { th, step })
+    }
+}

@@ -1,0 +1,240 @@
+// How what stands on the stack was made: its steps in the trace of this session, and what a word makes of them.
+ghost use Rattle.std.specs.Prelude.{◌≡◌, ◌<◌, ◌≤◌, length, map, IfOk, IfErr, OnOk, OnErr, vec_len};
+ghost use Rattle.std.specs.List.{All};
+ghost use Rattle.ot_plain.specs.Table.{Extends};
+ghost use Rattle.ot_kernel.specs.State.{name_at};
+ghost use Rattle.ot_trace.specs.Origins.{Number, Named, Make, Define, Outcome, MoreOrigins, NoOrigins, from_list, make_one, operand, symbols};
+ghost use Rattle.ot_trace.specs.Trace.{origin_at as number_origin, origins_at};
+ghost use Rattle.ot_machine.specs.Meaning.{object_of, origin_of, origin_or, lists_of, article_of, run_of, IsOf, IsIn, IsNumber, HasStep, Traces};
+ghost use Rattle.ot_machine.specs.Places.{replaced, top, origins_of};
+ghost use Rattle.ot_machine.specs.Rows.{origin_at};
+
+use crate::machine::Machine;
+use crate::object::Object;
+use crate::session::Session;
+use ot_plain::{Cmd, Memory, NameId};
+use ot_trace::{Step, StepId};
+
+impl Session {
+    /// The step that stands beside an object that is no number.
+    pub(crate) fn step_of(&self, object: Object, step: Option<StepId>) -> StepId
+        requires inside { HasStep self.now.trace object step }
+        requires made { IsNumber object → ⊥ }
+        ensures origin { origin_of self.now result ≡ origin_or self.now object step }
+        ensures inside { result < length self.now.trace }
+    {
+        match step {
+            Some(step) => step,
+            None => unreachable!(),
+        }
+    }
+
+    /// The step of what stands at a place; a number that has none gets one.
+    pub(crate) fn operand_at(&mut self, machine: &Machine, place: usize) -> Result<StepId, Memory>
+        requires of { IsOf self.old machine.now }
+        requires there { place < vec_len machine.now.stack }
+        ensures made { IfOk result (λ i. origin_of self.new i ≡ origin_at place (article_of self.old machine.now).stack) }
+        ensures inside { IfOk result (λ i. i < length self.new.trace) }
+        ensures kept { Traces self.old self.new machine.now }
+    {
+        match self.step_on(machine, place) {
+            Ok(step) => Ok(step),
+            Err(number) => self.number_step(machine, number),
+        }
+    }
+
+    /// The step of what stands at a place; of a number that has none, the number.
+    fn step_on(&self, machine: &Machine, place: usize) -> Result<StepId, i64>
+        requires of { IsOf self.now machine.now }
+        requires there { place < vec_len machine.now.stack }
+        ensures made { IfOk result (λ i. origin_of self.now i ≡ origin_at place (article_of self.now machine.now).stack) }
+        ensures inside { IfOk result (λ i. i < length self.now.trace) }
+        ensures number { IfErr result (λ k. Number k ≡ origin_at place (article_of self.now machine.now).stack) }
+    {
+        let entry = self.entry_inside(machine, place);
+        match entry.step {
+            Some(step) => Ok(step),
+            None => match entry.object {
+                Object::Number(number) => Err(number),
+                _ => unreachable!(),
+            },
+        }
+    }
+
+    /// The step of a number.
+    fn number_step(&mut self, machine: &Machine, number: i64) -> Result<StepId, Memory>
+        requires of { IsOf self.old machine.now }
+        ensures made { IfOk result (λ i. origin_of self.new i ≡ Number number) }
+        ensures inside { IfOk result (λ i. i < length self.new.trace) }
+        ensures kept { Traces self.old self.new machine.now }
+    {
+        Ok(self.trace.add(Step::Number(number))?)
+    }
+
+    /// The step of a name.
+    pub(crate) fn name_step(&mut self, machine: &Machine, name: NameId) -> Result<StepId, Memory>
+        requires of { IsOf self.old machine.now }
+        requires inside { name < length self.old.kernel.names }
+        ensures number { IfOk result (λ i. number_origin self.new.trace i ≡ Named name) }
+        ensures made { IfOk result (λ i. origin_of self.new i ≡ Named (name_at self.old.kernel name)) }
+        ensures inside { IfOk result (λ i. i < length self.new.trace) }
+        ensures kept { Traces self.old self.new machine.now }
+    {
+        Ok(self.trace.add(Step::Name(name))?)
+    }
+
+    /// The step of the theorem at a place of a definition, counted from 1.
+    pub(crate) fn outcome_step(
+        &mut self,
+        machine: &Machine,
+        place: u8,
+        definition: StepId,
+    ) -> Result<StepId, Memory>
+        requires of { IsOf self.old machine.now }
+        requires inside { definition < length self.old.trace }
+        ensures made { IfOk result (λ i. origin_of self.new i ≡ Outcome place (origin_of self.old definition)) }
+        ensures inside { IfOk result (λ i. i < length self.new.trace) }
+        ensures kept { Traces self.old self.new machine.now }
+    {
+        Ok(self.trace.add(Step::Outcome(place, definition))?)
+    }
+
+    /// The step of what a word makes of the objects of these steps, the lowest first.
+    pub(crate) fn made_of(
+        &mut self,
+        machine: &Machine,
+        word: Cmd,
+        operands: &[StepId],
+    ) -> Result<StepId, Memory>
+        requires of { IsOf self.old machine.now }
+        requires inside { All (λ i. i < length self.old.trace) operands.now }
+        ensures number { IfOk result (λ i. number_origin self.new.trace i ≡ Make word (origins_at self.old.trace operands.now)) }
+        ensures made { IfOk result (λ i. origin_of self.new i ≡ Make word (from_list (map (origin_of self.old) operands.now))) }
+        ensures inside { IfOk result (λ i. i < length self.new.trace) }
+        ensures kept { Traces self.old self.new machine.now }
+    {
+        Ok(self.trace.make(word, operands)?)
+    }
+
+    /// The steps of a name and of the symbol that a word makes of it.
+    pub(crate) fn symbol_steps(
+        &mut self,
+        machine: &Machine,
+        word: Cmd,
+        name: NameId,
+    ) -> Result<(StepId, StepId), Memory>
+        requires of { IsOf self.old machine.now }
+        requires inside { name < length self.old.kernel.names }
+        ensures name { IfOk result (λ p. number_origin self.new.trace p.0 ≡ Named name) }
+        ensures symbol { IfOk result (λ p. number_origin self.new.trace p.1 ≡ make_one word (Named name)) }
+        ensures name_step { IfOk result (λ p. p.0 < length self.new.trace) }
+        ensures symbol_step { IfOk result (λ p. p.1 < length self.new.trace) }
+        ensures kept { Traces self.old self.new machine.now }
+    {
+        let operand = self.name_step(machine, name)?;
+        let symbol = self.made_of(machine, word, &[operand])?;
+        Ok((operand, symbol))
+    }
+
+    /// The step of a definition by a word and the objects of these steps, the lowest first. `defined` are the steps of the
+    /// symbols that these name.
+    pub(crate) fn defining_step(
+        &mut self,
+        machine: &Machine,
+        word: Cmd,
+        operands: &[StepId],
+        defined: &[StepId],
+    ) -> Result<StepId, Memory>
+        requires of { IsOf self.old machine.now }
+        requires inside { All (λ i. i < length self.old.trace) operands.now }
+        requires defined { All (λ i. i < length self.old.trace) defined.now }
+        requires symbols { map (number_origin self.old.trace) defined.now ≡ symbols (Define word (origins_at self.old.trace operands.now)) }
+        ensures made { IfOk result (λ i. origin_of self.new i ≡ Define word (from_list (map (origin_of self.old) operands.now))) }
+        ensures inside { IfOk result (λ i. i < length self.new.trace) }
+        ensures kept { Traces self.old self.new machine.now }
+    {
+        Ok(self.trace.define(word, operands, defined)?)
+    }
+
+    /// The step of an operand of a step, 0 the lowest; the step itself where it has none there.
+    pub(crate) fn operand_of(&self, machine: &Machine, step: StepId, place: usize) -> StepId
+        requires of { IsOf self.now machine.now }
+        requires inside { step < length self.now.trace }
+        ensures operand { origin_of self.now result ≡ operand place (origin_of self.now step) }
+        ensures inside { result < length self.now.trace }
+    {
+        self.trace.operand(step, place)
+    }
+
+    /// What a word makes of the top one, in its place.
+    pub(crate) fn make_one(
+        &mut self,
+        machine: &mut Machine,
+        word: Cmd,
+        object: Object,
+    ) -> Result<(), Memory>
+        requires of { IsOf self.old machine.old }
+        requires inside { IsIn self.old.kernel (length machine.old.cells.items) object }
+        requires there { 1 ≤ vec_len machine.old.stack }
+        ensures ok { OnOk result (article_of self.new machine.new ≡ (let s = article_of self.old machine.old in record s { stack = replaced 1 (record { object = object_of self.old.kernel (lists_of self.old machine.old) object; origin = Make word (origins_of (top 1 s.stack)) }) s.stack })) }
+        ensures err { OnErr result (article_of self.new machine.new ≡ article_of self.old machine.old) }
+        ensures kernel { self.new.kernel ≡ self.old.kernel }
+        ensures run { run_of self.new ≡ run_of self.old }
+        ensures trace { Extends self.old.trace self.new.trace }
+        ensures of { IsOf self.new machine.new }
+    {
+        let operand = self.operand_at(machine, 0)?;
+        let step = self.made_of(machine, word, &[operand])?;
+        self.replace(machine, 1, object, Some(step));
+        Ok(())
+    }
+
+    /// What a word makes of the top two, in their place.
+    pub(crate) fn make_two(
+        &mut self,
+        machine: &mut Machine,
+        word: Cmd,
+        object: Object,
+    ) -> Result<(), Memory>
+        requires of { IsOf self.old machine.old }
+        requires inside { IsIn self.old.kernel (length machine.old.cells.items) object }
+        requires there { 2 ≤ vec_len machine.old.stack }
+        ensures ok { OnOk result (article_of self.new machine.new ≡ (let s = article_of self.old machine.old in record s { stack = replaced 2 (record { object = object_of self.old.kernel (lists_of self.old machine.old) object; origin = Make word (origins_of (top 2 s.stack)) }) s.stack })) }
+        ensures err { OnErr result (article_of self.new machine.new ≡ article_of self.old machine.old) }
+        ensures kernel { self.new.kernel ≡ self.old.kernel }
+        ensures run { run_of self.new ≡ run_of self.old }
+        ensures trace { Extends self.old.trace self.new.trace }
+        ensures of { IsOf self.new machine.new }
+    {
+        let upper = self.operand_at(machine, 0)?;
+        let lower = self.operand_at(machine, 1)?;
+        let step = self.made_of(machine, word, &[lower, upper])?;
+        self.replace(machine, 2, object, Some(step));
+        Ok(())
+    }
+
+    /// What a word makes of a symbol's name, in the place of the top one.
+    pub(crate) fn make_symbol(
+        &mut self,
+        machine: &mut Machine,
+        word: Cmd,
+        name: NameId,
+        object: Object,
+    ) -> Result<(), Memory>
+        requires of { IsOf self.old machine.old }
+        requires inside { IsIn self.old.kernel (length machine.old.cells.items) object }
+        requires name { name < length self.old.kernel.names }
+        requires there { 1 ≤ vec_len machine.old.stack }
+        ensures ok { OnOk result (article_of self.new machine.new ≡ (let s = article_of self.old machine.old in record s { stack = replaced 1 (record { object = object_of self.old.kernel (lists_of self.old machine.old) object; origin = Make word (MoreOrigins (Named (name_at self.old.kernel name)) NoOrigins) }) s.stack })) }
+        ensures err { OnErr result (article_of self.new machine.new ≡ article_of self.old machine.old) }
+        ensures kernel { self.new.kernel ≡ self.old.kernel }
+        ensures run { run_of self.new ≡ run_of self.old }
+        ensures trace { Extends self.old.trace self.new.trace }
+        ensures of { IsOf self.new machine.new }
+    {
+        let operand = self.name_step(machine, name)?;
+        let step = self.made_of(machine, word, &[operand])?;
+        self.replace(machine, 1, object, Some(step));
+        Ok(())
+    }
+}
