@@ -3,6 +3,7 @@
 #![tactic(auto)]
 
 mod adapters;
+mod bytes;
 mod calls;
 mod copying;
 mod dir_files;
@@ -15,6 +16,7 @@ mod sink;
 mod source;
 
 pub use adapters::{StdSink, StdSource};
+pub use bytes::Bytes;
 pub use dir_files::DirFiles;
 pub use files::{Files, OpenFault};
 pub use front::{ReadFault, read_front};

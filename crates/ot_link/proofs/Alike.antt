@@ -22,7 +22,8 @@ use Rattle.ot_term.specs.TermTable as terms
 use Rattle.ot_kernel.specs.State.{State, term_at, theorem_at}
 use Rattle.ot_kernel.specs.Spelled.{IsSpelled}
 use Rattle.ot_kernel.proofs.Namings.{index-map, map-drop, map-push, table_names}
-use Rattle.ot_machine.specs.Meaning.{export_of}
+use Rattle.ot_machine.specs.Meaning.{export_of, IsExportIn}
+use Rattle.ot_machine.specs.declared.session.Session.{Session}
 use Rattle.ot_machine.specs.Rows.{is_exported}
 use Rattle.ot_machine.specs.declared.machine.Export.{Export}
 use Rattle.ot_link.specs.Blocks.{each_once}
@@ -67,45 +68,45 @@ module _ (k : State) (t : TermTable) (table : IsNameTable k.names) (spelled : Is
       and-last _ _ (two-terms q.concl r.concl (λ e. not_from_Decides (d == c) (Decides-eqb d c) apart (one-class b.term a.term d c b.class a.class (b.conclusion ∙ sym e ∙ sym a.conclusion))))
 
 -- one export more is looked at last
-exported-more : (k : State) (q : Sequent Name) (es : List Export) (e : Export) → is_exported q (map (export_of k) (es ++ e ∷ [])) ≡ (is_exported q (map (export_of k) es) || same_sequent names q (theorem_at k e.th))
-exported-more k q [] e = or-false (same_sequent names q (theorem_at k e.th))
-exported-more k q (x ∷ es) e =
-    ap (λ b. same_sequent names q (theorem_at k x.th) || b) (exported-more k q es e)
-    ∙ sym (or_assoc (same_sequent names q (theorem_at k x.th)) (is_exported q (map (export_of k) es)) (same_sequent names q (theorem_at k e.th)))
+exported-more : (s : Session) (q : Sequent Name) (es : List Export) (e : Export) → is_exported q (map (export_of s) (es ++ e ∷ [])) ≡ (is_exported q (map (export_of s) es) || same_sequent names q (theorem_at s.kernel e.th))
+exported-more s q [] e = or-false (same_sequent names q (theorem_at s.kernel e.th))
+exported-more s q (x ∷ es) e =
+    ap (λ b. same_sequent names q (theorem_at s.kernel x.th) || b) (exported-more s q es e)
+    ∙ sym (or_assoc (same_sequent names q (theorem_at s.kernel x.th)) (is_exported q (map (export_of s) es)) (same_sequent names q (theorem_at s.kernel e.th)))
 
-module _ {S : Type 0} (k : State) (es : List Export) (old new : HashMap ℕ (Vec Export Global) S) (e : Export) (d : ℕ)
+module _ {S : Type 0} (s : Session) (es : List Export) (old new : HashMap ℕ (Vec Export Global) S) (e : Export) (d : ℕ)
     (updates : (c : ℕ) → held_at new c ≡ (if d == c then held_at old c ++ e ∷ [] else held_at old c)) where
-  pub alike-more : (t : TermTable) → IsNameTable k.names → IsSpelled k t → IsConclusionClass k t (theorem_at k e.th) d → AreAlike k t es old → AreAlike k t (es ++ e ∷ []) new
-  alike-more t table spelled class h q c is = ap (λ xs. is_exported q (map (export_of k) xs)) (updates c) ∙ by (d == c) refl ∙ sym (exported-more k q es e)
+  pub alike-more : (t : TermTable) → IsNameTable s.kernel.names → IsSpelled s.kernel t → IsConclusionClass s.kernel t (theorem_at s.kernel e.th) d → AreAlike s t es old → AreAlike s t (es ++ e ∷ []) new
+  alike-more t table spelled class h q c is = ap (λ xs. is_exported q (map (export_of s) xs)) (updates c) ∙ by (d == c) refl ∙ sym (exported-more s q es e)
     where
-      by : (b : Bool) → (d == c) ≡ b → is_exported q (map (export_of k) (if b then held_at old c ++ e ∷ [] else held_at old c)) ≡ (is_exported q (map (export_of k) es) || same_sequent names q (theorem_at k e.th))
-      by true p = exported-more k q (held_at old c) e ∙ ap (λ b. b || same_sequent names q (theorem_at k e.th)) (h q c is)
+      by : (b : Bool) → (d == c) ≡ b → is_exported q (map (export_of s) (if b then held_at old c ++ e ∷ [] else held_at old c)) ≡ (is_exported q (map (export_of s) es) || same_sequent names q (theorem_at s.kernel e.th))
+      by true p = exported-more s q (held_at old c) e ∙ ap (λ b. b || same_sequent names q (theorem_at s.kernel e.th)) (h q c is)
       by false p =
           h q c is
-          ∙ sym (or-false (is_exported q (map (export_of k) es)))
-          ∙ ap (λ b. is_exported q (map (export_of k) es) || b) (sym (two-classes k t table spelled q (theorem_at k e.th) c d is class p))
+          ∙ sym (or-false (is_exported q (map (export_of s) es)))
+          ∙ ap (λ b. is_exported q (map (export_of s) es) || b) (sym (two-classes s.kernel t table spelled q (theorem_at s.kernel e.th) c d is class p))
 
-  pub alike-inside : ((c : ℕ) → All (λ x. x.th < length k.theorems) (held_at old c)) → e.th < length k.theorems → (c : ℕ) → All (λ x. x.th < length k.theorems) (held_at new c)
-  alike-inside inside here c = subst (λ xs. All (λ x. x.th < length k.theorems) xs) (sym (updates c)) (by (d == c))
+  pub alike-inside : ((c : ℕ) → All (IsExportIn s) (held_at old c)) → IsExportIn s e → (c : ℕ) → All (IsExportIn s) (held_at new c)
+  alike-inside inside here c = subst (λ xs. All (IsExportIn s) xs) (sym (updates c)) (by (d == c))
     where
-      by : (b : Bool) → All (λ x. x.th < length k.theorems) (if b then held_at old c ++ e ∷ [] else held_at old c)
-      by true = All-push (λ x. x.th < length k.theorems) (held_at old c) e (inside c) here
+      by : (b : Bool) → All (IsExportIn s) (if b then held_at old c ++ e ∷ [] else held_at old c)
+      by true = All-push (IsExportIn s) (held_at old c) e (inside c) here
       by false = inside c
 
 -- ---- one export further
 
-module _ (k : State) (once es : List Export) (n : ℕ) (e : Export) (h : n < length es) (is : e ≡ get_or es n e) where
+module _ (s : Session) (once es : List Export) (n : ℕ) (e : Export) (h : n < length es) (is : e ≡ get_or es n e) where
   -- its sequent is there already
-  pub once-there : is_exported (theorem_at k e.th) (map (export_of k) once) ≡ true
-      → each_once (map (export_of k) once) (map (export_of k) (drop n es)) ≡ each_once (map (export_of k) once) (map (export_of k) (drop (n + 1) es))
+  pub once-there : is_exported (theorem_at s.kernel e.th) (map (export_of s) once) ≡ true
+      → each_once (map (export_of s) once) (map (export_of s) (drop n es)) ≡ each_once (map (export_of s) once) (map (export_of s) (drop (n + 1) es))
   once-there p =
-      ap (each_once (map (export_of k) once)) (map-drop (export_of k) es n e h is)
-      ∙ ap (λ b. each_once (if b then map (export_of k) once else map (export_of k) once ++ export_of k e ∷ []) (map (export_of k) (drop (n + 1) es))) p
+      ap (each_once (map (export_of s) once)) (map-drop (export_of s) es n e h is)
+      ∙ ap (λ b. each_once (if b then map (export_of s) once else map (export_of s) once ++ export_of s e ∷ []) (map (export_of s) (drop (n + 1) es))) p
 
   -- it comes behind the others
-  pub once-new : is_exported (theorem_at k e.th) (map (export_of k) once) ≡ false
-      → each_once (map (export_of k) once) (map (export_of k) (drop n es)) ≡ each_once (map (export_of k) (once ++ e ∷ [])) (map (export_of k) (drop (n + 1) es))
+  pub once-new : is_exported (theorem_at s.kernel e.th) (map (export_of s) once) ≡ false
+      → each_once (map (export_of s) once) (map (export_of s) (drop n es)) ≡ each_once (map (export_of s) (once ++ e ∷ [])) (map (export_of s) (drop (n + 1) es))
   once-new p =
-      ap (each_once (map (export_of k) once)) (map-drop (export_of k) es n e h is)
-      ∙ ap (λ b. each_once (if b then map (export_of k) once else map (export_of k) once ++ export_of k e ∷ []) (map (export_of k) (drop (n + 1) es))) p
-      ∙ ap (λ seen. each_once seen (map (export_of k) (drop (n + 1) es))) (sym (map-push (export_of k) once e))
+      ap (each_once (map (export_of s) once)) (map-drop (export_of s) es n e h is)
+      ∙ ap (λ b. each_once (if b then map (export_of s) once else map (export_of s) once ++ export_of s e ∷ []) (map (export_of s) (drop (n + 1) es))) p
+      ∙ ap (λ seen. each_once seen (map (export_of s) (drop (n + 1) es))) (sym (map-push (export_of s) once e))

@@ -3,13 +3,13 @@ use Rattle.std.specs.Prelude.{Result, Ok, Err, IfOk, IfErr, OnOk, Vec}
 use Rattle.std.specs.Global.{Global}
 use Rattle.std.proofs.Common.{◌≡◌, ◌∙◌, map, sym, ap}
 use Rattle.ot_scan.specs.Lines.{Lines}
-use Rattle.ot_kernel.specs.State as kernel
 use Rattle.ot_machine.specs.States.{State, ArticleState, Context, fresh_article}
 use Rattle.ot_machine.specs.Run.{run}
 use Rattle.ot_machine.specs.Meaning.{article_of, run_of, state_of, export_of}
 use Rattle.ot_machine.specs.Answers.{Runs}
 use Rattle.ot_machine.specs.declared.machine.Export.{Export}
 use Rattle.ot_machine.specs.declared.machine.Machine.{Machine}
+use Rattle.ot_machine.specs.declared.session.Session.{Session}
 use Rattle.ot_machine.specs.declared.fault.ArticleFault.{ArticleFault}
 use Rattle.ot_machine.specs.declared.fault.ArticleFault.TheVariants as article
 use Rattle.ot_link.specs.Answers.{EndsAs}
@@ -23,22 +23,26 @@ pub on-any : {A E : Type 0} {P : Type 0} (r : Result A E) → P → OnOk r P
 on-any (Ok x) h = h
 on-any (Err e) h = tt
 
-module _ (k0 k : kernel.State) (before after : Machine) (c : Context) (lines : Lines) (fresh : article_of k0 before ≡ fresh_article) where
-  abbrev start : ArticleState → State
-  start a = record { article = a; run = run_of k0 }
+pub ok-as : {A E : Type 0} {P Q : A → Type 0} (r : Result A E) → ((x : A) → P x → Q x) → IfOk r P → IfOk r Q
+ok-as (Ok x) f h = f x h
+ok-as (Err e) f h = tt
 
-  begun : run c lines (start fresh_article) ≡ run c lines (state_of k0 before)
+module _ (s0 s : Session) (before after : Machine) (c : Context) (lines : Lines) (fresh : article_of s0 before ≡ fresh_article) where
+  abbrev start : ArticleState → State
+  start a = record { article = a; run = run_of s0 }
+
+  begun : run c lines (start fresh_article) ≡ run c lines (state_of s0 before)
   begun = ap (λ a. run c lines (start a)) (sym fresh)
 
   -- the exports are copied, or memory runs out
-  pub article-ended : (r : Result (Vec Export Global) ArticleFault) → Runs k (Ok tt) c lines (state_of k0 before) (state_of k after) → IfOk r (λ copy. copy.items ≡ after.exports.items) → IfErr r (λ e. e ≡ article.Memory)
-      → EndsAs k r (run c lines (start fresh_article))
-  article-ended (Ok copy) h same memory = (state_of k after, begun ∙ h, λ i. record { exports = map (export_of k) (same i); run = run_of k })
+  pub article-ended : (r : Result (Vec Export Global) ArticleFault) → Runs s.kernel (Ok tt) c lines (state_of s0 before) (state_of s after) → IfOk r (λ copy. copy.items ≡ after.exports.items) → IfErr r (λ e. e ≡ article.Memory)
+      → EndsAs s r (run c lines (start fresh_article))
+  article-ended (Ok copy) h same memory = (state_of s after, begun ∙ h, λ i. record { exports = map (export_of s) (same i); run = run_of s })
   article-ended (Err (article.At line fault)) h same memory = absurd (cc)
   article-ended (Err article.ReadFault) h same memory = tt
   article-ended (Err article.Memory) h same memory = tt
 
-  pub article-stopped : (e : ArticleFault) → Runs k (Err e) c lines (state_of k0 before) (state_of k after) → EndsAs k (Err e) (run c lines (start fresh_article))
-  article-stopped (article.At line fault) h = (state_of k after, h.0, h.1, begun ∙ h.2)
+  pub article-stopped : (e : ArticleFault) → Runs s.kernel (Err e) c lines (state_of s0 before) (state_of s after) → EndsAs s (Err e) (run c lines (start fresh_article))
+  article-stopped (article.At line fault) h = (state_of s after, h.0, h.1, begun ∙ h.2)
   article-stopped article.ReadFault h = tt
   article-stopped article.Memory h = tt

@@ -14,6 +14,9 @@ pub mod OneMore
 pub mod Interning
 -- The context of a block.
 pub mod InBlock
+-- What the statements of a block name.
+pub mod Saying
+pub mod Naming
 -- How a package is opened, and how a theory file is run.
 pub mod Opened
 -- Blocks in their order, one after another.
@@ -24,3 +27,5 @@ pub mod Standing
 pub mod Held
 -- Exports by the classes of their conclusions.
 pub mod Alike
+-- What is lawful over a run is lawful over a later one.
+pub mod Lawful

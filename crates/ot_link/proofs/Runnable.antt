@@ -55,7 +55,7 @@ module _ (places : Places) where
   each-runnable (b ∷ bs) right faults =
       let parts = nothing-both (filter_map (fault_of places) b.statements) _ (sym (filter_map-append (fault_of places) b.statements (flat_map (λ c. c.statements) bs)) ∙ faults) in
       All-cons IsRunnable b bs
-      (record { statements = record { values = right.0.values; renamings = right.0.renamings }; source = source-right b.statements right.0.values parts.0 })
+      (record { statements = record { lines = right.0.lines; values = right.0.values; renamings = right.0.renamings }; source = source-right b.statements right.0.values parts.0 })
       (each-runnable bs right.1 parts.1)
 
 -- where a sound theory file has a plan, each of its blocks may run

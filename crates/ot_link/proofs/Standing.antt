@@ -11,12 +11,12 @@ use Rattle.std.proofs.lemmas.Iterator.Adapters.{position_from-zero}
 use Rattle.std.proofs.lemmas.List.{map-append, length-map}
 use Rattle.std.proofs.lemmas.List.Elements.{All-nil, All-append}
 use Rattle.std.proofs.lemmas.Option.{slice_get-get_or}
-use Rattle.ot_kernel.specs.State as kernel
 use Rattle.ot_theory.specs.Theory.{BlockText}
 use Rattle.ot_theory.specs.Answers.{block_of, blocks_of}
 use Rattle.ot_theory.specs.declared.theory.Block.{Block}
 use Rattle.ot_blocks.specs.Structure.{place_of}
-use Rattle.ot_machine.specs.Meaning.{export_of}
+use Rattle.ot_machine.specs.Meaning.{export_of, IsExportIn}
+use Rattle.ot_machine.specs.declared.session.Session.{Session}
 use Rattle.ot_machine.specs.declared.machine.Export.{Export}
 use Rattle.ot_link.specs.Link.{exports_at}
 use Rattle.ot_link.specs.Holding.{held_at, held_of, done_of}
@@ -55,15 +55,15 @@ place-at bs name = position_from-zero (λ b. bytes_eq b.name name) (blocks_of bs
 
 -- ---- what is held
 
-module _ {S : Type 0} (k : kernel.State) (held : HashMap ℕ (Vec Export Global) S) where
-  pub imported-as : (places : List ℕ) → map (export_of k) (flat_map (held_at held) places) ≡ flat_map (done_of k held) places
+module _ {S : Type 0} (s : Session) (held : HashMap ℕ (Vec Export Global) S) where
+  pub imported-as : (places : List ℕ) → map (export_of s) (flat_map (held_at held) places) ≡ flat_map (done_of s held) places
   imported-as [] = refl
-  imported-as (b ∷ places) = map-append (export_of k) (held_at held b) (flat_map (held_at held) places) ∙ ap (λ es. map (export_of k) (held_at held b) ++ es) (imported-as places)
+  imported-as (b ∷ places) = map-append (export_of s) (held_at held b) (flat_map (held_at held) places) ∙ ap (λ es. map (export_of s) (held_at held b) ++ es) (imported-as places)
 
-  pub exports-as : (o : Option ℕ) → map (export_of k) (held_of held o) ≡ exports_at (done_of k held) o
+  pub exports-as : (o : Option ℕ) → map (export_of s) (held_of held o) ≡ exports_at (done_of s held) o
   exports-as None = refl
   exports-as (Some b) = refl
 
-  pub imported-inside : ((b : ℕ) → All (λ e. e.th < length k.theorems) (held_at held b)) → (places : List ℕ) → All (λ e. e.th < length k.theorems) (flat_map (held_at held) places)
-  imported-inside inside [] = All-nil (λ e. e.th < length k.theorems)
-  imported-inside inside (b ∷ places) = All-append (λ e. e.th < length k.theorems) (held_at held b) (flat_map (held_at held) places) (inside b) (imported-inside inside places)
+  pub imported-inside : ((b : ℕ) → All (IsExportIn s) (held_at held b)) → (places : List ℕ) → All (IsExportIn s) (flat_map (held_at held) places)
+  imported-inside inside [] = All-nil (IsExportIn s)
+  imported-inside inside (b ∷ places) = All-append (IsExportIn s) (held_at held b) (flat_map (held_at held) places) (inside b) (imported-inside inside places)

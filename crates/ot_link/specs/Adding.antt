@@ -2,7 +2,7 @@
 use Rattle.std.specs.Prelude.{◌≡◌, List, [], ◌∷◌, ◌++◌, Bool, false, Option, Some, None}
 use Rattle.std.specs.List.{AllByRecursion, filter_map}
 use Rattle.ot_plain.specs.Names.{Name}
-use Rattle.ot_plain.specs.Lists.{AreDistinct}
+use Rattle.ot_plain.specs.Lists.{IsMember, AreDistinct}
 use Rattle.ot_plain.specs.Naming.{names}
 use Rattle.ot_plain.specs.Trees.{Alphabet}
 use Rattle.ot_interp.specs.Interpretation.{Interpretation, is_held}
@@ -13,8 +13,9 @@ use Rattle.ot_theory.specs.declared.interpretation.SymbolWord.{SymbolWord}
 use Rattle.ot_theory.specs.declared.interpretation.SymbolWord.TheVariants.{Con, TyOp}
 use Rattle.ot_link.specs.Renaming.{Renaming}
 
--- the values are right for their keys, and no two statements rename one symbol
+-- no value goes past its line, the values are right for their keys, and no two statements rename one symbol
 pub record AreRight (statements : List TagText) : Type 0 where
+  pub lines : AllByRecursion (λ t. ¬ (IsMember 10 t.value)) statements
   pub values : AllByRecursion (λ t. IsRightValue (key_of t.key) t.value) statements
   pub renamings : AreDistinct (filter_map (λ t. renamed (key_of t.key) t.value) statements)
 

@@ -8,6 +8,7 @@ use Rattle.ot_plain.specs.Trees.{Sequent}
 use Rattle.ot_term.specs.Term.{TermTable}
 use Rattle.ot_kernel.specs.State.{State, term_at}
 use Rattle.ot_machine.specs.Meaning.{export_of}
+use Rattle.ot_machine.specs.declared.session.Session.{Session}
 use Rattle.ot_machine.specs.Rows.{is_exported}
 use Rattle.ot_machine.specs.declared.machine.Export.{Export}
 use Rattle.ot_link.specs.Holding.{held_at}
@@ -19,6 +20,6 @@ pub record IsConclusionClass (k : State) (t : TermTable) (q : Sequent Name) (c :
   pub conclusion : term_at k term ≡ q.concl
 
 -- what is held for a sequent's class has the sequent where the whole list has it
-abbrev pub AreAlike : {S : Type 0} → State → TermTable → List Export → HashMap ℕ (Vec Export Global) S → Type 0
-AreAlike k t exports alike =
-    (q : Sequent Name) (c : ℕ) → IsConclusionClass k t q c → is_exported q (map (export_of k) (held_at alike c)) ≡ is_exported q (map (export_of k) exports)
+abbrev pub AreAlike : {S : Type 0} → Session → TermTable → List Export → HashMap ℕ (Vec Export Global) S → Type 0
+AreAlike s t exports alike =
+    (q : Sequent Name) (c : ℕ) → IsConclusionClass s.kernel t q c → is_exported q (map (export_of s) (held_at alike c)) ≡ is_exported q (map (export_of s) exports)

@@ -1,5 +1,5 @@
 -- How the code's answers stand to the stated ones. After a read fault, and where memory ran out, the answer is open.
-use Rattle.std.specs.Prelude.{◌≡◌, ◌≢◌, ◌<◌, ◌≤◌, ℕ, List, length, map, Option, Some, Result, Ok, Err, Vec, IfSome, string_bytes}
+use Rattle.std.specs.Prelude.{◌≡◌, ◌≢◌, ◌≤◌, ℕ, List, map, Option, Some, Result, Ok, Err, Vec, IfSome, string_bytes}
 use Rattle.std.specs.Global.{Global}
 use Rattle.std.specs.List.{All}
 use Rattle.ot_plain.specs.Names.{Name}
@@ -10,7 +10,8 @@ use Rattle.ot_io.specs.Causes.{Rose}
 use Rattle.ot_io.specs.Folder.{Folder}
 use Rattle.ot_kernel.specs.State as kernel
 use Rattle.ot_machine.specs.Faults.{fault_of}
-use Rattle.ot_machine.specs.Meaning.{export_of, run_of}
+use Rattle.ot_machine.specs.Meaning.{export_of, run_of, IsExportIn}
+use Rattle.ot_machine.specs.declared.session.Session.{Session}
 use Rattle.ot_machine.specs.Answers.{IsSymbolIn}
 use Rattle.ot_machine.specs.States.{State}
 use Rattle.ot_machine.specs.Run.{Outcome, Ended, Stopped}
@@ -50,19 +51,19 @@ Comes k view (Ok x) l = l.answer ≡ Ok (view x)
 Comes k view (Err e) l = Stops k e l
 
 -- the exports and the run that numbers stand for
-abbrev pub ran_of : kernel.State → Vec code.Export Global → Ran
-ran_of k exports = record { exports = map (export_of k) exports.items; run = run_of k }
+abbrev pub ran_of : Session → Vec code.Export Global → Ran
+ran_of s exports = record { exports = map (export_of s) exports.items; run = run_of s }
 
 -- what the run of an article answered, against the stated end
-abbrev pub EndsAs : kernel.State → Result (Vec code.Export Global) ArticleFault → Outcome → Type 0
-EndsAs k (Ok exports) o = (s : State) × (o ≡ Ended s) × (ran_of k exports ≡ record { exports = s.article.exports; run = s.run })
-EndsAs k (Err (article.At line fault)) o = (s : State) × (f : faults.Fault Name) × (fault_of (kernel.name_at k) fault ≡ Some f) × (o ≡ Stopped line f s)
-EndsAs k (Err article.ReadFault) o = Unit {0}
-EndsAs k (Err article.Memory) o = Unit {0}
+abbrev pub EndsAs : Session → Result (Vec code.Export Global) ArticleFault → Outcome → Type 0
+EndsAs s (Ok exports) o = (t : State) × (o ≡ Ended t) × (ran_of s exports ≡ record { exports = t.article.exports; run = t.run })
+EndsAs s (Err (article.At line fault)) o = (t : State) × (f : faults.Fault Name) × (fault_of (kernel.name_at s.kernel) fault ≡ Some f) × (o ≡ Stopped line f t)
+EndsAs s (Err article.ReadFault) o = Unit {0}
+EndsAs s (Err article.Memory) o = Unit {0}
 
--- the exports' numbers are of the kernel
-abbrev pub AreExportsIn : kernel.State → Vec code.Export Global → Type 0
-AreExportsIn k exports = All (λ e. e.th < length k.theorems) exports.items
+-- the exports' numbers are of the session
+abbrev pub AreExportsIn : Session → Vec code.Export Global → Type 0
+AreExportsIn s exports = All (IsExportIn s) exports.items
 
 -- the symbol that a fault names, where it names one, is of the kernel; and no article's fault is want of memory
 abbrev pub NamesSymbolIn : kernel.State → LinkFault → Type 0
@@ -83,3 +84,23 @@ HasCause (link.Theory path line fault) misses misses' faults faults' at = Unit {
 HasCause (link.Structure path line fault) misses misses' faults faults' at = Unit {0}
 HasCause (link.TheoryTooLarge path) misses misses' faults faults' at = Unit {0}
 HasCause link.Memory misses misses' faults faults' at = Unit {0}
+
+-- a fault of the article of this path, on its own
+abbrev pub IsOfArticle : List ℕ → LinkFault → Type 0
+IsOfArticle path (link.Article p line fault) = string_bytes p ≡ path
+IsOfArticle path (link.Theory p line fault) = ⊥
+IsOfArticle path (link.Structure p line fault) = ⊥
+IsOfArticle path (link.TheoryTooLarge p) = ⊥
+IsOfArticle path (link.NoFile p) = ⊥
+IsOfArticle path (link.ReadFault p) = string_bytes p ≡ path
+IsOfArticle path link.Memory = Unit {0}
+
+-- only a failure of the source is answered as a read fault
+abbrev pub HasFailed : LinkFault → ℕ → ℕ → Type 0
+HasFailed (link.Article path line fault) faults faults' = Unit {0}
+HasFailed (link.Theory path line fault) faults faults' = Unit {0}
+HasFailed (link.Structure path line fault) faults faults' = Unit {0}
+HasFailed (link.TheoryTooLarge path) faults faults' = Unit {0}
+HasFailed (link.NoFile path) faults faults' = Unit {0}
+HasFailed (link.ReadFault path) faults faults' = Rose faults faults'
+HasFailed link.Memory faults faults' = Unit {0}

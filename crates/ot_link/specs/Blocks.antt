@@ -22,9 +22,9 @@ pub record Ran : Type 0 where
 
 -- ---- what a block is run in
 
--- an export is given to the blocks that import it
+-- an export is given to the blocks that import it, with the origin of its theorem
 abbrev pub given_by : Export → Given
-given_by e = record { sequent = e.sequent }
+given_by e = record { sequent = e.sequent; origin = e.roots.theorem }
 
 -- the imported exports come before the outer theorems, and the block's own interpretation before the outer one
 abbrev pub context_in : Context → List TagText → List Export → Context

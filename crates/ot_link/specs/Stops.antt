@@ -25,6 +25,10 @@ pub record Linked (A : Type 0) : Type 0 where
 abbrev pub answered : {A : Type 0} → Result A Stop → Linked A
 answered answer = record { paths = []; answer = answer }
 
+-- an answer for which the file of this path alone is needed
+abbrev pub answered_by : {A : Type 0} → List ℕ → Result A Stop → Linked A
+answered_by path answer = record { paths = path ∷ []; answer = answer }
+
 -- goes on behind these paths; the first stop counts
 abbrev pub go_on : {A B : Type 0} → List (List ℕ) → Result A Stop → (A → Linked B) → Linked B
 go_on paths (Err stop) f = record { paths = paths; answer = Err stop }

@@ -1,21 +1,24 @@
 // Articles as they are run in a context.
-ghost use Rattle.std.specs.Prelude.{◌≡◌, ◌≢◌, ◌≤◌, ◌^◌, ℕ, Some, Err, IfOk, IfErr, IfSome, string_bytes};
+ghost use Rattle.std.specs.Prelude.{◌≡◌, ◌≢◌, ◌≤◌, ◌^◌, ℕ, List, Some, Err, IfOk, IfErr, IfSome, string_bytes};
 ghost use Rattle.ot_io.specs.Causes.{Rose};
 ghost use Rattle.ot_io.specs.Folder.{Folder};
-ghost use Rattle.ot_kernel.specs.State.{Keeps};
 ghost use Rattle.ot_scan.specs.Lines.{lines_of};
-ghost use Rattle.ot_machine.specs.States.{fresh_article};
-ghost use Rattle.ot_machine.specs.Meaning.{run_of};
+ghost use Rattle.ot_machine.specs.States.{fresh_article, fresh_run, no_context};
+ghost use Rattle.ot_machine.specs.Meaning.{run_of, IsRun, Grows};
 ghost use Rattle.ot_machine.specs.Contexts.{context_of, IsContextOf};
 ghost use Rattle.ot_machine.specs.Run.{run};
 ghost use Rattle.ot_machine.specs.Answers.{NamesSymbolIn as NamesSymbolInArticle};
-ghost use Rattle.ot_link.specs.Blocks.{run_article};
-ghost use Rattle.ot_link.specs.Answers.{setting_of, Comes, ran_of, EndsAs, AreExportsIn, NamesSymbolIn, HasCause};
+ghost use Rattle.ot_link.specs.Blocks.{article_end, run_article};
+ghost use Rattle.ot_link.specs.Stops.{answered_by};
+ghost use Rattle.ot_link.specs.Answers.{AreWithin, setting_of, Comes, ran_of, EndsAs, AreExportsIn, NamesSymbolIn, HasCause, IsOfArticle, HasFailed};
+ghost use Rattle.ot_link.specs.Lawful.{IsLawfulSession, IsLawfulContext, AreLawfulOnce, StaysLawful};
 
 use crate::fault::LinkFault;
 use crate::setting::Setting;
+use ot_interp::Interp;
 use ot_io::{Files, OpenFault, Source};
-use ot_machine::{ArticleFault, Context, Export, Fault, Machine, Session};
+use ot_machine::{ArticleFault, Context, Export, Fault, Machine, Session, fresh_law, lines_law};
+use ot_plain::Limits;
 use std::alloc::Global;
 
 /// Runs the article of a path, and gives its exports.
@@ -26,26 +29,109 @@ pub(crate) fn run_article<F: Files>(
     context: &Context<'_>,
     path: String,
 ) -> Result<Vec<Export>, LinkFault>
-    requires context { IsContextOf session.old.kernel context.now }
+    requires session { IsRun session.old }
+    requires lawful { IsLawfulSession session.old }
+    requires context { IsContextOf session.old context.now }
+    requires lawful_context { IsLawfulContext session.old context.now }
     requires limit { setting.limits.now.article_bytes ≤ 2 ^ 32 }
-    ensures comes { (folder : Folder) → F.folder files.old ≡ Some folder → Comes session.new.kernel (ran_of session.new.kernel) result
-        (run_article (setting_of folder setting.entry) (string_bytes path) (context_of session.old.kernel context.now) (run_of session.old.kernel)) }
-    ensures exports { IfOk result (AreExportsIn session.new.kernel) }
+    ensures comes { (folder : Folder) → F.folder files.old ≡ Some folder → Comes session.new.kernel (ran_of session.new) result
+        (run_article (setting_of folder setting.entry) (string_bytes path) (context_of session.old context.now) (run_of session.old)) }
+    ensures exports { IfOk result (AreExportsIn session.new) }
     ensures symbols { IfErr result (NamesSymbolIn session.new.kernel) }
-    ensures grown { Keeps session.old.kernel session.new.kernel }
+    ensures grown { Grows session.old session.new }
+    ensures session { IsRun session.new }
+    ensures lawful { StaysLawful session.old session.new }
+    ensures lawful_exports { IfOk result (λ exports. AreLawfulOnce session.new exports.items) }
     ensures cause { IfErr result (λ e. HasCause e (F.misses files.old) (F.misses files.new) (F.faults files.old) (F.faults files.new) (F.at files.new)) }
     ensures later { (F.faults files.old ≤ F.faults files.new) × (F.misses files.old ≤ F.misses files.new) }
     ensures folder { F.folder files.new ≡ F.folder files.old }
 {
     match files.open_file(&path) {
-        Ok(()) => match run_source(setting, session, files, context) {
-            Ok(exports) => Ok(exports),
-            Err(ArticleFault::At { line, fault }) => Err(LinkFault::Article { path, line, fault }),
-            Err(ArticleFault::ReadFault) => Err(LinkFault::ReadFault { path }),
-            Err(ArticleFault::Memory) => Err(LinkFault::Memory),
-        },
+        Ok(()) => run_named(setting, session, files, context, path),
         Err(OpenFault::Missing) => Err(LinkFault::NoFile { path }),
         Err(OpenFault::Failed) => Err(LinkFault::ReadFault { path }),
+    }
+}
+
+/// Runs the article of a path that a source has left by itself, and gives its exports: its symbols have the names that it
+/// gives them, and no theorem comes from elsewhere. The session is fresh, and the limits are at most those of the program.
+///
+/// - `Article`: the first fault of the article, with this path and its line.
+/// - `ReadFault`: only where the source failed in this call.
+/// - `Memory`: free. No other fault is answered.
+///
+/// Each assumption, definition and export is what its origin makes, and each name in an origin is one that a line can say.
+pub fn run_alone<S: Source>(
+    alloc: Global,
+    session: &mut Session,
+    source: &mut S,
+    path: String,
+    limits: &Limits,
+) -> Result<Vec<Export>, LinkFault>
+    requires session { IsRun session.old }
+    requires fresh { run_of session.old ≡ fresh_run }
+    requires limits { AreWithin limits.now }
+    ensures ends { IfSome (S.left source.old) (λ bytes. Comes session.new.kernel (ran_of session.new) result
+        (answered_by (string_bytes path) (article_end (string_bytes path) (run no_context (lines_of limits.now.article_bytes bytes) (record { article = fresh_article; run = fresh_run }))))) }
+    ensures own { IfErr result (IsOfArticle (string_bytes path)) }
+    ensures session { IsRun session.new }
+    ensures lawful { IsLawfulSession session.new }
+    ensures lawful_exports { IfOk result (λ exports. AreLawfulOnce session.new exports.items) }
+    ensures exports { IfOk result (AreExportsIn session.new) }
+    ensures symbols { IfErr result (NamesSymbolIn session.new.kernel) }
+    ensures cause { IfErr result (λ e. HasFailed e (S.faults source.old) (S.faults source.new)) }
+    ensures later { S.faults source.old ≤ S.faults source.new }
+    ensures folder { S.folder source.new ≡ S.folder source.old }
+    ensures misses { S.misses source.new ≡ S.misses source.old }
+    ensures at { S.at source.new ≡ S.at source.old }
+{
+    fresh_law();
+    let interp = Interp::new(alloc);
+    let context = Context {
+        interp: &interp,
+        theorems: &[],
+    };
+    let setting = Setting {
+        alloc,
+        packages: "",
+        limits,
+    };
+    run_named(setting, session, source, &context, path)
+}
+
+/// Runs the article of a path that a source has left, and gives its exports.
+fn run_named<S: Source>(
+    setting: Setting<'_>,
+    session: &mut Session,
+    source: &mut S,
+    context: &Context<'_>,
+    path: String,
+) -> Result<Vec<Export>, LinkFault>
+    requires session { IsRun session.old }
+    requires lawful { IsLawfulSession session.old }
+    requires context { IsContextOf session.old context.now }
+    requires lawful_context { IsLawfulContext session.old context.now }
+    requires limit { setting.limits.now.article_bytes ≤ 2 ^ 32 }
+    ensures ends { (bytes : List ℕ) → S.left source.old ≡ Some bytes → Comes session.new.kernel (ran_of session.new) result
+        (answered_by (string_bytes path) (article_end (string_bytes path) (run (context_of session.old context.now) (lines_of setting.entry.limits.now.article_bytes bytes) (record { article = fresh_article; run = run_of session.old })))) }
+    ensures own { IfErr result (IsOfArticle (string_bytes path)) }
+    ensures exports { IfOk result (AreExportsIn session.new) }
+    ensures symbols { IfErr result (NamesSymbolIn session.new.kernel) }
+    ensures grown { Grows session.old session.new }
+    ensures session { IsRun session.new }
+    ensures lawful { StaysLawful session.old session.new }
+    ensures lawful_exports { IfOk result (λ exports. AreLawfulOnce session.new exports.items) }
+    ensures cause { IfErr result (λ e. HasFailed e (S.faults source.old) (S.faults source.new)) }
+    ensures later { S.faults source.old ≤ S.faults source.new }
+    ensures folder { S.folder source.new ≡ S.folder source.old }
+    ensures misses { S.misses source.new ≡ S.misses source.old }
+    ensures at { S.at source.new ≡ S.at source.old }
+{
+    match run_source(setting, session, source, context) {
+        Ok(exports) => Ok(exports),
+        Err(ArticleFault::At { line, fault }) => Err(LinkFault::Article { path, line, fault }),
+        Err(ArticleFault::ReadFault) => Err(LinkFault::ReadFault { path }),
+        Err(ArticleFault::Memory) => Err(LinkFault::Memory),
     }
 }
 
@@ -56,20 +142,28 @@ fn run_source<S: Source>(
     source: &mut S,
     context: &Context<'_>,
 ) -> Result<Vec<Export>, ArticleFault>
-    requires context { IsContextOf session.old.kernel context.now }
+    requires session { IsRun session.old }
+    requires lawful { IsLawfulSession session.old }
+    requires context { IsContextOf session.old context.now }
+    requires lawful_context { IsLawfulContext session.old context.now }
     requires limit { setting.limits.now.article_bytes ≤ 2 ^ 32 }
-    ensures ends { IfSome (S.left source.old) (λ bytes. EndsAs session.new.kernel result
-        (run (context_of session.old.kernel context.now) (lines_of setting.entry.limits.now.article_bytes bytes) (record { article = fresh_article; run = run_of session.old.kernel }))) }
-    ensures exports { IfOk result (AreExportsIn session.new.kernel) }
+    ensures ends { IfSome (S.left source.old) (λ bytes. EndsAs session.new result
+        (run (context_of session.old context.now) (lines_of setting.entry.limits.now.article_bytes bytes) (record { article = fresh_article; run = run_of session.old }))) }
+    ensures exports { IfOk result (AreExportsIn session.new) }
     ensures symbols { IfErr result (NamesSymbolInArticle session.new.kernel) }
     ensures apart { (line : ℕ) → result ≢ Err (ArticleFault.At line Fault.Memory) }
-    ensures grown { Keeps session.old.kernel session.new.kernel }
+    ensures grown { Grows session.old session.new }
+    ensures session { IsRun session.new }
+    ensures lawful { StaysLawful session.old session.new }
+    ensures lawful_exports { IfOk result (λ exports. AreLawfulOnce session.new exports.items) }
     ensures cause { result ≡ Err ArticleFault.ReadFault → Rose (S.faults source.old) (S.faults source.new) }
     ensures later { S.faults source.old ≤ S.faults source.new }
     ensures folder { S.folder source.new ≡ S.folder source.old }
     ensures misses { S.misses source.new ≡ S.misses source.old }
     ensures at { S.at source.new ≡ S.at source.old }
 {
+    fresh_law();
+    lines_law();
     let mut machine = Machine::new(setting.alloc);
     match machine.run_article(session, context, source, setting.limits.article_bytes) {
         Ok(()) => copied(setting.alloc, machine.exports()),

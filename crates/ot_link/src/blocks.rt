@@ -3,27 +3,27 @@ ghost use Rattle.std.specs.Prelude.{◌≡◌, ◌≤◌, ◌<◌, ◌++◌, ◌
 ghost use Rattle.std.specs.List.{All, list_any};
 ghost use Rattle.std.specs.Str.{bytes_eq};
 ghost use Rattle.ot_io.specs.Folder.{Folder};
-ghost use Rattle.ot_kernel.specs.State.{Keeps};
 ghost use Rattle.ot_theory.specs.Answers.{block_of, blocks_of, tags_of};
 ghost use Rattle.ot_blocks.specs.Paths.{is_package};
 ghost use Rattle.ot_blocks.specs.Answers.{plan_of};
-ghost use Rattle.ot_machine.specs.Meaning.{export_of, run_of};
+ghost use Rattle.ot_machine.specs.Meaning.{export_of, run_of, IsRun, IsExportIn, Grows};
 ghost use Rattle.ot_machine.specs.Contexts.{context_of, IsContextOf};
 ghost use Rattle.ot_link.specs.Blocks.{source_at, run_source, run_block};
 ghost use Rattle.ot_link.specs.Link.{imported, run_at, run_planned, run_file};
 ghost use Rattle.ot_link.specs.Answers.{AreWithin, setting_of, Comes, ran_of, AreExportsIn, NamesSymbolIn, HasCause};
 ghost use Rattle.ot_link.specs.Holding.{held_at, held_of, done_of};
 ghost use Rattle.ot_link.specs.Running.{chain_of, first_source, opener_of, source_value, IsRunnable, IsSourceRight};
+ghost use Rattle.ot_link.specs.Lawful.{IsLawfulSession, IsLawfulContext, AreLawfulExports, AreLawfulOnce, StaysLawful};
 
 use crate::article::run_article;
 use crate::exports::{each_once, given_to, imported};
 use crate::fault::LinkFault;
 use crate::reading::{plan_at, theory_at, theory_text};
-use crate::renaming::interpretation_of;
+use crate::renaming::{interpretation_of, naming_law};
 use crate::setting::Setting;
 use ot_blocks::{Plan, StructureFault, article_path, package_path};
 use ot_io::Files;
-use ot_machine::{Context, Export, Session};
+use ot_machine::{Context, Export, Session, stays_law};
 use ot_plain::Memory;
 use ot_theory::{Block, Key, Tag, key_of};
 use std::alloc::Global;
@@ -131,15 +131,22 @@ fn run_source<'x, F: Files>(
     imports: &[Export],
 ) -> Result<Vec<Export>, LinkFault>
     requires limits { AreWithin setting.limits.now }
-    requires context { IsContextOf session.old.kernel context.now }
+    requires session { IsRun session.old }
+    requires lawful { IsLawfulSession session.old }
+    requires context { IsContextOf session.old context.now }
+    requires lawful_context { IsLawfulContext session.old context.now }
     requires source { IsSourceRight (source_value source) }
-    requires imports { All (λ e. e.th < length session.old.kernel.theorems) imports.now }
-    ensures comes { (folder : Folder) → F.folder files.old ≡ Some folder → Comes session.new.kernel (ran_of session.new.kernel) result
+    requires imports { All (IsExportIn session.old) imports.now }
+    requires lawful_imports { AreLawfulExports session.old imports.now }
+    ensures comes { (folder : Folder) → F.folder files.old ≡ Some folder → Comes session.new.kernel (ran_of session.new) result
         (run_source (setting_of folder setting.entry) (opener_of (setting_of folder setting.entry) file.now) (string_bytes file.now.path)
-        (map (export_of session.old.kernel) imports.now) (source_value source.entry) (context_of session.old.kernel context.now) (run_of session.old.kernel)) }
-    ensures exports { IfOk result (AreExportsIn session.new.kernel) }
+        (map (export_of session.old) imports.now) (source_value source.entry) (context_of session.old context.now) (run_of session.old)) }
+    ensures exports { IfOk result (AreExportsIn session.new) }
     ensures symbols { IfErr result (NamesSymbolIn session.new.kernel) }
-    ensures grown { Keeps session.old.kernel session.new.kernel }
+    ensures grown { Grows session.old session.new }
+    ensures session { IsRun session.new }
+    ensures lawful { StaysLawful session.old session.new }
+    ensures lawful_exports { IfOk result (λ exports. AreLawfulOnce session.new exports.items) }
     ensures cause { IfErr result (λ e. HasCause e (F.misses files.old) (F.misses files.new) (F.faults files.old) (F.faults files.new) (F.at files.new)) }
     ensures later { (F.faults files.old ≤ F.faults files.new) × (F.misses files.old ≤ F.misses files.new) }
     ensures folder { F.folder files.new ≡ F.folder files.old }
@@ -171,13 +178,19 @@ fn open_package<'x, F: Files>(
     full: &[u8],
 ) -> Result<Vec<Export>, LinkFault>
     requires limits { AreWithin setting.limits.now }
-    requires context { IsContextOf session.old.kernel context.now }
+    requires session { IsRun session.old }
+    requires lawful { IsLawfulSession session.old }
+    requires context { IsContextOf session.old context.now }
+    requires lawful_context { IsLawfulContext session.old context.now }
     requires full { is_package full.now ≡ true }
-    ensures comes { (folder : Folder) → F.folder files.old ≡ Some folder → Comes session.new.kernel (ran_of session.new.kernel) result
-        (opener_of (setting_of folder setting.entry) file.now line full.now (context_of session.old.kernel context.now) (run_of session.old.kernel)) }
-    ensures exports { IfOk result (AreExportsIn session.new.kernel) }
+    ensures comes { (folder : Folder) → F.folder files.old ≡ Some folder → Comes session.new.kernel (ran_of session.new) result
+        (opener_of (setting_of folder setting.entry) file.now line full.now (context_of session.old context.now) (run_of session.old)) }
+    ensures exports { IfOk result (AreExportsIn session.new) }
     ensures symbols { IfErr result (NamesSymbolIn session.new.kernel) }
-    ensures grown { Keeps session.old.kernel session.new.kernel }
+    ensures grown { Grows session.old session.new }
+    ensures session { IsRun session.new }
+    ensures lawful { StaysLawful session.old session.new }
+    ensures lawful_exports { IfOk result (λ exports. AreLawfulOnce session.new exports.items) }
     ensures cause { IfErr result (λ e. HasCause e (F.misses files.old) (F.misses files.new) (F.faults files.old) (F.faults files.new) (F.at files.new)) }
     ensures later { (F.faults files.old ≤ F.faults files.new) × (F.misses files.old ≤ F.misses files.new) }
     ensures folder { F.folder files.new ≡ F.folder files.old }
@@ -215,15 +228,22 @@ fn run_block<F: Files>(
     imports: &[Export],
 ) -> Result<Vec<Export>, LinkFault>
     requires limits { AreWithin setting.limits.now }
-    requires context { IsContextOf session.old.kernel file.now.outer.now }
+    requires session { IsRun session.old }
+    requires lawful { IsLawfulSession session.old }
+    requires context { IsContextOf session.old file.now.outer.now }
+    requires lawful_context { IsLawfulContext session.old file.now.outer.now }
     requires block { IsRunnable (block_of block.now) }
-    requires imports { All (λ e. e.th < length session.old.kernel.theorems) imports.now }
-    ensures comes { (folder : Folder) → F.folder files.old ≡ Some folder → Comes session.new.kernel (ran_of session.new.kernel) result
+    requires imports { All (IsExportIn session.old) imports.now }
+    requires lawful_imports { AreLawfulExports session.old imports.now }
+    ensures comes { (folder : Folder) → F.folder files.old ≡ Some folder → Comes session.new.kernel (ran_of session.new) result
         (run_block (setting_of folder setting.entry) (opener_of (setting_of folder setting.entry) file.now) (string_bytes file.now.path)
-        (context_of session.old.kernel file.now.outer.now) (block_of block.now) (map (export_of session.old.kernel) imports.now) (run_of session.old.kernel)) }
-    ensures exports { IfOk result (AreExportsIn session.new.kernel) }
+        (context_of session.old file.now.outer.now) (block_of block.now) (map (export_of session.old) imports.now) (run_of session.old)) }
+    ensures exports { IfOk result (AreExportsIn session.new) }
     ensures symbols { IfErr result (NamesSymbolIn session.new.kernel) }
-    ensures grown { Keeps session.old.kernel session.new.kernel }
+    ensures grown { Grows session.old session.new }
+    ensures session { IsRun session.new }
+    ensures lawful { StaysLawful session.old session.new }
+    ensures lawful_exports { IfOk result (λ exports. AreLawfulOnce session.new exports.items) }
     ensures cause { IfErr result (λ e. HasCause e (F.misses files.old) (F.misses files.new) (F.faults files.old) (F.faults files.new) (F.at files.new)) }
     ensures later { (F.faults files.old ≤ F.faults files.new) × (F.misses files.old ≤ F.misses files.new) }
     ensures folder { F.folder files.new ≡ F.folder files.old }
@@ -233,6 +253,7 @@ fn run_block<F: Files>(
     let interp = own.after(alloc, file.outer.interp)?;
     let theorems = given_to(alloc, imports, file.outer.theorems)?;
     session.kernel().sound();
+    naming_law();
     let context = Context {
         interp: &interp,
         theorems: &theorems,
@@ -261,16 +282,23 @@ fn run_next<F: Files>(
     place: usize,
 ) -> Result<Vec<Export>, LinkFault>
     requires limits { AreWithin setting.limits.now }
-    requires context { IsContextOf session.old.kernel file.now.outer.now }
+    requires session { IsRun session.old }
+    requires lawful { IsLawfulSession session.old }
+    requires context { IsContextOf session.old file.now.outer.now }
+    requires lawful_context { IsLawfulContext session.old file.now.outer.now }
     requires blocks { All IsRunnable (blocks_of blocks.now) }
-    requires done { (b : ℕ) → All (λ e. e.th < length session.old.kernel.theorems) (held_at done.now b) }
-    ensures comes { (folder : Folder) → F.folder files.old ≡ Some folder → Comes session.new.kernel (ran_of session.new.kernel) result
+    requires done { (b : ℕ) → All (IsExportIn session.old) (held_at done.now b) }
+    requires lawful_done { (b : ℕ) → AreLawfulOnce session.old (held_at done.now b) }
+    ensures comes { (folder : Folder) → F.folder files.old ≡ Some folder → Comes session.new.kernel (ran_of session.new) result
         (run_at (setting_of folder setting.entry) (opener_of (setting_of folder setting.entry) file.now) (string_bytes file.now.path)
-        (context_of session.old.kernel file.now.outer.now) (imported (plan_of plan.now).imports (done_of session.old.kernel done.now) place)
-        (slice_get (blocks_of blocks.now) place) (run_of session.old.kernel)) }
-    ensures exports { IfOk result (AreExportsIn session.new.kernel) }
+        (context_of session.old file.now.outer.now) (imported (plan_of plan.now).imports (done_of session.old done.now) place)
+        (slice_get (blocks_of blocks.now) place) (run_of session.old)) }
+    ensures exports { IfOk result (AreExportsIn session.new) }
     ensures symbols { IfErr result (NamesSymbolIn session.new.kernel) }
-    ensures grown { Keeps session.old.kernel session.new.kernel }
+    ensures grown { Grows session.old session.new }
+    ensures session { IsRun session.new }
+    ensures lawful { StaysLawful session.old session.new }
+    ensures lawful_exports { IfOk result (λ exports. AreLawfulOnce session.new exports.items) }
     ensures cause { IfErr result (λ e. HasCause e (F.misses files.old) (F.misses files.new) (F.faults files.old) (F.faults files.new) (F.at files.new)) }
     ensures later { (F.faults files.old ≤ F.faults files.new) × (F.misses files.old ≤ F.misses files.new) }
     ensures folder { F.folder files.new ≡ F.folder files.old }
@@ -293,18 +321,25 @@ fn run_blocks<F: Files>(
     plan: &Plan,
 ) -> Result<Vec<Export>, LinkFault>
     requires limits { AreWithin setting.limits.now }
-    requires context { IsContextOf session.old.kernel file.now.outer.now }
+    requires session { IsRun session.old }
+    requires lawful { IsLawfulSession session.old }
+    requires context { IsContextOf session.old file.now.outer.now }
+    requires lawful_context { IsLawfulContext session.old file.now.outer.now }
     requires blocks { All IsRunnable (blocks_of blocks.now) }
-    ensures comes { (folder : Folder) → F.folder files.old ≡ Some folder → Comes session.new.kernel (ran_of session.new.kernel) result
+    ensures comes { (folder : Folder) → F.folder files.old ≡ Some folder → Comes session.new.kernel (ran_of session.new) result
         (run_planned (setting_of folder setting.entry) (opener_of (setting_of folder setting.entry) file.now) (string_bytes file.now.path)
-        (context_of session.old.kernel file.now.outer.now) (run_of session.old.kernel) (record { blocks = blocks_of blocks.now; plan = plan_of plan.now })) }
-    ensures exports { IfOk result (AreExportsIn session.new.kernel) }
+        (context_of session.old file.now.outer.now) (run_of session.old) (record { blocks = blocks_of blocks.now; plan = plan_of plan.now })) }
+    ensures exports { IfOk result (AreExportsIn session.new) }
     ensures symbols { IfErr result (NamesSymbolIn session.new.kernel) }
-    ensures grown { Keeps session.old.kernel session.new.kernel }
+    ensures grown { Grows session.old session.new }
+    ensures session { IsRun session.new }
+    ensures lawful { StaysLawful session.old session.new }
+    ensures lawful_exports { IfOk result (λ exports. AreLawfulOnce session.new exports.items) }
     ensures cause { IfErr result (λ e. HasCause e (F.misses files.old) (F.misses files.new) (F.faults files.old) (F.faults files.new) (F.at files.new)) }
     ensures later { (F.faults files.old ≤ F.faults files.new) × (F.misses files.old ≤ F.misses files.new) }
     ensures folder { F.folder files.new ≡ F.folder files.old }
 {
+    stays_law();
     let mut done: HashMap<usize, Vec<Export>> = HashMap::new(setting.alloc);
     'each: for place in &plan.order {
         let exports = run_next(setting, session, files, file, blocks, plan, &done, *place)?;
@@ -323,13 +358,19 @@ pub(crate) fn link_file<F: Files>(
     file: &File<'_>,
 ) -> Result<Vec<Export>, LinkFault>
     requires limits { AreWithin setting.limits.now }
-    requires context { IsContextOf session.old.kernel file.now.outer.now }
-    ensures comes { (folder : Folder) → F.folder files.old ≡ Some folder → Comes session.new.kernel (ran_of session.new.kernel) result
+    requires session { IsRun session.old }
+    requires lawful { IsLawfulSession session.old }
+    requires context { IsContextOf session.old file.now.outer.now }
+    requires lawful_context { IsLawfulContext session.old file.now.outer.now }
+    ensures comes { (folder : Folder) → F.folder files.old ≡ Some folder → Comes session.new.kernel (ran_of session.new) result
         (run_file (setting_of folder setting.entry) (opener_of (setting_of folder setting.entry) file.now) (string_bytes file.now.path)
-        (context_of session.old.kernel file.now.outer.now) (run_of session.old.kernel)) }
-    ensures exports { IfOk result (AreExportsIn session.new.kernel) }
+        (context_of session.old file.now.outer.now) (run_of session.old)) }
+    ensures exports { IfOk result (AreExportsIn session.new) }
     ensures symbols { IfErr result (NamesSymbolIn session.new.kernel) }
-    ensures grown { Keeps session.old.kernel session.new.kernel }
+    ensures grown { Grows session.old session.new }
+    ensures session { IsRun session.new }
+    ensures lawful { StaysLawful session.old session.new }
+    ensures lawful_exports { IfOk result (λ exports. AreLawfulOnce session.new exports.items) }
     ensures cause { IfErr result (λ e. HasCause e (F.misses files.old) (F.misses files.new) (F.faults files.old) (F.faults files.new) (F.at files.new)) }
     ensures later { (F.faults files.old ≤ F.faults files.new) × (F.misses files.old ≤ F.misses files.new) }
     ensures folder { F.folder files.new ≡ F.folder files.old }

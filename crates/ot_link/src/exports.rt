@@ -3,12 +3,13 @@ ghost use Rattle.std.specs.Prelude.{◌≡◌, ◌<◌, ◌++◌, ◌∷◌, ◌
 ghost use Rattle.std.specs.List.{All};
 ghost use Rattle.ot_kernel.specs.State.{theorem_at};
 ghost use Rattle.ot_kernel.specs.Spelled.{IsSpelled};
-ghost use Rattle.ot_machine.specs.Meaning.{export_of};
+ghost use Rattle.ot_machine.specs.Meaning.{export_of, IsExportIn};
 ghost use Rattle.ot_machine.specs.Rows.{is_exported};
 ghost use Rattle.ot_link.specs.Blocks.{each_once};
 ghost use Rattle.ot_link.specs.Answers.{AreExportsIn};
 ghost use Rattle.ot_link.specs.Holding.{given_to, held_at};
 ghost use Rattle.ot_link.specs.Alike.{IsConclusionClass};
+ghost use Rattle.ot_link.specs.Lawful.{AreLawfulExports, AreLawfulOnce};
 
 use ot_class::ClassId;
 use ot_kernel::ThmId;
@@ -24,9 +25,10 @@ pub(crate) fn each_once(
     session: &Session,
     exports: &[Export],
 ) -> Result<Vec<Export>, Memory>
-    requires { All (λ e. e.th < length session.now.kernel.theorems) exports.now }
-    ensures once { IfOk result (λ once. map (export_of session.now.kernel) once.items ≡ each_once [] (map (export_of session.now.kernel) exports.now)) }
-    ensures inside { IfOk result (AreExportsIn session.now.kernel) }
+    requires { All (IsExportIn session.now) exports.now }
+    ensures once { IfOk result (λ once. map (export_of session.now) once.items ≡ each_once [] (map (export_of session.now) exports.now)) }
+    ensures inside { IfOk result (AreExportsIn session.now) }
+    ensures lawful { AreLawfulExports session.now exports.now → IfOk result (λ once. AreLawfulOnce session.now once.items) }
 {
     session.kernel().sound();
     let terms = session.kernel().terms();
@@ -62,7 +64,7 @@ fn is_taken(
 ) -> bool
     requires exports { All (λ e. e.th < length session.now.kernel.theorems) (held_at alike.now class) }
     requires theorem { theorem < length session.now.kernel.theorems }
-    ensures { result ≡ is_exported (theorem_at session.now.kernel theorem) (map (export_of session.now.kernel) (held_at alike.now class)) }
+    ensures { result ≡ is_exported (theorem_at session.now.kernel theorem) (map (export_of session.now) (held_at alike.now class)) }
 {
     match alike.get(&class) {
         Some(exports) => session.is_exported(exports, theorem),
@@ -98,7 +100,10 @@ pub(crate) fn given_to(
 {
     let mut given = Vec::new(alloc);
     'each: for export in imports {
-        given.push(Given { th: export.th })?;
+        given.push(Given {
+            th: export.th,
+            step: export.theorem,
+        })?;
     }
     given.extend_from_slice(outer)?;
     Ok(given)

@@ -10,6 +10,7 @@ mod reading;
 mod renaming;
 mod setting;
 
+pub use article::run_alone;
 pub use fault::LinkFault;
 pub use linking::link;
 

@@ -1,16 +1,17 @@
 ghost use Rattle.std.specs.Prelude.{◌≡◌, ◌≤◌, [], Some, IfOk, IfErr, IfSome};
 ghost use Rattle.ot_io.specs.Folder.{Folder};
 ghost use Rattle.ot_machine.specs.States.{fresh_run};
-ghost use Rattle.ot_machine.specs.Meaning.{run_of};
+ghost use Rattle.ot_machine.specs.Meaning.{run_of, IsRun};
 ghost use Rattle.ot_link.specs.Link.{link};
 ghost use Rattle.ot_link.specs.Answers.{AreWithin, setting_of, Comes, ran_of, AreExportsIn, NamesSymbolIn, HasCause};
+ghost use Rattle.ot_link.specs.Lawful.{IsLawfulSession, AreLawfulOnce};
 
 use crate::blocks::{File, link_file};
 use crate::fault::LinkFault;
 use crate::setting::Setting;
 use ot_interp::Interp;
 use ot_io::Files;
-use ot_machine::{Context, Export, Session};
+use ot_machine::{Context, Export, Session, fresh_law};
 use ot_plain::Limits;
 use std::alloc::Global;
 
@@ -26,7 +27,8 @@ use std::alloc::Global;
 /// - `ReadFault`: only where the files failed in this call; the path is one of those that the run needs.
 /// - `Memory`: free.
 ///
-/// No file is left open. After a fault the session may hold what the run put into it.
+/// No file is left open. After a fault the session may hold what the run put into it. Each assumption, definition and export
+/// is what its origin makes, and each name in an origin is one that a line can say.
 pub fn link<F: Files>(
     alloc: Global,
     session: &mut Session,
@@ -35,11 +37,15 @@ pub fn link<F: Files>(
     packages: &str,
     limits: &Limits,
 ) -> Result<Vec<Export>, LinkFault>
-    requires fresh { run_of session.old.kernel ≡ fresh_run }
+    requires session { IsRun session.old }
+    requires fresh { run_of session.old ≡ fresh_run }
     requires limits { AreWithin limits.now }
-    ensures links { IfSome (F.folder files.old) (λ folder. Comes session.new.kernel (ran_of session.new.kernel) result
+    ensures links { IfSome (F.folder files.old) (λ folder. Comes session.new.kernel (ran_of session.new) result
         (link (record { folder = folder; packages = packages.now; limits = limits.now }) theory_path.now)) }
-    ensures exports { IfOk result (AreExportsIn session.new.kernel) }
+    ensures session { IsRun session.new }
+    ensures lawful { IsLawfulSession session.new }
+    ensures lawful_exports { IfOk result (λ exports. AreLawfulOnce session.new exports.items) }
+    ensures exports { IfOk result (AreExportsIn session.new) }
     ensures symbols { IfErr result (NamesSymbolIn session.new.kernel) }
     ensures cause { IfErr result (λ e. HasCause e (F.misses files.old) (F.misses files.new) (F.faults files.old) (F.faults files.new) (F.at files.new)) }
     ensures later { (F.faults files.old ≤ F.faults files.new) × (F.misses files.old ≤ F.misses files.new) }
@@ -63,15 +69,20 @@ fn link_first<F: Files>(
     files: &mut F,
     path: &str,
 ) -> Result<Vec<Export>, LinkFault>
-    requires fresh { run_of session.old.kernel ≡ fresh_run }
+    requires session { IsRun session.old }
+    requires fresh { run_of session.old ≡ fresh_run }
     requires limits { AreWithin setting.limits.now }
-    ensures comes { (folder : Folder) → F.folder files.old ≡ Some folder → Comes session.new.kernel (ran_of session.new.kernel) result (link (setting_of folder setting.entry) path.now) }
-    ensures exports { IfOk result (AreExportsIn session.new.kernel) }
+    ensures comes { (folder : Folder) → F.folder files.old ≡ Some folder → Comes session.new.kernel (ran_of session.new) result (link (setting_of folder setting.entry) path.now) }
+    ensures session { IsRun session.new }
+    ensures lawful { IsLawfulSession session.new }
+    ensures lawful_exports { IfOk result (λ exports. AreLawfulOnce session.new exports.items) }
+    ensures exports { IfOk result (AreExportsIn session.new) }
     ensures symbols { IfErr result (NamesSymbolIn session.new.kernel) }
     ensures cause { IfErr result (λ e. HasCause e (F.misses files.old) (F.misses files.new) (F.faults files.old) (F.faults files.new) (F.at files.new)) }
     ensures later { (F.faults files.old ≤ F.faults files.new) × (F.misses files.old ≤ F.misses files.new) }
     ensures folder { F.folder files.new ≡ F.folder files.old }
 {
+    fresh_law();
     let interp = Interp::new(setting.alloc);
     let outer = Context {
         interp: &interp,

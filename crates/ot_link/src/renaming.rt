@@ -3,17 +3,18 @@ ghost use Rattle.std.specs.Prelude.{◌≡◌, ◌<◌, ℕ, Some, false, length
 ghost use Rattle.ot_plain.specs.Naming.{numbers};
 ghost use Rattle.ot_plain.specs.Reading.{name_read};
 ghost use Rattle.ot_interp.specs.Interpretation.{map_interpretation, IsWithin};
-ghost use Rattle.ot_kernel.specs.State.{Keeps, name_at};
-ghost use Rattle.ot_machine.specs.Meaning.{run_of};
+ghost use Rattle.ot_kernel.specs.State.{name_at};
+ghost use Rattle.ot_machine.specs.Meaning.{run_of, IsRun, Grows};
 ghost use Rattle.ot_theory.specs.Interpretations.{IsQuotedName};
 ghost use Rattle.ot_theory.specs.Answers.{tag_of, tags_of};
 ghost use Rattle.ot_link.specs.Renaming.{renaming_of, renaming_at, interpretation_of};
 ghost use Rattle.ot_link.specs.Adding.{AreRight, is_held_by, with_pair, added, IsNew};
+ghost use Rattle.ot_link.specs.Lawful.{BlocksAreNaming};
 
-use ot_interp::Interp;
-use ot_machine::Session;
+use ot_interp::{Interp, after_law};
+use ot_machine::{Session, lines_law};
 use ot_plain::{Memory, Name, NameFault, NameId};
-use ot_theory::{Key, SymbolWord, Tag, key_of, split_interpret};
+use ot_theory::{Key, SymbolWord, Tag, key_of, one_interpretation, split_interpret};
 use std::alloc::Global;
 
 /// The interpretation that the statements of a block write.
@@ -22,17 +23,29 @@ pub(crate) fn interpretation_of(
     session: &mut Session,
     statements: &[Tag<'_>],
 ) -> Result<Interp, Memory>
-    requires { AreRight (tags_of statements.now) }
+    requires session { IsRun session.old }
+    requires right { AreRight (tags_of statements.now) }
     ensures names { IfOk result (λ i. map_interpretation (name_at session.new.kernel) i ≡ interpretation_of (tags_of statements.now)) }
     ensures within { IfOk result (IsWithin (length session.new.kernel.names)) }
-    ensures grown { Keeps session.old.kernel session.new.kernel }
-    ensures run { run_of session.new.kernel ≡ run_of session.old.kernel }
+    ensures grown { Grows session.old session.new }
+    ensures session { IsRun session.new }
+    ensures run { run_of session.new ≡ run_of session.old }
 {
     let mut interp = Interp::new(alloc);
     'each: for statement in statements {
         add_statement(alloc, session, &mut interp, statement)?;
     }
     Ok(interp)
+}
+
+/// A law: what a line can say is read as what a line can say in a block, too, where it is so in the context of the block's
+/// file.
+pub(crate) fn naming_law()
+    ensures { BlocksAreNaming }
+{
+    after_law();
+    one_interpretation();
+    lines_law();
 }
 
 /// Adds what a statement renames, which isn't renamed yet.
@@ -42,12 +55,14 @@ fn add_statement(
     interp: &mut Interp,
     statement: &Tag<'_>,
 ) -> Result<(), Memory>
+    requires session { IsRun session.old }
     requires within { IsWithin (length session.old.kernel.names) interp.old }
     requires new { IsNew (renaming_at (tag_of statement.now)) (map_interpretation (name_at session.old.kernel) interp.old) }
     ensures added { OnOk result (map_interpretation (name_at session.new.kernel) interp.new ≡ added (renaming_at (tag_of statement.now)) (map_interpretation (name_at session.old.kernel) interp.old)) }
     ensures within { OnOk result (IsWithin (length session.new.kernel.names) interp.new) }
-    ensures grown { Keeps session.old.kernel session.new.kernel }
-    ensures run { run_of session.new.kernel ≡ run_of session.old.kernel }
+    ensures grown { Grows session.old session.new }
+    ensures session { IsRun session.new }
+    ensures run { run_of session.new ≡ run_of session.old }
 {
     match key_of(statement.key) {
         Key::Interpret => add_renaming(alloc, session, interp, statement.value),
@@ -62,12 +77,14 @@ fn add_renaming(
     interp: &mut Interp,
     value: &[u8],
 ) -> Result<(), Memory>
+    requires session { IsRun session.old }
     requires within { IsWithin (length session.old.kernel.names) interp.old }
     requires new { IsNew (renaming_of value.now) (map_interpretation (name_at session.old.kernel) interp.old) }
     ensures added { OnOk result (map_interpretation (name_at session.new.kernel) interp.new ≡ added (renaming_of value.now) (map_interpretation (name_at session.old.kernel) interp.old)) }
     ensures within { OnOk result (IsWithin (length session.new.kernel.names) interp.new) }
-    ensures grown { Keeps session.old.kernel session.new.kernel }
-    ensures run { run_of session.new.kernel ≡ run_of session.old.kernel }
+    ensures grown { Grows session.old session.new }
+    ensures session { IsRun session.new }
+    ensures run { run_of session.new ≡ run_of session.old }
 {
     match split_interpret(value) {
         Some((kind, from, to)) => {
@@ -82,11 +99,13 @@ fn add_renaming(
 
 /// The number of a name that is written in quotes.
 fn number_of(alloc: Global, session: &mut Session, quoted: &[u8]) -> Result<NameId, Memory>
-    requires { IsQuotedName quoted.now }
+    requires session { IsRun session.old }
+    requires quoted { IsQuotedName quoted.now }
     ensures name { IfOk result (λ id. name_read quoted.now ≡ Some (name_at session.new.kernel id)) }
     ensures within { IfOk result (λ id. id < length session.new.kernel.names) }
-    ensures grown { Keeps session.old.kernel session.new.kernel }
-    ensures run { run_of session.new.kernel ≡ run_of session.old.kernel }
+    ensures grown { Grows session.old session.new }
+    ensures session { IsRun session.new }
+    ensures run { run_of session.new ≡ run_of session.old }
 {
     let name = name_of(alloc, quoted)?;
     session.intern(name)

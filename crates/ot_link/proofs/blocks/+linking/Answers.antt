@@ -11,12 +11,12 @@ use Rattle.ot_theory.specs.Answers.{theory_of, block_of, blocks_of, tags_of}
 use Rattle.ot_blocks.specs.Answers.{plan_of}
 use Rattle.ot_blocks.specs.Structure.{place_of}
 use Rattle.ot_blocks.specs.declared.fault.StructureFault.TheVariants.{PackageCycle, PackageDepth}
-use Rattle.ot_machine.specs.Meaning.{export_of, run_of}
+use Rattle.ot_machine.specs.Meaning.{export_of, run_of, IsExportIn}
 use Rattle.ot_machine.specs.States.{Export}
 use Rattle.ot_machine.specs.declared.machine.Export as code
 use Rattle.ot_machine.specs.declared.context.Context.{Context}
 use Rattle.ot_machine.specs.Contexts.{context_of}
-use Rattle.ot_machine.proofs.Kept.{keeps-on}
+use Rattle.ot_machine.proofs.Kept.{grows-on}
 use Rattle.ot_machine.proofs.InContext.{context-kept, of_context-kept}
 use Rattle.ot_link.specs.Stops.{InStructure}
 use Rattle.ot_link.specs.Answers.{setting_of, Comes, ran_of}
@@ -26,6 +26,9 @@ use Rattle.ot_link.specs.Blocks.{Ran, source_at, run_article, run_source, run_bl
 use Rattle.ot_link.specs.Link.{imported, run_at, exports_at, opener, run_file}
 use Rattle.ot_link.specs.Holding.{given_to, held_at, done_of}
 use Rattle.ot_blocks.specs.Paths.{article_path, package_path}
+use Rattle.ot_machine.specs.Lawful.{IsLawfulRun}
+use Rattle.ot_machine.specs.Writable.{IsWritable}
+use Rattle.ot_link.specs.Lawful.{AreLawfulExports, AreLawfulOnce}
 use Rattle.ot_link.specs.Running.{chain_of, first_source, opener_of, source_value, IsRunnable, IsSourceRight}
 use Rattle.ot_link.proofs.Held.{exports-kept, exports-later, held-done, held-inside}
 use Rattle.ot_link.proofs.InBlock.{block-context, of_block-context}
@@ -33,6 +36,7 @@ use Rattle.ot_link.proofs.Runnable.{runnable}
 use Rattle.ot_link.proofs.Sequence.{IsLeft, one-ran, one-stopped, all-ran}
 use Rattle.ot_link.proofs.Standing.{block-there, block-all, block-none, place-at, imported-as, imported-inside, exports-as}
 use Rattle.ot_link.proofs.Opened.{any-now, open-again, open-deep, open-inside, file-unread, file-unparsed, file-unplanned, file-ran}
+use Rattle.ot_link.proofs.Lawful.{stays-as, stays-on, inner-lawful, same-exports-lawful, none-lawful, place-lawful, imported-lawful, context-lawful, held-lawful}
 use Rattle.ot_link.proofs.blocks.+linking.Goals as goal
 
 -- ---- a theory file
@@ -40,10 +44,10 @@ use Rattle.ot_link.proofs.blocks.+linking.Goals as goal
 pub link_file-returns-in_err-text-clause-comes : goal.link_file-returns-in_err-text-clause-comes
 link_file-returns-in_err-text-clause-comes g t c =
     let p = err_from_is_err_and c.from_residual.result c.from_residual.ensures.1 in
-    let k = c.args.session.now.kernel in
+    let old = c.args.session.now in
     rw (p.1, p.2)
-    (λ folder e. file-unread k (setting_of folder c.args.setting) (opener_of (setting_of folder c.args.setting) c.args.file.now) (string_bytes c.args.file.now.path)
-    (context_of k c.args.file.now.outer.now) (run_of k) c.in_err-text.field-0.0 (rw c.deref.ensures at (c.in_err-text.ensures.comes folder k e)))
+    (λ folder e. file-unread old.kernel (setting_of folder c.args.setting) (opener_of (setting_of folder c.args.setting) c.args.file.now) (string_bytes c.args.file.now.path)
+    (context_of old c.args.file.now.outer.now) (run_of old) c.in_err-text.field-0.0 (rw c.deref.ensures at (c.in_err-text.ensures.comes folder old.kernel e)))
 
 pub link_file-returns-in_err-text-clause-symbols : goal.link_file-returns-in_err-text-clause-symbols
 link_file-returns-in_err-text-clause-symbols g t c =
@@ -74,84 +78,84 @@ link_file-returns-in_err-plan-clause-cause g t c =
 
 pub open_package-returns-then-is_open-clause-comes : goal.open_package-returns-then-is_open-clause-comes
 open_package-returns-then-is_open-clause-comes g t c =
-    let k = c.args.session.now.kernel in
+    let old = c.args.session.now in
     let full = c.args.full.now in
     let there = sym c.if-is_open.true ∙ c.is_open.ensures ∙ any-now full c.deref.result.now ∙ ap (λ xs. list_any (bytes_eq full) (chain_of xs)) c.deref.ensures.value in
     λ folder e. open-again (setting_of folder c.args.setting) (chain_of c.args.file.now.chain.items) (string_bytes c.args.file.now.path) c.args.line full
-    (context_of k c.args.context.now) (run_of k) c.args.file.now.left there
+    (context_of old c.args.context.now) (run_of old) c.args.file.now.left there
     ∙ ap (λ q. Err (InStructure q c.args.line PackageCycle)) (sym (c.in_ok-path.ensures.ok ∙ c.deref-then-is_open.ensures))
 
 -- ---- kernels that grow
 
 pub run_blocks-returns-in_err-exports-clause-grown : goal.run_blocks-returns-in_err-exports-clause-grown
-run_blocks-returns-in_err-exports-clause-grown g t c = keeps-on c.each.invariant.grown c.in_err-exports.ensures.grown
+run_blocks-returns-in_err-exports-clause-grown g t c = grows-on c.each.invariant.grown c.in_err-exports.ensures.grown
 
 pub run_blocks-returns-in_err-insert-clause-grown : goal.run_blocks-returns-in_err-insert-clause-grown
-run_blocks-returns-in_err-insert-clause-grown g t c = keeps-on c.each.invariant.grown c.in_ok-exports.ensures.grown
+run_blocks-returns-in_err-insert-clause-grown g t c = grows-on c.each.invariant.grown c.in_ok-exports.ensures.grown
 
 pub run_block-returns-clause-grown : goal.run_block-returns-clause-grown
-run_block-returns-clause-grown g t c = keeps-on c.in_ok-own.ensures.grown c.run_source.ensures.grown
+run_block-returns-clause-grown g t c = grows-on c.in_ok-own.ensures.grown c.run_source.ensures.grown
 
 -- ---- a theory file, further on
 
 pub link_file-returns-in_err-theory-clause-comes : goal.link_file-returns-in_err-theory-clause-comes
 link_file-returns-in_err-theory-clause-comes g t c =
     let p = err_from_is_err_and c.from_residual-in_err-theory.result c.from_residual-in_err-theory.ensures.1 in
-    let k = c.args.session.now.kernel in
+    let old = c.args.session.now in
     rw (p.1, p.2)
-    (λ folder e. file-unparsed k (setting_of folder c.args.setting) (opener_of (setting_of folder c.args.setting) c.args.file.now) (string_bytes c.args.file.now.path)
-    (context_of k c.args.file.now.outer.now) (run_of k) c.in_ok-text.text.items (rw c.deref.ensures at (c.in_ok-text.ensures.comes folder k e)) c.in_err-theory.field-0.0
-    (rw (c.deref-2.ensures, c.deref-3.ensures.value) at (c.in_err-theory.ensures.comes k)))
+    (λ folder e. file-unparsed old.kernel (setting_of folder c.args.setting) (opener_of (setting_of folder c.args.setting) c.args.file.now) (string_bytes c.args.file.now.path)
+    (context_of old c.args.file.now.outer.now) (run_of old) c.in_ok-text.text.items (rw c.deref.ensures at (c.in_ok-text.ensures.comes folder old.kernel e)) c.in_err-theory.field-0.0
+    (rw (c.deref-2.ensures, c.deref-3.ensures.value) at (c.in_err-theory.ensures.comes old.kernel)))
 
 pub link_file-returns-in_err-plan-clause-comes : goal.link_file-returns-in_err-plan-clause-comes
 link_file-returns-in_err-plan-clause-comes g t c =
     let p = err_from_is_err_and c.from_residual-in_err-plan.result c.from_residual-in_err-plan.ensures.1 in
-    let k = c.args.session.now.kernel in
+    let old = c.args.session.now in
     rw (p.1, p.2)
-    (λ folder e. file-unplanned k (setting_of folder c.args.setting) (opener_of (setting_of folder c.args.setting) c.args.file.now) (string_bytes c.args.file.now.path)
-    (context_of k c.args.file.now.outer.now) (run_of k) c.in_ok-text.text.items (rw c.deref.ensures at (c.in_ok-text.ensures.comes folder k e))
-    (theory_of c.in_ok-theory.theory) (rw (c.deref-2.ensures, c.deref-3.ensures.value) at (c.in_ok-theory.ensures.comes k)) c.in_err-plan.field-0.0
-    (rw (c.deref-4.ensures, c.deref-5.ensures.value) at (c.in_err-plan.ensures.comes k)))
+    (λ folder e. file-unplanned old.kernel (setting_of folder c.args.setting) (opener_of (setting_of folder c.args.setting) c.args.file.now) (string_bytes c.args.file.now.path)
+    (context_of old c.args.file.now.outer.now) (run_of old) c.in_ok-text.text.items (rw c.deref.ensures at (c.in_ok-text.ensures.comes folder old.kernel e))
+    (theory_of c.in_ok-theory.theory) (rw (c.deref-2.ensures, c.deref-3.ensures.value) at (c.in_ok-theory.ensures.comes old.kernel)) c.in_err-plan.field-0.0
+    (rw (c.deref-4.ensures, c.deref-5.ensures.value) at (c.in_err-plan.ensures.comes old.kernel)))
 
 pub link_file-returns-clause-comes : goal.link_file-returns-clause-comes
 link_file-returns-clause-comes g t c =
-    let k = c.args.session.now.kernel in
-    let l = c.run_blocks.new.session.kernel in
-    λ folder e. file-ran l (setting_of folder c.args.setting) (opener_of (setting_of folder c.args.setting) c.args.file.now) (string_bytes c.args.file.now.path)
-    (context_of k c.args.file.now.outer.now) (run_of k) c.in_ok-text.text.items (rw c.deref.ensures at (c.in_ok-text.ensures.comes folder k e))
-    (theory_of c.in_ok-theory.theory) (plan_of c.in_ok-plan.plan) (ran_of l) c.run_blocks.result
-    (rw (c.deref-2.ensures, c.deref-3.ensures.value) at (c.in_ok-theory.ensures.comes k)) (rw (c.deref-4.ensures, c.deref-5.ensures.value) at (c.in_ok-plan.ensures.comes k))
+    let old = c.args.session.now in
+    let mid = c.run_blocks.new.session in
+    λ folder e. file-ran mid.kernel (setting_of folder c.args.setting) (opener_of (setting_of folder c.args.setting) c.args.file.now) (string_bytes c.args.file.now.path)
+    (context_of old c.args.file.now.outer.now) (run_of old) c.in_ok-text.text.items (rw c.deref.ensures at (c.in_ok-text.ensures.comes folder old.kernel e))
+    (theory_of c.in_ok-theory.theory) (plan_of c.in_ok-plan.plan) (ran_of mid) c.run_blocks.result
+    (rw (c.deref-2.ensures, c.deref-3.ensures.value) at (c.in_ok-theory.ensures.comes old.kernel)) (rw (c.deref-4.ensures, c.deref-5.ensures.value) at (c.in_ok-plan.ensures.comes old.kernel))
     (rw c.deref-6.ensures.value at (c.run_blocks.ensures.comes folder (c.theory_text.ensures.folder ∙ e)))
 
 -- ---- a package, further on
 
 pub open_package-returns-then-file-eq0-clause-comes : goal.open_package-returns-then-file-eq0-clause-comes
 open_package-returns-then-file-eq0-clause-comes g t c =
-    let k = c.args.session.now.kernel in
+    let old = c.args.session.now in
     let full = c.args.full.now in
     let absent = sym c.if-is_open.false ∙ c.is_open.ensures ∙ any-now full c.deref.result.now ∙ ap (λ xs. list_any (bytes_eq full) (chain_of xs)) c.deref.ensures.value in
     λ folder e. open-deep (setting_of folder c.args.setting) (chain_of c.args.file.now.chain.items) (string_bytes c.args.file.now.path) c.args.line full
-    (context_of k c.args.context.now) (run_of k) c.args.file.now.left c.if-file-eq0.true absent
+    (context_of old c.args.context.now) (run_of old) c.args.file.now.left c.if-file-eq0.true absent
     ∙ ap (λ q. Err (InStructure q c.args.line PackageDepth)) (sym (c.in_ok-path-2.ensures.ok ∙ c.deref-then-file-eq0.ensures))
 
 pub open_package-returns-clause-comes : goal.open_package-returns-clause-comes
 open_package-returns-clause-comes g t c =
-    let k = c.args.session.now.kernel in
-    let l = c.link_file.new.session.kernel in
+    let old = c.args.session.now in
+    let mid = c.link_file.new.session in
     let full = c.args.full.now in
     let left = c.args.file.now.left in
-    let context = context_of k c.args.context.now in
+    let context = context_of old c.args.context.now in
     let absent = sym c.if-is_open.false ∙ c.is_open.ensures ∙ any-now full c.deref.result.now ∙ ap (λ xs. list_any (bytes_eq full) (chain_of xs)) c.deref.ensures.value in
     let more : left ≡ suc (left - 1) = omega arith in
     let chain : chain_of c.in_ok-chain.chain.items ≡ chain_of c.args.file.now.chain.items ++ full ∷ [] = c.in_ok-chain.ensures ∙ ap (λ xs. chain_of xs ++ full ∷ []) c.deref-2.ensures.value in
     let path : string_bytes c.in_ok-path-3.path ≡ package_path c.args.setting.packages.now full = c.in_ok-path-3.ensures in
     λ folder e.
     let s = setting_of folder c.args.setting in
-    let same : run_file s (opener (left - 1) s (chain_of c.in_ok-chain.chain.items) (string_bytes c.in_ok-path-3.path)) (string_bytes c.in_ok-path-3.path) context (run_of k)
-    ≡ run_file s (opener (left - 1) s (chain_of c.args.file.now.chain.items ++ full ∷ []) (package_path c.args.setting.packages.now full)) (package_path c.args.setting.packages.now full) context (run_of k) =
-    λ i. run_file s (opener (left - 1) s (chain i) (path i)) (path i) context (run_of k) in
-    subst (Comes l (ran_of l) c.link_file.result)
-    (same ∙ sym (open-inside s (chain_of c.args.file.now.chain.items) (string_bytes c.args.file.now.path) c.args.line full context (run_of k) left (left - 1) more absent))
+    let same : run_file s (opener (left - 1) s (chain_of c.in_ok-chain.chain.items) (string_bytes c.in_ok-path-3.path)) (string_bytes c.in_ok-path-3.path) context (run_of old)
+    ≡ run_file s (opener (left - 1) s (chain_of c.args.file.now.chain.items ++ full ∷ []) (package_path c.args.setting.packages.now full)) (package_path c.args.setting.packages.now full) context (run_of old) =
+    λ i. run_file s (opener (left - 1) s (chain i) (path i)) (path i) context (run_of old) in
+    subst (Comes mid.kernel (ran_of mid) c.link_file.result)
+    (same ∙ sym (open-inside s (chain_of c.args.file.now.chain.items) (string_bytes c.args.file.now.path) c.args.line full context (run_of old) left (left - 1) more absent))
     (c.link_file.ensures.comes folder e)
 
 -- ---- want of memory
@@ -177,55 +181,60 @@ pub link_file-run_blocks-requires : goal.link_file-run_blocks-requires
 link_file-run_blocks-requires g t c κs within =
     let blocks = runnable (theory_of c.in_ok-theory.theory) (plan_of c.in_ok-plan.plan) c.in_ok-theory.ensures.sound (rw c.deref-5.ensures.value at c.in_ok-plan.ensures.sound) in
     let right : All IsRunnable (blocks_of c.deref-6.result.now) = rw c.deref-6.ensures.value blocks in
-    (omega arith, (within, (c.requires.limits, (c.requires.context, right))))
+    (omega arith, (within, (c.requires.limits, (c.requires.session, (c.requires.lawful, (c.requires.context, (c.requires.lawful_context, right)))))))
 
 pub run_block-run_source-requires : goal.run_block-run_source-requires
 run_block-run_source-requires g t c κs within =
-    let k = c.args.session.now.kernel in
-    let l = c.interpretation_of.new.session.kernel in
+    let old = c.args.session.now in
+    let mid = c.interpretation_of.new.session in
     let kept = c.in_ok-own.ensures.grown in
     let outer = c.args.file.now.outer.now in
     let imports = c.args.imports.now in
     let statements = tags_of c.args.block.now.statements.items in
-    let named : map_interpretation (name_at l) c.in_ok-own.own ≡ interpretation_of statements = rw c.deref.ensures.value at c.in_ok-own.ensures.names in
+    let named : map_interpretation (name_at mid.kernel) c.in_ok-own.own ≡ interpretation_of statements = rw c.deref.ensures.value at c.in_ok-own.ensures.names in
     let given : c.deref-2.result.now ≡ map given_to imports ++ outer.theorems.now = c.deref-2.ensures.value ∙ c.in_ok-theorems.ensures in
-    let symbols = c.in_ok-interp.ensures.within (length l.names) c.in_ok-own.ensures.within (of_context-kept k l kept outer c.requires.context).interpretation in
+    let symbols = c.in_ok-interp.ensures.within (length mid.kernel.names) c.in_ok-own.ensures.within (of_context-kept old mid c.requires.session kept outer c.requires.context).interpretation in
     let source : source_value c.source_of.result ≡ source_at (first_source statements) = c.source_of.ensures ∙ ap (λ ts. source_at (first_source (tags_of ts))) c.deref-3.ensures.value in
-    let context = of_block-context k l kept outer _ c.in_ok-own.own statements imports c.requires.context c.in_ok-own.ensures.within named c.in_ok-interp.ensures.pairs given c.requires.imports symbols in
-    (omega arith, (within, (c.requires.limits, (context, (subst IsSourceRight (sym source) c.requires.block.source, exports-later k l kept imports c.requires.imports)))))
+    let inner : Context = record { interp = record { ref_ptr = outer.interp.ref_ptr; now = c.in_ok-interp.interp }; theorems = c.deref-2.result } in
+    let context = of_block-context old mid c.requires.session kept outer _ c.in_ok-own.own statements imports c.requires.context c.in_ok-own.ensures.within named c.in_ok-interp.ensures.pairs given c.requires.imports symbols in
+    let same = block-context old mid c.requires.session kept outer inner c.in_ok-own.own statements imports c.requires.context c.in_ok-own.ensures.within named c.in_ok-interp.ensures.pairs given c.requires.imports (subst (λ state. IsNameTable state.names) c.kernel.ensures c.sound.ensures.names) in
+    let run = subst (IsLawfulRun IsWritable) (sym c.in_ok-own.ensures.run) c.requires.lawful in
+    let theorems = inner-lawful old mid outer _ statements imports c.in_ok-own.ensures.run same c.naming_law.ensures c.requires.block.statements c.requires.lawful_context c.requires.lawful_imports in
+    let lawful = same-exports-lawful old mid c.requires.session kept c.in_ok-own.ensures.run imports c.requires.imports c.requires.lawful_imports in
+    (omega arith, (within, (c.requires.limits, (c.in_ok-own.ensures.session, (run, (context, (theorems, (subst IsSourceRight (sym source) c.requires.block.source, (exports-later old mid kept imports c.requires.imports, lawful)))))))))
 
 pub run_block-returns-clause-comes : goal.run_block-returns-clause-comes
 run_block-returns-clause-comes g t c =
-    let k = c.args.session.now.kernel in
-    let l = c.interpretation_of.new.session.kernel in
-    let m = c.run_source.new.session.kernel in
+    let old = c.args.session.now in
+    let mid = c.interpretation_of.new.session in
+    let new = c.run_source.new.session in
     let kept = c.in_ok-own.ensures.grown in
     let outer = c.args.file.now.outer.now in
     let imports = c.args.imports.now in
     let statements = tags_of c.args.block.now.statements.items in
-    let named : map_interpretation (name_at l) c.in_ok-own.own ≡ interpretation_of statements = rw c.deref.ensures.value at c.in_ok-own.ensures.names in
+    let named : map_interpretation (name_at mid.kernel) c.in_ok-own.own ≡ interpretation_of statements = rw c.deref.ensures.value at c.in_ok-own.ensures.names in
     let given : c.deref-2.result.now ≡ map given_to imports ++ outer.theorems.now = c.deref-2.ensures.value ∙ c.in_ok-theorems.ensures in
     let source : source_value c.source_of.result ≡ source_at (first_source statements) = c.source_of.ensures ∙ ap (λ ts. source_at (first_source (tags_of ts))) c.deref-3.ensures.value in
     let inner : Context = record { interp = record { ref_ptr = outer.interp.ref_ptr; now = c.in_ok-interp.interp }; theorems = c.deref-2.result } in
-    let context = block-context k l kept outer inner c.in_ok-own.own statements imports c.requires.context c.in_ok-own.ensures.within named c.in_ok-interp.ensures.pairs given c.requires.imports (subst (λ state. IsNameTable state.names) c.kernel.ensures c.sound.ensures.names) in
-    let same = exports-kept k l kept imports c.requires.imports in
+    let context = block-context old mid c.requires.session kept outer inner c.in_ok-own.own statements imports c.requires.context c.in_ok-own.ensures.within named c.in_ok-interp.ensures.pairs given c.requires.imports (subst (λ state. IsNameTable state.names) c.kernel.ensures c.sound.ensures.names) in
+    let same = exports-kept old mid kept c.requires.session imports c.requires.imports in
     let run = c.in_ok-own.ensures.run in
     λ folder e.
     let s = setting_of folder c.args.setting in
     let path = string_bytes c.args.file.now.path in
-    let to : run_source s (opener_of s c.args.file.now) path (map (export_of l) imports) (source_value c.source_of.result) (context_of l inner) (run_of l)
-    ≡ run_block s (opener_of s c.args.file.now) path (context_of k outer) (block_of c.args.block.now) (map (export_of k) imports) (run_of k) =
+    let to : run_source s (opener_of s c.args.file.now) path (map (export_of mid) imports) (source_value c.source_of.result) (context_of mid inner) (run_of mid)
+    ≡ run_block s (opener_of s c.args.file.now) path (context_of old outer) (block_of c.args.block.now) (map (export_of old) imports) (run_of old) =
     λ i. run_source s (opener_of s c.args.file.now) path (same i) (source i) (context i) (run i) in
-    subst (Comes m (ran_of m) c.run_source.result) to (c.run_source.ensures.comes folder e)
+    subst (Comes new.kernel (ran_of new) c.run_source.result) to (c.run_source.ensures.comes folder e)
 
 -- ---- blocks in their order
 
 pub run_blocks-returns-in_err-exports-clause-comes : goal.run_blocks-returns-in_err-exports-clause-comes
 run_blocks-returns-in_err-exports-clause-comes g t c =
     let p = err_from_is_err_and c.from_residual.result c.from_residual.ensures.1 in
-    let k = c.args.session.now.kernel in
-    let l = c.each.session.kernel in
-    let m = c.run_next.new.session.kernel in
+    let old = c.args.session.now in
+    let mid = c.each.session in
+    let new = c.run_next.new.session in
     let outer = c.args.file.now.outer.now in
     let order = c.args.plan.now.order.items in
     let b = get_or c.deref-place-items.result.now c.each.place-index 0 in
@@ -234,16 +243,16 @@ run_blocks-returns-in_err-exports-clause-comes g t c =
     rw (p.1, p.2)
     (λ folder e.
     let s = setting_of folder c.args.setting in
-    one-stopped s (opener_of s c.args.file.now) (string_bytes c.args.file.now.path) (context_of k outer) (record { blocks = blocks_of c.args.blocks.now; plan = plan_of c.args.plan.now }) (run_of k)
-    c.each.place-index b (done_of l c.each.done) (run_of l) lt is (c.each.invariant.left folder e)
-    (context_of l outer) (context-kept k l c.each.invariant.grown outer c.requires.context) m c.in_err-exports.field-0.0
+    one-stopped s (opener_of s c.args.file.now) (string_bytes c.args.file.now.path) (context_of old outer) (record { blocks = blocks_of c.args.blocks.now; plan = plan_of c.args.plan.now }) (run_of old)
+    c.each.place-index b (done_of mid c.each.done) (run_of mid) lt is (c.each.invariant.left folder e)
+    (context_of mid outer) (context-kept old mid c.requires.session c.each.invariant.grown outer c.requires.context) new.kernel c.in_err-exports.field-0.0
     (c.in_err-exports.ensures.comes folder (c.each.invariant.folder ∙ e)))
 
 pub run_blocks-each-preserved : goal.run_blocks-each-preserved
 run_blocks-each-preserved g t c =
-    let k = c.args.session.now.kernel in
-    let l = c.each.session.kernel in
-    let m = c.run_next.new.session.kernel in
+    let old = c.args.session.now in
+    let mid = c.each.session in
+    let new = c.run_next.new.session in
     let outer = c.args.file.now.outer.now in
     let kept = c.in_ok-exports.ensures.grown in
     let before = c.each.invariant.later in
@@ -253,92 +262,138 @@ run_blocks-each-preserved g t c =
     let lt : c.each.place-index < length order = omega (arith, c.each-test.true, ap length c.deref-place-items.ensures.value) in
     let is : b ≡ get_or order c.each.place-index b = ap (λ xs. get_or xs c.each.place-index 0) c.deref-place-items.ensures.value ∙ get_or_default order c.each.place-index 0 b lt in
     record {
-      grown = keeps-on c.each.invariant.grown kept;
-      inside = held-inside l m kept c.each.done c.insert.new.self b c.in_ok-exports.exports c.in_ok-insert.ensures.updates.0 c.each.invariant.inside c.in_ok-exports.ensures.exports;
+      grown = grows-on c.each.invariant.grown kept;
+      inside = held-inside mid new c.each.invariant.session kept c.each.done c.insert.new.self b c.in_ok-exports.exports c.in_ok-insert.ensures.updates.0 c.each.invariant.inside c.in_ok-exports.ensures.exports;
+      session = c.in_ok-exports.ensures.session;
+      lawful = stays-on c.each.invariant.lawful c.in_ok-exports.ensures.lawful;
+      exports = held-lawful mid new c.each.invariant.session kept c.stays_law.ensures.written c.in_ok-exports.ensures.lawful.larger c.each.done c.insert.new.self b c.in_ok-exports.exports c.in_ok-insert.ensures.updates.0
+          c.each.invariant.inside c.each.invariant.exports c.in_ok-exports.ensures.lawful_exports;
       later = (omega (arith, before.0, now.0), omega (arith, before.1, now.1));
       folder = c.in_ok-exports.ensures.folder ∙ c.each.invariant.folder;
       left = λ folder e.
           let s = setting_of folder c.args.setting in
           let f : Planned = record { blocks = blocks_of c.args.blocks.now; plan = plan_of c.args.plan.now } in
-          subst (λ done. IsLeft s (opener_of s c.args.file.now) (string_bytes c.args.file.now.path) (context_of k outer) f (run_of k) (c.each.place-index + 1) done (run_of m))
-          (sym (held-done l m kept c.each.done c.insert.new.self b c.in_ok-exports.exports c.in_ok-insert.ensures.updates.0 c.each.invariant.inside))
-          (one-ran s (opener_of s c.args.file.now) (string_bytes c.args.file.now.path) (context_of k outer) f (run_of k)
-          c.each.place-index b (done_of l c.each.done) (run_of l) lt is (c.each.invariant.left folder e)
-          (context_of l outer) (context-kept k l c.each.invariant.grown outer c.requires.context) (ran_of m c.in_ok-exports.exports)
+          subst (λ done. IsLeft s (opener_of s c.args.file.now) (string_bytes c.args.file.now.path) (context_of old outer) f (run_of old) (c.each.place-index + 1) done (run_of new))
+          (sym (held-done mid new c.each.invariant.session kept c.each.done c.insert.new.self b c.in_ok-exports.exports c.in_ok-insert.ensures.updates.0 c.each.invariant.inside))
+          (one-ran s (opener_of s c.args.file.now) (string_bytes c.args.file.now.path) (context_of old outer) f (run_of old)
+          c.each.place-index b (done_of mid c.each.done) (run_of mid) lt is (c.each.invariant.left folder e)
+          (context_of mid outer) (context-kept old mid c.requires.session c.each.invariant.grown outer c.requires.context) (ran_of new c.in_ok-exports.exports)
           (c.in_ok-exports.ensures.comes folder (c.each.invariant.folder ∙ e)));
     }
 
 pub run_blocks-returns-clause-comes : goal.run_blocks-returns-clause-comes
 run_blocks-returns-clause-comes g t c =
-    let k = c.args.session.now.kernel in
-    let l = c.each.session.kernel in
+    let old = c.args.session.now in
+    let mid = c.each.session in
     let outer = c.args.file.now.outer.now in
     let blocks = c.args.blocks.now in
     let order = c.args.plan.now.order.items in
     let none : drop c.each.place-index order ≡ [] = drop_all c.each.place-index order (omega (arith, c.each-test.false, ap length c.deref-place-items.ensures.value)) in
-    let exports : exports_at (done_of l c.each.done) (place_of (blocks_of blocks) (codes "main")) ≡ map (export_of l) c.in_ok-exports-2.exports.items =
-    ap (exports_at (done_of l c.each.done)) (place-at blocks (codes "main")) ∙ sym (exports-as l c.each.done (position (λ b. bytes_eq b.name.now (codes "main")) blocks)) ∙ ap (map (export_of l)) (sym c.in_ok-exports-2.ensures) in
-    let ran : List Export → Ran = λ es. record { exports = es; run = run_of l } in
+    let exports : exports_at (done_of mid c.each.done) (place_of (blocks_of blocks) (codes "main")) ≡ map (export_of mid) c.in_ok-exports-2.exports.items =
+    ap (exports_at (done_of mid c.each.done)) (place-at blocks (codes "main")) ∙ sym (exports-as mid c.each.done (position (λ b. bytes_eq b.name.now (codes "main")) blocks)) ∙ ap (map (export_of mid)) (sym c.in_ok-exports-2.ensures) in
+    let ran : List Export → Ran = λ es. record { exports = es; run = run_of mid } in
     λ folder e.
     let s = setting_of folder c.args.setting in
-    all-ran s (opener_of s c.args.file.now) (string_bytes c.args.file.now.path) (context_of k outer) (record { blocks = blocks_of blocks; plan = plan_of c.args.plan.now }) (run_of k)
-    c.each.place-index (done_of l c.each.done) (run_of l) none (c.each.invariant.left folder e)
+    all-ran s (opener_of s c.args.file.now) (string_bytes c.args.file.now.path) (context_of old outer) (record { blocks = blocks_of blocks; plan = plan_of c.args.plan.now }) (run_of old)
+    c.each.place-index (done_of mid c.each.done) (run_of mid) none (c.each.invariant.left folder e)
     ∙ ap (λ es. Ok (ran es)) exports
 
 -- ---- the next block
 
 pub run_next-run_block-requires : goal.run_next-run_block-requires
 run_next-run_block-requires g t c κs within =
-    let k = c.args.session.now.kernel in
+    let old = c.args.session.now in
     let item = c.in-Some.ensures.lookup in
     let imports : c.deref.result.now ≡ flat_map (held_at c.args.done.now) c.imports_at.result.now = c.deref.ensures.value ∙ c.in_ok-imports.ensures in
-    let inside : All (λ e. e.th < length k.theorems) c.deref.result.now = rw imports (imported-inside k c.args.done.now c.requires.done c.imports_at.result.now) in
+    let inside : All (IsExportIn old) c.deref.result.now = rw imports (imported-inside old c.args.done.now c.requires.done c.imports_at.result.now) in
+    let lawful : AreLawfulExports old c.deref.result.now = rw imports (imported-lawful old c.args.done.now c.requires.lawful_done c.imports_at.result.now) in
     let right = block-all c.args.blocks.now c.args.place c.in-Some.block.now item.3.0 item.1 IsRunnable c.requires.blocks in
-    (omega arith, (within, (c.requires.limits, (c.requires.context, (right, inside)))))
+    (omega arith, (within, (c.requires.limits, (c.requires.session, (c.requires.lawful, (c.requires.context, (c.requires.lawful_context, (right, (inside, lawful)))))))))
 
 pub run_next-returns-in-Some-clause-comes : goal.run_next-returns-in-Some-clause-comes
 run_next-returns-in-Some-clause-comes g t c =
-    let k = c.args.session.now.kernel in
-    let m = c.run_block.new.session.kernel in
+    let old = c.args.session.now in
+    let new = c.run_block.new.session in
     let item = c.in-Some.ensures.lookup in
     let blocks = blocks_of c.args.blocks.now in
-    let outer = context_of k c.args.file.now.outer.now in
+    let outer = context_of old c.args.file.now.outer.now in
     let path = string_bytes c.args.file.now.path in
     let there = block-there c.args.blocks.now c.args.place c.in-Some.block.now item.3.0 item.1 in
-    let imports : map (export_of k) c.deref.result.now ≡ imported (plan_of c.args.plan.now).imports (done_of k c.args.done.now) c.args.place =
-    ap (map (export_of k)) (c.deref.ensures.value ∙ c.in_ok-imports.ensures) ∙ imported-as k c.args.done.now c.imports_at.result.now ∙ ap (flat_map (done_of k c.args.done.now)) c.imports_at.ensures in
+    let imports : map (export_of old) c.deref.result.now ≡ imported (plan_of c.args.plan.now).imports (done_of old c.args.done.now) c.args.place =
+    ap (map (export_of old)) (c.deref.ensures.value ∙ c.in_ok-imports.ensures) ∙ imported-as old c.args.done.now c.imports_at.result.now ∙ ap (flat_map (done_of old c.args.done.now)) c.imports_at.ensures in
     λ folder e.
     let s = setting_of folder c.args.setting in
-    let to : run_block s (opener_of s c.args.file.now) path outer (block_of c.in-Some.block.now) (map (export_of k) c.deref.result.now) (run_of k)
-    ≡ run_at s (opener_of s c.args.file.now) path outer (imported (plan_of c.args.plan.now).imports (done_of k c.args.done.now) c.args.place) (slice_get blocks c.args.place) (run_of k) =
-    ap (λ es. run_block s (opener_of s c.args.file.now) path outer (block_of c.in-Some.block.now) es (run_of k)) imports
-    ∙ ap (λ o. run_at s (opener_of s c.args.file.now) path outer (imported (plan_of c.args.plan.now).imports (done_of k c.args.done.now) c.args.place) o (run_of k)) (sym there) in
-    subst (Comes m (ran_of m) c.run_block.result) to (c.run_block.ensures.comes folder e)
+    let to : run_block s (opener_of s c.args.file.now) path outer (block_of c.in-Some.block.now) (map (export_of old) c.deref.result.now) (run_of old)
+    ≡ run_at s (opener_of s c.args.file.now) path outer (imported (plan_of c.args.plan.now).imports (done_of old c.args.done.now) c.args.place) (slice_get blocks c.args.place) (run_of old) =
+    ap (λ es. run_block s (opener_of s c.args.file.now) path outer (block_of c.in-Some.block.now) es (run_of old)) imports
+    ∙ ap (λ o. run_at s (opener_of s c.args.file.now) path outer (imported (plan_of c.args.plan.now).imports (done_of old c.args.done.now) c.args.place) o (run_of old)) (sym there) in
+    subst (Comes new.kernel (ran_of new) c.run_block.result) to (c.run_block.ensures.comes folder e)
 
 pub run_next-returns-clause-comes : goal.run_next-returns-clause-comes
 run_next-returns-clause-comes g t c =
-    let k = c.args.session.now.kernel in
-    let outer = context_of k c.args.file.now.outer.now in
+    let old = c.args.session.now in
+    let outer = context_of old c.args.file.now.outer.now in
     let path = string_bytes c.args.file.now.path in
     let none = block-none c.args.blocks.now c.args.place c.in-None.ensures.lookup.3 in
-    let ran : List code.Export → Ran = λ es. record { exports = map (export_of k) es; run = run_of k } in
+    let ran : List code.Export → Ran = λ es. record { exports = map (export_of old) es; run = run_of old } in
     λ folder e.
     let s = setting_of folder c.args.setting in
-    ap (λ o. (run_at s (opener_of s c.args.file.now) path outer (imported (plan_of c.args.plan.now).imports (done_of k c.args.done.now) c.args.place) o (run_of k)).answer) none
+    ap (λ o. (run_at s (opener_of s c.args.file.now) path outer (imported (plan_of c.args.plan.now).imports (done_of old c.args.done.now) c.args.place) o (run_of old)).answer) none
     ∙ ap (λ es. Ok (ran es)) (sym c.new.ensures.items)
 
 -- ---- an article
 
 pub run_source-returns-in_ok-path-in-Article-clause-comes : goal.run_source-returns-in_ok-path-in-Article-clause-comes
 run_source-returns-in_ok-path-in-Article-clause-comes g t c =
-    let k = c.args.session.now.kernel in
-    let m = c.run_article.new.session.kernel in
-    let context = context_of k c.args.context.now in
-    let imports = map (export_of k) c.args.imports.now in
+    let old = c.args.session.now in
+    let new = c.run_article.new.session in
+    let context = context_of old c.args.context.now in
+    let imports = map (export_of old) c.args.imports.now in
     let path = string_bytes c.args.file.now.path in
     λ folder e.
     let s = setting_of folder c.args.setting in
-    let to : run_article s (string_bytes c.in_ok-path-in-Article.path) context (run_of k) ≡ run_source s (opener_of s c.args.file.now) path imports (source_value c.args.source) context (run_of k) =
-    ap (λ q. run_article s q context (run_of k)) (c.in_ok-path-in-Article.ensures ∙ ap (λ q. article_path q c.in-Article.value.now) c.deref.ensures)
-    ∙ ap (λ source. run_source s (opener_of s c.args.file.now) path imports (source_value source) context (run_of k)) (sym c.in-Article.is) in
-    subst (Comes m (ran_of m) c.run_article.result) to (c.run_article.ensures.comes folder e)
+    let to : run_article s (string_bytes c.in_ok-path-in-Article.path) context (run_of old) ≡ run_source s (opener_of s c.args.file.now) path imports (source_value c.args.source) context (run_of old) =
+    ap (λ q. run_article s q context (run_of old)) (c.in_ok-path-in-Article.ensures ∙ ap (λ q. article_path q c.in-Article.value.now) c.deref.ensures)
+    ∙ ap (λ source. run_source s (opener_of s c.args.file.now) path imports (source_value source) context (run_of old)) (sym c.in-Article.is) in
+    subst (Comes new.kernel (ran_of new) c.run_article.result) to (c.run_article.ensures.comes folder e)
+
+-- ---- lawful sessions
+
+pub run_source-returns-in_ok-once-in-Imports-clause-lawful_exports : goal.run_source-returns-in_ok-once-in-Imports-clause-lawful_exports
+run_source-returns-in_ok-once-in-Imports-clause-lawful_exports g t c = c.in_ok-once-in-Imports.ensures.lawful c.requires.lawful_imports
+
+pub run_block-returns-in_err-own-clause-lawful : goal.run_block-returns-in_err-own-clause-lawful
+run_block-returns-in_err-own-clause-lawful g t c = stays-as c.args.session.now c.interpretation_of.new.session c.in_err-own.ensures.run c.requires.lawful
+
+pub run_block-returns-in_err-interp-clause-lawful : goal.run_block-returns-in_err-interp-clause-lawful
+run_block-returns-in_err-interp-clause-lawful g t c = stays-as c.args.session.now c.interpretation_of.new.session c.in_ok-own.ensures.run c.requires.lawful
+
+pub run_block-returns-in_err-theorems-clause-lawful : goal.run_block-returns-in_err-theorems-clause-lawful
+run_block-returns-in_err-theorems-clause-lawful g t c = stays-as c.args.session.now c.interpretation_of.new.session c.in_ok-own.ensures.run c.requires.lawful
+
+pub run_block-returns-clause-lawful : goal.run_block-returns-clause-lawful
+run_block-returns-clause-lawful g t c = stays-on (stays-as c.args.session.now c.interpretation_of.new.session c.in_ok-own.ensures.run c.requires.lawful) c.run_source.ensures.lawful
+
+pub run_next-returns-clause-lawful_exports : goal.run_next-returns-clause-lawful_exports
+run_next-returns-clause-lawful_exports g t c = subst (AreLawfulOnce c.args.session.now) (sym c.new.ensures.items) (none-lawful c.args.session.now)
+
+pub run_blocks-run_next-requires : goal.run_blocks-run_next-requires
+run_blocks-run_next-requires g t c κs within =
+    let old = c.args.session.now in
+    let mid = c.each.session in
+    let outer = c.args.file.now.outer.now in
+    let grown = c.each.invariant.grown in
+    let context = of_context-kept old mid c.requires.session grown outer c.requires.context in
+    let lawful_context = context-lawful old mid c.requires.session grown c.stays_law.ensures.written c.each.invariant.lawful.larger outer c.requires.context c.requires.lawful_context in
+    (omega arith, (within, (c.requires.limits, (c.each.invariant.session, (c.each.invariant.lawful.run, (context, (lawful_context, (c.requires.blocks, (c.each.invariant.inside, c.each.invariant.exports)))))))))
+
+pub run_blocks-returns-in_err-exports-clause-lawful : goal.run_blocks-returns-in_err-exports-clause-lawful
+run_blocks-returns-in_err-exports-clause-lawful g t c = stays-on c.each.invariant.lawful c.in_err-exports.ensures.lawful
+
+pub run_blocks-returns-in_err-insert-clause-lawful : goal.run_blocks-returns-in_err-insert-clause-lawful
+run_blocks-returns-in_err-insert-clause-lawful g t c = stays-on c.each.invariant.lawful c.in_ok-exports.ensures.lawful
+
+pub run_blocks-returns-clause-lawful_exports : goal.run_blocks-returns-clause-lawful_exports
+run_blocks-returns-clause-lawful_exports g t c =
+    let mid = c.each.session in
+    subst (AreLawfulOnce mid) (sym c.in_ok-exports-2.ensures) (place-lawful mid c.each.done c.each.invariant.exports (position (λ b. bytes_eq b.name.now (codes "main")) c.args.blocks.now))

@@ -1,27 +1,30 @@
-use Rattle.std.proofs.Common.{◌≡◌, ◌≤◌, ◌<◌, ◌+◌, ◌*◌, ℕ, length, Some}
+use Rattle.std.proofs.Common.{◌≡◌, ◌≤◌, ◌+◌, ◌*◌, ℕ, Some}
 use Rattle.std.specs.Prelude.{string_bytes}
 use Rattle.std.specs.List.{All}
 use Rattle.ot_io.specs.Folder.{Folder}
-use Rattle.ot_kernel.specs.State.{Keeps}
 use Rattle.ot_theory.specs.Answers.{blocks_of}
 use Rattle.ot_blocks.specs.Answers.{plan_of}
-use Rattle.ot_machine.specs.Meaning.{run_of}
+use Rattle.ot_machine.specs.Meaning.{run_of, IsRun, IsExportIn, Grows}
 use Rattle.ot_machine.specs.Contexts.{context_of}
 use Rattle.ot_link.specs.Answers.{setting_of}
 use Rattle.ot_link.specs.Holding.{held_at, done_of}
 use Rattle.ot_link.specs.Running.{opener_of}
+use Rattle.ot_link.specs.Lawful.{AreLawfulOnce, StaysLawful}
 use Rattle.ot_link.proofs.Sequence.{IsLeft}
 use Rattle.ot_link.proofs.blocks.+linking.Given as goal
 
 abbrev pub invariant-run_blocks-each : goal.invariant-run_blocks-each
 invariant-run_blocks-each g l = record {
-  grown : Keeps l.fn.session.kernel l.session.kernel;
-  inside : (b : ℕ) → All (λ e. e.th < length l.session.kernel.theorems) (held_at l.done b);
+  grown : Grows l.fn.session l.session;
+  session : IsRun l.session;
+  inside : (b : ℕ) → All (IsExportIn l.session) (held_at l.done b);
+  lawful : StaysLawful l.fn.session l.session;
+  exports : (b : ℕ) → AreLawfulOnce l.session (held_at l.done b);
   later : (g.F.Source.faults l.fn.files ≤ g.F.Source.faults l.files) × (g.F.Source.misses l.fn.files ≤ g.F.Source.misses l.files);
   folder : g.F.Source.folder l.files ≡ g.F.Source.folder l.fn.files;
   left : (folder : Folder) → g.F.Source.folder l.fn.files ≡ Some folder →
-      IsLeft (setting_of folder l.setting) (opener_of (setting_of folder l.setting) l.file) (string_bytes l.file.path) (context_of l.fn.session.kernel l.file.outer.now)
-      (record { blocks = blocks_of l.blocks; plan = plan_of l.plan }) (run_of l.fn.session.kernel) l.place-index (done_of l.session.kernel l.done) (run_of l.session.kernel);
+      IsLeft (setting_of folder l.setting) (opener_of (setting_of folder l.setting) l.file) (string_bytes l.file.path) (context_of l.fn.session l.file.outer.now)
+      (record { blocks = blocks_of l.blocks; plan = plan_of l.plan }) (run_of l.fn.session) l.place-index (done_of l.session l.done) (run_of l.session);
 }
 
 -- a package that is opened leaves one package less to be opened

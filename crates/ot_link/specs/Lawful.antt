@@ -1,0 +1,46 @@
+-- When a session is lawful, and what is lawful over it: every assumption, definition and export of a run is what its origin
+-- makes, from the axioms and the definitions of the run, and each name of an origin is one that a line can say.
+use Rattle.std.specs.Prelude.{List, map}
+use Rattle.std.specs.List.{All}
+use Rattle.ot_theory.specs.Theory.{TagText}
+use Rattle.ot_machine.specs.States.{RunState, Context, Export}
+use Rattle.ot_machine.specs.Lawful.{Basis, run_basis, IsLarger, IsLawfulExport, IsLawfulRun, AreLawfulGivens, StatesSequent, AreApart, IsNaming}
+use Rattle.ot_machine.specs.Writable.{IsWritable}
+use Rattle.ot_machine.specs.Meaning.{export_of, run_of}
+use Rattle.ot_machine.specs.Contexts.{context_of}
+use Rattle.ot_machine.specs.declared.session.Session.{Session}
+use Rattle.ot_machine.specs.declared.machine.Export as code
+use Rattle.ot_machine.specs.declared.context.Context as code_context
+use Rattle.ot_link.specs.Adding.{AreRight}
+use Rattle.ot_link.specs.Blocks.{context_in}
+
+-- what the origins of a run may use
+abbrev pub basis_of : RunState → Basis
+basis_of r = run_basis IsWritable r
+
+abbrev pub IsLawfulSession : Session → Type 0
+IsLawfulSession s = IsLawfulRun IsWritable (run_of s)
+
+-- exports are lawful over the run of a session, and their lists and terms state their sequents
+pub record AreLawfulExports (s : Session) (es : List code.Export) : Type 0 where
+  pub lawful : All (IsLawfulExport (basis_of (run_of s))) (map (export_of s) es)
+  pub stated : All StatesSequent (map (export_of s) es)
+
+-- and no sequent is exported twice
+pub record AreLawfulOnce (s : Session) (es : List code.Export) : Type 0 where
+  pub exports : AreLawfulExports s es
+  pub apart : AreApart (λ e. e.sequent) (map (export_of s) es)
+
+-- the theorems of a context are lawful, and it reads what a line can say as what a line can say
+pub record IsLawfulContext (s : Session) (c : code_context.Context) : Type 0 where
+  pub theorems : AreLawfulGivens IsWritable (run_of s) (context_of s c).theorems
+  pub naming : IsNaming IsWritable (context_of s c)
+
+-- the new session is lawful, and so is over it all that is lawful over the old one
+pub record StaysLawful (old new : Session) : Type 0 where
+  pub run : IsLawfulSession new
+  pub larger : IsLarger (basis_of (run_of old)) (basis_of (run_of new))
+
+-- a law: in a block, too, what a line can say is read so, where it is in the context of the block's file
+abbrev pub BlocksAreNaming : Type 0
+BlocksAreNaming = (outer : Context) (statements : List TagText) (imports : List Export) → AreRight statements → IsNaming IsWritable outer → IsNaming IsWritable (context_in outer statements imports)
