@@ -1,0 +1,2 @@
+pub mod OverNames
+pub mod Alone

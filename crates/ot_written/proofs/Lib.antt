@@ -1,0 +1,19 @@
+-- What exports need, and what their written article is made of.
+pub mod Members
+pub mod Filters
+pub mod Parts
+pub mod NeededDefinitions
+pub mod Counting
+pub mod Settled
+pub mod Growth
+pub mod Lean
+pub mod Covers
+pub mod NeededList
+pub mod Marked
+pub mod NumberUses
+pub mod Walk
+pub mod Renaming
+pub mod Same
+pub mod NeededLaw
+pub mod Kept
+pub mod Rows
