@@ -6,11 +6,8 @@ use Rattle.std.specs.Io.KnownBytes.{Appends}
 use Rattle.ot_io.specs.Causes.{Rose}
 use Rattle.ot_io.specs.Folder.{Folder}
 use Rattle.ot_io.specs.Sinks.{AppendsFront}
-use Rattle.ot_args.specs.Grammar.{CommandValue, command_of}
-use Rattle.ot_link.specs.Stops.{Linked}
-use Rattle.ot_link.specs.Blocks.{Ran}
 use Rattle.opentheory.specs.Texts.{write_fault_line}
-use Rattle.opentheory.specs.Reply.{Reply, accepted, fails, input_of, is_standard, run_of, reply_to, answer}
+use Rattle.opentheory.specs.Reply.{Reply, accepted, fails, TaskValue, task_of, input_of, is_standard, Told, result_of, reply_to, answer}
 use Rattle.opentheory.specs.Answer.{MatchesReply, IsVerdict, IsReport, IsStopLine, IsLargeLine, Says, Writes, WritesLine, WritesSome, IsLine, FailedAt}
 use Rattle.opentheory.specs.Verdicts.{IsReplyOf, Ends, error_line}
 use Rattle.opentheory.specs.declared.status.Status.{Status}
@@ -26,36 +23,36 @@ mapped f P (Some x) h = h
 
 -- ---- a verdict and the stated reply
 
-report_reply : (c : CommandValue) (told : Option (Linked Ran)) (text : List ℕ) → IsReport c told text → IfSome told (λ l. IsReplyOf Accepted text (reply_to c l.answer))
-report_reply c told text report =
-    if_some (λ l. l.answer ≡ Ok report.ran) (λ l. IsReplyOf Accepted text (reply_to c l.answer)) told (λ l is. ap (reply_to c) is ∙ rw report.fits_is (ap accepted (sym report.text_is))) report.ended
+report_reply : (t : TaskValue) (told : Told t) (text : List ℕ) → IsReport t told text → IfSome told (λ answer. IsReplyOf Accepted text (reply_to t answer))
+report_reply t told text report =
+    if_some (λ answer. answer ≡ Ok report.made) (λ answer. IsReplyOf Accepted text (reply_to t answer)) told (λ answer is. ap (reply_to t) is ∙ rw report.fits_is (ap accepted (sym report.text_is))) report.ended
 
-stop_reply : (c : CommandValue) (status : Status) (path : List ℕ) (told : Option (Linked Ran)) (line : List ℕ) → IsStopLine status path told line → IfSome told (λ l. reply_to c l.answer ≡ fails status line)
-stop_reply c status path told line stop =
-    if_some (λ l. l.answer ≡ Err stop.stop) (λ l. reply_to c l.answer ≡ fails status line) told (λ l is. ap (reply_to c) is ∙ (λ i. fails (stop.status_is i) (sym stop.line_is i))) stop.stopped
+stop_reply : (t : TaskValue) (status : Status) (told : Told t) (line : List ℕ) → IsStopLine status t told line → IfSome told (λ answer. reply_to t answer ≡ fails status line)
+stop_reply t status told line stop =
+    if_some (λ answer. answer ≡ Err stop.stop) (λ answer. reply_to t answer ≡ fails status line) told (λ answer is. ap (reply_to t) is ∙ (λ i. fails (stop.status_is i) (sym stop.line_is i))) stop.stopped
 
-large_reply : (c : CommandValue) (told : Option (Linked Ran)) (line : List ℕ) → IsLargeLine c told line → IfSome told (λ l. reply_to c l.answer ≡ fails Refused line)
-large_reply c told line large =
-    if_some (λ l. l.answer ≡ Ok large.ran) (λ l. reply_to c l.answer ≡ fails Refused line) told (λ l is. ap (reply_to c) is ∙ rw large.large (ap (fails Refused) (sym large.line_is))) large.ended
+large_reply : (t : TaskValue) (told : Told t) (line : List ℕ) → IsLargeLine t told line → IfSome told (λ answer. reply_to t answer ≡ fails Refused line)
+large_reply t told line large =
+    if_some (λ answer. answer ≡ Ok large.made) (λ answer. reply_to t answer ≡ fails Refused line) told (λ answer is. ap (reply_to t) is ∙ rw large.large (ap (fails Refused) (sym large.line_is))) large.ended
 
 unread : {X : Type 0} (o : Option X) → IfSome o (λ _. Unit {0})
 unread None = tt
 unread (Some x) = tt
 
-replies : (c : CommandValue) (folder : Option Folder) (input at : Option (List ℕ)) (status : Status) (text : List ℕ) → Says status c folder input at text → IfSome (run_of c folder input) (λ l. IsReplyOf status text (reply_to c l.answer))
-replies c folder input at Accepted text says = report_reply c (run_of c folder input) text says
-replies c folder input at Refused text (inl stop) = stop_reply c Refused (input_of c) (run_of c folder input) text stop
-replies c folder input at Refused text (inr large) = large_reply c (run_of c folder input) text large
-replies c folder input at NoFile text says = stop_reply c NoFile (input_of c) (run_of c folder input) text says
-replies c folder input at ReadFault text says = unread (run_of c folder input)
-replies c folder input at Usage text says = absurd says
-replies c folder input at WriteFault text says = absurd says
-replies c folder input at Memory text says = absurd says
+replies : (t : TaskValue) (folder : Option Folder) (input at : Option (List ℕ)) (status : Status) (text : List ℕ) → Says status t folder input at text → IfSome (result_of t folder input) (λ answer. IsReplyOf status text (reply_to t answer))
+replies t folder input at Accepted text says = report_reply t (result_of t folder input) text says
+replies t folder input at Refused text (inl stop) = stop_reply t Refused (result_of t folder input) text stop
+replies t folder input at Refused text (inr large) = large_reply t (result_of t folder input) text large
+replies t folder input at NoFile text says = stop_reply t NoFile (result_of t folder input) text says
+replies t folder input at ReadFault text says = unread (result_of t folder input)
+replies t folder input at Usage text says = absurd says
+replies t folder input at WriteFault text says = absurd says
+replies t folder input at Memory text says = absurd says
 
 -- what holds of the verdict's reply holds of the answer to the words
-replied : (words : List (List ℕ)) (c : CommandValue) (folder : Option Folder) (input at : Option (List ℕ)) (status : Status) (text : List ℕ) (P : Reply → Type 0) → command_of words ≡ Some c → Says status c folder input at text → ((reply : Reply) → IsReplyOf status text reply → P reply) → IfSome (answer words folder input) P
-replied words c folder input at status text P read says then =
-    rw read (mapped (λ l. reply_to c l.answer) P (run_of c folder input) (if_some (λ l. IsReplyOf status text (reply_to c l.answer)) (λ l. P (reply_to c l.answer)) (run_of c folder input) (λ l is. then (reply_to c l.answer) is) (replies c folder input at status text says)))
+replied : (words : List (List ℕ)) (t : TaskValue) (folder : Option Folder) (input at : Option (List ℕ)) (status : Status) (text : List ℕ) (P : Reply → Type 0) → task_of words ≡ Some t → Says status t folder input at text → ((reply : Reply) → IsReplyOf status text reply → P reply) → IfSome (answer words folder input) P
+replied words t folder input at status text P read says then =
+    rw read (mapped (reply_to t) P (result_of t folder input) (if_some (λ answer. IsReplyOf status text (reply_to t answer)) (λ answer. P (reply_to t answer)) (result_of t folder input) (λ answer is. then (reply_to t answer) is) (replies t folder input at status text says)))
 
 -- ---- status and output
 
@@ -77,9 +74,9 @@ matches verdict status text old new (inl same) writes reply is =
 matches verdict status text old new (inr failed) writes reply is =
     subst (λ (s : Status). MatchesReply s reply old new) (sym failed.1) (front_matches text old new (subst (λ (s : Status). Writes s old new text) failed.1 writes) reply (subst (λ (s : Status). IsReplyOf s text reply) failed.0 is))
 
-pub answers : (words : List (List ℕ)) (c : CommandValue) (folder : Option Folder) (input at : Option (List ℕ)) (verdict status : Status) (text : List ℕ) (old new : Option (List ℕ)) → command_of words ≡ Some c → Says verdict c folder input at text → Ends verdict status → Writes status old new text → IfSome (answer words folder input) (λ reply. MatchesReply status reply old new)
-answers words c folder input at verdict status text old new read says ends writes =
-    replied words c folder input at verdict text (λ reply. MatchesReply status reply old new) read says (matches verdict status text old new ends writes)
+pub answers : (words : List (List ℕ)) (t : TaskValue) (folder : Option Folder) (input at : Option (List ℕ)) (verdict status : Status) (text : List ℕ) (old new : Option (List ℕ)) → task_of words ≡ Some t → Says verdict t folder input at text → Ends verdict status → Writes status old new text → IfSome (answer words folder input) (λ reply. MatchesReply status reply old new)
+answers words t folder input at verdict status text old new read says ends writes =
+    replied words t folder input at verdict text (λ reply. MatchesReply status reply old new) read says (matches verdict status text old new ends writes)
 
 -- ---- the line on standard error
 
@@ -92,38 +89,38 @@ same_error written faults old new Usage text verdict line reply is = absurd verd
 same_error written faults old new WriteFault text verdict line reply is = absurd verdict
 same_error written faults old new Memory text verdict line reply is = absurd verdict
 
-pub error_is : {E : Type 0} (written : E → Option (List ℕ)) (faults : E → ℕ) (old new : E) (words : List (List ℕ)) (c : CommandValue) (folder : Option Folder) (input at : Option (List ℕ)) (verdict status : Status) (text : List ℕ) → command_of words ≡ Some c → Says verdict c folder input at text → Ends verdict status → IfSome (error_line text status) (WritesLine written faults old new) → IsVerdict status → IfSome (answer words folder input) (λ reply. WritesLine written faults old new reply.error)
-error_is written faults old new words c folder input at verdict status text read says (inl same) line refuses =
-    replied words c folder input at verdict text (λ reply. WritesLine written faults old new reply.error) read says
+pub error_is : {E : Type 0} (written : E → Option (List ℕ)) (faults : E → ℕ) (old new : E) (words : List (List ℕ)) (t : TaskValue) (folder : Option Folder) (input at : Option (List ℕ)) (verdict status : Status) (text : List ℕ) → task_of words ≡ Some t → Says verdict t folder input at text → Ends verdict status → IfSome (error_line text status) (WritesLine written faults old new) → IsVerdict status → IfSome (answer words folder input) (λ reply. WritesLine written faults old new reply.error)
+error_is written faults old new words t folder input at verdict status text read says (inl same) line refuses =
+    replied words t folder input at verdict text (λ reply. WritesLine written faults old new reply.error) read says
     (same_error written faults old new verdict text (subst IsVerdict same refuses) (subst (λ (s : Status). IfSome (error_line text s) (WritesLine written faults old new)) same line))
-error_is written faults old new words c folder input at verdict status text read says (inr failed) line refuses =
+error_is written faults old new words t folder input at verdict status text read says (inr failed) line refuses =
     absurd (subst IsVerdict failed.1 refuses)
 
--- a line on standard error, where the words are this command
-abbrev Lined : {E : Type 0} → (E → Option (List ℕ)) → (E → ℕ) → E → E → Option CommandValue → Option Folder → Option (List ℕ) → Option (List ℕ) → Status → Type 0
+-- a line on standard error, where the words ask for this task
+abbrev Lined : {E : Type 0} → (E → Option (List ℕ)) → (E → ℕ) → E → E → Option TaskValue → Option Folder → Option (List ℕ) → Option (List ℕ) → Status → Type 0
 Lined written faults old new command folder input at status = WritesSome (IsLine status command folder input at) written faults old new
 
-same_line : {E : Type 0} (written : E → Option (List ℕ)) (faults : E → ℕ) (old new : E) (c : CommandValue) (folder : Option Folder) (input at : Option (List ℕ)) (status : Status) (text : List ℕ) → Says status c folder input at text → IfSome (error_line text status) (WritesLine written faults old new) → ¬ (status ≡ Accepted) → Lined written faults old new (Some c) folder input at status
-same_line written faults old new c folder input at Accepted text says line loud = absurd (loud refl)
-same_line written faults old new c folder input at Refused text says line loud = record { line = text; is_one = says; writes = line }
-same_line written faults old new c folder input at NoFile text says line loud = record { line = text; is_one = says; writes = line }
-same_line written faults old new c folder input at ReadFault text says line loud = record { line = text; is_one = says; writes = line }
-same_line written faults old new c folder input at Usage text says line loud = absurd says
-same_line written faults old new c folder input at WriteFault text says line loud = absurd says
-same_line written faults old new c folder input at Memory text says line loud = absurd says
+same_line : {E : Type 0} (written : E → Option (List ℕ)) (faults : E → ℕ) (old new : E) (t : TaskValue) (folder : Option Folder) (input at : Option (List ℕ)) (status : Status) (text : List ℕ) → Says status t folder input at text → IfSome (error_line text status) (WritesLine written faults old new) → ¬ (status ≡ Accepted) → Lined written faults old new (Some t) folder input at status
+same_line written faults old new t folder input at Accepted text says line loud = absurd (loud refl)
+same_line written faults old new t folder input at Refused text says line loud = record { line = text; is_one = says; writes = line }
+same_line written faults old new t folder input at NoFile text says line loud = record { line = text; is_one = says; writes = line }
+same_line written faults old new t folder input at ReadFault text says line loud = record { line = text; is_one = says; writes = line }
+same_line written faults old new t folder input at Usage text says line loud = absurd says
+same_line written faults old new t folder input at WriteFault text says line loud = absurd says
+same_line written faults old new t folder input at Memory text says line loud = absurd says
 
-front_line : {E : Type 0} (written : E → Option (List ℕ)) (faults : E → ℕ) (old new : E) (c : CommandValue) (folder : Option Folder) (input at : Option (List ℕ)) → WritesLine written faults old new write_fault_line → Lined written faults old new (Some c) folder input at WriteFault
-front_line written faults old new c folder input at line = record { line = write_fault_line; is_one = refl; writes = line }
+front_line : {E : Type 0} (written : E → Option (List ℕ)) (faults : E → ℕ) (old new : E) (t : TaskValue) (folder : Option Folder) (input at : Option (List ℕ)) → WritesLine written faults old new write_fault_line → Lined written faults old new (Some t) folder input at WriteFault
+front_line written faults old new t folder input at line = record { line = write_fault_line; is_one = refl; writes = line }
 
-ends_line : {E : Type 0} (written : E → Option (List ℕ)) (faults : E → ℕ) (old new : E) (c : CommandValue) (folder : Option Folder) (input at : Option (List ℕ)) (verdict status : Status) (text : List ℕ) → Says verdict c folder input at text → Ends verdict status → IfSome (error_line text status) (WritesLine written faults old new) → ¬ (status ≡ Accepted) → Lined written faults old new (Some c) folder input at status
-ends_line written faults old new c folder input at verdict status text says (inl same) line loud =
-    subst (Lined written faults old new (Some c) folder input at) (sym same) (same_line written faults old new c folder input at verdict text says (subst (λ (s : Status). IfSome (error_line text s) (WritesLine written faults old new)) same line) (λ is. loud (same ∙ is)))
-ends_line written faults old new c folder input at verdict status text says (inr failed) line loud =
-    subst (Lined written faults old new (Some c) folder input at) (sym failed.1) (front_line written faults old new c folder input at (subst (λ (s : Status). IfSome (error_line text s) (WritesLine written faults old new)) failed.1 line))
+ends_line : {E : Type 0} (written : E → Option (List ℕ)) (faults : E → ℕ) (old new : E) (t : TaskValue) (folder : Option Folder) (input at : Option (List ℕ)) (verdict status : Status) (text : List ℕ) → Says verdict t folder input at text → Ends verdict status → IfSome (error_line text status) (WritesLine written faults old new) → ¬ (status ≡ Accepted) → Lined written faults old new (Some t) folder input at status
+ends_line written faults old new t folder input at verdict status text says (inl same) line loud =
+    subst (Lined written faults old new (Some t) folder input at) (sym same) (same_line written faults old new t folder input at verdict text says (subst (λ (s : Status). IfSome (error_line text s) (WritesLine written faults old new)) same line) (λ is. loud (same ∙ is)))
+ends_line written faults old new t folder input at verdict status text says (inr failed) line loud =
+    subst (Lined written faults old new (Some t) folder input at) (sym failed.1) (front_line written faults old new t folder input at (subst (λ (s : Status). IfSome (error_line text s) (WritesLine written faults old new)) failed.1 line))
 
-pub line_is : {E : Type 0} (written : E → Option (List ℕ)) (faults : E → ℕ) (old new : E) (words : List (List ℕ)) (c : CommandValue) (folder : Option Folder) (input at : Option (List ℕ)) (verdict status : Status) (text : List ℕ) → command_of words ≡ Some c → Says verdict c folder input at text → Ends verdict status → IfSome (error_line text status) (WritesLine written faults old new) → ¬ (status ≡ Accepted) → WritesSome (IsLine status (command_of words) folder input at) written faults old new
-line_is written faults old new words c folder input at verdict status text read says ends line loud =
-    rw read (ends_line written faults old new c folder input at verdict status text says ends line loud)
+pub line_is : {E : Type 0} (written : E → Option (List ℕ)) (faults : E → ℕ) (old new : E) (words : List (List ℕ)) (t : TaskValue) (folder : Option Folder) (input at : Option (List ℕ)) (verdict status : Status) (text : List ℕ) → task_of words ≡ Some t → Says verdict t folder input at text → Ends verdict status → IfSome (error_line text status) (WritesLine written faults old new) → ¬ (status ≡ Accepted) → WritesSome (IsLine status (task_of words) folder input at) written faults old new
+line_is written faults old new words t folder input at verdict status text read says ends line loud =
+    rw read (ends_line written faults old new t folder input at verdict status text says ends line loud)
 
 -- ---- completeness
 
@@ -148,10 +145,10 @@ neither : (b : Bool) (P Q : Type 0) → ¬ P → ¬ Q → ¬ MatchBool b P Q
 neither true P Q p q held = p held
 neither false P Q p q held = q held
 
-pub complete : (words : List (List ℕ)) (c : CommandValue) (folder : Option Folder) (input at : Option (List ℕ)) (verdict status : Status) (text : List ℕ) (i j f g o p : ℕ) → command_of words ≡ Some c → Says verdict c folder input at text → Ends verdict status → (verdict ≡ ReadFault → FailedAt (input_of c) i j f g) → (status ≡ WriteFault → Rose o p) → IfSome (answer words folder input) (λ reply. ¬ Rose i j → ¬ Rose f g → ¬ Rose o p → IsTold status reply.status)
-complete words c folder input at verdict status text i j f g o p read says ends failed unwritten =
-    replied words c folder input at verdict text (λ reply. ¬ Rose i j → ¬ Rose f g → ¬ Rose o p → IsTold status reply.status) read says
-    (λ reply is input files out. completes verdict status text ends (λ w. out (unwritten w)) (λ r. neither (is_standard (input_of c)) (Rose i j) (Rose f g) input files (failed r)) reply is)
+pub complete : (words : List (List ℕ)) (t : TaskValue) (folder : Option Folder) (input at : Option (List ℕ)) (verdict status : Status) (text : List ℕ) (i j f g o p : ℕ) → task_of words ≡ Some t → Says verdict t folder input at text → Ends verdict status → (verdict ≡ ReadFault → FailedAt (input_of t) i j f g) → (status ≡ WriteFault → Rose o p) → IfSome (answer words folder input) (λ reply. ¬ Rose i j → ¬ Rose f g → ¬ Rose o p → IsTold status reply.status)
+complete words t folder input at verdict status text i j f g o p read says ends failed unwritten =
+    replied words t folder input at verdict text (λ reply. ¬ Rose i j → ¬ Rose f g → ¬ Rose o p → IsTold status reply.status) read says
+    (λ reply is input files out. completes verdict status text ends (λ w. out (unwritten w)) (λ r. neither (is_standard (input_of t)) (Rose i j) (Rose f g) input files (failed r)) reply is)
 
 -- ---- other statuses
 

@@ -9,12 +9,15 @@ use Rattle.ot_laws.specs.Theorem.{IsTheorem}
 use Rattle.ot_io.specs.Causes.{Rose}
 use Rattle.ot_io.specs.Folder.{Folder, path_asked}
 use Rattle.ot_io.specs.Sinks.{AppendsFront}
-use Rattle.ot_args.specs.Grammar.{CommandValue, is_theory}
-use Rattle.ot_link.specs.Stops.{Stop, InArticle, InTheory, InStructure, TooLarge, Missing, Linked}
+use Rattle.ot_args.specs.Grammar.{is_theory}
+use Rattle.ot_link.specs.Stops.{Stop, InArticle, InTheory, InStructure, TooLarge, Missing}
 use Rattle.ot_link.specs.Blocks.{Ran}
 use Rattle.ot_text.specs.Laws.{OneSequent, OneSequentInFront}
-use Rattle.opentheory.specs.Texts.{usage_line, stop_line, large_line, read_fault_line, write_fault_line, memory_line}
-use Rattle.opentheory.specs.Reply.{Reply, input_of, is_standard, run_of, opened, text_of, fits, stop_status, assumptions_of, definitions_of, exports_of}
+use Rattle.ot_minimise.specs.Minimised.{IsMinimised}
+use Rattle.opentheory.specs.declared.task.View.{View}
+use Rattle.opentheory.specs.declared.task.View.TheVariants.{Counts, Summary, Article}
+use Rattle.opentheory.specs.Texts.{usage_line, read_fault_line, write_fault_line, memory_line}
+use Rattle.opentheory.specs.Reply.{Reply, TaskValue, RunInput, RunSample, MakeSample, input_of, sample_path, is_standard, Product, Halt, Told, result_of, opened, text_of, fits, Lists, lists_of, halt_status, halt_line, over_line, written_limit, article_text}
 use Rattle.opentheory.specs.declared.status.Status.{Status}
 use Rattle.opentheory.specs.declared.status.Status.TheVariants.{Accepted, Refused, Usage, NoFile, ReadFault, WriteFault, Memory}
 
@@ -48,23 +51,39 @@ IsVerdict Usage = ⊥
 IsVerdict ReadFault = ⊥
 IsVerdict Memory = ⊥
 
--- ---- what a text says of a run, as far as the run is told
+-- ---- what a text says of a task's end, as far as that is told
 
--- each theorem of the exports is derivable from the assumptions under the definitions, and these are accepted
-pub record IsProved (r : Ran) : Type 0 where
-  pub accepted : AcceptedLists names (assumptions_of r) (definitions_of r)
-  pub theorems : All (IsTheorem names (assumptions_of r) (definitions_of r)) (exports_of r)
+-- each theorem is derivable from the assumptions under the definitions, and these are accepted
+pub record IsProved (l : Lists) : Type 0 where
+  pub accepted : AcceptedLists names l.assumptions l.definitions
+  pub theorems : All (IsTheorem names l.assumptions l.definitions) l.theorems
 
--- it is what the command prints of the run's end, whose theorems are proved; and a text is that of one sequent, whatever
--- stands behind it
-pub record IsReport (c : CommandValue) (told : Option (Linked Ran)) (text : List ℕ) : Type 0 where
-  pub ran : Ran
-  pub ended : IfSome told (λ l. l.answer ≡ Ok ran)
-  pub proved : IsProved ran
+-- the written article of a run is an article of its exports among its definitions: run alone it exports the same, with the
+-- needed definitions and assumptions alone, and is lean
+abbrev pub IsRewritten : Ran → Type 0
+IsRewritten r = IsMinimised written_limit r.run r.exports (article_text r)
+
+abbrev pub IsRewrittenIn : View → Ran → Type 0
+IsRewrittenIn Counts r = Unit {0}
+IsRewrittenIn (Summary sections) r = Unit {0}
+IsRewrittenIn Article r = IsRewritten r
+
+abbrev pub IsRewrittenBy : (t : TaskValue) → Product t → Type 0
+IsRewrittenBy (RunInput packages path view) r = IsRewrittenIn view r
+IsRewrittenBy (RunSample n) r = IsRewritten r
+IsRewrittenBy (MakeSample n) x = Unit {0}
+
+-- it is what the task prints of its end, whose theorems are proved; an article that is written does what it is written for;
+-- and a text is that of one sequent, whatever stands behind it
+pub record IsReport (t : TaskValue) (told : Told t) (text : List ℕ) : Type 0 where
+  pub made : Product t
+  pub ended : IfSome told (λ answer. answer ≡ Ok made)
+  pub proved : IsProved (lists_of t made)
+  pub rewritten : IsRewrittenBy t made
   pub one_text : OneSequent
   pub one_in_front : OneSequentInFront
-  pub fits_is : fits c ran ≡ true
-  pub text_is : text ≡ text_of c ran
+  pub fits_is : fits t made ≡ true
+  pub text_is : text ≡ text_of t made
 
 -- a stop in the article of this path, or that it isn't there
 abbrev pub IsOwnStop : List ℕ → Stop → Type 0
@@ -74,40 +93,46 @@ IsOwnStop path (InTheory p line fault) = ⊥
 IsOwnStop path (InStructure p line fault) = ⊥
 IsOwnStop path (TooLarge p) = ⊥
 
--- it is the line of the run's stop: of an article one in that article, of a theory file any
-pub record IsStopLine (status : Status) (path : List ℕ) (told : Option (Linked Ran)) (line : List ℕ) : Type 0 where
-  pub stop : Stop
-  pub stopped : IfSome told (λ l. l.answer ≡ Err stop)
-  pub own : MatchBool (is_theory path) (Unit {0}) (IsOwnStop path stop)
-  pub status_is : stop_status stop ≡ status
-  pub line_is : line ≡ stop_line stop
+-- of an article the stop is one in that article, of a theory file any
+abbrev pub IsOwnHalt : (t : TaskValue) → Halt t → Type 0
+IsOwnHalt (RunInput packages path view) stop = MatchBool (is_theory path) (Unit {0}) (IsOwnStop path stop)
+IsOwnHalt (RunSample n) stop = IsOwnStop sample_path stop
+IsOwnHalt (MakeSample n) stop = Unit {0}
 
--- it is the line for a summary of the run's end that is too large
-pub record IsLargeLine (c : CommandValue) (told : Option (Linked Ran)) (line : List ℕ) : Type 0 where
-  pub ran : Ran
-  pub ended : IfSome told (λ l. l.answer ≡ Ok ran)
-  pub large : fits c ran ≡ false
-  pub line_is : line ≡ large_line (input_of c)
+-- it is the line of what stopped the task
+pub record IsStopLine (status : Status) (t : TaskValue) (told : Told t) (line : List ℕ) : Type 0 where
+  pub stop : Halt t
+  pub stopped : IfSome told (λ answer. answer ≡ Err stop)
+  pub own : IsOwnHalt t stop
+  pub status_is : halt_status t stop ≡ status
+  pub line_is : line ≡ halt_line t stop
 
--- the path is that of an input which the run reads: `-`, or a file that it needs, which was the last to be asked for
+-- it is the line for a text of the task's end that is past its limit
+pub record IsLargeLine (t : TaskValue) (told : Told t) (line : List ℕ) : Type 0 where
+  pub made : Product t
+  pub ended : IfSome told (λ answer. answer ≡ Ok made)
+  pub large : fits t made ≡ false
+  pub line_is : line ≡ over_line t
+
+-- the path is that of an input which is read: `-`, or a file that is needed, which was the last to be asked for
 abbrev pub IsReadPath : List ℕ → Option (List (List ℕ)) → Option (List ℕ) → List ℕ → Type 0
 IsReadPath path files at failed = MatchBool (is_standard path) (failed ≡ path) (IfSome files (IsMember failed) × IfSome at (λ asked. failed ≡ asked))
 
 -- it is the line for an input that failed
-pub record IsFailureLine (c : CommandValue) (folder : Option Folder) (at : Option (List ℕ)) (line : List ℕ) : Type 0 where
+pub record IsFailureLine (t : TaskValue) (folder : Option Folder) (at : Option (List ℕ)) (line : List ℕ) : Type 0 where
   pub failed : List ℕ
-  pub path : IsReadPath (input_of c) (opened c folder) at failed
+  pub path : IsReadPath (input_of t) (opened t folder) at failed
   pub line_is : line ≡ read_fault_line failed
 
--- what a text says with which the run of a command has this status
-abbrev pub Says : Status → CommandValue → Option Folder → Option (List ℕ) → Option (List ℕ) → List ℕ → Type 0
-Says Accepted c folder input at text = IsReport c (run_of c folder input) text
-Says Refused c folder input at line = IsStopLine Refused (input_of c) (run_of c folder input) line ⊎ IsLargeLine c (run_of c folder input) line
-Says NoFile c folder input at line = IsStopLine NoFile (input_of c) (run_of c folder input) line
-Says ReadFault c folder input at line = IsFailureLine c folder at line
-Says Usage c folder input at line = ⊥
-Says WriteFault c folder input at line = ⊥
-Says Memory c folder input at line = ⊥
+-- what a text says with which a task has this status
+abbrev pub Says : Status → TaskValue → Option Folder → Option (List ℕ) → Option (List ℕ) → List ℕ → Type 0
+Says Accepted t folder input at text = IsReport t (result_of t folder input) text
+Says Refused t folder input at line = IsStopLine Refused t (result_of t folder input) line ⊎ IsLargeLine t (result_of t folder input) line
+Says NoFile t folder input at line = IsStopLine NoFile t (result_of t folder input) line
+Says ReadFault t folder input at line = IsFailureLine t folder at line
+Says Usage t folder input at line = ⊥
+Says WriteFault t folder input at line = ⊥
+Says Memory t folder input at line = ⊥
 
 -- ---- what is written
 
@@ -121,10 +146,10 @@ Writes NoFile old new text = Unit {0}
 Writes ReadFault old new text = Unit {0}
 Writes Memory old new text = Unit {0}
 
--- the headline of `check` and `info`: what was written is a report on the run
-pub record Prints (status : Status) (c : CommandValue) (told : Option (Linked Ran)) (old new : Option (List ℕ)) : Type 0 where
+-- the headline: what was written is a report on the task's end
+pub record Prints (status : Status) (t : TaskValue) (told : Told t) (old new : Option (List ℕ)) : Type 0 where
   pub text : List ℕ
-  pub report : IsReport c told text
+  pub report : IsReport t told text
   pub written : Writes status old new text
 
 -- a sink's bytes grew by a line, or by a front of it where the sink's count of failures rose
@@ -132,14 +157,14 @@ abbrev pub WritesLine : {E : Type 0} → (E → Option (List ℕ)) → (E → �
 WritesLine written faults old new line = Appends (written old) (written new) line ⊎ (Rose (faults old) (faults new) × AppendsFront (written old) (written new) line)
 
 -- the line on standard error that goes with a status
-abbrev pub IsLine : Status → Option CommandValue → Option Folder → Option (List ℕ) → Option (List ℕ) → List ℕ → Type 0
-IsLine Accepted c folder input at line = ⊥
-IsLine Refused c folder input at line = IsSomeAnd c (λ command. Says Refused command folder input at line)
-IsLine Usage c folder input at line = line ≡ usage_line
-IsLine NoFile c folder input at line = IsSomeAnd c (λ command. Says NoFile command folder input at line)
-IsLine ReadFault c folder input at line = IsSomeAnd c (λ command. Says ReadFault command folder input at line)
-IsLine WriteFault c folder input at line = line ≡ write_fault_line
-IsLine Memory c folder input at line = line ≡ memory_line
+abbrev pub IsLine : Status → Option TaskValue → Option Folder → Option (List ℕ) → Option (List ℕ) → List ℕ → Type 0
+IsLine Accepted t folder input at line = ⊥
+IsLine Refused t folder input at line = IsSomeAnd t (λ task. Says Refused task folder input at line)
+IsLine Usage t folder input at line = line ≡ usage_line
+IsLine NoFile t folder input at line = IsSomeAnd t (λ task. Says NoFile task folder input at line)
+IsLine ReadFault t folder input at line = IsSomeAnd t (λ task. Says ReadFault task folder input at line)
+IsLine WriteFault t folder input at line = line ≡ write_fault_line
+IsLine Memory t folder input at line = line ≡ memory_line
 
 -- one such line was written
 pub record WritesSome {E : Type 0} (IsOne : List ℕ → Type 0) (written : E → Option (List ℕ)) (faults : E → ℕ) (old new : E) : Type 0 where
@@ -149,7 +174,7 @@ pub record WritesSome {E : Type 0} (IsOne : List ℕ → Type 0) (written : E �
 
 -- ---- what else becomes of the inputs
 
--- the device that a command reads failed: standard input, or the files
+-- the device that is read failed: standard input, or the files
 abbrev pub FailedAt : List ℕ → (before now : ℕ) → (files_before files_now : ℕ) → Type 0
 FailedAt path before now files_before files_now = MatchBool (is_standard path) (Rose before now) (Rose files_before files_now)
 
@@ -157,9 +182,20 @@ FailedAt path before now files_before files_now = MatchBool (is_standard path) (
 abbrev pub LeavesOther : {F S : Type 0} → List ℕ → F → F → S → S → Type 0
 LeavesOther path files files_now input input_now = MatchBool (is_standard path) (files_now ≡ files) (input_now ≡ input)
 
+-- and both where nothing is read
+abbrev pub LeavesBoth : {F S : Type 0} → F → F → S → S → Type 0
+LeavesBoth files files_now input input_now = (files_now ≡ files) × (input_now ≡ input)
+
+abbrev pub LeavesAlone : {F S : Type 0} → TaskValue → F → F → S → S → Type 0
+LeavesAlone (RunInput packages path view) files files_now input input_now = LeavesOther path files files_now input input_now
+LeavesAlone (RunSample n) files files_now input input_now = LeavesBoth files files_now input input_now
+LeavesAlone (MakeSample n) files files_now input input_now = LeavesBoth files files_now input input_now
+
 -- the path that was asked for last is the article's, where it is a file and the folder is told and has it
-abbrev pub LastPath : List ℕ → Option Folder → Option (List ℕ) → Type 0
-LastPath path folder at = MatchBool (is_standard path || is_theory path) (Unit {0}) (at ≡ path_asked folder path)
+abbrev pub LastPath : TaskValue → Option Folder → Option (List ℕ) → Type 0
+LastPath (RunInput packages path view) folder at = MatchBool (is_standard path || is_theory path) (Unit {0}) (at ≡ path_asked folder path)
+LastPath (RunSample n) folder at = Unit {0}
+LastPath (MakeSample n) folder at = Unit {0}
 
 -- the files stay what they are, and their counts never fall
 pub record KeepsFiles {F : Type 0} (folder : F → Option Folder) (faults misses : F → ℕ) (old new : F) : Type 0 where

@@ -1,5 +1,5 @@
 -- What the stated machine answers to words, files and input.
-use Rattle.std.specs.Prelude.{ℕ, List, [], ◌∷◌, Bool, true, length, map, codes, nat_le, Option, Some, None, Result, Ok, Err, if◌then◌else◌}
+use Rattle.std.specs.Prelude.{ℕ, List, [], ◌∷◌, ◌++◌, Bool, true, ◌==◌, count_by, length, map, codes, nat_le, Option, Some, None, Result, Ok, Err, if◌then◌else◌}
 use Rattle.std.specs.List.{concat}
 use Rattle.std.specs.Option.{option_map}
 use Rattle.std.specs.Fmt.{decimal}
@@ -9,7 +9,7 @@ use Rattle.ot_plain.specs.Trees.{Sequent, Definition}
 use Rattle.ot_plain.specs.Answers.{◌>>=◌, some_or}
 use Rattle.ot_plain.specs.declared.limits.Limits.{Limits}
 use Rattle.ot_io.specs.Folder.{Folder, bytes_at}
-use Rattle.ot_args.specs.Grammar.{CommandValue, Check, Info, command_of, is_theory}
+use Rattle.ot_args.specs.Grammar.{CommandValue, Check, Info, Link, Minimise, Sample, SampleArticle, command_of, is_theory}
 use Rattle.ot_args.specs.declared.sections.Sections.{Sections}
 use Rattle.ot_scan.specs.Lines.{lines_of}
 use Rattle.ot_machine.specs.States.{State, no_context, fresh_article, fresh_run}
@@ -17,10 +17,14 @@ use Rattle.ot_machine.specs.Run.{Outcome, run}
 use Rattle.ot_link.specs.Stops.{Stop, InArticle, InTheory, InStructure, TooLarge, Missing, Linked, answered}
 use Rattle.ot_link.specs.Blocks.{Ran, article_end}
 use Rattle.ot_link.specs.Link.{link}
+use Rattle.ot_minimise.specs.Minimised.{minimised}
+use Rattle.ot_sample.specs.Sample.{sample}
 use Rattle.ot_print.specs.Texts.{summary_text}
-use Rattle.opentheory.specs.Texts.{stop_line, large_line, usage_line}
+use Rattle.opentheory.specs.Texts.{stop_line, large_line, large_article_line, usage_line}
 use Rattle.opentheory.specs.declared.status.Status.{Status}
 use Rattle.opentheory.specs.declared.status.Status.TheVariants.{Accepted, Refused, Usage, NoFile}
+use Rattle.opentheory.specs.declared.task.View.{View}
+use Rattle.opentheory.specs.declared.task.View.TheVariants.{Counts, Summary, Article}
 
 -- a text on standard output, one on standard error, and how the program ends
 pub record Reply : Type 0 where
@@ -38,26 +42,49 @@ article_limit = 4294967296
 abbrev pub summary_limit : ℕ
 summary_limit = 67108864
 
+-- the most bytes of a written article
+abbrev pub written_limit : ℕ
+written_limit = 4294967296
+
 -- the limits of the program
 unfoldable pub limits : Limits
-limits = record { article_bytes = article_limit; theory_bytes = 1048576; package_depth = 16; summary_bytes = summary_limit; written_bytes = 4294967296 }
+limits = record { article_bytes = article_limit; theory_bytes = 1048576; package_depth = 16; summary_bytes = summary_limit; written_bytes = written_limit }
 
--- ---- the command
+-- ---- what a command does
 
--- the input of a command
-abbrev pub input_of : CommandValue → List ℕ
-input_of (Check packages path) = path
-input_of (Info packages path sections) = path
+-- it runs an input, with packages from a folder, and prints what the run came to in one view; or it makes the sample article of
+-- a size, and runs it, or makes it alone
+pub data TaskValue : Type 0 where
+  RunInput : List ℕ → List ℕ → View → TaskValue
+  RunSample : ℕ → TaskValue
+  MakeSample : ℕ → TaskValue
 
--- and of words, none where they are no command
-abbrev pub path_of : Option CommandValue → List ℕ
+abbrev pub task : CommandValue → TaskValue
+task (Check packages path) = RunInput packages path Counts
+task (Info packages path sections) = RunInput packages path (Summary sections)
+task (Link packages path) = RunInput packages path Article
+task (Minimise packages path) = RunInput packages path Article
+task (Sample n) = RunSample n
+task (SampleArticle n) = MakeSample n
+
+-- what words ask for, none where they are no command
+abbrev pub task_of : List (List ℕ) → Option TaskValue
+task_of words = option_map task (command_of words)
+
+-- what stands for the path of a sample
+abbrev pub sample_path : List ℕ
+sample_path = codes "sample"
+
+-- the path of the input
+abbrev pub input_of : TaskValue → List ℕ
+input_of (RunInput packages path view) = path
+input_of (RunSample n) = sample_path
+input_of (MakeSample n) = sample_path
+
+-- and none where the words are no command
+abbrev pub path_of : Option TaskValue → List ℕ
 path_of None = []
-path_of (Some c) = input_of c
-
--- the folder of its packages
-abbrev pub packages_of : CommandValue → List ℕ
-packages_of (Check packages path) = packages
-packages_of (Info packages path sections) = packages
+path_of (Some t) = input_of t
 
 -- `-` is standard input; any other name is a file's
 abbrev pub is_standard : List ℕ → Bool
@@ -92,9 +119,6 @@ run_at packages path folder input =
     else if is_theory path then option_map (theory_run packages path) folder
     else option_map (article_run path) folder
 
-abbrev pub run_of : CommandValue → Option Folder → Option (List ℕ) → Option (Linked Ran)
-run_of c folder input = run_at (packages_of c) (input_of c) folder input
-
 -- the paths of the files that the run of an input needs, in order, as far as they are told
 abbrev pub opened_at : List ℕ → List ℕ → Option Folder → Option (List (List ℕ))
 opened_at packages path folder =
@@ -102,8 +126,34 @@ opened_at packages path folder =
     else if is_theory path then option_map (λ files. (theory_run packages path files).paths) folder
     else Some (path ∷ [])
 
-abbrev pub opened : CommandValue → Option Folder → Option (List (List ℕ))
-opened c folder = opened_at (packages_of c) (input_of c) folder
+-- ---- how a task ends
+
+-- what it comes to: the end of a run, or nothing but the text that is made
+abbrev pub Product : TaskValue → Type 0
+Product (RunInput packages path view) = Ran
+Product (RunSample n) = Ran
+Product (MakeSample n) = Unit {0}
+
+-- what stops it: a fault of the run
+abbrev pub Halt : TaskValue → Type 0
+Halt (RunInput packages path view) = Stop
+Halt (RunSample n) = Stop
+Halt (MakeSample n) = ⊥
+
+-- how it ends, as far as that is told
+abbrev pub Told : TaskValue → Type 0
+Told t = Option (Result (Product t) (Halt t))
+
+abbrev pub result_of : (t : TaskValue) → Option Folder → Option (List ℕ) → Told t
+result_of (RunInput packages path view) folder input = option_map (λ l. l.answer) (run_at packages path folder input)
+result_of (RunSample n) folder input = Some (article_end sample_path (outcome (sample n)))
+result_of (MakeSample n) folder input = Some (Ok tt)
+
+-- the paths of the files that it needs, in order, as far as they are told
+abbrev pub opened : TaskValue → Option Folder → Option (List (List ℕ))
+opened (RunInput packages path view) folder = opened_at packages path folder
+opened (RunSample n) folder = Some []
+opened (MakeSample n) folder = Some []
 
 -- ---- what is printed of a run
 
@@ -129,15 +179,73 @@ count_line r = line_of_counts (length r.exports) (length r.run.assumptions) (len
 abbrev pub summary : Sections → Ran → List ℕ
 summary sections r = summary_text sections (assumptions_of r) (definitions_of r) (exports_of r)
 
--- what a command prints
-abbrev pub text_of : CommandValue → Ran → List ℕ
-text_of (Check packages path) r = count_line r
-text_of (Info packages path sections) r = summary sections r
+-- the written article of its exports
+abbrev pub article_text : Ran → List ℕ
+article_text r = minimised r.run r.exports
 
--- whether it is within the limit, which only summaries have
-abbrev pub fits : CommandValue → Ran → Bool
-fits (Check packages path) r = true
-fits (Info packages path sections) r = nat_le (length (summary sections r)) summary_limit
+abbrev pub article_fits : Ran → Bool
+article_fits r = nat_le (length (article_text r)) written_limit
+
+-- the part that is printed of a run
+abbrev pub run_text : View → Ran → List ℕ
+run_text Counts r = count_line r
+run_text (Summary sections) r = summary sections r
+run_text Article r = article_text r
+
+-- whether it is within the limit, which summaries and written articles have
+abbrev pub run_fits : View → Ran → Bool
+run_fits Counts r = true
+run_fits (Summary sections) r = nat_le (length (summary sections r)) summary_limit
+run_fits Article r = article_fits r
+
+-- the line that says that it is past the limit
+abbrev pub view_large : View → List ℕ → List ℕ
+view_large Counts path = large_line path
+view_large (Summary sections) path = large_line path
+view_large Article path = large_article_line path
+
+-- how many lines a text has, each with its newline
+abbrev pub line_count : List ℕ → ℕ
+line_count = count_by (λ b. b == 10)
+
+-- what a sample's run came to: its size, the lines of its article, and its theorems; then its assumptions, its definitions and
+-- the lines of its written article
+abbrev pub sample_front : (size lines theorems : ℕ) → List ℕ
+sample_front size lines theorems =
+    concat (codes "sample " ∷ decimal size ∷ codes ": " ∷ decimal lines ∷ codes " lines, " ∷ decimal theorems ∷ codes " theorems, " ∷ [])
+
+abbrev pub sample_back : (assumptions definitions minimised : ℕ) → List ℕ
+sample_back assumptions definitions minimised =
+    concat (decimal assumptions ∷ codes " assumptions, " ∷ decimal definitions ∷ codes " definitions; minimised " ∷ decimal minimised ∷ codes " lines\n" ∷ [])
+
+abbrev pub sample_line : ℕ → Ran → List ℕ
+sample_line n r = sample_front n (line_count (sample n)) (length r.exports) ++ sample_back (length r.run.assumptions) (length r.run.definitions) (line_count (article_text r))
+
+-- ---- what a task prints
+abbrev pub text_of : (t : TaskValue) → Product t → List ℕ
+text_of (RunInput packages path view) r = run_text view r
+text_of (RunSample n) r = sample_line n r
+text_of (MakeSample n) x = sample n
+
+-- whether it is within the limit
+abbrev pub fits : (t : TaskValue) → Product t → Bool
+fits (RunInput packages path view) r = run_fits view r
+fits (RunSample n) r = article_fits r
+fits (MakeSample n) x = true
+
+-- the assumptions, the definitions and the theorems of which it prints
+pub record Lists : Type 0 where
+  pub assumptions : List (Sequent Name)
+  pub definitions : List (Definition Name)
+  pub theorems : List (Sequent Name)
+
+abbrev pub run_lists : Ran → Lists
+run_lists r = record { assumptions = assumptions_of r; definitions = definitions_of r; theorems = exports_of r }
+
+abbrev pub lists_of : (t : TaskValue) → Product t → Lists
+lists_of (RunInput packages path view) r = run_lists r
+lists_of (RunSample n) r = run_lists r
+lists_of (MakeSample n) x = record { assumptions = []; definitions = []; theorems = [] }
 
 -- ---- the reply
 
@@ -148,10 +256,6 @@ accepted text = record { output = text; error = []; status = Accepted }
 abbrev pub fails : Status → List ℕ → Reply
 fails status line = record { output = []; error = line; status = status }
 
--- a run that ended is accepted, with what the command prints; a text past the limit is refused
-abbrev pub reply_to_end : CommandValue → Ran → Reply
-reply_to_end c r = if fits c r then accepted (text_of c r) else fails Refused (large_line (input_of c))
-
 -- a file that isn't there has a status of its own; every other stop is refused
 abbrev pub stop_status : Stop → Status
 stop_status (InArticle path number fault) = Refused
@@ -160,15 +264,35 @@ stop_status (InStructure path number fault) = Refused
 stop_status (TooLarge path) = Refused
 stop_status (Missing path) = NoFile
 
--- the reply to a command, by the answer of its run
-abbrev pub reply_to : CommandValue → Result Ran Stop → Reply
-reply_to c (Ok r) = reply_to_end c r
-reply_to c (Err stop) = fails (stop_status stop) (stop_line stop)
+abbrev pub halt_status : (t : TaskValue) → Halt t → Status
+halt_status (RunInput packages path view) stop = stop_status stop
+halt_status (RunSample n) stop = stop_status stop
+halt_status (MakeSample n) stop = Refused
 
-abbrev pub reply_to_command : Option CommandValue → Option Folder → Option (List ℕ) → Option Reply
-reply_to_command None folder input = Some (fails Usage usage_line)
-reply_to_command (Some c) folder input = option_map (λ l. reply_to c l.answer) (run_of c folder input)
+abbrev pub halt_line : (t : TaskValue) → Halt t → List ℕ
+halt_line (RunInput packages path view) stop = stop_line stop
+halt_line (RunSample n) stop = stop_line stop
+halt_line (MakeSample n) stop = []
+
+-- the line that says that the text of a task is past its limit
+abbrev pub over_line : TaskValue → List ℕ
+over_line (RunInput packages path view) = view_large view path
+over_line (RunSample n) = large_article_line sample_path
+over_line (MakeSample n) = large_article_line sample_path
+
+-- a task that ended is accepted, with what it prints; a text past the limit is refused
+abbrev pub reply_to_end : (t : TaskValue) → Product t → Reply
+reply_to_end t x = if fits t x then accepted (text_of t x) else fails Refused (over_line t)
+
+-- the reply to a task, by how it ends
+abbrev pub reply_to : (t : TaskValue) → Result (Product t) (Halt t) → Reply
+reply_to t (Ok x) = reply_to_end t x
+reply_to t (Err stop) = fails (halt_status t stop) (halt_line t stop)
+
+abbrev pub reply_to_task : Option TaskValue → Option Folder → Option (List ℕ) → Option Reply
+reply_to_task None folder input = Some (fails Usage usage_line)
+reply_to_task (Some t) folder input = option_map (reply_to t) (result_of t folder input)
 
 -- the answer to these words, over the files and the bytes of standard input that are told
 abbrev pub answer : List (List ℕ) → Option Folder → Option (List ℕ) → Option Reply
-answer words folder input = reply_to_command (command_of words) folder input
+answer words folder input = reply_to_task (task_of words) folder input

@@ -11,7 +11,7 @@ use Rattle.ot_theory.specs.declared.fault.TheoryFault.TheVariants as theory
 use Rattle.ot_blocks.specs.declared.fault.StructureFault.{StructureFault}
 use Rattle.ot_blocks.specs.declared.fault.StructureFault.TheVariants as structure
 use Rattle.ot_link.specs.Stops.{Stop, InArticle, InTheory, InStructure, TooLarge, Missing}
-use Rattle.ot_plain.specs.Faults.{Fault, LineTooLong, ArticleTooLong, UnknownCommand, BadName, BadNumber, NumberRange, VersionMissing, VersionUnsupported, VersionLate, StackEmpty, WrongKind, NoEntry, EmptyList, NotFunction, ArgumentType, NotBool, NotEquation, NotAlphaEqual, VarFreeInHyps, NotRedex, BadSubst, ExportMismatch, Primitive, AlreadyDefined, SymbolInUse, NotClosed, TypeVarEscapes, BadDefinitionList, HypothesesPresent, NotApplication, BadTypeVars, Nesting}
+use Rattle.ot_plain.specs.Faults.{Fault, LineTooLong, ArticleTooLong, UnknownCommand, BadName, BadNumber, NumberRange, VersionUnsupported, VersionLate, StackEmpty, WrongKind, NoEntry, EmptyList, NotFunction, ArgumentType, NotBool, NotEquation, NotAlphaEqual, VarFreeInHyps, NotRedex, BadSubst, ExportMismatch, Primitive, AlreadyDefined, SymbolInUse, NotClosed, TypeVarEscapes, BadDefinitionList, HypothesesPresent, NotApplication, BadTypeVars, Nesting}
 
 -- how a kind is called
 abbrev pub kind_text : Kind → List ℕ
@@ -38,7 +38,6 @@ fault_text UnknownCommand = codes "unknown command"
 fault_text BadName = codes "bad name"
 fault_text BadNumber = codes "bad number"
 fault_text NumberRange = codes "number out of range"
-fault_text VersionMissing = codes "version command missing"
 fault_text (VersionUnsupported k) = codes "version " ++ signed_decimal k ++ codes " unsupported"
 fault_text VersionLate = codes "version command in a wrong place"
 fault_text StackEmpty = codes "stack empty"
@@ -98,6 +97,10 @@ fault_line path number fault = line_at path number (fault_text fault)
 -- the line for a summary that is too large
 abbrev pub large_line : List ℕ → List ℕ
 large_line path = line_of path (codes "summary larger than 67108864 bytes")
+
+-- and for a written article
+abbrev pub large_article_line : List ℕ → List ℕ
+large_article_line path = line_of path (codes "written article larger than 4294967296 bytes")
 
 -- the line for a file that isn't there
 abbrev pub missing_line : List ℕ → List ℕ

@@ -5,50 +5,53 @@ ghost use Rattle.ot_io.specs.Folder.{path_asked};
 ghost use Rattle.ot_link.specs.Blocks.{article_end};
 ghost use Rattle.ot_link.specs.Answers.{AreExportsIn, NamesSymbolIn};
 ghost use Rattle.ot_machine.specs.States.{fresh_run};
-ghost use Rattle.ot_machine.specs.Meaning.{run_of};
-ghost use Rattle.opentheory.specs.Reply.{outcome, article_run, theory_run};
+ghost use Rattle.ot_machine.specs.Meaning.{run_of, IsRun};
+ghost use Rattle.opentheory.specs.Reply.{outcome, article_run, theory_run, stop_status};
 ghost use Rattle.opentheory.specs.Answer.{FailedAt, LeavesOther, LastPath, KeepsFiles, KeepsSource};
-ghost use Rattle.opentheory.specs.Verdicts.{end_of, IsAnswer, IsEnd, IsPlace, IsOwnEnd, IsNeeded, HasCause};
+ghost use Rattle.opentheory.specs.Verdicts.{job_task, end_of, IsAnswer, IsEnd, IsPlace, IsOwnEnd, IsNeeded, HasCause, IsLawfulEnd};
 
+use crate::task::Job;
 use ot_args::is_theory;
-use ot_interp::Interp;
 use ot_io::{Files, OpenFault, Source};
-use ot_link::{LinkFault, link};
-use ot_machine::{ArticleFault, Context, Export, Machine, Session};
+use ot_link::{LinkFault, link, run_alone};
+use ot_machine::{Export, Session};
 use ot_plain::Limits;
 use std::alloc::Global;
 
-/// The input that is an article on standard input.
-const STANDARD: &str = "-";
+/// The name of standard input.
+pub const STANDARD: &str = "-";
 
-/// Runs the input of a path, up to its first fault, and gives its exports: `-` is an article on `input`, a name that ends
+/// Runs the input of a job, up to its first fault, and gives its exports: `-` is an article on `input`, a name that ends
 /// in `.thy` a theory file over packages in a folder, and any other name an article file. The session is fresh.
 pub fn run_input<F: Files, S: Source>(
     alloc: Global,
     session: &mut Session,
-    packages: &str,
-    path: &str,
+    job: Job<'_>,
     files: &mut F,
     input: &mut S,
 ) -> Result<Vec<Export>, LinkFault>
-    requires { run_of session.old.kernel ≡ fresh_run }
-    ensures end { IfSome (end_of session.new.kernel result) (IsEnd packages.now path.now (F.folder files.old) (S.left input.old)) }
-    ensures place { IfSome (end_of session.new.kernel result) (IsPlace packages.now path.now (F.folder files.old) (F.at files.new)) }
-    ensures exports { IfOk result (AreExportsIn session.new.kernel) }
+    requires session { IsRun session.old }
+    requires fresh { run_of session.old ≡ fresh_run }
+    ensures end { IfSome (end_of session.new result) (IsEnd (job_task job.entry) (F.folder files.old) (S.left input.old)) }
+    ensures place { IfSome (end_of session.new result) (IsPlace (job_task job.entry) (F.folder files.old) (F.at files.new)) }
+    ensures session { IsRun session.new }
+    ensures exports { IfOk result (AreExportsIn session.new) }
+    ensures lawful { IfOk result (IsLawfulEnd session.new) }
     ensures symbols { IfErr result (NamesSymbolIn session.new.kernel) }
-    ensures cause { IfSome (end_of session.new.kernel result)
-        (HasCause (FailedAt path.now (S.faults input.old) (S.faults input.new) (F.faults files.old) (F.faults files.new))
+    ensures cause { IfSome (end_of session.new result)
+        (HasCause stop_status (FailedAt job.entry.path.now (S.faults input.old) (S.faults input.new) (F.faults files.old) (F.faults files.new))
         (Rose (F.misses files.old) (F.misses files.new))) }
     ensures files { KeepsFiles F.folder F.faults F.misses files.old files.new }
     ensures source { KeepsSource S.folder S.faults S.misses S.at input.old input.new }
-    ensures other { LeavesOther path.now files.old files.new input.old input.new }
+    ensures other { LeavesOther job.entry.path.now files.old files.new input.old input.new }
     ensures closed { (files.new ≡ files.old) ⊎ (F.left files.new ≡ Some []) }
-    ensures at { IfSome (end_of session.new.kernel result) (λ _. LastPath path.now (F.folder files.old) (F.at files.new)) }
+    ensures at { IfSome (end_of session.new result) (λ _. LastPath (job_task job.entry) (F.folder files.old) (F.at files.new)) }
 {
+    let path = job.path;
     if path == STANDARD {
         run_standard(alloc, session, path, input)
     } else if is_theory(path) {
-        run_theory(alloc, session, packages, path, files)
+        run_theory(alloc, session, job.packages, path, files)
     } else {
         run_file(alloc, session, path, files)
     }
@@ -61,12 +64,15 @@ fn run_standard<S: Source>(
     path: &str,
     input: &mut S,
 ) -> Result<Vec<Export>, LinkFault>
-    requires { run_of session.old.kernel ≡ fresh_run }
-    ensures end { IfSome (S.left input.old) (λ bytes. IfSome (end_of session.new.kernel result) (IsAnswer (article_end path.now (outcome bytes)))) }
-    ensures own { IfSome (end_of session.new.kernel result) (IsOwnEnd path.now) }
-    ensures exports { IfOk result (AreExportsIn session.new.kernel) }
+    requires session { IsRun session.old }
+    requires fresh { run_of session.old ≡ fresh_run }
+    ensures end { IfSome (S.left input.old) (λ bytes. IfSome (end_of session.new result) (IsAnswer (article_end path.now (outcome bytes)))) }
+    ensures own { IfSome (end_of session.new result) (IsOwnEnd path.now) }
+    ensures session { IsRun session.new }
+    ensures exports { IfOk result (AreExportsIn session.new) }
+    ensures lawful { IfOk result (IsLawfulEnd session.new) }
     ensures symbols { IfErr result (NamesSymbolIn session.new.kernel) }
-    ensures cause { IfSome (end_of session.new.kernel result) (HasCause (Rose (S.faults input.old) (S.faults input.new)) ⊥) }
+    ensures cause { IfSome (end_of session.new result) (HasCause stop_status (Rose (S.faults input.old) (S.faults input.new)) ⊥) }
     ensures source { KeepsSource S.folder S.faults S.misses S.at input.old input.new }
 {
     let path = String::from_str(alloc, path)?;
@@ -81,14 +87,17 @@ fn run_theory<F: Files>(
     path: &str,
     files: &mut F,
 ) -> Result<Vec<Export>, LinkFault>
-    requires { run_of session.old.kernel ≡ fresh_run }
-    ensures end { IfSome (F.folder files.old) (λ folder. IfSome (end_of session.new.kernel result) (IsAnswer (theory_run packages.now path.now folder).answer)) }
-    ensures needed { IfSome (end_of session.new.kernel result)
+    requires session { IsRun session.old }
+    requires fresh { run_of session.old ≡ fresh_run }
+    ensures end { IfSome (F.folder files.old) (λ folder. IfSome (end_of session.new result) (IsAnswer (theory_run packages.now path.now folder).answer)) }
+    ensures needed { IfSome (end_of session.new result)
         (IsNeeded (option_map (λ folder. (theory_run packages.now path.now folder).paths) (F.folder files.old)) (F.at files.new)) }
-    ensures exports { IfOk result (AreExportsIn session.new.kernel) }
+    ensures session { IsRun session.new }
+    ensures exports { IfOk result (AreExportsIn session.new) }
+    ensures lawful { IfOk result (IsLawfulEnd session.new) }
     ensures symbols { IfErr result (NamesSymbolIn session.new.kernel) }
-    ensures cause { IfSome (end_of session.new.kernel result)
-        (HasCause (Rose (F.faults files.old) (F.faults files.new)) (Rose (F.misses files.old) (F.misses files.new))) }
+    ensures cause { IfSome (end_of session.new result)
+        (HasCause stop_status (Rose (F.faults files.old) (F.faults files.new)) (Rose (F.misses files.old) (F.misses files.new))) }
     ensures files { KeepsFiles F.folder F.faults F.misses files.old files.new }
     ensures closed { F.left files.new ≡ Some [] }
 {
@@ -103,16 +112,19 @@ fn run_file<F: Files>(
     path: &str,
     files: &mut F,
 ) -> Result<Vec<Export>, LinkFault>
-    requires { run_of session.old.kernel ≡ fresh_run }
-    ensures end { IfSome (F.folder files.old) (λ folder. IfSome (end_of session.new.kernel result) (IsAnswer (article_run path.now folder).answer)) }
-    ensures own { IfSome (end_of session.new.kernel result) (IsOwnEnd path.now) }
-    ensures exports { IfOk result (AreExportsIn session.new.kernel) }
+    requires session { IsRun session.old }
+    requires fresh { run_of session.old ≡ fresh_run }
+    ensures end { IfSome (F.folder files.old) (λ folder. IfSome (end_of session.new result) (IsAnswer (article_run path.now folder).answer)) }
+    ensures own { IfSome (end_of session.new result) (IsOwnEnd path.now) }
+    ensures session { IsRun session.new }
+    ensures exports { IfOk result (AreExportsIn session.new) }
+    ensures lawful { IfOk result (IsLawfulEnd session.new) }
     ensures symbols { IfErr result (NamesSymbolIn session.new.kernel) }
-    ensures cause { IfSome (end_of session.new.kernel result)
-        (HasCause (Rose (F.faults files.old) (F.faults files.new)) (Rose (F.misses files.old) (F.misses files.new))) }
+    ensures cause { IfSome (end_of session.new result)
+        (HasCause stop_status (Rose (F.faults files.old) (F.faults files.new)) (Rose (F.misses files.old) (F.misses files.new))) }
     ensures files { KeepsFiles F.folder F.faults F.misses files.old files.new }
     ensures closed { (files.new ≡ files.old) ⊎ (F.left files.new ≡ Some []) }
-    ensures at { IfSome (end_of session.new.kernel result) (λ _. F.at files.new ≡ path_asked (F.folder files.old) path.now) }
+    ensures at { IfSome (end_of session.new result) (λ _. F.at files.new ≡ path_asked (F.folder files.old) path.now) }
 {
     let name = String::from_str(alloc, path)?;
     match files.open_file(path) {
@@ -128,31 +140,23 @@ fn run_file<F: Files>(
 
 /// Runs the article of a path that a source has left, in the empty context: its symbols have the names that it gives
 /// them, and no theorem comes from elsewhere.
-fn run_article<S: Source>(
+pub fn run_article<S: Source>(
     alloc: Global,
     session: &mut Session,
     path: String,
     source: &mut S,
 ) -> Result<Vec<Export>, LinkFault>
-    requires { run_of session.old.kernel ≡ fresh_run }
-    ensures end { IfSome (S.left source.old) (λ bytes. IfSome (end_of session.new.kernel result) (IsAnswer (article_end (string_bytes path) (outcome bytes)))) }
-    ensures own { IfSome (end_of session.new.kernel result) (IsOwnEnd (string_bytes path)) }
-    ensures exports { IfOk result (AreExportsIn session.new.kernel) }
+    requires session { IsRun session.old }
+    requires fresh { run_of session.old ≡ fresh_run }
+    ensures end { IfSome (S.left source.old) (λ bytes. IfSome (end_of session.new result) (IsAnswer (article_end (string_bytes path) (outcome bytes)))) }
+    ensures own { IfSome (end_of session.new result) (IsOwnEnd (string_bytes path)) }
+    ensures session { IsRun session.new }
+    ensures exports { IfOk result (AreExportsIn session.new) }
+    ensures lawful { IfOk result (IsLawfulEnd session.new) }
     ensures symbols { IfErr result (NamesSymbolIn session.new.kernel) }
-    ensures cause { IfSome (end_of session.new.kernel result) (HasCause (Rose (S.faults source.old) (S.faults source.new)) ⊥) }
+    ensures cause { IfSome (end_of session.new result) (HasCause stop_status (Rose (S.faults source.old) (S.faults source.new)) ⊥) }
     ensures source { KeepsSource S.folder S.faults S.misses S.at source.old source.new }
 {
-    let interp = Interp::new(alloc);
-    let context = Context {
-        interp: &interp,
-        theorems: &[],
-    };
-    let mut machine = Machine::new(alloc);
-    let limit = Limits::standard().article_bytes;
-    match machine.run_article(session, &context, source, limit) {
-        Ok(()) => Ok(Vec::from_slice(alloc, machine.exports())?),
-        Err(ArticleFault::At { line, fault }) => Err(LinkFault::Article { path, line, fault }),
-        Err(ArticleFault::ReadFault) => Err(LinkFault::ReadFault { path }),
-        Err(ArticleFault::Memory) => Err(LinkFault::Memory),
-    }
+    let limits = Limits::standard();
+    run_alone(alloc, session, source, path, &limits)
 }

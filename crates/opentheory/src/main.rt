@@ -4,7 +4,9 @@
 mod input;
 mod program;
 mod report;
+mod sample;
 mod status;
+mod task;
 mod texts;
 
 use ot_io::{DirFiles, StdSink, StdSource, write_whole};

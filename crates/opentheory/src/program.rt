@@ -2,16 +2,18 @@ ghost use Rattle.std.specs.Prelude.{◌≡◌, ◌≢◌, ◌↔◌, ◌⊎◌, 
 ghost use Rattle.std.specs.Io.KnownBytes.{Appends};
 ghost use Rattle.ot_io.specs.Causes.{Rose, HasCause};
 ghost use Rattle.ot_io.specs.Sinks.{FlushesAll, AppendsFront};
-ghost use Rattle.ot_args.specs.Grammar.{texts_of, command_of, command_value};
-ghost use Rattle.opentheory.specs.Reply.{input_of, path_of, run_of, answer};
-ghost use Rattle.opentheory.specs.Answer.{MatchesReply, IsSilent, IsVerdict, IsLine, Says, Prints, Writes, WritesLine, WritesSome, FailedAt, LeavesOther, LastPath, KeepsFiles, KeepsSource};
-ghost use Rattle.opentheory.specs.Verdicts.{Ends, error_line};
+ghost use Rattle.ot_args.specs.Grammar.{texts_of, command_of};
+ghost use Rattle.opentheory.specs.Reply.{task_of, input_of, path_of, result_of, answer};
+ghost use Rattle.opentheory.specs.Answer.{MatchesReply, IsSilent, IsVerdict, IsLine, Says, Prints, Writes, WritesLine, WritesSome, FailedAt, LeavesAlone, LastPath, KeepsFiles, KeepsSource};
+ghost use Rattle.opentheory.specs.Verdicts.{task_value, IsSized, Ends, error_line};
 
 use crate::input::run_input;
-use crate::report::{Verdict, input_of, packages_of, verdict_on};
+use crate::report::{Verdict, verdict_on};
+use crate::sample::{make_sample, run_sample};
 use crate::status::Status;
+use crate::task::{Task, read_task};
 use crate::texts::{OUT_OF_MEMORY, USAGE, WRITE_FAULT};
-use ot_args::{Command, Usage};
+use ot_args::Usage;
 use ot_io::{Files, Sink, Source, WriteFault, write_whole};
 use ot_machine::Session;
 use ot_plain::Memory;
@@ -19,16 +21,19 @@ use std::alloc::Global;
 
 /// All that the program does with the command's words, without the program's name. `check` runs an input and reports how
 /// many theorems, assumptions and definitions it has; `info` reports which. `-` is an article on `input`, a name that ends in
-/// `.thy` a theory file over packages in a folder, and any other name an article file. The text is made whole, then written
-/// to `out` and flushed; each status but `Accepted` has its line on `err`. Whether `err` takes it changes no status.
+/// `.thy` a theory file over packages in a folder, and any other name an article file. `link` and `minimise` run an input and
+/// write an article of its exports that has what they need and nothing else; `sample` makes an article of a size, runs it and
+/// rewrites it. The text is made whole, then written to `out` and flushed; each status but `Accepted` has its line on `err`.
+/// Whether `err` takes it changes no status.
 ///
 /// - `Accepted`: the run ended, and all of the text was written and flushed.
 /// - `Refused`: the run stopped, at the first fault and its line by the article format or the theory file format, in the file
-///   that the line names; or the summary has more than 67,108,864 bytes.
+///   that the line names; or the summary has more than 67,108,864 bytes, or the
+///   written article more than 4,294,967,296.
 /// - `Usage`: exactly for words that are no command. It takes no memory and reads nothing.
 /// - `NoFile`: only where a file was missing in this call.
 /// - `ReadFault`: only where what the command reads failed in this call: `input` for `-`, else `files`, at a file that the
-///   run needs.
+///   command needs.
 /// - `WriteFault`: only where the input is accepted and `out` failed in this call; a front of the text was written.
 /// - `Memory`: may come at any point before the text is made; then no more memory is taken.
 pub fn run<F: Files, S: Source, O: Sink, E: Sink>(
@@ -50,20 +55,20 @@ pub fn run<F: Files, S: Source, O: Sink, E: Sink>(
         (λ reply. WritesLine E.written E.faults err.old err.new reply.error) }
 
     // What is printed is a report on the run, whose theorems are derivable, told or not; no other status prints.
-    ensures proved { ¬ IsSilent result → IsSomeAnd (command_of (texts_of words.now))
-        (λ c. Prints result c (run_of c (F.folder files.old) (S.left input.old)) (O.written out.old) (O.written out.new)) }
+    ensures proved { ¬ IsSilent result → IsSomeAnd (task_of (texts_of words.now))
+        (λ t. Prints result t (result_of t (F.folder files.old) (S.left input.old)) (O.written out.old) (O.written out.new)) }
     ensures silent { IsSilent result → out.new ≡ out.old }
     ensures flushed { result ≡ Status.Accepted → FlushesAll (O.flushed out.old) (O.written out.new) (O.flushed out.new) }
 
     // What stands on the error sink is the status's line, told or not: of status 1 some fault's, of 3 and 4 a path's.
     ensures quiet { result ≡ Status.Accepted → err.new ≡ err.old }
     ensures line { ¬ (result ≡ Status.Accepted) → WritesSome
-        (IsLine result (command_of (texts_of words.now)) (F.folder files.old) (S.left input.old) (F.at files.new))
+        (IsLine result (task_of (texts_of words.now)) (F.folder files.old) (S.left input.old) (F.at files.new))
         E.written E.faults err.old err.new }
 
     // Statuses 3, 4 and 5 come only where the device that they name counted it; all else is as stated, or memory ran out.
     ensures missing { result ≡ Status.NoFile → Rose (F.misses files.old) (F.misses files.new) }
-    ensures read { result ≡ Status.ReadFault → FailedAt (path_of (command_of (texts_of words.now)))
+    ensures read { result ≡ Status.ReadFault → FailedAt (path_of (task_of (texts_of words.now)))
         (S.faults input.old) (S.faults input.new) (F.faults files.old) (F.faults files.new) }
     ensures write { result ≡ Status.WriteFault → Rose (O.faults out.old) (O.faults out.new) }
     ensures complete { IfSome (answer (texts_of words.now) (F.folder files.old) (S.left input.old)) (λ reply.
@@ -76,13 +81,13 @@ pub fn run<F: Files, S: Source, O: Sink, E: Sink>(
     ensures files { KeepsFiles F.folder F.faults F.misses files.old files.new }
     ensures source { KeepsSource S.folder S.faults S.misses S.at input.old input.new }
     ensures sinks { (O.faults out.old ≤ O.faults out.new) × (E.faults err.old ≤ E.faults err.new) }
-    ensures other { LeavesOther (path_of (command_of (texts_of words.now))) files.old files.new input.old input.new }
+    ensures other { IfSome (task_of (texts_of words.now)) (λ t. LeavesAlone t files.old files.new input.old input.new) }
     ensures closed { (files.new ≡ files.old) ⊎ (F.left files.new ≡ Some []) }
     ensures at { (result ≡ Status.NoFile) ⊎ (result ≡ Status.ReadFault)
-        → LastPath (path_of (command_of (texts_of words.now))) (F.folder files.old) (F.at files.new) }
+        → IfSome (task_of (texts_of words.now)) (λ t. LastPath t (F.folder files.old) (F.at files.new)) }
 {
-    match Command::read(words) {
-        Ok(command) => match run_command(alloc, command, files, input) {
+    match read_task(words) {
+        Ok(task) => match run_task(alloc, task, files, input) {
             Ok(verdict) => finish(out, err, &verdict),
             Err(Memory) => {
                 say(err, OUT_OF_MEMORY);
@@ -96,28 +101,33 @@ pub fn run<F: Files, S: Source, O: Sink, E: Sink>(
     }
 }
 
-/// Runs the input of a command in a fresh session, and makes the text for what that came to.
-fn run_command<F: Files, S: Source>(
+/// Runs an input or a sample in a fresh session, or makes a sample, and makes the text for what that came to.
+fn run_task<F: Files, S: Source>(
     alloc: Global,
-    command: Command<'_>,
+    task: Task<'_>,
     files: &mut F,
     input: &mut S,
 ) -> Result<Verdict, Memory>
-    ensures says { IfOk result (λ v. Says v.status (command_value command.entry) (F.folder files.old) (S.left input.old) (F.at files.new) v.text.items) }
+    requires { IsSized (task_value task) }
+    ensures says { IfOk result (λ v. Says v.status (task_value task.entry) (F.folder files.old) (S.left input.old) (F.at files.new) v.text.items) }
     ensures missing { IfOk result (λ v. v.status ≡ Status.NoFile → Rose (F.misses files.old) (F.misses files.new)) }
-    ensures read { IfOk result (λ v. v.status ≡ Status.ReadFault → FailedAt (input_of (command_value command.entry))
+    ensures read { IfOk result (λ v. v.status ≡ Status.ReadFault → FailedAt (input_of (task_value task.entry))
         (S.faults input.old) (S.faults input.new) (F.faults files.old) (F.faults files.new)) }
     ensures files { KeepsFiles F.folder F.faults F.misses files.old files.new }
     ensures source { KeepsSource S.folder S.faults S.misses S.at input.old input.new }
-    ensures other { LeavesOther (input_of (command_value command.entry)) files.old files.new input.old input.new }
+    ensures other { LeavesAlone (task_value task.entry) files.old files.new input.old input.new }
     ensures closed { (files.new ≡ files.old) ⊎ (F.left files.new ≡ Some []) }
-    ensures at { IfOk result (λ v. LastPath (input_of (command_value command.entry)) (F.folder files.old) (F.at files.new)) }
+    ensures at { IfOk result (λ v. LastPath (task_value task.entry) (F.folder files.old) (F.at files.new)) }
 {
-    let mut session = Session::new(alloc)?;
-    let path = input_of(command);
-    let packages = packages_of(command);
-    let ran = run_input(alloc, &mut session, packages, path, files, input);
-    verdict_on(alloc, command, &session, ran)
+    match task {
+        Task::RunInput(job) => {
+            let mut session = Session::new(alloc)?;
+            let ran = run_input(alloc, &mut session, job, files, input);
+            verdict_on(alloc, job, &session, ran)
+        }
+        Task::RunSample(size) => run_sample(alloc, size),
+        Task::MakeSample(size) => make_sample(alloc, size),
+    }
 }
 
 /// Writes a verdict, and says how the program ends.

@@ -1,20 +1,29 @@
-ghost use Rattle.std.specs.Prelude.{◌≡◌, ◌<◌, length, map, IfOk, IfErr, IsSomeAnd};
+ghost use Rattle.std.specs.Prelude.{◌≡◌, ◌++◌, true, false, [], length, map, IfOk, IfErr, IfSome, IfNone, IsSomeAnd, OnOk};
 ghost use Rattle.std.specs.List.{All};
-ghost use Rattle.ot_args.specs.Grammar.{command_value};
 ghost use Rattle.ot_link.specs.Answers.{AreExportsIn, NamesSymbolIn};
+ghost use Rattle.ot_machine.specs.Meaning.{IsRun, IsExportIn};
 ghost use Rattle.ot_text.specs.Laws.{OneSequent, OneSequentInFront};
-ghost use Rattle.opentheory.specs.Reply.{input_of, packages_of, line_of_counts, count_line};
-ghost use Rattle.opentheory.specs.Answer.{IsProved};
-ghost use Rattle.opentheory.specs.Verdicts.{ran_from, end_at, end_of, IsVerdictOf, IsStopVerdict, IsSaid, EndsAs, SummaryEndsAs};
+ghost use Rattle.ot_plain.specs.Naming.{names};
+ghost use Rattle.ot_plain.specs.Hol.{Accepted as AcceptedLists};
+ghost use Rattle.ot_sample.specs.Sample.{sample};
+ghost use Rattle.opentheory.specs.Reply.{RunSample, line_of_counts, sample_front, sample_back, line_count, article_text, article_fits, run_fits, run_lists};
+ghost use Rattle.opentheory.specs.Texts.{large_line, large_article_line, missing_line, read_fault_line};
+ghost use Rattle.opentheory.specs.Answer.{IsProved, IsRewritten, IsRewrittenIn};
+ghost use Rattle.opentheory.specs.Verdicts.{job_task, ran_from, AreCounts, end_at, end_of, IsVerdictOf, IsStopVerdict, IsSaid, EndsAs, SummaryEndsAs, ArticleEndsAs, IsLawfulEnd, IsLawfulEnds};
 
+use crate::sample::SAMPLE;
 use crate::status::Status;
+use crate::task::{Job, View};
 use crate::texts::{fault_line, line_at, line_of, structure_text, theory_text};
-use ot_args::{Command, Sections};
+use ot_args::Sections;
 use ot_kernel::{Kernel, ThmId};
+use ot_laws::growth_law;
 use ot_link::LinkFault;
 use ot_machine::{Export, Session};
+use ot_minimise::minimise;
 use ot_plain::{Limits, Memory};
 use ot_print::{PrintFault, one_text, summary_text};
+use ot_write::WriteRefusal;
 use std::alloc::{AllocError, Global};
 
 /// How a command ends, with the text that says it: for the output where it is accepted, else for the error sink.
@@ -24,39 +33,23 @@ pub struct Verdict {
     pub text: Vec<u8>,
 }
 
-/// The input of a command.
-pub fn input_of<'a>(command: Command<'a>) -> &'a str
-    ensures { result.now ≡ input_of (command_value command.entry) }
-{
-    match command {
-        Command::Check { input, .. } | Command::Info { input, .. } => input,
-    }
-}
-
-/// The folder of a command's packages.
-pub fn packages_of<'a>(command: Command<'a>) -> &'a str
-    ensures { result.now ≡ packages_of (command_value command.entry) }
-{
-    match command {
-        Command::Check { packages, .. } | Command::Info { packages, .. } => packages,
-    }
-}
-
-/// The verdict on a command whose input was run so, with the session that the run left.
+/// The verdict on a job whose input was run so, with the session that the run left.
 pub fn verdict_on(
     alloc: Global,
-    command: Command<'_>,
+    job: Job<'_>,
     session: &Session,
     ran: Result<Vec<Export>, LinkFault>,
 ) -> Result<Verdict, Memory>
-    requires exports { IfOk ran (AreExportsIn session.now.kernel) }
+    requires session { IsRun session.now }
+    requires exports { IfOk ran (AreExportsIn session.now) }
+    requires lawful { IfOk ran (IsLawfulEnd session.now) }
     requires symbols { IfErr ran (NamesSymbolIn session.now.kernel) }
-    ensures { IfOk result (IsVerdictOf (command_value command.entry) (end_of session.now.kernel ran)) }
+    ensures { IfOk result (IsVerdictOf (job_task job.entry) (end_of session.now ran)) }
 {
     match ran {
         Ok(exports) => {
             proved(session, &exports);
-            ended(alloc, command, session, &exports)
+            ended(alloc, job, session, &exports)
         }
         Err(stop) => stopped(alloc, session.kernel(), stop),
     }
@@ -65,8 +58,9 @@ pub fn verdict_on(
 /// A law: each theorem of these exports is derivable from the session's assumptions under its definitions, and these are
 /// accepted; and a text is that of one sequent.
 fn proved(session: &Session, exports: &[Export])
-    requires { All (λ e. e.th < length session.now.kernel.theorems) exports.now }
-    ensures proved { IsProved (ran_from session.now.kernel exports.now) }
+    requires session { IsRun session.now }
+    requires exports { All (IsExportIn session.now) exports.now }
+    ensures proved { IsProved (run_lists (ran_from session.now exports.now)) }
     ensures one_text { OneSequent }
     ensures one_in_front { OneSequentInFront }
 {
@@ -92,15 +86,19 @@ fn stopped(alloc: Global, kernel: &Kernel, stop: LinkFault) -> Result<Verdict, M
         LinkFault::TheoryTooLarge { path } => {
             Ok(refused(line_of(alloc, &path, "theory longer than 1048576 bytes")?))
         }
-        LinkFault::NoFile { path } => Ok(Verdict {
-            status: Status::NoFile,
-            text: line_of(alloc, &path, "no such file")?,
-        }),
-        LinkFault::ReadFault { path } => Ok(Verdict {
-            status: Status::ReadFault,
-            text: line_of(alloc, &path, "read fault")?,
-        }),
+        LinkFault::NoFile { path } => missing(alloc, &path),
+        LinkFault::ReadFault { path } => failed(alloc, &path),
         LinkFault::Memory => Err(Memory),
+    }
+}
+
+/// That the input is accepted, with this text for the output.
+pub fn accepted(text: Vec<u8>) -> Verdict
+    ensures { IsSaid result Status.Accepted text.items }
+{
+    Verdict {
+        status: Status::Accepted,
+        text,
     }
 }
 
@@ -114,51 +112,84 @@ fn refused(line: Vec<u8>) -> Verdict
     }
 }
 
-/// The verdict on a command whose input was run to its end, with these exports.
+/// That the file of a path isn't there.
+fn missing(alloc: Global, path: &str) -> Result<Verdict, Memory>
+    ensures { IfOk result (λ v. IsSaid v Status.NoFile (missing_line path.now)) }
+{
+    Ok(Verdict {
+        status: Status::NoFile,
+        text: line_of(alloc, path, "no such file")?,
+    })
+}
+
+/// That the input of a path failed.
+fn failed(alloc: Global, path: &str) -> Result<Verdict, Memory>
+    ensures { IfOk result (λ v. IsSaid v Status.ReadFault (read_fault_line path.now)) }
+{
+    Ok(Verdict {
+        status: Status::ReadFault,
+        text: line_of(alloc, path, "read fault")?,
+    })
+}
+
+/// That the summary of the input of a path is too large.
+fn too_large(alloc: Global, path: &str) -> Result<Verdict, Memory>
+    ensures { IfOk result (λ v. IsSaid v Status.Refused (large_line path.now)) }
+{
+    let line = line_of(alloc, path, "summary larger than 67108864 bytes")?;
+    Ok(refused(line))
+}
+
+/// The verdict on a job whose input was run to its end, with these exports.
 fn ended(
     alloc: Global,
-    command: Command<'_>,
+    job: Job<'_>,
     session: &Session,
     exports: &[Export],
 ) -> Result<Verdict, Memory>
-    requires { All (λ e. e.th < length session.now.kernel.theorems) exports.now }
-    ensures { IfOk result (EndsAs (command_value command.entry) (ran_from session.now.kernel exports.now)) }
+    requires session { IsRun session.now }
+    requires exports { All (IsExportIn session.now) exports.now }
+    requires lawful { IsLawfulEnds session.now exports.now }
+    ensures ends { IfOk result (EndsAs (job_task job.entry) (ran_from session.now exports.now)) }
+    ensures rewritten { OnOk result (let r = ran_from session.now exports.now in run_fits job.entry.view r ≡ true → IsRewrittenIn job.entry.view r) }
 {
-    match command {
-        Command::Check { .. } => Ok(Verdict {
-            status: Status::Accepted,
-            text: count_line(alloc, session, exports)?,
-        }),
-        Command::Info {
-            input,
-            sections,
-            ..
-        } => summary(alloc, input, sections, session, exports),
+    match job.view {
+        View::Counts => Ok(accepted(count_line(alloc, counts_of(session, exports))?)),
+        View::Summary(sections) => summary(alloc, job.path, sections, session, exports),
+        View::Article => written(alloc, job.path, session, exports),
     }
 }
 
 /// How many theorems, assumptions and definitions a run came to.
-fn count_line(alloc: Global, session: &Session, exports: &[Export]) -> Result<Vec<u8>, Memory>
-    ensures { IfOk result (λ line. line.items ≡ count_line (ran_from session.now.kernel exports.now)) }
+#[derive(Clone, Copy, Debug, PartialEq, Eq)]
+pub struct Counts {
+    pub theorems: usize,
+    pub assumptions: usize,
+    pub definitions: usize,
+}
+
+/// The counts of a run with these exports.
+fn counts_of(session: &Session, exports: &[Export]) -> Counts
+    requires { IsRun session.now }
+    ensures { AreCounts (ran_from session.now exports.now) result }
 {
     let kernel = session.kernel();
-    line_of_counts(
-        alloc,
-        exports.len(),
-        kernel.assumptions().len(),
-        kernel.definitions().len(),
-    )
+    Counts {
+        theorems: exports.len(),
+        assumptions: kernel.assumptions().len(),
+        definitions: kernel.definitions().len(),
+    }
 }
 
 /// The line for these counts.
-fn line_of_counts(
-    alloc: Global,
-    theorems: usize,
-    assumptions: usize,
-    definitions: usize,
-) -> Result<Vec<u8>, Memory>
-    ensures { IfOk result (λ line. line.items ≡ line_of_counts theorems assumptions definitions) }
+fn count_line(alloc: Global, counts: Counts) -> Result<Vec<u8>, Memory>
+    ensures { IfOk result (λ line. line.items ≡ line_of_counts counts.theorems counts.assumptions counts.definitions) }
 {
+    let Counts {
+        theorems,
+        assumptions,
+        definitions,
+    } = counts;
     let line = format!(in alloc;
         "accepted: {theorems} theorems, {assumptions} assumptions, {definitions} definitions\n"
     )?;
@@ -173,8 +204,9 @@ fn summary(
     session: &Session,
     exports: &[Export],
 ) -> Result<Verdict, Memory>
-    requires { All (λ e. e.th < length session.now.kernel.theorems) exports.now }
-    ensures { IfOk result (SummaryEndsAs path.now sections (ran_from session.now.kernel exports.now)) }
+    requires session { IsRun session.now }
+    requires exports { All (IsExportIn session.now) exports.now }
+    ensures { IfOk result (SummaryEndsAs path.now sections (ran_from session.now exports.now)) }
 {
     let theorems = theorems_of(alloc, exports)?;
     let limit = Limits::standard().summary_bytes;
@@ -187,17 +219,167 @@ fn summary(
         limit,
         &mut text,
     ) {
-        Ok(()) => Ok(Verdict {
-            status: Status::Accepted,
-            text,
-        }),
-        Err(PrintFault::TooLarge) => Ok(refused(line_of(
-            alloc,
-            path,
-            "summary larger than 67108864 bytes",
-        )?)),
+        Ok(()) => Ok(accepted(text)),
+        Err(PrintFault::TooLarge) => too_large(alloc, path),
         Err(PrintFault::Memory) => Err(Memory),
     }
+}
+
+/// The written article of a run's exports, or the line for one that is too large.
+fn written(
+    alloc: Global,
+    path: &str,
+    session: &Session,
+    exports: &[Export],
+) -> Result<Verdict, Memory>
+    requires session { IsRun session.now }
+    requires exports { All (IsExportIn session.now) exports.now }
+    requires lawful { IsLawfulEnds session.now exports.now }
+    ensures ends { IfOk result (ArticleEndsAs path.now (ran_from session.now exports.now)) }
+    ensures rewritten { OnOk result (let r = ran_from session.now exports.now in article_fits r ≡ true → IsRewritten r) }
+{
+    match article_of(alloc, session, exports)? {
+        Some(text) => Ok(accepted(text)),
+        None => large_article(alloc, path),
+    }
+}
+
+/// The written article of a run's exports, where it is within the limit.
+fn article_of(
+    alloc: Global,
+    session: &Session,
+    exports: &[Export],
+) -> Result<Option<Vec<u8>>, Memory>
+    requires session { IsRun session.now }
+    requires exports { All (IsExportIn session.now) exports.now }
+    requires lawful { IsLawfulEnds session.now exports.now }
+    ensures rewritten { OnOk result (let r = ran_from session.now exports.now in article_fits r ≡ true → IsRewritten r) }
+    ensures some { IfOk result (λ o. IfSome o (λ text. (article_fits (ran_from session.now exports.now) ≡ true) × (text.items ≡ article_text (ran_from session.now exports.now)))) }
+    ensures none { IfOk result (λ o. IfNone o (article_fits (ran_from session.now exports.now) ≡ false)) }
+{
+    let limit = Limits::standard().written_bytes;
+    let mut text = Vec::new(alloc);
+    match minimise(alloc, session, exports, limit, &mut text) {
+        Ok(()) => Ok(Some(text)),
+        Err(WriteRefusal::TooLarge) => Ok(None),
+        Err(WriteRefusal::Memory) => Err(Memory),
+    }
+}
+
+/// That the written article of the input of a path is too large.
+fn large_article(alloc: Global, path: &str) -> Result<Verdict, Memory>
+    ensures { IfOk result (λ v. IsSaid v Status.Refused (large_article_line path.now)) }
+{
+    let line = line_of(alloc, path, "written article larger than 4294967296 bytes")?;
+    Ok(refused(line))
+}
+
+/// The verdict on a sample that was made: its text.
+pub fn made_verdict(text: Vec<u8>) -> Verdict
+    ensures said { IsSaid result Status.Accepted text.items }
+    ensures one_text { OneSequent }
+    ensures one_in_front { OneSequentInFront }
+    ensures none { AcceptedLists names [] [] }
+{
+    growth_law();
+    one_text();
+    accepted(text)
+}
+
+/// The verdict on the sample of a size, whose article `made` was run so.
+pub fn sample_verdict(
+    alloc: Global,
+    size: u64,
+    made: &[u8],
+    session: &Session,
+    ran: Result<Vec<Export>, LinkFault>,
+) -> Result<Verdict, Memory>
+    requires session { IsRun session.now }
+    requires made { made.now ≡ sample size }
+    requires exports { IfOk ran (AreExportsIn session.now) }
+    requires lawful { IfOk ran (IsLawfulEnd session.now) }
+    requires symbols { IfErr ran (NamesSymbolIn session.now.kernel) }
+    ensures { IfOk result (IsVerdictOf (RunSample size) (end_of session.now ran)) }
+{
+    match ran {
+        Ok(exports) => {
+            proved(session, &exports);
+            sampled(alloc, size, made, session, &exports)
+        }
+        Err(fault) => stopped(alloc, session.kernel(), fault),
+    }
+}
+
+/// What the sample of a size came to, or the line for a written article that is too large.
+fn sampled(
+    alloc: Global,
+    size: u64,
+    made: &[u8],
+    session: &Session,
+    exports: &[Export],
+) -> Result<Verdict, Memory>
+    requires session { IsRun session.now }
+    requires made { made.now ≡ sample size }
+    requires exports { All (IsExportIn session.now) exports.now }
+    requires lawful { IsLawfulEnds session.now exports.now }
+    ensures ends { IfOk result (EndsAs (RunSample size) (ran_from session.now exports.now)) }
+    ensures rewritten { OnOk result (let r = ran_from session.now exports.now in article_fits r ≡ true → IsRewritten r) }
+{
+    match article_of(alloc, session, exports)? {
+        Some(text) => {
+            let counts = counts_of(session, exports);
+            let line = sample_line(alloc, size, line_count(made), counts, line_count(&text))?;
+            Ok(accepted(line))
+        }
+        None => large_article(alloc, SAMPLE),
+    }
+}
+
+/// How many newlines a text has.
+fn line_count(text: &[u8]) -> usize
+    ensures { result ≡ line_count text.now }
+{
+    text.iter().filter(|b| **b == b'\n').count()
+}
+
+/// The line for a sample of a size: how many lines its article has, its counts, and how many lines its written article has.
+fn sample_line(
+    alloc: Global,
+    size: u64,
+    lines: usize,
+    counts: Counts,
+    minimised: usize,
+) -> Result<Vec<u8>, Memory>
+    ensures { IfOk result (λ line. line.items
+        ≡ sample_front size lines counts.theorems ++ sample_back counts.assumptions counts.definitions minimised) }
+{
+    let mut line = sample_front(alloc, size, lines, counts.theorems)?;
+    let back = sample_back(alloc, counts.assumptions, counts.definitions, minimised)?;
+    line.extend_from_slice(&back)?;
+    Ok(line)
+}
+
+/// Its front, up to the theorems.
+fn sample_front(alloc: Global, size: u64, lines: usize, theorems: usize) -> Result<Vec<u8>, Memory>
+    ensures { IfOk result (λ line. line.items ≡ sample_front size lines theorems) }
+{
+    let line = format!(in alloc; "sample {size}: {lines} lines, {theorems} theorems, ")?;
+    Ok(line.into_bytes())
+}
+
+/// What is behind them.
+fn sample_back(
+    alloc: Global,
+    assumptions: usize,
+    definitions: usize,
+    minimised: usize,
+) -> Result<Vec<u8>, Memory>
+    ensures { IfOk result (λ line. line.items ≡ sample_back assumptions definitions minimised) }
+{
+    let line = format!(in alloc;
+        "{assumptions} assumptions, {definitions} definitions; minimised {minimised} lines\n"
+    )?;
+    Ok(line.into_bytes())
 }
 
 /// The numbers of the theorems that are exported, in order.

@@ -6,6 +6,7 @@ ghost use Rattle.ot_io.specs.FileList.{folder_of};
 mod hostile;
 mod tables;
 mod theories;
+mod written;
 
 use crate::program::run;
 use crate::status::Status;
@@ -18,8 +19,9 @@ use tables::{
 use theories::{
     ASSUMED_ONE, ASSUMES, BAD_LINE, CHAIN, CYCLE, Entry, FAR, GONE, IMPORT_CYCLE, IMPORTS,
     IMPORTS_LATE, IMPORTS_NONE, NO_ARTICLE, NOT_EQUATION, NOT_EQUATION_FAR, RENAMED, RENAMES,
-    SYMMETRIC, THEORY_FAILED, TOO_DEEP, UNREADABLE,
+    SYMMETRIC, THEORY_FAILED, TOO_DEEP, UNREADABLE, WEAKENED, WEAKENS, WEAKENS_NONE,
 };
+use written::{LEAN, LINKED, SAMPLES, WRITTEN};
 
 /// What the program answers: its status, and what stands on both sinks.
 #[derive(Drop)]
@@ -48,10 +50,13 @@ struct Outside {
     say: (usize, u64),
 }
 
+/// The most bytes that a sink in memory takes.
+const ROOM: usize = 65536;
+
 /// Large pieces, and no call that fails.
 const FINE: Outside = Outside {
     read: (65536, 0),
-    write: (1024, 0),
+    write: (65536, 0),
     say: (1024, 0),
 };
 
@@ -155,7 +160,7 @@ fn source(alloc: Global, article: &[u8], calls: (usize, u64)) -> Result<MemSourc
 fn sink(alloc: Global, calls: (usize, u64)) -> Result<MemSink, Fail>
     requires { 1 ≤ calls.0 }
 {
-    Ok(MemSink::new(alloc, 1024, calls.0, Vec::from_slice(alloc, &[calls.1])?)?)
+    Ok(MemSink::new(alloc, ROOM, calls.0, Vec::from_slice(alloc, &[calls.1])?)?)
 }
 
 /// Adds the lines of a text that has a space for the end of a line, and a newline behind the last.
@@ -302,8 +307,72 @@ fn theory_files(rt: HostRuntime) -> Result<(), Fail> {
             ASSUMED_ONE
         )?
     );
+    let theorems = &["info", "--theorems", "t.thy"];
+    assert!(rt; says(alloc, check, &WEAKENS, 0, Status::Accepted, ONE)?);
+    assert!(rt;
+        says(
+            alloc,
+            check,
+            &WEAKENS_NONE,
+            0,
+            Status::Accepted,
+            ASSUMED_ONE
+        )?
+    );
+    assert!(rt; says(alloc, theorems, &WEAKENS, 0, Status::Accepted, WEAKENED)?);
     assert!(rt; says(alloc, info, &ASSUMES, 0, Status::Accepted, SYMMETRIC)?);
     assert!(rt; says(alloc, info, &RENAMES, 0, Status::Accepted, RENAMED)?);
+    Ok(())
+}
+
+/// An article that is written has what its exports need and nothing else, and proves the same.
+#[test]
+fn minimised(rt: HostRuntime) -> Result<(), Fail> {
+    for (parts, text) in WRITTEN {
+        let article = joined(rt.alloc(), parts)?;
+        let mut lines = Vec::new(rt.alloc());
+        add_lines(&mut lines, text)?;
+        let answer = answered(rt.alloc(), &["minimise", "-"], &article, FINE)?;
+        assert_eq!(rt; answer.said(), lines.as_slice(), "{parts:?}");
+        assert_eq!(rt; answer.status, Status::Accepted, "{parts:?}");
+    }
+    let mut lean = Vec::new(rt.alloc());
+    add_lines(&mut lean, LEAN)?;
+    assert_eq!(rt; lean.len(), 97);
+    let answer = answered(rt.alloc(), &["check", "a.art"], &lean, FINE)?;
+    assert_eq!(rt; answer.said(), ONE);
+    Ok(())
+}
+
+/// A theory file's is that of its last block.
+#[test]
+fn linked(rt: HostRuntime) -> Result<(), Fail> {
+    let mut lines = Vec::new(rt.alloc());
+    add_lines(&mut lines, LINKED)?;
+    for command in ["link", "minimise"] {
+        let words = &[command, "t.thy"];
+        assert!(rt;
+            says(rt.alloc(), words, &IMPORTS, 0, Status::Accepted, &lines)?,
+            "{command}"
+        );
+    }
+    Ok(())
+}
+
+/// The sample article, and what it comes to.
+#[test]
+fn samples(rt: HostRuntime) -> Result<(), Fail> {
+    for (size, line) in SAMPLES {
+        let answer = answered(rt.alloc(), &["sample", size], b"", FINE)?;
+        assert_eq!(rt; answer.said(), line, "{size}");
+        assert_eq!(rt; answer.status, Status::Accepted, "{size}");
+    }
+    let made = answered(rt.alloc(), &["sample", "--article", "200"], b"", FINE)?;
+    let checked = answered(rt.alloc(), &["check", "-"], &made.out, FINE)?;
+    assert_eq!(rt; checked.said(), ONE);
+    let shown = answered(rt.alloc(), &["info", "-"], &made.out, FINE)?;
+    assert_eq!(rt; shown.said(), TOO_LARGE.6);
+    assert_eq!(rt; shown.status, Status::Refused);
     Ok(())
 }
 

@@ -126,7 +126,6 @@ fn add_fault(alloc: Global, kernel: &Kernel, fault: Fault, out: &mut Vec<u8>) ->
         Fault::BadName => add(out, "bad name"),
         Fault::BadNumber => add(out, "bad number"),
         Fault::NumberRange => add(out, "number out of range"),
-        Fault::VersionMissing => add(out, "version command missing"),
         Fault::VersionUnsupported(k) => add_number(alloc, "version ", k, " unsupported", out),
         Fault::VersionLate => add(out, "version command in a wrong place"),
         Fault::StackEmpty => add(out, "stack empty"),

@@ -1,61 +1,31 @@
--- Options that are read one by one set what the list of them says.
+-- Options that are read one by one ask for what the list of them says.
 use Rattle.std.proofs.Common.{◌≡◌, ℕ, Bool, true, false, not, ◌&&◌, ◌||◌, cond, List, [], ◌∷◌, refl, ap, sym, ◌∙◌}
 use Rattle.std.specs.Prelude.{Option, None, Some, is_some}
-use Rattle.std.specs.Option.{option_map, option_or, option_and_then}
+use Rattle.std.specs.Option.{option_or, option_and_then}
 use Rattle.std.specs.List.{list_all, list_any}
-use Rattle.std.specs.Str.{bytes_eq}
 use Rattle.std.proofs.Math.Bool.{and_comm, or-false}
-use Rattle.ot_args.specs.declared.sections.Sections.{Sections}
-use Rattle.ot_args.specs.Grammar.{OptionValue, Packages, Assumptions, Definitions, Theorems, is_option, is_same, are_once, are_options, folder_of, sections_of}
-use Rattle.ot_args.specs.Reading.{Settings, no_settings, with_sections, set_one, set_all}
-
--- an option of this name was set
-abbrev is_set : Settings → OptionValue → Bool
-is_set s (Packages _) = is_some s.folder
-is_set s Assumptions = s.sections.assumptions
-is_set s Definitions = s.sections.definitions
-is_set s Theorems = s.sections.theorems
-
--- settings with an option
-abbrev with : Settings → OptionValue → Settings
-with s (Packages folder) = record { folder = Some folder; sections = s.sections }
-with s Assumptions = record { folder = s.folder; sections = record s.sections { assumptions = true } }
-with s Definitions = record { folder = s.folder; sections = record s.sections { definitions = true } }
-with s Theorems = record { folder = s.folder; sections = record s.sections { theorems = true } }
+use Rattle.ot_args.specs.Grammar.{OptionValue, Packages, Assumptions, Definitions, Theorems, Article, SettingsValue, is_option, is_same, are_once, are_options, folder_of, settings_of}
+use Rattle.ot_args.specs.Reading.{no_settings, is_set, with, set_all}
 
 -- settings with options behind them
-abbrev joined : Settings → List OptionValue → Settings
+abbrev joined : SettingsValue → List OptionValue → SettingsValue
 joined s os = record {
   folder = option_or s.folder (folder_of os);
   sections = record {
-    assumptions = s.sections.assumptions || (sections_of os).assumptions;
-    definitions = s.sections.definitions || (sections_of os).definitions;
-    theorems = s.sections.theorems || (sections_of os).theorems;
+    assumptions = s.sections.assumptions || list_any (is_same Assumptions) os;
+    definitions = s.sections.definitions || list_any (is_same Definitions) os;
+    theorems = s.sections.theorems || list_any (is_same Theorems) os;
   };
+  article = s.article || list_any (is_same Article) os;
 }
 
--- what options set
-abbrev pub settings_of : List OptionValue → Settings
-settings_of os = record { folder = folder_of os; sections = sections_of os }
-
--- a section is set where it was not
-section_set : (b : Bool) (s : Settings) (t : Sections) → option_map (with_sections s) (cond b None (Some t)) ≡ cond (not b) (Some (with_sections s t)) None
-section_set true s t = refl
-section_set false s t = refl
-
--- an option is set where its value is one that it may have, and it was not
-set_one_is : (s : Settings) (o : OptionValue) → set_one s o ≡ cond (is_option o && not (is_set s o)) (Some (with s o)) None
-set_one_is s (Packages folder) = ap (λ (b : Bool). cond b (Some (with s (Packages folder))) None) (and_comm (not (is_some s.folder)) (not (bytes_eq folder [])))
-set_one_is s Assumptions = section_set s.sections.assumptions s _
-set_one_is s Definitions = section_set s.sections.definitions s _
-set_one_is s Theorems = section_set s.sections.theorems s _
-
 -- set before, or set now
-is_set-with : (s : Settings) (o p : OptionValue) → is_set (with s o) p ≡ (is_same o p || is_set s p)
+is_set-with : (s : SettingsValue) (o p : OptionValue) → is_set (with s o) p ≡ (is_same o p || is_set s p)
 is_set-with s (Packages _) (Packages _) = refl
 is_set-with s Assumptions Assumptions = refl
 is_set-with s Definitions Definitions = refl
 is_set-with s Theorems Theorems = refl
+is_set-with s Article Article = refl
 is_set-with s _ _ = refl
 
 -- two choices of two, sorted
@@ -66,7 +36,7 @@ either false true false y = refl
 either false false x y = refl
 
 -- some option was set before, or is one that is set now
-any_set-with : (s : Settings) (o : OptionValue) (os : List OptionValue) → list_any (is_set (with s o)) os ≡ (list_any (is_same o) os || list_any (is_set s) os)
+any_set-with : (s : SettingsValue) (o : OptionValue) (os : List OptionValue) → list_any (is_set (with s o)) os ≡ (list_any (is_same o) os || list_any (is_set s) os)
 any_set-with s o [] = refl
 any_set-with s o (p ∷ os) =
     rw (is_set-with s o p, any_set-with s o os) (either (is_same o p) (is_set s p) (list_any (is_same o) os) (list_any (is_set s) os))
@@ -77,12 +47,14 @@ first_folder None folder rest h = refl
 first_folder (Some other) folder rest h = cc
 
 -- an option that is set joins those before it
-joined-with : (s : Settings) (o : OptionValue) (os : List OptionValue) → is_set s o ≡ false → joined (with s o) os ≡ joined s (o ∷ os)
+joined-with : (s : SettingsValue) (o : OptionValue) (os : List OptionValue) → is_set s o ≡ false → joined (with s o) os ≡ joined s (o ∷ os)
 joined-with s (Packages folder) os h =
-    ap (λ (w : Option (List ℕ)). record { folder = w; sections = (joined s os).sections }) (first_folder s.folder folder (folder_of os) h)
+    let t : SettingsValue = joined s os in
+    ap (λ (w : Option (List ℕ)). record { folder = w; sections = t.sections; article = t.article }) (first_folder s.folder folder (folder_of os) h)
 joined-with s Assumptions os h = rw h refl
 joined-with s Definitions os h = rw h refl
 joined-with s Theorems os h = rw h refl
+joined-with s Article os h = rw h refl
 
 -- nothing in place of nothing
 option_or-none : (w : Option (List ℕ)) → option_or w None ≡ w
@@ -90,8 +62,8 @@ option_or-none None = refl
 option_or-none (Some folder) = refl
 
 -- no options leave the settings
-joined-nothing : (s : Settings) → joined s [] ≡ s
-joined-nothing s = rw (option_or-none s.folder, or-false s.sections.assumptions, or-false s.sections.definitions, or-false s.sections.theorems) refl
+joined-nothing : (s : SettingsValue) → joined s [] ≡ s
+joined-nothing s = rw (option_or-none s.folder, or-false s.sections.assumptions, or-false s.sections.definitions, or-false s.sections.theorems, or-false s.article) refl
 
 -- ---- all options
 
@@ -102,7 +74,7 @@ apart true set true false = refl
 apart true set false values = refl
 apart false set once values = refl
 
--- a value that an option may not have
+-- an option that isn't taken
 refused : {A : Type 0} (once values set : Bool) (x : A) → None ≡ cond ((once && (false && values)) && set) (Some x) None
 refused true values set x = refl
 refused false values set x = refl
@@ -113,25 +85,23 @@ set_before true x = refl
 set_before false x = refl
 
 -- options are set one by one exactly where they may stand together behind those before
-abbrev IsSet : List OptionValue → Type 0
-IsSet os = (s : Settings) → set_all os s ≡ cond (are_options os && not (list_any (is_set s) os)) (Some (joined s os)) None
+abbrev IsSet : List ℕ → List OptionValue → Type 0
+IsSet word os = (s : SettingsValue) → set_all word os s ≡ cond (are_options word os && not (list_any (is_set s) os)) (Some (joined s os)) None
 
 -- one option before options
-one_more : (o : OptionValue) (os : List OptionValue) (s : Settings) (value set : Bool) → IsSet os → set ≡ is_set s o → option_and_then (set_all os) (cond (value && not set) (Some (with s o)) None) ≡ cond (((not (list_any (is_same o) os) && are_once os) && (value && list_all is_option os)) && not (set || list_any (is_set s) os)) (Some (joined s (o ∷ os))) None
-one_more o os s false set rest e = refused (not (list_any (is_same o) os) && are_once os) (list_all is_option os) (not (set || list_any (is_set s) os)) (joined s (o ∷ os))
-one_more o os s true true rest e = set_before ((not (list_any (is_same o) os) && are_once os) && list_all is_option os) (joined s (o ∷ os))
-one_more o os s true false rest e =
+one_more : (word : List ℕ) (o : OptionValue) (os : List OptionValue) (s : SettingsValue) (value set : Bool) → IsSet word os → set ≡ is_set s o → option_and_then (set_all word os) (cond (value && not set) (Some (with s o)) None) ≡ cond (((not (list_any (is_same o) os) && are_once os) && (value && list_all (is_option word) os)) && not (set || list_any (is_set s) os)) (Some (joined s (o ∷ os))) None
+one_more word o os s false set rest e = refused (not (list_any (is_same o) os) && are_once os) (list_all (is_option word) os) (not (set || list_any (is_set s) os)) (joined s (o ∷ os))
+one_more word o os s true true rest e = set_before ((not (list_any (is_same o) os) && are_once os) && list_all (is_option word) os) (joined s (o ∷ os))
+one_more word o os s true false rest e =
     rest (with s o)
-    ∙ ap (λ (t : Settings). cond (are_options os && not (list_any (is_set (with s o)) os)) (Some t) None) (joined-with s o os (sym e))
-    ∙ ap (λ (b : Bool). cond (are_options os && not b) (Some (joined s (o ∷ os))) None) (any_set-with s o os)
-    ∙ ap (λ (b : Bool). cond b (Some (joined s (o ∷ os))) None) (apart (list_any (is_same o) os) (list_any (is_set s) os) (are_once os) (list_all is_option os))
+    ∙ ap (λ (t : SettingsValue). cond (are_options word os && not (list_any (is_set (with s o)) os)) (Some t) None) (joined-with s o os (sym e))
+    ∙ ap (λ (b : Bool). cond (are_options word os && not b) (Some (joined s (o ∷ os))) None) (any_set-with s o os)
+    ∙ ap (λ (b : Bool). cond b (Some (joined s (o ∷ os))) None) (apart (list_any (is_same o) os) (list_any (is_set s) os) (are_once os) (list_all (is_option word) os))
 
 -- all of them
-all_set : (os : List OptionValue) → IsSet os
-all_set [] s = ap Some (sym (joined-nothing s))
-all_set (o ∷ os) s =
-    ap (option_and_then (set_all os)) (set_one_is s o)
-    ∙ one_more o os s (is_option o) (is_set s o) (all_set os) refl
+all_set : (word : List ℕ) (os : List OptionValue) → IsSet word os
+all_set word [] s = ap Some (sym (joined-nothing s))
+all_set word (o ∷ os) s = one_more word o os s (is_option word o) (is_set s o) (all_set word os) refl
 
 -- nothing was set before the first option
 none_set : (os : List OptionValue) → list_any (is_set no_settings) os ≡ false
@@ -140,10 +110,11 @@ none_set (Packages _ ∷ os) = none_set os
 none_set (Assumptions ∷ os) = none_set os
 none_set (Definitions ∷ os) = none_set os
 none_set (Theorems ∷ os) = none_set os
+none_set (Article ∷ os) = none_set os
 
--- what options set, which are read one by one from the first
-pub set_all-nothing : (os : List OptionValue) → set_all os no_settings ≡ cond (are_options os) (Some (settings_of os)) None
-set_all-nothing os =
-    all_set os no_settings
-    ∙ ap (λ (b : Bool). cond (are_options os && not b) (Some (settings_of os)) None) (none_set os)
-    ∙ ap (λ (b : Bool). cond b (Some (settings_of os)) None) (and_comm (are_options os) true)
+-- what options ask for, which are read one by one from the first
+pub set_all-nothing : (word : List ℕ) (os : List OptionValue) → set_all word os no_settings ≡ cond (are_options word os) (Some (settings_of os)) None
+set_all-nothing word os =
+    all_set word os no_settings
+    ∙ ap (λ (b : Bool). cond (are_options word os && not b) (Some (settings_of os)) None) (none_set os)
+    ∙ ap (λ (b : Bool). cond b (Some (settings_of os)) None) (and_comm (are_options word os) true)

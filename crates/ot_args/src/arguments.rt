@@ -1,41 +1,37 @@
 ghost use Rattle.std.specs.Prelude.{◌≡◌};
-ghost use Rattle.std.specs.Option.{option_copied};
 ghost use Rattle.ot_args.specs.Grammar.{texts_of};
-ghost use Rattle.ot_args.specs.Reading.{given_answer, names_folder, no_settings, read_after};
+ghost use Rattle.ot_args.specs.Reading.{given_answer, no_settings, read_after};
 
 use crate::command::Usage;
-use crate::sections::{NONE, Sections, with_named};
+use crate::settings::{CommandOption, Settings, UNSET, flag_named};
 
 /// The name of the option for the folder of the packages.
 const PACKAGES: &str = "--packages";
 
 /// What is given behind a command's word.
-#[derive(Clone, Copy, Debug, PartialEq, Eq)]
+#[derive(Clone, Copy)]
 pub struct Given<'a> {
-    /// The folder of the packages, where the words name one.
-    pub packages: Option<&'a str>,
-    /// The sections that the words name.
-    pub sections: Sections,
+    /// What the options ask for.
+    pub settings: Settings<'a>,
     /// The last word.
     pub operand: &'a str,
 }
 
 impl<'a> Given<'a> {
-    /// Reads the options, each at most once, and the operand behind them.
-    pub fn read(words: &'a [String]) -> Result<Given<'a>, Usage>
-        ensures { given_answer result ≡ read_after no_settings (texts_of words.now) }
+    /// Reads the options of a word's command, each at most once, and the operand behind them.
+    pub fn read(word: &str, words: &'a [String]) -> Result<Given<'a>, Usage>
+        ensures { given_answer result ≡ read_after word.now no_settings (texts_of words.now) }
     {
-        let mut packages = None;
-        let mut sections = NONE;
+        let mut settings = UNSET;
         let mut rest = words;
-        while let [word, next, further @ ..] = rest {
-            let name = word.as_str();
+        while let [first, next, further @ ..] = rest {
+            let name = first.as_str();
             let value = next.as_str();
-            if let Some(more) = with_named(sections, name) {
-                sections = more;
+            if let Some(flag) = flag_named(name) {
+                settings = settings.set(word, flag)?;
                 rest = &rest[1..];
-            } else if names_folder(packages, name, value) {
-                packages = Some(value);
+            } else if name == PACKAGES {
+                settings = settings.set(word, CommandOption::Packages(value))?;
                 rest = further;
             } else {
                 return Err(Usage);
@@ -43,18 +39,10 @@ impl<'a> Given<'a> {
         }
         match rest {
             [operand] => Ok(Given {
-                packages,
-                sections,
+                settings,
                 operand: operand.as_str(),
             }),
             _ => Err(Usage),
         }
     }
-}
-
-/// Whether the words name the folder of the packages, for the first time.
-fn names_folder(named: Option<&str>, name: &str, value: &str) -> bool
-    ensures { result ≡ names_folder (option_copied named.entry) name.now value.now }
-{
-    name == PACKAGES && named.is_none() && !value.is_empty()
 }

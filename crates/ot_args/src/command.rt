@@ -1,12 +1,15 @@
-ghost use Rattle.std.specs.Prelude.{◌≡◌, ℕ, List};
-ghost use Rattle.ot_args.specs.Grammar.{texts_of, answer, command_of, is_input, is_theory, CommandValue, IsRead};
-ghost use Rattle.ot_args.specs.Reading.{command_given, given_value};
+ghost use Rattle.std.specs.Prelude.{◌≡◌, ℕ, List, IfOk};
+ghost use Rattle.std.specs.Option.{option_map};
+ghost use Rattle.ot_args.specs.Grammar.{texts_of, answer, command_of, command_value, command_with, count_of, sample, is_input, is_theory, CommandValue, FitsOperand, IsRead};
+ghost use Rattle.ot_args.specs.Reading.{settings_value};
 
 use crate::arguments::Given;
-use crate::sections::{Sections, names_any, shown};
+use crate::count::count_of;
+use crate::sections::{Sections, shown};
+use crate::settings::Settings;
 
-/// What the words of the command line ask for. In each command the input is `-` for an article on
-/// standard input, a theory file's name or an article file's, and the theory packages are in a folder.
+/// What the words of the command line ask for. An input is `-` for an article on standard input, a
+/// theory file's name or an article file's, and the theory packages are in a folder.
 #[derive(Clone, Copy, Debug, PartialEq, Eq)]
 pub enum Command<'a> {
     /// Runs the input.
@@ -20,6 +23,24 @@ pub enum Command<'a> {
         input: &'a str,
         sections: Sections,
     },
+    /// Links a theory file's packages to one article.
+    Link {
+        packages: &'a str,
+        file: &'a str,
+    },
+    /// Runs the input and writes a shorter article of its theorems.
+    Minimise {
+        packages: &'a str,
+        input: &'a str,
+    },
+    /// Makes the sample article of a number, 1 to 1,000, and runs and minimises it.
+    Sample {
+        count: u64,
+    },
+    /// Writes the sample article of a number, 1 to 1,000.
+    SampleArticle {
+        count: u64,
+    },
 }
 
 /// The words are no command.
@@ -27,17 +48,27 @@ pub enum Command<'a> {
 pub struct Usage;
 
 impl<'a> Command<'a> {
-    /// The command that the words write, without the program's name: `check [--packages DIR] INPUT`
-    /// or `info [--assumptions] [--definitions] [--theorems] [--packages DIR] INPUT`, with options in
-    /// any order and each at most once. The folder is `packages` where the words name none; all three
-    /// sections are asked for where they name none. `Usage` comes exactly for words outside this
-    /// grammar, which is the program's own. No memory is taken.
+    /// The command that the words write, without the program's name:
+    ///
+    /// ```text
+    /// check [--packages DIR] INPUT
+    /// info [--assumptions] [--definitions] [--theorems] [--packages DIR] INPUT
+    /// link [--packages DIR] FILE
+    /// minimise [--packages DIR] INPUT
+    /// sample [--article] N
+    /// ```
+    ///
+    /// Options stand in any order, each at most once. DIR isn't empty, and is `packages` where the words name no folder. `info`
+    /// asks for all three sections where they name none. INPUT and LOG are `-`, or a name that isn't empty and doesn't begin with
+    /// `-`; FILE is an INPUT that ends in `.thy`. N is a number from 1 to 1,000 in decimal, without sign or leading zero.
+    /// `Usage` comes exactly for words outside this grammar, which is the program's own. No memory is taken.
     pub fn read(words: &'a [String]) -> Result<Command<'a>, Usage>
-        ensures { answer result ≡ command_of (texts_of words.now) }
+        ensures value { answer result ≡ command_of (texts_of words.now) }
+        ensures operand { IfOk result (λ command. FitsOperand (command_value command)) }
     {
         match words {
-            [word, words @ ..] => match Given::read(words) {
-                Ok(given) => command_given(word.as_str(), given),
+            [word, words @ ..] => match Given::read(word.as_str(), words) {
+                Ok(given) => command_with(word.as_str(), given.settings, given.operand),
                 Err(usage) => Err(usage),
             },
             [] => Err(Usage),
@@ -45,33 +76,57 @@ impl<'a> Command<'a> {
     }
 }
 
-/// A law: words are a command exactly where they are its word, its options in any order, each at most
-/// once, and its operand, written out.
+/// A law: words are a command exactly where they are its word, options that it takes, in any order and each at most once, and
+/// its operand, written out.
 pub fn one_reading()
     ensures { (words : List (List ℕ)) (c : CommandValue) → IsRead words c }
 {}
 
-/// The command of a word with what is given behind it.
-fn command_given<'a>(word: &str, given: Given<'a>) -> Result<Command<'a>, Usage>
-    ensures { answer result ≡ command_given word.now (given_value given.entry) }
+/// The command of a word, what its options ask for, and its operand.
+fn command_with<'a>(
+    word: &str,
+    settings: Settings<'a>,
+    operand: &'a str,
+) -> Result<Command<'a>, Usage>
+    ensures { answer result ≡ command_with word.now (settings_value settings.entry) operand.now }
 {
-    let packages = given.packages.unwrap_or("packages");
-    let input = given.operand;
-    if !is_input(input) {
-        return Err(Usage);
-    }
-    match word.as_bytes() {
-        b"check" if !names_any(given.sections) => Ok(Command::Check { packages, input }),
-        b"info" => Ok(Command::Info {
+    let packages = settings.packages.unwrap_or("packages");
+    let input = operand;
+    if word == "check" && is_input(input) {
+        Ok(Command::Check { packages, input })
+    } else if word == "info" && is_input(input) {
+        let sections = shown(settings.sections);
+        Ok(Command::Info {
             packages,
             input,
-            sections: shown(given.sections),
-        }),
-        _ => Err(Usage),
+            sections,
+        })
+    } else if word == "link" && is_input(input) && is_theory(input) {
+        Ok(Command::Link {
+            packages,
+            file: input,
+        })
+    } else if word == "minimise" && is_input(input) {
+        Ok(Command::Minimise { packages, input })
+    } else if word == "sample" {
+        sample(settings.article, operand)
+    } else {
+        Err(Usage)
     }
 }
 
-/// Whether the word names an input: it isn't empty, and begins with `-` only where it is `-` itself.
+/// A sample, or its article, of the number that a word is.
+fn sample<'a>(article: bool, word: &'a str) -> Result<Command<'a>, Usage>
+    ensures { answer result ≡ option_map (sample article) (count_of word.now) }
+{
+    match count_of(word) {
+        Some(count) if article => Ok(Command::SampleArticle { count }),
+        Some(count) => Ok(Command::Sample { count }),
+        None => Err(Usage),
+    }
+}
+
+/// Whether the word names an input or a log: it isn't empty, and begins with `-` only where it is `-` itself.
 fn is_input(word: &str) -> bool
     ensures { result ≡ is_input word.now }
 {
@@ -88,162 +143,4 @@ pub fn is_theory(input: &str) -> bool
     ensures { result ≡ is_theory input.now }
 {
     input.as_bytes().ends_with(b".thy")
-}
-
-#[cfg(test)]
-mod tests {
-    use super::*;
-    use std::alloc::{AllocError, Global};
-    use std::test::Fail;
-
-    const ALL: Sections = Sections {
-        assumptions: true,
-        definitions: true,
-        theorems: true,
-    };
-
-    const ASSUMPTIONS: Sections = Sections {
-        assumptions: true,
-        definitions: false,
-        theorems: false,
-    };
-
-    const THEOREMS: Sections = Sections {
-        assumptions: false,
-        definitions: false,
-        theorems: true,
-    };
-
-    const NO_THEOREMS: Sections = Sections {
-        assumptions: true,
-        definitions: true,
-        theorems: false,
-    };
-
-    /// The words of a line, and the packages' folder and the input of its command, with the sections
-    /// of an `info`.
-    const ROWS: [(&[&str], Option<(&str, &str, Option<Sections>)>); 48] = [
-        (&["check", "-"], Some(("packages", "-", None))),
-        (&["check", "a.art"], Some(("packages", "a.art", None))),
-        (
-            &["check", "a.thy.art"],
-            Some(("packages", "a.thy.art", None)),
-        ),
-        (
-            &["check", "--packages", "p", "t.thy"],
-            Some(("p", "t.thy", None)),
-        ),
-        (&["check", ".thy"], Some(("packages", ".thy", None))),
-        (&["info", "a.thy"], Some(("packages", "a.thy", Some(ALL)))),
-        (&["check", "--packages", "p", "-"], Some(("p", "-", None))),
-        (
-            &["check", "--packages", "-p", "a.art"],
-            Some(("-p", "a.art", None)),
-        ),
-        (
-            &["check", "--packages", "--packages", "-"],
-            Some(("--packages", "-", None)),
-        ),
-        (&["info", "a"], Some(("packages", "a", Some(ALL)))),
-        (&["info", "-"], Some(("packages", "-", Some(ALL)))),
-        (
-            &["info", "--theorems", "a"],
-            Some(("packages", "a", Some(THEOREMS))),
-        ),
-        (
-            &["info", "--packages", "p", "--assumptions", "a"],
-            Some(("p", "a", Some(ASSUMPTIONS))),
-        ),
-        (
-            &[
-                "info",
-                "--definitions",
-                "--packages",
-                "--theorems",
-                "--assumptions",
-                "a",
-            ],
-            Some(("--theorems", "a", Some(NO_THEOREMS))),
-        ),
-        (
-            &["info", "--theorems", "--definitions", "--assumptions", "a"],
-            Some(("packages", "a", Some(ALL))),
-        ),
-        (&[], None),
-        (&["check"], None),
-        (&["check", "a", "b"], None),
-        (&["check", "--packages", "--packages", "p", "-"], None),
-        (&["check", "--packages", "p", "--packages", "q", "-"], None),
-        (&["check", "--packages"], None),
-        (&["check", "--packages", "-"], None),
-        (&["check", "--packages", "", "-"], None),
-        (&["check", "-", "--packages", "p"], None),
-        (&["check", "--packages=p", "-"], None),
-        (&["check", "--definitions", "-"], None),
-        (&["check", "--theorems", "a"], None),
-        (&["check", "--", "-"], None),
-        (&["check", ""], None),
-        (&["check", "-x"], None),
-        (&["check", "-.thy"], None),
-        (&["Check", "-"], None),
-        (&["info"], None),
-        (&["info", "--theorems", "--theorems", "a"], None),
-        (
-            &[
-                "info",
-                "--packages",
-                "p",
-                "--theorems",
-                "--packages",
-                "q",
-                "a",
-            ],
-            None,
-        ),
-        (&["info", "--packages"], None),
-        (&["info", "--packages", "", "a"], None),
-        (&["info", "--definitions"], None),
-        (&["info", "--theorems", "-x"], None),
-        (&["info", "-x"], None),
-        (&["info", "a", "--theorems"], None),
-        (&["info", "a", "b"], None),
-        (&["link", "a.art"], None),
-        (&["sample", "0"], None),
-        (&["sample", "1001"], None),
-        (&["sample", "007"], None),
-        (&["--help"], None),
-        (&["--version"], None),
-    ];
-
-    fn owned(alloc: Global, line: &[&str]) -> Result<Vec<String>, AllocError> {
-        let mut words = Vec::new(alloc);
-        for word in line {
-            words.push(String::from_str(alloc, word)?)?;
-        }
-        Ok(words)
-    }
-
-    #[test]
-    fn lines(rt: HostRuntime) -> Result<(), Fail> {
-        for (line, wanted) in ROWS {
-            let words = owned(rt.alloc(), line)?;
-            let wanted = match wanted {
-                Some((packages, input, None)) => Ok(Command::Check { packages, input }),
-                Some((packages, input, Some(sections))) => Ok(Command::Info {
-                    packages,
-                    input,
-                    sections,
-                }),
-                None => Err(Usage),
-            };
-            assert_eq!(rt; Command::read(&words), wanted, "{line:?}");
-        }
-        Ok(())
-    }
-
-    #[test]
-    fn theory_files(rt: HostRuntime) {
-        assert!(rt; is_theory("d/t.thy") && is_theory(".thy"));
-        assert!(rt; !is_theory("t.thy.art") && !is_theory("thy") && !is_theory("-"));
-    }
 }

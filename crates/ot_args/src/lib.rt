@@ -3,7 +3,11 @@
 
 mod arguments;
 mod command;
+mod count;
 mod sections;
+mod settings;
+#[cfg(test)]
+mod tests;
 
 pub use command::{Command, Usage, is_theory, one_reading};
 pub use sections::Sections;

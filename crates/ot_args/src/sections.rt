@@ -1,6 +1,5 @@
 ghost use Rattle.std.specs.Prelude.{◌≡◌};
 ghost use Rattle.ot_args.specs.Grammar.{names_any, shown};
-ghost use Rattle.ot_args.specs.Reading.{with_named};
 
 /// The sections of a summary that are asked for.
 #[derive(Clone, Copy, Debug, PartialEq, Eq)]
@@ -27,32 +26,8 @@ const ALL: Sections = Sections {
     theorems: true,
 };
 
-/// The sections with the one that an option names, where it names one that isn't among them.
-pub fn with_named(sections: Sections, name: &str) -> Option<Sections>
-    ensures { result ≡ with_named sections name.now }
-{
-    if name == "--assumptions" {
-        (!sections.assumptions).then_some(Sections {
-            assumptions: true,
-            ..sections
-        })
-    } else if name == "--definitions" {
-        (!sections.definitions).then_some(Sections {
-            definitions: true,
-            ..sections
-        })
-    } else if name == "--theorems" {
-        (!sections.theorems).then_some(Sections {
-            theorems: true,
-            ..sections
-        })
-    } else {
-        None
-    }
-}
-
 /// Whether a section is among them.
-pub fn names_any(sections: Sections) -> bool
+fn names_any(sections: Sections) -> bool
     ensures { result ≡ names_any sections }
 {
     sections.assumptions || sections.definitions || sections.theorems

@@ -11,7 +11,7 @@ pub const ONE: &[u8] = b"accepted: 1 theorems, 0 assumptions, 0 definitions\n";
 const DEFINED: &[u8] = b"accepted: 1 theorems, 0 assumptions, 1 definitions\n";
 
 /// Whole articles, a space for the end of a line.
-pub const ARTICLES: [(&[u8], Status, &[u8]); 19] = [
+pub const ARTICLES: [(&[u8], Status, &[u8]); 22] = [
     (b"", Status::Accepted, NONE),
     (b"6", Status::Accepted, NONE),
     (b"6 version -9223372036854775808", Status::Accepted, NONE),
@@ -46,20 +46,28 @@ pub const ARTICLES: [(&[u8], Status, &[u8]); 19] = [
         Status::Accepted,
         ONE,
     ),
-    (
-        b"\"a\"",
-        Status::Refused,
-        b"opentheory: -:1: version command missing\n",
-    ),
+    // Articles that don't declare version 6 are of version 5.
+    (b"\"a\"", Status::Accepted, NONE),
+    (b"6 nil", Status::Accepted, NONE),
     (
         b"absTerm",
         Status::Refused,
-        b"opentheory: -:1: version command missing\n",
+        b"opentheory: -:1: stack empty\n",
     ),
     (
-        b"6 nil",
+        b"nil hdTl",
         Status::Refused,
-        b"opentheory: -:2: version command missing\n",
+        b"opentheory: -:2: empty list\n",
+    ),
+    (
+        b"nil pop pop",
+        Status::Refused,
+        b"opentheory: -:3: stack empty\n",
+    ),
+    (
+        b"version",
+        Status::Refused,
+        b"opentheory: -:1: version command in a wrong place\n",
     ),
     (
         b"5 version",
@@ -118,7 +126,7 @@ const JOINED: &[u8] =
     b"\"a\" 1 ref var varTerm 6 def pop \"b\" 1 ref var varTerm 7 def pop \"c\" 1 ref var varTerm 8 def pop 4 ref 3 ref constTerm 9 def pop 9 ref 6 ref appTerm 7 ref appTerm 10 def pop 9 ref 7 ref appTerm 8 ref appTerm 11 def pop 9 ref 6 ref appTerm 8 ref appTerm 12 def pop 10 ref assume 11 ref assume trans 10 ref 11 ref nil cons cons 12 ref thm 11 ref assume 10 ref assume trans 11 ref 10 ref nil cons cons 12 ref thm";
 
 /// The constant T, defined as an equation.
-const REALISTIC: &[&[u8]] = &[
+pub const REALISTIC: &[&[u8]] = &[
     P,
     b"\"Data.Bool.T\"",
     E,
@@ -144,6 +152,21 @@ const NO_CONSTANTS: &[&[u8]] = &[
 const NEW_TYPE: &[&[u8]] = &[
     P,
     b"\"T\" \"abs\" \"rep\" nil nil \"P\" const 2 ref constTerm \"k\" const 1 ref constTerm appTerm axiom defineTypeOp",
+];
+
+/// The same without its version.
+const P5: &[u8] =
+    b"\"->\" typeOp 0 def pop \"bool\" typeOp nil opType 1 def pop 0 ref 1 ref 1 ref nil cons cons opType 2 def pop 0 ref 1 ref 2 ref nil cons cons opType 3 def pop \"=\" const 4 def pop \"A\" varType 5 def pop";
+
+/// p r is that r is the image of its image.
+const OPEN: &[u8] =
+    b"nil 4 ref 3 ref constTerm 8 def \"P\" const 2 ref constTerm \"r\" 1 ref var varTerm 6 def appTerm appTerm 8 ref \"rep\" const 0 ref \"T\" typeOp nil opType 7 def 1 ref nil cons cons opType constTerm \"abs\" const 0 ref 1 ref 7 ref nil cons cons opType constTerm 6 ref appTerm appTerm appTerm 6 ref appTerm appTerm thm";
+
+/// A type operator of version 5, of which the second theorem is exported.
+const NEW_TYPE_5: &[&[u8]] = &[
+    P5,
+    b"\"T\" \"abs\" \"rep\" nil nil \"P\" const 2 ref constTerm \"k\" const 1 ref constTerm appTerm axiom defineTypeOp",
+    OPEN,
 ];
 
 /// Two beta redexes, one in the other.
@@ -209,7 +232,7 @@ const ORDERS: &[&[u8]] = &[
 ];
 
 /// Articles in parts, the words behind `info`, and what it prints.
-pub const SUMMARIES: [(&[&[u8]], &[&str], &[u8]); 17] = [
+pub const SUMMARIES: [(&[&[u8]], &[&str], &[u8]); 18] = [
     (
         &[
             b"6 version \"p\" \"bool\" typeOp nil opType var varTerm 0 def assume 0 ref nil cons 0 ref thm",
@@ -275,6 +298,11 @@ pub const SUMMARIES: [(&[&[u8]], &[&str], &[u8]); 17] = [
         b"assumptions: 1\n  |- (@\"P\":(\"bool\" -> \"bool\") @\"k\":\"bool\")\ndefinitions: 1\n  type \"T\" () abs \"abs\" rep \"rep\" from |- (@\"P\":(\"bool\" -> \"bool\") @\"k\":\"bool\") : |- ((\\\"T\". (@\"abs\":(\"bool\" -> \"T\") (@\"rep\":(\"T\" -> \"bool\") #0))) = (\\\"T\". #0)) ; |- ((\\\"bool\". ((@\"rep\":(\"T\" -> \"bool\") (@\"abs\":(\"bool\" -> \"T\") #0)) = #0)) = (\\\"bool\". (@\"P\":(\"bool\" -> \"bool\") #0)))\ntheorems: 0\n",
     ),
     (
+        NEW_TYPE_5,
+        &["-"],
+        b"assumptions: 1\n  |- (@\"P\":(\"bool\" -> \"bool\") @\"k\":\"bool\")\ndefinitions: 1\n  type \"T\" () abs \"abs\" rep \"rep\" from |- (@\"P\":(\"bool\" -> \"bool\") @\"k\":\"bool\") : |- ((\\\"T\". (@\"abs\":(\"bool\" -> \"T\") (@\"rep\":(\"T\" -> \"bool\") #0))) = (\\\"T\". #0)) ; |- ((\\\"bool\". ((@\"rep\":(\"T\" -> \"bool\") (@\"abs\":(\"bool\" -> \"T\") #0)) = #0)) = (\\\"bool\". (@\"P\":(\"bool\" -> \"bool\") #0)))\ntheorems: 1\n  |- ((@\"P\":(\"bool\" -> \"bool\") \"r\":\"bool\") = ((@\"rep\":(\"T\" -> \"bool\") (@\"abs\":(\"bool\" -> \"T\") \"r\":\"bool\")) = \"r\":\"bool\"))\n",
+    ),
+    (
         DEDUCED,
         &["-"],
         b"assumptions: 0\ndefinitions: 0\ntheorems: 2\n  \"p\":\"bool\", \"q\":\"bool\" |- (\"p\":\"bool\" = \"q\":\"bool\")\n  |- (\"p\":\"bool\" = \"p\":\"bool\")\n",
@@ -302,7 +330,7 @@ pub const SUMMARIES: [(&[&[u8]], &[&str], &[u8]); 17] = [
 ];
 
 /// Whole articles in parts, a space for the end of a line.
-pub const PARTS: [(&[&[u8]], Status, &[u8]); 11] = [
+pub const PARTS: [(&[&[u8]], Status, &[u8]); 12] = [
     (
         &[
             P,
@@ -363,6 +391,15 @@ pub const PARTS: [(&[&[u8]], Status, &[u8]); 11] = [
         NEW_TYPE,
         Status::Accepted,
         b"accepted: 0 theorems, 1 assumptions, 1 definitions\n",
+    ),
+    (
+        &[
+            P,
+            b"\"T\" \"abs\" \"rep\" nil nil \"P\" const 2 ref constTerm \"k\" const 1 ref constTerm appTerm axiom defineTypeOp",
+            OPEN,
+        ],
+        Status::Refused,
+        b"opentheory: -:132: theorem differs from the stated sequent\n",
     ),
 ];
 
@@ -585,7 +622,17 @@ const SAMPLE: &[u8] =
 const BOTH_DOUBLED: &[u8] =
     b"4 ref 406 ref appTerm 406 ref appTerm 406 def pop 4 ref 407 ref appTerm 407 ref appTerm 407 def pop";
 
-pub const REPEATED: [Repeated; 8] = [
+/// Over P, p is the constant d, and then the constant c of what it was.
+const P_AT_D: &[u8] =
+    b"\"c\" const 0 ref 2 ref 2 ref nil cons cons opType constTerm 6 def pop \"d\" const 2 ref constTerm";
+
+const P_DEEPER: &[u8] = b"7 def pop 6 ref 7 ref appTerm";
+
+/// A type operator of that p, by an axiom.
+const NEW_TYPE_OF_P: &[u8] =
+    b"7 def pop \"T\" \"abs\" \"rep\" nil nil 7 ref \"k\" const 1 ref constTerm appTerm axiom defineTypeOp";
+
+pub const REPEATED: [Repeated; 11] = [
     (
         &[b"6 version nil"],
         b"nil cons",
@@ -641,6 +688,39 @@ pub const REPEATED: [Repeated; 8] = [
         "check",
         Status::Refused,
         b"opentheory: -:32801: nested deeper than 4096\n",
+    ),
+    // A type operator of version 5: the deepest term of its derivation is the redex `(\\r. p r) r` as the left side of an
+    // equation, five deeper than p.
+    (
+        &[P5, P_AT_D],
+        P_DEEPER,
+        4090,
+        NEW_TYPE_OF_P,
+        "check",
+        Status::Accepted,
+        b"accepted: 0 theorems, 1 assumptions, 1 definitions\n",
+    ),
+    (
+        &[P5, P_AT_D],
+        P_DEEPER,
+        4091,
+        NEW_TYPE_OF_P,
+        "check",
+        Status::Refused,
+        b"opentheory: -:32815: nested deeper than 4096\n",
+    ),
+    // And one whose p is doubled 100 times.
+    (
+        &[
+            P5,
+            b"\"c\" const 0 ref 2 ref 0 ref 2 ref 2 ref nil cons cons opType nil cons cons opType constTerm 6 def pop \"d\" const 2 ref constTerm",
+        ],
+        b"7 def pop 6 ref 7 ref appTerm 7 ref appTerm",
+        100,
+        NEW_TYPE_OF_P,
+        "check",
+        Status::Accepted,
+        b"accepted: 0 theorems, 1 assumptions, 1 definitions\n",
     ),
     (
         &[b"6 version #"],

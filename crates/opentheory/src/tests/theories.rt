@@ -11,6 +11,10 @@ const PROVES_IT: &[u8] = b"7\nref\nrefl\nnil\n8\nref\nthm\n";
 
 const TAKES_IT: &[u8] = b"nil\n8\nref\naxiom\nnil\n8\nref\nthm\n";
 
+/// The same under a hypothesis that it doesn't need.
+const TAKES_IT_UNDER_Q: &[u8] =
+    b"\"q\"\n1\nref\nvar\nvarTerm\n9\ndef\npop\n9\nref\nnil\ncons\n8\nref\naxiom\n9\nref\nnil\ncons\n8\nref\nthm\n";
+
 /// Two variables p and q of type bool, and p = q and q = p, stored as 9 and 10.
 const BOTH_WAYS: &[u8] =
     b"6\nversion\n\"->\"\ntypeOp\n0\ndef\npop\n\"bool\"\ntypeOp\nnil\nopType\n1\ndef\npop\n0\nref\n1\nref\n1\nref\nnil\ncons\ncons\nopType\n2\ndef\npop\n0\nref\n1\nref\n2\nref\nnil\ncons\ncons\nopType\n3\ndef\npop\n\"=\"\nconst\n4\ndef\npop\n\"A\"\nvarType\n5\ndef\npop\n\"p\"\n1\nref\nvar\nvarTerm\n6\ndef\npop\n\"q\"\n1\nref\nvar\nvarTerm\n7\ndef\npop\n4\nref\n3\nref\nconstTerm\n8\ndef\npop\n8\nref\n6\nref\nappTerm\n7\nref\nappTerm\n9\ndef\npop\n8\nref\n7\nref\nappTerm\n6\nref\nappTerm\n10\ndef\npop\n";
@@ -49,6 +53,30 @@ pub const IMPORTS_LATE: [Entry; 3] = [
     ("one.art", EQUATION, PROVES_IT),
     ("two.art", EQUATION, TAKES_IT),
 ];
+
+/// `two` takes what `one` proves under a hypothesis more.
+pub const WEAKENS: [Entry; 3] = [
+    (
+        "t.thy",
+        b"name: t\none {\n  article: \"one.art\"\n}\ntwo {\n  import: one\n  article: \"two.art\"\n}\nmain {\n  import: two\n}\n",
+        b"",
+    ),
+    ("one.art", EQUATION, PROVES_IT),
+    ("two.art", EQUATION, TAKES_IT_UNDER_Q),
+];
+
+pub const WEAKENS_NONE: [Entry; 3] = [
+    (
+        "t.thy",
+        b"name: t\none {\n  article: \"one.art\"\n}\ntwo {\n  article: \"two.art\"\n}\nmain {\n  import: two\n}\n",
+        b"",
+    ),
+    ("one.art", EQUATION, PROVES_IT),
+    ("two.art", EQUATION, TAKES_IT_UNDER_Q),
+];
+
+pub const WEAKENED: &[u8] =
+    b"theorems: 1\n  \"q\":\"bool\" |- ((\\\"bool\". #0) = (\\\"bool\". #0))\n";
 
 pub const ASSUMED_ONE: &[u8] = b"accepted: 1 theorems, 1 assumptions, 0 definitions\n";
 

@@ -1,8 +1,19 @@
-use Rattle.opentheory.proofs.InputLemmas.{none-within}
+use Rattle.std.proofs.Common.{ap}
+use Rattle.std.specs.Prelude.{string_bytes}
+use Rattle.opentheory.proofs.InputLemmas.{limits_are, alone_answer, alone_own, alone_cause, lawful_end}
 use Rattle.opentheory.proofs.input.run_article.Goals as goal
 
-pub run_article-requires-clause-of : goal.run_article-requires-clause-of
-run_article-requires-clause-of g c = c.new-machine.ensures.of c.args.session.now.kernel
+pub returns-clause-end : goal.returns-clause-end
+returns-clause-end g c =
+    alone_answer c.run_alone.new.session c.run_alone.result (string_bytes c.args.path) (g.S.Source.left c.args.source.now) c.standard-limits.result.article_bytes
+    (ap (λ l. l.article_bytes) c.standard-limits.ensures) c.run_alone.ensures.ends
 
-pub run_article-requires-clause-context : goal.run_article-requires-clause-context
-run_article-requires-clause-context g c = record { interpretation = c.new-interp.ensures.within _; theorems = none-within c.args.session.now.kernel }
+pub returns-clause-own : goal.returns-clause-own
+returns-clause-own g c = alone_own c.run_alone.new.session c.run_alone.result (string_bytes c.args.path) c.run_alone.ensures.own
+
+pub returns-clause-cause : goal.returns-clause-cause
+returns-clause-cause g c =
+    alone_cause c.run_alone.new.session c.run_alone.result (string_bytes c.args.path) (g.S.Source.faults c.args.source.now) (g.S.Source.faults c.run_alone.new.source) c.run_alone.ensures.own c.run_alone.ensures.cause
+
+pub returns-clause-lawful : goal.returns-clause-lawful
+returns-clause-lawful g c = lawful_end c.run_alone.new.session c.run_alone.result c.run_alone.ensures.lawful c.run_alone.ensures.lawful_exports

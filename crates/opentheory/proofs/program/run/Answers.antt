@@ -1,20 +1,21 @@
 use Rattle.std.proofs.Common.{sym}
-use Rattle.ot_args.specs.Grammar.{texts_of, command_value}
+use Rattle.ot_args.specs.Grammar.{texts_of}
+use Rattle.opentheory.specs.Verdicts.{task_value}
 use Rattle.opentheory.proofs.ReplyLemmas.{answers, error_is, line_is, complete}
 use Rattle.opentheory.proofs.program.run.Goals as goal
 
-pub returns-in-Ok-run_command-clause-answer : goal.returns-in-Ok-run_command-clause-answer
-returns-in-Ok-run_command-clause-answer g c =
-    answers (texts_of c.args.words.now) (command_value c.in-Ok.command) (g.F.Source.folder c.args.files.now) (g.S.Source.left c.args.input.now) (g.F.Source.at c.run_command.new.files) c.in-Ok-run_command.verdict.status c.finish.result c.in-Ok-run_command.verdict.text.items (g.O.Sink.written c.args.out.now) (g.O.Sink.written c.finish.new.out) (sym c.in-Ok.ensures) c.in-Ok-run_command.ensures.says c.finish.ensures.ends c.finish.ensures.writes
+pub returns-in-Ok-run_task-clause-answer : goal.returns-in-Ok-run_task-clause-answer
+returns-in-Ok-run_task-clause-answer g c =
+    answers (texts_of c.args.words.now) (task_value c.in-Ok.task) (g.F.Source.folder c.args.files.now) (g.S.Source.left c.args.input.now) (g.F.Source.at c.run_task.new.files) c.in-Ok-run_task.verdict.status c.finish.result c.in-Ok-run_task.verdict.text.items (g.O.Sink.written c.args.out.now) (g.O.Sink.written c.finish.new.out) (sym c.in-Ok.ensures.task) c.in-Ok-run_task.ensures.says c.finish.ensures.ends c.finish.ensures.writes
 
-pub returns-in-Ok-run_command-clause-error : goal.returns-in-Ok-run_command-clause-error
-returns-in-Ok-run_command-clause-error g c =
-    error_is g.E.Sink.written g.E.Sink.faults c.args.err.now c.finish.new.err (texts_of c.args.words.now) (command_value c.in-Ok.command) (g.F.Source.folder c.args.files.now) (g.S.Source.left c.args.input.now) (g.F.Source.at c.run_command.new.files) c.in-Ok-run_command.verdict.status c.finish.result c.in-Ok-run_command.verdict.text.items (sym c.in-Ok.ensures) c.in-Ok-run_command.ensures.says c.finish.ensures.ends c.finish.ensures.line
+pub returns-in-Ok-run_task-clause-error : goal.returns-in-Ok-run_task-clause-error
+returns-in-Ok-run_task-clause-error g c =
+    error_is g.E.Sink.written g.E.Sink.faults c.args.err.now c.finish.new.err (texts_of c.args.words.now) (task_value c.in-Ok.task) (g.F.Source.folder c.args.files.now) (g.S.Source.left c.args.input.now) (g.F.Source.at c.run_task.new.files) c.in-Ok-run_task.verdict.status c.finish.result c.in-Ok-run_task.verdict.text.items (sym c.in-Ok.ensures.task) c.in-Ok-run_task.ensures.says c.finish.ensures.ends c.finish.ensures.line
 
-pub returns-in-Ok-run_command-clause-line : goal.returns-in-Ok-run_command-clause-line
-returns-in-Ok-run_command-clause-line g c =
-    line_is g.E.Sink.written g.E.Sink.faults c.args.err.now c.finish.new.err (texts_of c.args.words.now) (command_value c.in-Ok.command) (g.F.Source.folder c.args.files.now) (g.S.Source.left c.args.input.now) (g.F.Source.at c.run_command.new.files) c.in-Ok-run_command.verdict.status c.finish.result c.in-Ok-run_command.verdict.text.items (sym c.in-Ok.ensures) c.in-Ok-run_command.ensures.says c.finish.ensures.ends c.finish.ensures.line
+pub returns-in-Ok-run_task-clause-line : goal.returns-in-Ok-run_task-clause-line
+returns-in-Ok-run_task-clause-line g c =
+    line_is g.E.Sink.written g.E.Sink.faults c.args.err.now c.finish.new.err (texts_of c.args.words.now) (task_value c.in-Ok.task) (g.F.Source.folder c.args.files.now) (g.S.Source.left c.args.input.now) (g.F.Source.at c.run_task.new.files) c.in-Ok-run_task.verdict.status c.finish.result c.in-Ok-run_task.verdict.text.items (sym c.in-Ok.ensures.task) c.in-Ok-run_task.ensures.says c.finish.ensures.ends c.finish.ensures.line
 
-pub returns-in-Ok-run_command-clause-complete : goal.returns-in-Ok-run_command-clause-complete
-returns-in-Ok-run_command-clause-complete g c =
-    complete (texts_of c.args.words.now) (command_value c.in-Ok.command) (g.F.Source.folder c.args.files.now) (g.S.Source.left c.args.input.now) (g.F.Source.at c.run_command.new.files) c.in-Ok-run_command.verdict.status c.finish.result c.in-Ok-run_command.verdict.text.items (g.S.Source.faults c.args.input.now) (g.S.Source.faults c.run_command.new.input) (g.F.Source.faults c.args.files.now) (g.F.Source.faults c.run_command.new.files) (g.O.Sink.faults c.args.out.now) (g.O.Sink.faults c.finish.new.out) (sym c.in-Ok.ensures) c.in-Ok-run_command.ensures.says c.finish.ensures.ends c.in-Ok-run_command.ensures.read c.finish.ensures.write
+pub returns-in-Ok-run_task-clause-complete : goal.returns-in-Ok-run_task-clause-complete
+returns-in-Ok-run_task-clause-complete g c =
+    complete (texts_of c.args.words.now) (task_value c.in-Ok.task) (g.F.Source.folder c.args.files.now) (g.S.Source.left c.args.input.now) (g.F.Source.at c.run_task.new.files) c.in-Ok-run_task.verdict.status c.finish.result c.in-Ok-run_task.verdict.text.items (g.S.Source.faults c.args.input.now) (g.S.Source.faults c.run_task.new.input) (g.F.Source.faults c.args.files.now) (g.F.Source.faults c.run_task.new.files) (g.O.Sink.faults c.args.out.now) (g.O.Sink.faults c.finish.new.out) (sym c.in-Ok.ensures.task) c.in-Ok-run_task.ensures.says c.finish.ensures.ends c.in-Ok-run_task.ensures.read c.finish.ensures.write
