@@ -147,6 +147,7 @@ accepted_more_keeps {mid = mid} l d more = record {
   names = l.keeps.names;
   types = l.keeps.types;
   terms = l.keeps.terms;
+  classes = l.keeps.classes;
   theorems = Extends-trans l.keeps.theorems (Extends-append mid.theorems (theorems names d ++ more));
   assumptions = l.keeps.assumptions;
   definitions = Extends-trans l.keeps.definitions (Extends-append mid.definitions (d ∷ []));
@@ -160,6 +161,7 @@ module _ {ns ms : List Name} {t u : TermTable} {held : Held} {now mid : State} (
         names = l.keeps.names;
         types = l.keeps.types;
         terms = l.keeps.terms;
+        classes = l.keeps.classes;
         theorems = Extends-trans l.keeps.theorems (Extends-append mid.theorems (theorems names d));
         assumptions = l.keeps.assumptions;
         definitions = Extends-trans l.keeps.definitions (Extends-append mid.definitions (d ∷ []));

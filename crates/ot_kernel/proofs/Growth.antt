@@ -75,6 +75,7 @@ grown_from ns ms t u held k more first g table a b = record {
     names = more;
     types = types;
     terms = terms;
+    classes = g.classes;
     theorems = theorems;
     assumptions = subst (Extends (sequents_at (map (sequent_of ts) held.theorems) held.assumptions)) (sym assumed) (Extends-refl _);
     definitions = subst (Extends (state_of ns t held).definitions) (sym defined) (Extends-refl _);

@@ -49,7 +49,7 @@ pub record Later (ns ms : List Name) (t u : TermTable) (held : Held) (now mid : 
 
 -- the theorems, the assumptions and the definitions of a kernel
 abbrev pub held_of : Inside → Held
-held_of k = record { theorems = k.theorems.items; assumptions = k.assumptions.items; definitions = k.definitions.items; signature = k.signature; places = k.places.entries }
+held_of k = record { theorems = k.theorems.items; assumptions = k.assumptions.items; definitions = k.definitions.items; signature = k.signature; places = k.places }
 
 later_from : (ns ms : List Name) (t u : TermTable) (held : Held) (now : State) → state_of ns t held ≡ now → IsKernel ns t held → terms.Grows t u → Grown now ms u held → Later ns ms t u held now (state_of ms u held)
 later_from ns ms t u held now view k g w = record { before = view; after = refl; old = k; kernel = w.kernel; grows = g; keeps = w.keeps; same = w.same }

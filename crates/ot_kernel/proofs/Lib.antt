@@ -25,6 +25,7 @@ pub mod Later
 pub mod Derived
 pub mod Supposed
 pub mod FirstPlaces
+pub mod Placed
 pub mod Adding
 pub mod Conditions
 pub mod Accepting

@@ -175,6 +175,7 @@ concluded (Ok id) stated now mid new q keeps same s ok err = subst (λ n. Conclu
     names = keeps.names;
     types = keeps.types;
     terms = keeps.terms;
+    classes = keeps.classes;
     theorems = Extends-trans keeps.theorems (Extends-append mid.theorems (q ∷ []));
     assumptions = keeps.assumptions;
     definitions = keeps.definitions;

@@ -2,6 +2,7 @@
 pub mod State
 pub mod Definitions
 pub mod Places
+pub mod Alike
 pub mod Spelled
 pub mod Axioms
 pub mod Defining

@@ -38,7 +38,7 @@ abbrev pub undefined_state : List Name → TermTable → Held → State
 undefined_state ns t held =
     let ts = map (map_named (name_of ns)) t.terms in
     let qs = map (sequent_of ts) held.theorems in
-    record { names = ns; types = map (map_ty (name_of ns)) t.types; terms = ts; theorems = qs; assumptions = sequents_at qs held.assumptions; definitions = [] }
+    record { names = ns; types = map (map_ty (name_of ns)) t.types; terms = ts; classes = t.classes; theorems = qs; assumptions = sequents_at qs held.assumptions; definitions = [] }
 
 -- the state
 abbrev pub state_of : List Name → TermTable → Held → State

@@ -1,7 +1,7 @@
 -- What contracts see of a kernel: real names, types, terms and sequents, each in the order of its numbers.
 use Rattle.std.specs.Prelude.{◌≡◌, ℕ, false, List, [], ◌∷◌, map, slice_index_or, AllPairs, refl}
 use Rattle.std.specs.List.{All}
-use Rattle.std.specs.Coded.{Coded, code_by, coded×, coded_list}
+use Rattle.std.specs.Coded.{Coded, code_by, coded×, coded_list, coded_ℕ}
 use Rattle.ot_plain.specs.Names.{Name}
 use Rattle.ot_plain.specs.Trees.{Ty, Tys, TyVar, NoTys, MoreTys, Variable, Named, NConst, Tm, Bound, Sequent, Definition}
 use Rattle.ot_plain.specs.Hol.{nameless, same_sequent, IsSequent, Accepted}
@@ -15,15 +15,17 @@ pub record State : Type 0 where
   pub names : List Name
   pub types : List (Ty Name)
   pub terms : List (Named Name)
+  -- the alpha class of each term
+  pub classes : List ℕ
   pub theorems : List (Sequent Name)
   pub assumptions : List (Sequent Name)
   pub definitions : List (Definition Name)
 
 abbrev pub coded_state : Coded State
-coded_state = code_by (List Name × (List (Ty Name) × (List (Named Name) × (List (Sequent Name) × (List (Sequent Name) × List (Definition Name))))))
-    (coded× (coded_list coded_name) (coded× (coded_list (coded_ty coded_name)) (coded× (coded_list (coded_named coded_name)) (coded× (coded_list (coded_sequent coded_name)) (coded× (coded_list (coded_sequent coded_name)) (coded_list (coded_definition coded_name)))))))
-    (λ s. (s.names, (s.types, (s.terms, (s.theorems, (s.assumptions, s.definitions))))))
-    (λ p. record { names = p.0; types = p.1.0; terms = p.1.1.0; theorems = p.1.1.1.0; assumptions = p.1.1.1.1.0; definitions = p.1.1.1.1.1 })
+coded_state = code_by (List Name × (List (Ty Name) × (List (Named Name) × (List ℕ × (List (Sequent Name) × (List (Sequent Name) × List (Definition Name)))))))
+    (coded× (coded_list coded_name) (coded× (coded_list (coded_ty coded_name)) (coded× (coded_list (coded_named coded_name)) (coded× (coded_list coded_ℕ) (coded× (coded_list (coded_sequent coded_name)) (coded× (coded_list (coded_sequent coded_name)) (coded_list (coded_definition coded_name))))))))
+    (λ s. (s.names, (s.types, (s.terms, (s.classes, (s.theorems, (s.assumptions, s.definitions)))))))
+    (λ p. record { names = p.0; types = p.1.0; terms = p.1.1.0; classes = p.1.1.1.0; theorems = p.1.1.1.1.0; assumptions = p.1.1.1.1.1.0; definitions = p.1.1.1.1.1.1 })
     (λ _. refl)
 
 -- ---- what a number stands for
@@ -61,6 +63,7 @@ pub record Keeps (old new : State) : Type 0 where
   pub names : Extends old.names new.names
   pub types : Extends old.types new.types
   pub terms : Extends old.terms new.terms
+  pub classes : Extends old.classes new.classes
   pub theorems : Extends old.theorems new.theorems
   pub assumptions : Extends old.assumptions new.assumptions
   pub definitions : Extends old.definitions new.definitions

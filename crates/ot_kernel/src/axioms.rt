@@ -7,7 +7,6 @@ ghost use Rattle.ot_plain.specs.Naming.{names};
 ghost use Rattle.ot_plain.specs.Rules.{has_type};
 ghost use Rattle.ot_kernel.specs.State.{type_at, term_at, terms_at, theorem_at, Keeps};
 ghost use Rattle.ot_kernel.specs.Spelled.{sequent_of, IsInside};
-ghost use Rattle.ot_kernel.specs.Places.{IsPlaced};
 ghost use Rattle.ot_kernel.specs.Axioms.{axiom_rule};
 ghost use Rattle.ot_kernel.specs.Answers.{Assumes};
 ghost use Rattle.ot_kernel.specs.Supposed.{IsProposed, IsSupposed, supposing};
@@ -16,8 +15,6 @@ use crate::fault::RuleFault;
 use crate::hypotheses::once_each;
 use crate::kernel::Kernel;
 use crate::theorem::{Theorem, ThmId};
-use indexmap::IndexMap;
-use ot_class::ClassId;
 use ot_plain::Memory;
 use ot_term::TermId;
 use ot_type::TypeId;
@@ -92,14 +89,14 @@ impl Kernel {
         None
     }
 
-    // A place before which no assumption has this conclusion.
-    fn first_place(&self, concl: TermId) -> usize
+    /// A place among the assumptions, or their end, before which none has this conclusion.
+    pub fn first_place(&self, concl: TermId) -> usize
         requires { concl < length self.now.terms }
         ensures within { result ≤ length self.now.assumptions }
         ensures none { All (λ r. same_tm names r.concl (term_at self.now concl) ≡ false) (take result self.now.assumptions) }
     {
-        match self.places.get(&self.terms.class(concl)) {
-            Some(place) => *place,
+        match self.places.get(self.terms.class(concl)) {
+            Some(place) => place,
             None => self.assumptions.len(),
         }
     }
@@ -113,7 +110,7 @@ impl Kernel {
     {
         let class = self.terms.class(theorem.concl);
         let place = self.assumptions.len();
-        note_place(&mut self.places, class, place)?;
+        self.places.note(class, place)?;
         let id = ThmId(self.theorems.len());
         self.theorems.push(theorem)?;
         if self.assumptions.push(id).is_err() {
@@ -130,20 +127,4 @@ impl Kernel {
     {
         &self.assumptions
     }
-}
-
-// Gives a class its place, where it has none.
-fn note_place(
-    places: &mut IndexMap<ClassId, usize>,
-    class: ClassId,
-    place: usize,
-) -> Result<(), Memory>
-    ensures ok { OnOk result (IsPlaced class place places.old.entries places.new.entries) }
-    ensures err { OnErr result (places.new.entries ≡ places.old.entries) }
-{
-    if places.contains_key(&class) {
-        return Ok(());
-    }
-    places.insert(class, place)?;
-    Ok(())
 }

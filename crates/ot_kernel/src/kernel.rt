@@ -13,9 +13,8 @@ ghost use Rattle.ot_kernel.specs.Derived.{Follows, Adds};
 
 use crate::definition::Definition;
 use crate::fault::RuleFault;
+use crate::places::Places;
 use crate::theorem::{Theorem, ThmId};
-use indexmap::IndexMap;
-use ot_class::ClassId;
 use ot_define::Signature;
 use ot_plain::{Memory, Name, NameId, Names};
 use ot_term::{TermFault, TermId, Terms, VarKey};
@@ -36,7 +35,7 @@ pub struct Kernel {
     // The numbers of the assumptions, in their order.
     pub(crate) assumptions: Vec<ThmId>,
     // For the class of a conclusion, a place before which no assumption has one of it.
-    pub(crate) places: IndexMap<ClassId, usize>,
+    pub(crate) places: Places,
     pub(crate) definitions: Vec<Definition>,
     // Their symbols.
     pub(crate) signature: Signature,
@@ -51,15 +50,15 @@ impl Model for Kernel {
 
     ghost use Rattle.ot_kernel.specs.Spelled.{state_of, IsKernel};
 
-    ghost view = { λ k. state_of k.names k.terms (record { theorems = k.theorems.items; assumptions = k.assumptions.items; definitions = k.definitions.items; signature = k.signature; places = k.places.entries }) };
+    ghost view = { λ k. state_of k.names k.terms (record { theorems = k.theorems.items; assumptions = k.assumptions.items; definitions = k.definitions.items; signature = k.signature; places = k.places }) };
 
-    ghost invariant = { λ k. IsKernel k.names k.terms (record { theorems = k.theorems.items; assumptions = k.assumptions.items; definitions = k.definitions.items; signature = k.signature; places = k.places.entries }) };
+    ghost invariant = { λ k. IsKernel k.names k.terms (record { theorems = k.theorems.items; assumptions = k.assumptions.items; definitions = k.definitions.items; signature = k.signature; places = k.places }) };
 }
 
 impl Kernel {
     /// A kernel with the first names, and with no type, term, theorem, assumption or definition.
     pub fn new(alloc: Global) -> Result<Kernel, Memory>
-        ensures { IfOk result (λ k. k ≡ record { names = first_names; types = []; terms = []; theorems = []; assumptions = []; definitions = [] }) }
+        ensures { IfOk result (λ k. k ≡ record { names = first_names; types = []; terms = []; classes = []; theorems = []; assumptions = []; definitions = [] }) }
     {
         Ok(Kernel {
             alloc,
@@ -67,7 +66,7 @@ impl Kernel {
             terms: Terms::new(alloc),
             theorems: Vec::new(alloc),
             assumptions: Vec::new(alloc),
-            places: IndexMap::new(alloc),
+            places: Places::new(alloc),
             definitions: Vec::new(alloc),
             signature: Signature::new(alloc),
         })

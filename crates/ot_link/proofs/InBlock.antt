@@ -10,11 +10,13 @@ use Rattle.ot_plain.proofs.TableLemmas.{get_or-IsInjective}
 use Rattle.ot_interp.specs.Interpretation.{Interpretation, map_interpretation, after, IsWithin}
 use Rattle.ot_interp.proofs.Renaming.{after-at}
 use Rattle.ot_kernel.specs.State as kernel
+use Rattle.ot_kernel.specs.Alike.{AreFirstPlaces}
 use Rattle.ot_theory.specs.Theory.{TagText}
-use Rattle.ot_machine.specs.Meaning.{export_of, IsRun, IsExportIn, Grows}
+use Rattle.ot_machine.specs.Meaning.{export_of, concls_of, IsRun, IsExportIn, Grows}
 use Rattle.ot_machine.specs.declared.session.Session.{Session}
 use Rattle.ot_machine.specs.Contexts.{given_of, context_of, IsContextOf}
 use Rattle.ot_machine.specs.declared.context.Context as code
+use Rattle.ot_machine.specs.declared.context.Given as code_given
 use Rattle.ot_machine.specs.declared.machine.Export.{Export}
 use Rattle.ot_machine.proofs.InContext.{context-kept, of_context-kept}
 use Rattle.ot_machine.proofs.Kept.{at-Extends, origin-kept}
@@ -44,6 +46,11 @@ module _ (s t : Session) (run : IsRun s) (grown : Grows s t) where
       let here = (All-head (IsExportIn s) e es h).theorem in
       All-cons (λ g. g.step < length t.trace) (given_to e) (map given_to es) (omega (arith, here, grown.trace.longer)) (steps-inside es (All-tail (IsExportIn s) e es h))
 
+  -- the theorems of a block's context
+  pub given-all : (outer : code.Context) (imports : List Export) (gs : List code_given.Given) → IsContextOf s outer → All (IsExportIn s) imports → gs ≡ map given_to imports ++ outer.theorems.now → All (λ g. g.th < length t.kernel.theorems) gs
+  given-all outer imports gs of inside given =
+      rw given (All-append (λ g. g.th < length t.kernel.theorems) (map given_to imports) outer.theorems.now (given-inside imports inside) (of_context-kept s t run grown outer of).theorems)
+
   -- the block's own interpretation and imports, before what its file is run in
   module _ (outer c : code.Context) (own : Interpretation ℕ) (statements : List TagText) (imports : List Export)
       (of : IsContextOf s outer) (within : IsWithin (length t.kernel.names) own) (named : map_interpretation (kernel.name_at t.kernel) own ≡ interpretation_of statements)
@@ -61,11 +68,12 @@ module _ (s t : Session) (run : IsRun s) (grown : Grows s t) where
         ∙ (λ i. given-kept imports inside i ++ (same i).theorems) in
         λ i. record { interpretation = composed i; theorems = theorems i }
 
-    pub of_block-context : IsWithin (length t.kernel.names) c.interp.now → IsContextOf t c
-    of_block-context symbols =
+    pub of_block-context : IsWithin (length t.kernel.names) c.interp.now → AreFirstPlaces t.kernel (concls_of t.kernel (map (λ g. g.th) c.theorems.now)) c.places.now → IsContextOf t c
+    of_block-context symbols placed =
         let kept = of_context-kept s t run grown outer of in
         record {
           interpretation = symbols;
-          theorems = rw given (All-append (λ g. g.th < length t.kernel.theorems) (map given_to imports) outer.theorems.now (given-inside imports inside) kept.theorems);
+          theorems = given-all outer imports c.theorems.now of inside given;
           steps = rw given (All-append (λ g. g.step < length t.trace) (map given_to imports) outer.theorems.now (steps-inside imports inside) kept.steps);
+          placed = placed;
         }

@@ -25,7 +25,7 @@ pub mod Sequence
 pub mod Standing
 -- The exports that are held of the blocks that have run.
 pub mod Held
--- Exports by the classes of their conclusions.
-pub mod Alike
+-- Exports, each sequent once.
+pub mod EachOnce
 -- What is lawful over a run is lawful over a later one.
 pub mod Lawful

@@ -8,5 +8,4 @@ pub mod Answers
 pub mod Adding
 pub mod Holding
 pub mod Running
-pub mod Alike
 pub mod Lawful

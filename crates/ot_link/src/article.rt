@@ -17,6 +17,7 @@ use crate::fault::LinkFault;
 use crate::setting::Setting;
 use ot_interp::Interp;
 use ot_io::{Files, OpenFault, Source};
+use ot_kernel::Places;
 use ot_machine::{ArticleFault, Context, Export, Fault, Machine, Session, fresh_law, lines_law};
 use ot_plain::Limits;
 use std::alloc::Global;
@@ -87,9 +88,11 @@ pub fn run_alone<S: Source>(
 {
     fresh_law();
     let interp = Interp::new(alloc);
+    let places = Places::new(alloc);
     let context = Context {
         interp: &interp,
         theorems: &[],
+        places: &places,
     };
     let setting = Setting {
         alloc,

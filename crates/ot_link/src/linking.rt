@@ -11,6 +11,7 @@ use crate::fault::LinkFault;
 use crate::setting::Setting;
 use ot_interp::Interp;
 use ot_io::Files;
+use ot_kernel::Places;
 use ot_machine::{Context, Export, Session, fresh_law};
 use ot_plain::Limits;
 use std::alloc::Global;
@@ -84,9 +85,11 @@ fn link_first<F: Files>(
 {
     fresh_law();
     let interp = Interp::new(setting.alloc);
+    let places = Places::new(setting.alloc);
     let outer = Context {
         interp: &interp,
         theorems: &[],
+        places: &places,
     };
     let path = String::from_str(setting.alloc, path)?;
     let file = File {

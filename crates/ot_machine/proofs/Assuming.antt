@@ -1,6 +1,6 @@
 -- A session with an assumption more, and its step.
 use Rattle.std.specs.Global.{Global}
-use Rattle.std.specs.Prelude.{◌≡◌, ◌<◌, ◌+◌, ℕ, List, [], ◌∷◌, ◌++◌, length, find, is_some, Bool, true, false, cond, Option, Some, None, Vec, Result, Ok, Err, if◌then◌else◌}
+use Rattle.std.specs.Prelude.{◌≡◌, ◌<◌, ℕ, List, [], ◌∷◌, ◌++◌, length, find, is_some, Bool, true, false, cond, Some, None, Vec, Ok, Err, if◌then◌else◌}
 use Rattle.std.specs.Option.{unwrap_or}
 use Rattle.std.specs.List.{All, list_all}
 use Rattle.std.proofs.Common.{refl, sym, ap, ◌∙◌, subst, arith}
@@ -15,7 +15,7 @@ use Rattle.ot_kernel.specs.Axioms.{axiom_rule, known, with_sequent}
 use Rattle.ot_kernel.specs.State as kernel
 use Rattle.ot_trace.specs.Origins.{Origin}
 use Rattle.ot_trace.specs.declared.trace.StepId.{StepId}
-use Rattle.ot_machine.specs.States.{Given, RunState}
+use Rattle.ot_machine.specs.States.{RunState}
 use Rattle.ot_machine.specs.Rows.{given_as, theorem_entry}
 use Rattle.ot_machine.specs.Assumptions.{assumed_new}
 use Rattle.ot_machine.specs.declared.machine.Machine.{Machine}

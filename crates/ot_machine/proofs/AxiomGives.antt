@@ -1,8 +1,8 @@
 -- What `axiom` pushes is the stated sequent, and a theorem of the context is refused by the limit alone.
-use Rattle.std.specs.Prelude.{◌≡◌, ◌≢◌, ◌⊎◌, ◌↔◌, ◌&&◌, ◌++◌, ℕ, Bool, true, false, cond, List, [], ◌∷◌, find, Option, Some, None, Result, Ok, Err, if◌then◌else◌}
+use Rattle.std.specs.Prelude.{◌≡◌, ◌≢◌, ◌⊎◌, ◌↔◌, ◌&&◌, ◌++◌, Bool, true, false, cond, List, [], ◌∷◌, find, Option, Some, None, Result, Ok, Err, if◌then◌else◌}
 use Rattle.std.specs.List.{list_all}
 use Rattle.std.proofs.Common.{refl, sym, ap, ◌∙◌, subst, inl, inr}
-use Rattle.ot_plain.specs.Lists.{IsMember, IsPart, IsSameSet}
+use Rattle.ot_plain.specs.Lists.{IsMember, IsSameSet}
 use Rattle.ot_plain.specs.Names.{Name}
 use Rattle.ot_plain.specs.Naming.{names}
 use Rattle.ot_plain.specs.Trees.{Tm, Sequent}
@@ -11,16 +11,15 @@ use Rattle.ot_plain.specs.Rules.{has_type}
 use Rattle.ot_plain.specs.Faults.{Fault, NotBool, Nesting}
 use Rattle.ot_plain.specs.Answers.{◌>>=◌, unless}
 use Rattle.ot_plain.specs.declared.command.Cmd.TheVariants as words
-use Rattle.ot_kernel.specs.Axioms.{axiom_rule}
 use Rattle.ot_laws.proofs.Tests.{tells_names, same_tm-is}
 use Rattle.ot_laws.proofs.Sets.{same_set-self}
 use Rattle.ot_laws.proofs.Hypotheses.{is_in-is, all_in-is, same_sequent-is, IsMember-minus, IsMember-minus_back, IsMember-union, same_set-once_each}
 use Rattle.ot_trace.specs.Origins.{Origin, Make}
 use Rattle.ot_machine.specs.Objects.{Object, Objects, term, theorem, no_objects, more_objects}
-use Rattle.ot_machine.specs.States.{Entry, Given, RunState, Context}
+use Rattle.ot_machine.specs.States.{Entry, Given, RunState}
 use Rattle.ot_machine.specs.Places.{as_each, as_term, origins_of}
 use Rattle.ot_machine.specs.Rows.{made, given_as, or_assumed, theorem_entry}
-use Rattle.ot_machine.specs.Discharge.{element_entries, is_hypothesis, adding, weakened, given_for, or_weakened, discharged}
+use Rattle.ot_machine.specs.Discharge.{element_entries, adding, weakened, given_for, or_weakened}
 use Rattle.ot_machine.specs.LawfulLaws.{AxiomGivesItsSequent}
 use Rattle.ot_machine.proofs.Tops.{bind-ok, same-ok}
 use Rattle.ot_machine.proofs.Operands.{passed}

@@ -1,6 +1,6 @@
 -- The canonical origin of a named term is that of its nameless form, and depends on what its free variables become alone.
-use Rattle.std.specs.Prelude.{◌≡◌, ◌≢◌, ◌<◌, ◌&&◌, ◌||◌, ℕ, suc, zero, nat_eq, cond, Bool, true, false, List, [], ◌∷◌, ◌++◌, map, length, Option, Some, None, slice_get}
-use Rattle.std.specs.List.{All, list_any}
+use Rattle.std.specs.Prelude.{◌≡◌, ◌<◌, ◌&&◌, ℕ, suc, nat_eq, cond, Bool, true, false, List, [], ◌∷◌, ◌++◌, map, length, Option, Some, None}
+use Rattle.std.specs.List.{All}
 use Rattle.std.specs.Map.{lookup}
 use Rattle.std.specs.Option.{option_map, unwrap_or}
 use Rattle.std.proofs.Common.{refl, sym, ap, ◌∙◌, subst, arith, inl, inr, eqb-true, eq-eqb, true≢false}
@@ -11,8 +11,7 @@ use Rattle.std.proofs.lemmas.Slice.Eq.{slice_eq-Decides}
 use Rattle.std.proofs.lemmas.Option.{same_Some}
 use Rattle.std.proofs.lemmas.List.Elements.{All-head, All-tail}
 use Rattle.ot_plain.specs.Names.{Name}
-use Rattle.ot_plain.specs.Naming.{names, IsNameTable}
-use Rattle.ot_plain.specs.Lists.{IsMember}
+use Rattle.ot_plain.specs.Naming.{names}
 use Rattle.ot_plain.specs.Trees.{Ty, TyVar, Variable, Bound, Named, NVar, NConst, NApp, NAbs}
 use Rattle.ot_plain.specs.Hol.{bool_ty, type_of, named_type, tys_of_vars, same_var, place, at_place, nameless, nameless_in, IsFreeIn}
 use Rattle.ot_laws.proofs.Tests.{tells_names, var_cases}
@@ -21,11 +20,8 @@ use Rattle.ot_laws.proofs.Typing.{type-nameless}
 use Rattle.ot_kernel.specs.State as kernel
 use Rattle.ot_plain.specs.declared.command.Cmd.TheVariants as words
 use Rattle.ot_trace.specs.Origins.{Origin, Make, NoOrigins, make_two}
-use Rattle.ot_term.specs.Term.{TermTable}
 use Rattle.ot_term.specs.declared.term.VarKey.{VarKey}
-use Rattle.ot_kernel.specs.Spelled.{IsSpelled}
-use Rattle.ot_machine.specs.Nodes.{IsKey, AreKeysIn}
-use Rattle.ot_machine.proofs.Spelled.{same_keys}
+use Rattle.ot_machine.specs.Nodes.{IsKey}
 use Rattle.ot_machine.specs.Version5.{canon_ty, canon_tys, canon_under, canon, numbered, var_term, app, lam}
 use Rattle.ot_machine.specs.Canonical.{Binders, variable_in, canon_in, binders_at, IsBinderIn, Adds, AreTypes, same_binder, same_part, IsStepOf, AreTerms, AreKnown}
 use Rattle.ot_machine.specs.declared.makers.canonical.Binder.{Binder}
@@ -36,6 +32,8 @@ use Rattle.ot_machine.specs.declared.session.Session.{Session}
 use Rattle.ot_machine.specs.Meaning.{origin_of, IsRun, IsOf, Grows, Leaves, Traces}
 use Rattle.ot_machine.proofs.Kept.{at-Extends, origin-kept, grows-on, trace-same, traces-grow}
 use Rattle.ot_machine.proofs.Traced.{traces-none}
+use Rattle.ot_machine.specs.Occurrences.{same_occurrence}
+use Rattle.ot_machine.proofs.Occurrences.{occurrences-later}
 
 -- ---- the nameless form
 abbrev variables : Binders → List (Variable Name)
@@ -209,7 +207,11 @@ module _ (s t : Session) (grown : Grows s t) (run : IsRun s) where
   terms-later es h = record { known = λ p i q. step-later p i (h.known p i q) }
 
   pub known-later : (k : Known) → AreKnown s k → AreKnown t k
-  known-later k h = record { types = types-later s t grown run k.types.entries h.types; terms = terms-later k.terms.entries h.terms }
+  known-later k h = record {
+    types = types-later s t grown run k.types.entries h.types;
+    terms = terms-later k.terms.entries h.terms;
+    free = occurrences-later s.kernel t.kernel grown.kernel k.free.entries h.free;
+  }
 
 -- ---- a list of type variables, from its end
 abbrev pub variables_onto : List Name → Origin Name → Origin Name
@@ -231,28 +233,10 @@ module _ (s : Session) where
   variable-skip [] rest b v e = ap (λ c. cond c (origin_of s b.step) (variable_in (binders_at s rest) v)) e
   variable-skip (k ∷ kept) rest b v e = ap (cond (same_var names v (kernel.variable_at s.kernel k.variable)) (origin_of s k.step)) (variable-skip kept rest b v e)
 
--- ---- what stands in a list of variables
-pub among : (s : kernel.State) (t : TermTable) → IsSpelled s t → IsNameTable s.names → (vs : List VarKey) (v : VarKey) → AreKeysIn s vs → IsKey s v → IsMember (kernel.variable_at s v) (map (kernel.variable_at s) vs) → list_any (λ w. nat_eq w.name v.name && nat_eq w.ty v.ty) vs ≡ true
-among s t k table [] v h g m = absurd m
-among s t k table (w ∷ ws) v h g (inl e) =
-    let here = All-head (IsKey s) w ws h in
-    let test = same_keys s t k table w v here g in
-    elim (var_cases names tells_names (kernel.variable_at s w) (kernel.variable_at s v)) [
-      | inl p ↦ ap (λ b. b || list_any (λ w. nat_eq w.name v.name && nat_eq w.ty v.ty) ws) (test ∙ p.0)
-      | inr p ↦ absurd (p.1 e)
-    ]
-among s t k table (w ∷ ws) v h g (inr m) =
-    let rest = among s t k table ws v (All-tail (IsKey s) w ws h) g m in
-    ap (λ b. (nat_eq w.name v.name && nat_eq w.ty v.ty) || b) rest ∙ or-true (nat_eq w.name v.name && nat_eq w.ty v.ty)
-  where
-    or-true : (b : Bool) → (b || true) ≡ true
-    or-true true = refl
-    or-true false = refl
-
--- a variable that is among these isn't that of a binder that is none of them
-pub other-variable : (s : kernel.State) (vs : List VarKey) (b : VarKey) (v : Variable Name) (r : Bool) → (IsMember (kernel.variable_at s b) (map (kernel.variable_at s) vs) → r ≡ true) → r ≡ false → IsMember v (map (kernel.variable_at s) vs) → same_var names v (kernel.variable_at s b) ≡ false
-other-variable s vs b v r told refused m = elim (var_cases names tells_names v (kernel.variable_at s b)) [
-  | inl p ↦ absurd (true≢false (sym (told (subst (λ w. IsMember w (map (kernel.variable_at s) vs)) p.1 m)) ∙ refused))
+-- a variable that isn't free isn't one that is
+pub other-variable : (t : Named Name) (w v : Variable Name) (b : Bool) → Decides b (IsFreeIn names w t) → b ≡ false → IsFreeIn names v t → same_var names v w ≡ false
+other-variable t w v b d refused here = elim (var_cases names tells_names v w) [
+  | inl p ↦ absurd (true≢false (sym (d.1 (subst (λ x. IsFreeIn names x t) p.1 here)) ∙ refused))
   | inr p ↦ p.0
 ]
 
@@ -281,13 +265,14 @@ module _ (s t : Session) (grown : Grows s t) where
   theorem-later i h = at-Extends s.kernel.theorems t.kernel.theorems grown.kernel.theorems (record { hyps = []; concl = Bound 0 }) i h
 
 -- nothing is known yet
-pub known-none : (s : Session) (k : Known) → k.types.entries ≡ [] → k.terms.entries ≡ [] → AreKnown s k
-known-none s k e f = record {
+pub known-none : (s : Session) (k : Known) → k.types.entries ≡ [] → k.terms.entries ≡ [] → k.free.entries ≡ [] → AreKnown s k
+known-none s k e f g = record {
   types = record { known = λ y i p. absurd (none-there (sym (ap (λ es. lookup (nat_eq y) es) e) ∙ p)) };
   terms = record { known = λ q i p. absurd (none-there (sym (ap (λ es. lookup (same_part q) es) f) ∙ p)) };
+  free = record { known = λ o b p. absurd (none-there (sym (ap (λ es. lookup (same_occurrence o) es) g) ∙ p)) };
 }
   where
-    none-there : {i : ℕ} → ◌≡◌ {A = Option ℕ} None (Some i) → ⊥
+    none-there : {X : Type 0} {x : X} → ◌≡◌ {A = Option X} None (Some x) → ⊥
     none-there p = cc
 
 -- the type of a term

@@ -157,6 +157,7 @@ of-same_cells s m v same h =
       stack = λ i o p. entry_in-more s (length m.cells.items) (length v.items) longer _ (h.stack i o p);
       dictionary = λ q o p. entry_in-more s (length m.cells.items) (length v.items) longer o (h.dictionary q o p);
       exports = h.exports;
+      placed = h.placed;
       cells = subst (AreCells s.kernel) (sym same) h.cells;
     }
 
@@ -194,6 +195,7 @@ module _ (s : Session) (m : Machine) (v : Vec cell.Cell Global) (c : cell.Cell) 
     stack = λ i o p. entry_in-more s (length cells) (length v.items) longer _ (h.stack i o p);
     dictionary = λ q o p. entry_in-more s (length cells) (length v.items) longer o (h.dictionary q o p);
     exports = h.exports;
+    placed = h.placed;
     cells = subst (AreCells k) (sym grown) (are-pushed k cells c h.cells head tail nest shallow);
   }
     where

@@ -7,16 +7,17 @@ use Rattle.std.specs.Ordering.{int_cmp, is_eq}
 use Rattle.std.specs.Cmp.{int_cmp_total}
 use Rattle.std.specs.Option.{option_map}
 use Rattle.std.specs.FinMap.{find, get, get-from_entries, same_map, int_cmp-IsAntisymmetric}
-use Rattle.std.proofs.Common.{refl, sym, ◌∙◌, ap, subst, arith, true, false, inl, inr, length-append}
+use Rattle.std.proofs.Common.{refl, sym, ◌∙◌, ap, subst, arith, true, false, inl, inr}
 use Rattle.std.proofs.lemmas.Option.{slice_get-get_or, get_or_from_slice_get}
-use Rattle.std.proofs.lemmas.List.Elements.{All-nil, All-cons, All-head, All-tail, All-append}
+use Rattle.std.proofs.lemmas.List.Elements.{All-nil, All-cons, All-head, All-tail, All-append, All-map}
 use Rattle.ot_plain.specs.Table.{Extends}
 use Rattle.ot_plain.specs.Names.{Name}
-use Rattle.ot_plain.specs.Trees.{TyVar, NConst, Bound, Sequent, Definition}
+use Rattle.ot_plain.specs.Trees.{TyVar, NConst, Tm, Bound, Sequent, Definition}
 use Rattle.ot_plain.specs.Hol.{nameless}
 use Rattle.ot_plain.specs.Naming.{names}
 use Rattle.ot_plain.proofs.TableLemmas.{Extends-refl, Extends-trans, Extends-append}
 use Rattle.ot_kernel.specs.State as kernel
+use Rattle.ot_kernel.specs.Alike.{HasPlace, AreFirstPlaces}
 use Rattle.ot_trace.specs.Trace.{origin_at}
 use Rattle.ot_trace.specs.Origins.{Origin, Origins, Number, Named, Make, Define, Outcome, NoOrigins, MoreOrigins, map_origin, map_origins}
 use Rattle.ot_machine.specs.Objects.{Objects, name, list, type_op, a_type, constant, variable, term, theorem, more_objects, nesting}
@@ -27,17 +28,18 @@ use Rattle.ot_machine.specs.declared.object.Entry as code_entry
 use Rattle.ot_machine.specs.declared.session.Session.{Session}
 use Rattle.ot_machine.specs.declared.machine.Export as code
 use Rattle.ot_machine.specs.declared.machine.Machine.{Machine}
-use Rattle.ot_machine.specs.Meaning.{list_at, object_of, cell_of, cells_onto, cells_of, IsIn, IsCell, AreCells, origin_of, origin_or, AreNamesBelow, AreAllNamesBelow, givens_of, made_of, run_of, IsRun, entry_of, dictionary_of, export_of, version_of, lists_of, article_of, HasStep, IsEntryIn, IsExportIn, IsOf, Grows, Carries, Leaves, Traces}
+use Rattle.ot_machine.specs.Meaning.{list_at, object_of, cell_of, cells_onto, cells_of, IsIn, IsCell, AreCells, origin_of, origin_or, AreNamesBelow, AreAllNamesBelow, givens_of, made_of, IsRun, entry_of, dictionary_of, export_of, concls_of, version_of, lists_of, article_of, HasStep, IsEntryIn, IsExportIn, IsOf, Grows, Leaves, Traces}
 
 -- ---- kernels that grow
 pub keeps-same : (k : kernel.State) → kernel.Keeps k k
-keeps-same k = record { names = Extends-refl _; types = Extends-refl _; terms = Extends-refl _; theorems = Extends-refl _; assumptions = Extends-refl _; definitions = Extends-refl _ }
+keeps-same k = record { names = Extends-refl _; types = Extends-refl _; terms = Extends-refl _; classes = Extends-refl _; theorems = Extends-refl _; assumptions = Extends-refl _; definitions = Extends-refl _ }
 
 pub keeps-on : {a b c : kernel.State} → kernel.Keeps a b → kernel.Keeps b c → kernel.Keeps a c
 keeps-on p q = record {
   names = Extends-trans p.names q.names;
   types = Extends-trans p.types q.types;
   terms = Extends-trans p.terms q.terms;
+  classes = Extends-trans p.classes q.classes;
   theorems = Extends-trans p.theorems q.theorems;
   assumptions = Extends-trans p.assumptions q.assumptions;
   definitions = Extends-trans p.definitions q.definitions;
@@ -208,6 +210,34 @@ dictionary-same s t cs ds es same = same_map int_cmp_total int_cmp-IsAntisymmetr
     at q None e = rw e refl
     at q (Some o) e = rw e (ap Some (same q o e))
 
+-- the theorems of exports are of the kernel
+pub exported-theorems : (s : Session) (es : List code.Export) → All (IsExportIn s) es → All (λ th. th < length s.kernel.theorems) (map (λ e. e.th) es)
+exported-theorems s es h = All-map (λ th. th < length s.kernel.theorems) (λ (e : code.Export). e.th) es (λ i d p. (h i d p).th)
+
+-- ---- theorems that are found by their conclusions, over a kernel that grew
+module _ (k l : kernel.State) (kept : kernel.Keeps k l) where
+  concls-kept : (ths : List ℕ) → All (λ th. th < length k.theorems) ths → concls_of l ths ≡ concls_of k ths
+  concls-kept [] h = refl
+  concls-kept (th ∷ ths) h =
+      let a = at-Extends k.theorems l.theorems kept.theorems (record { hyps = []; concl = Bound 0 }) th (All-head (λ th. th < length k.theorems) th ths h) in
+      let b = concls-kept ths (All-tail (λ th. th < length k.theorems) th ths h) in
+      λ i. (a i).concl ∷ b i
+
+  pub places-kept : (ths : List ℕ) → All (λ th. th < length k.theorems) ths → (ps : List (ℕ × ℕ)) → AreFirstPlaces k (concls_of k ths) ps → AreFirstPlaces l (concls_of l ths) ps
+  places-kept ths h ps p = subst (λ cs. AreFirstPlaces l cs ps) (sym (concls-kept ths h)) (record { found = λ j q is. later j q (p.found j q is); within = p.within })
+    where
+      later : (j : ℕ) (q : Tm Name) → HasPlace k ps j q → HasPlace l ps j q
+      later j q x = record {
+        term = x.term;
+        within = omega (arith, x.within, kept.terms.longer);
+        class = x.class;
+        classed = kept.classes.keeps x.term x.class x.classed;
+        is = ap (nameless names) (at-Extends k.terms l.terms kept.terms (NConst [] (TyVar [])) x.term x.within) ∙ x.is;
+        place = x.place;
+        found = x.found;
+        first = x.first;
+      }
+
 -- ---- a machine over a session that grew
 module _ (s t : Session) (m : Machine) (h : IsOf s m) (grown : Grows s t) where
   pub lists : lists_of t m ≡ lists_of s m
@@ -233,6 +263,7 @@ module _ (s t : Session) (m : Machine) (h : IsOf s m) (grown : Grows s t) where
       list = omega (arith, x.list, grown.trace.longer);
       term = omega (arith, x.term, grown.trace.longer);
     };
+    placed = places-kept s.kernel t.kernel grown.kernel (map (λ e. e.th) m.exports.items) (exported-theorems s m.exports.items h.exports) m.places h.placed;
     cells = cells-of_kept s.kernel t.kernel grown.kernel m.cells.items h.cells;
   }
 

@@ -43,6 +43,7 @@ pub mod EquationRules
 pub mod OpenValue
 pub mod OpenRow
 pub mod Spelled
+pub mod Occurrences
 pub mod OpenAccepted
 pub mod Canonical
 pub mod NamedRules

@@ -1,15 +1,15 @@
 -- What the kernel's open definition of a type operator gives is what the row of version 5 states.
-use Rattle.std.specs.Prelude.{◌≡◌, ◌<◌, ◌+◌, ◌++◌, ◌⊎◌, ℕ, suc, Bool, true, false, List, [], ◌∷◌, length, map, Result, Ok, Err}
+use Rattle.std.specs.Prelude.{◌≡◌, ◌<◌, ◌++◌, ◌⊎◌, ℕ, suc, Bool, true, false, List, [], ◌∷◌, length, map, Result, Ok, Err}
 use Rattle.std.specs.List.{All}
 use Rattle.std.proofs.Common.{refl, sym, ap, ◌∙◌, inl, inr, arith, length-append}
 use Rattle.ot_plain.specs.Names.{Name}
 use Rattle.ot_plain.specs.Naming.{names}
 use Rattle.ot_plain.specs.Trees.{Ty, TyOp, Tm, Free, Con, Bound, App, Abs, Sequent, Definition, TyDef}
-use Rattle.ot_plain.specs.Hol.{bool_ty, type_of, HasType, is_shallow, tys_of_vars, theorems}
+use Rattle.ot_plain.specs.Hol.{bool_ty, HasType, is_shallow, tys_of_vars, theorems}
 use Rattle.ot_plain.specs.Faults.{Fault, Nesting}
 use Rattle.ot_plain.specs.Answers.{◌>>=◌, unless}
 use Rattle.ot_kernel.specs.Defining.{type_definition}
-use Rattle.ot_kernel.specs.Opening.{var_r, beta_at, beta_over, open_type_definition, opened_by}
+use Rattle.ot_kernel.specs.Opening.{var_r, beta_at, open_type_definition, opened_by}
 use Rattle.ot_kernel.specs.State as kernel
 use Rattle.ot_trace.specs.Origins.{Origin}
 use Rattle.ot_machine.specs.States.{Entry, RunState}

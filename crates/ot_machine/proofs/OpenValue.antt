@@ -17,7 +17,7 @@ use Rattle.ot_laws.proofs.Terms.{close_at_fresh}
 use Rattle.ot_laws.proofs.Opened.{place_below}
 use Rattle.ot_laws.proofs.Typing.{app-typed, type-more, within-typed, type-nameless}
 use Rattle.ot_laws.proofs.Equations.{equation-typed}
-use Rattle.ot_trace.specs.Origins.{Origin, make_one, make_two}
+use Rattle.ot_trace.specs.Origins.{Origin, make_one}
 use Rattle.ot_machine.specs.Objects.{Object, term, theorem}
 use Rattle.ot_machine.specs.Makers.{Read, maker}
 use Rattle.ot_machine.specs.Values.{value, combined, applied as applied_by}

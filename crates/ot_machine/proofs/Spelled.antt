@@ -1,22 +1,18 @@
 -- What the numbers of a kernel's tables stand for, read from the tables.
-use Rattle.std.specs.Prelude.{◌↔◌, ◌&&◌}
+use Rattle.std.specs.Prelude.{◌&&◌}
 use Rattle.std.specs.List.{All}
 use mathlib.Core.Path.{PathP}
-use Rattle.std.proofs.Common.{◌≡◌, ℕ, zero, suc, ◌<◌, ◌≤◌, nat_eq, List, [], ◌∷◌, length, map, get_or, slice_get, slice_index_or, Option, Some, None, inl, inr, refl, sym, ap, ◌∙◌, subst, arith}
+use Rattle.std.proofs.Common.{◌≡◌, ℕ, ◌<◌, ◌≤◌, nat_eq, List, [], ◌∷◌, length, slice_get, slice_index_or, Option, Some, refl, sym, ap, ◌∙◌, subst, arith}
 use Rattle.std.proofs.lemmas.List.Elements.{All-head, All-tail}
-use Rattle.std.proofs.lemmas.Option.{slice_get_within, get_or_from_slice_get, slice_get-get_or}
-use Rattle.ot_plain.specs.Lists.{IsMember}
+use Rattle.std.proofs.lemmas.Option.{slice_get_within, get_or_from_slice_get}
 use Rattle.ot_plain.specs.Names.{Name}
-use Rattle.ot_plain.specs.Trees.{Alphabet, Ty, TyVar, TyOp, NoTys, MoreTys, Variable, Tm, Free, Con, Bound, App, Abs, Named, NVar, NConst, NApp, NAbs}
-use Rattle.ot_plain.specs.Hol.{same_ty, same_var, nameless, named_type, IsFree, IsFreeIn}
-use Rattle.ot_plain.specs.Renamed.{map_ty, map_tys, map_variable, map_tm, map_named}
+use Rattle.ot_plain.specs.Trees.{Alphabet, Ty, TyVar, TyOp, MoreTys, Named, NVar, NConst, NApp, NAbs}
+use Rattle.ot_plain.specs.Hol.{same_ty, same_var, named_type}
+use Rattle.ot_plain.specs.Renamed.{map_ty, map_tys, map_variable, map_named}
 use Rattle.ot_plain.specs.Naming.{names, numbers, name_of, IsNameTable}
 use Rattle.ot_plain.specs.Bounds.{bound_ty, bound_named}
-use Rattle.ot_plain.proofs.Line.{IsLettering, Line, letters, one_end, over_option, over_ty, over_variable, over_tm, over_named}
+use Rattle.ot_plain.proofs.Line.{IsLettering, Line, letters, one_end, over_option, over_ty, over_variable, over_named}
 use Rattle.ot_plain.proofs.Naming.{naming, lettering}
-use Rattle.ot_laws.proofs.Named.{free-nameless, nameless-free}
-use Rattle.ot_laws.proofs.New.{free-below}
-use Rattle.ot_laws.proofs.Tests.{tells_names, tells_numbers}
 use Rattle.ot_type.specs.TypeTable as types
 use Rattle.ot_type.specs.declared.node.TypeNode.{TypeNode}
 use Rattle.ot_type.specs.declared.node.TypeNode.TheVariants as type_nodes
@@ -29,41 +25,7 @@ use Rattle.ot_alpha.proofs.Comparison.{same_type}
 use Rattle.ot_kernel.specs.State.{State, name_at, type_at, types_at, variable_at, named_at}
 use Rattle.ot_kernel.specs.Spelled.{IsSpelled}
 use Rattle.ot_kernel.proofs.Namings.{length-map, index-map, name_of-index, table_names, bound_ty-get, bound_named-get}
-use Rattle.ot_machine.specs.Nodes.{type_tree, IsTypeNode, IsKey, AreKeysIn, term_tree, IsTermNode}
-
--- ---- members and free variables under maps
-
-member_get : {X : Type 0} (xs : List X) (k : ℕ) (d : X) → k < length xs → IsMember (get_or xs k d) xs
-member_get [] k d h = absurd (omega (arith, h))
-member_get (x ∷ xs) zero d h = inl refl
-member_get (x ∷ xs) (suc k) d h = inr (member_get xs k d (omega (arith, h)))
-
-member_map : {X Y : Type 0} (g : X → Y) (x : X) (xs : List X) → IsMember x xs → IsMember (g x) (map g xs)
-member_map g x [] m = absurd m
-member_map g x (y ∷ xs) (inl e) = inl (ap g e)
-member_map g x (y ∷ xs) (inr m) = inr (member_map g x xs m)
-
-map_member : {X Y : Type 0} (g : X → Y) (y : Y) (xs : List X) → IsMember y (map g xs) → (x : X) × IsMember x xs × (g x ≡ y)
-map_member g y [] m = absurd m
-map_member g y (x ∷ xs) (inl e) = (x, inl refl, e)
-map_member g y (x ∷ xs) (inr m) = let (z, h, e) = map_member g y xs m in (z, inr h, e)
-
-module _ {M N : Type 0} (a : Alphabet M) (b : Alphabet N) (g : M → N) where
-  free_mapped : (w : Variable M) (t : Tm M) → IsFree a w t → IsFree b (map_variable g w) (map_tm g t)
-  free_mapped w (Free v) m = ap (map_variable g) m
-  free_mapped w (Con n t) m = absurd m
-  free_mapped w (Bound k) m = absurd m
-  free_mapped w (App f x) (inl m) = inl (free_mapped w f m)
-  free_mapped w (App f x) (inr m) = inr (free_mapped w x m)
-  free_mapped w (Abs t c) m = free_mapped w c m
-
-  mapped_free : (v : Variable N) (t : Tm M) → IsFree b v (map_tm g t) → (w : Variable M) × IsFree a w t × (map_variable g w ≡ v)
-  mapped_free v (Free w) m = (w, refl, m)
-  mapped_free v (Con n t) m = absurd m
-  mapped_free v (Bound k) m = absurd m
-  mapped_free v (App f x) (inl m) = let (w, h, e) = mapped_free v f m in (w, inl h, e)
-  mapped_free v (App f x) (inr m) = let (w, h, e) = mapped_free v x m in (w, inr h, e)
-  mapped_free v (Abs t c) m = mapped_free v c m
+use Rattle.ot_machine.specs.Nodes.{type_tree, IsTypeNode, IsKey, term_tree, IsTermNode}
 
 -- ---- the numbers of a state
 module _ (s : State) (t : TermTable) (k : IsSpelled s t) (table : IsNameTable s.names) where
@@ -172,47 +134,3 @@ module _ (s : State) (t : TermTable) (k : IsSpelled s t) (table : IsNameTable s.
       ∙ one_end L (λ i. named_type (alphabet_at i) (over_named (naming s.names) (terms.term_at t.terms id) i))
       (subst (λ o. PathP L o (Some (map_ty f (types.type_at t.types ty)))) (sym e) (over_option (λ i. Ty (Line (naming s.names) i)) (map_ty f) (over_ty (naming s.names)) (Some (types.type_at t.types ty))))
       ∙ ap Some (type_is ty g)
-
-  -- ---- free variables
-  nameless_mapped : (u : Named ℕ) → map_tm f (nameless numbers u) ≡ nameless names (map_named f u)
-  nameless_mapped u =
-      one_end (λ i. Tm (Line (naming s.names) i)) (over_tm (naming s.names) (nameless numbers u)) (λ i. nameless (alphabet_at i) (over_named (naming s.names) u i))
-
-  module _ (id : ℕ) (h : id < length s.terms) (vs : List VarKey) (within : All (λ v. v.ty < length t.types) vs)
-      (free : (w : Variable ℕ) → IsMember w (map (terms.variable_of t.types) vs) ↔ IsFree numbers w (nameless numbers (terms.term_at t.terms id))) where
-    mapped_is : map_tm f (nameless numbers (terms.term_at t.terms id)) ≡ nameless names (named_at s.terms id)
-    mapped_is = nameless_mapped (terms.term_at t.terms id) ∙ ap (nameless names) (term_is id (term_inside id h))
-
-    name_below : (v : VarKey) → IsMember v vs → v.name < length s.names
-    name_below v m =
-        let is_free = (free (terms.variable_of t.types v)).0 (member_map (terms.variable_of t.types) v vs m) in
-        let below = free-below (terms.variable_of t.types v) (terms.term_at t.terms id) (free-nameless numbers tells_numbers (terms.variable_of t.types v) (terms.term_at t.terms id) is_free) in
-        let bound = term_bound id (terms.term_at t.terms id) (slice_get-get_or t.terms id (NConst 0 (TyVar 0)) (term_inside id h)) in
-        omega (arith, below, bound)
-
-    type_below : (us : List VarKey) → All (λ v. v.ty < length t.types) us → (v : VarKey) → IsMember v us → v.ty < length t.types
-    type_below [] a v m = absurd m
-    type_below (u ∷ us) a v (inl e) = subst (λ z. z.ty < length t.types) e (All-head (λ v. v.ty < length t.types) u us a)
-    type_below (u ∷ us) a v (inr m) = type_below us (All-tail (λ v. v.ty < length t.types) u us a) v m
-
-    key_is : (v : VarKey) → IsMember v vs → map_variable f (terms.variable_of t.types v) ≡ variable_at s v
-    key_is v m = variable_is v (name_below v m) (type_below vs within v m)
-
-    pub keys_inside : AreKeysIn s vs
-    keys_inside i d l =
-        let m = member_get vs i d l in
-        (name_below (get_or vs i d) m, type_outside (get_or vs i d).ty (type_below vs within (get_or vs i d) m))
-
-    pub frees_are : (v : Variable Name) → IsMember v (map (variable_at s) vs) ↔ IsFreeIn names v (named_at s.terms id)
-    frees_are v = (
-      λ m.
-          let (u, here, is) = map_member (variable_at s) v vs m in
-          let inside = (free (terms.variable_of t.types u)).0 (member_map (terms.variable_of t.types) u vs here) in
-          let mapped = free_mapped numbers names f (terms.variable_of t.types u) (nameless numbers (terms.term_at t.terms id)) inside in
-          free-nameless names tells_names v (named_at s.terms id) (subst (λ z. IsFree names z (nameless names (named_at s.terms id))) (key_is u here ∙ is) (subst (IsFree names (map_variable f (terms.variable_of t.types u))) mapped_is mapped)),
-      λ m.
-          let at = subst (IsFree names v) (sym mapped_is) (nameless-free names tells_names v (named_at s.terms id) m) in
-          let (w, inside, is) = mapped_free numbers names f v (nameless numbers (terms.term_at t.terms id)) at in
-          let (u, here, key) = map_member (terms.variable_of t.types) w vs ((free w).1 inside) in
-          subst (λ z. IsMember z (map (variable_at s) vs)) (sym (key_is u here) ∙ ap (map_variable f) key ∙ is) (member_map (variable_at s) u vs here),
-    )

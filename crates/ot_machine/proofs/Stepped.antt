@@ -1,6 +1,6 @@
 -- A session whose kernel grew, with the steps of its assumptions and definitions.
 use Rattle.std.specs.Global.{Global}
-use Rattle.std.specs.Prelude.{◌≡◌, ◌<◌, ◌+◌, ◌-◌, ℕ, List, [], ◌∷◌, ◌++◌, length, map, take, slice_index_or, Vec, Result, Ok, Err}
+use Rattle.std.specs.Prelude.{◌≡◌, ◌<◌, ◌-◌, ℕ, List, [], ◌∷◌, ◌++◌, length, take, slice_index_or, Vec, Result, Ok, Err}
 use Rattle.std.specs.List.{All}
 use Rattle.std.proofs.Common.{refl, sym, ap, ◌∙◌, subst, arith, length-append}
 use Rattle.std.proofs.Math.Seq.{take-append_seam}
@@ -15,7 +15,7 @@ use Rattle.ot_plain.specs.Answers.{◌>>=◌}
 use Rattle.ot_kernel.specs.Defining.{Defining}
 use Rattle.ot_kernel.specs.State as kernel
 use Rattle.ot_trace.specs.declared.trace.StepId.{StepId}
-use Rattle.ot_machine.specs.States.{Entry, Given, Made, RunState}
+use Rattle.ot_machine.specs.States.{Entry, RunState}
 use Rattle.ot_machine.specs.Rows.{definitions_of, theorem_entries, defined}
 use Rattle.ot_machine.specs.declared.machine.Machine.{Machine}
 use Rattle.ot_machine.specs.declared.session.Session.{Session}

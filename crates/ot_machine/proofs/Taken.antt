@@ -1,9 +1,10 @@
 -- What is used for a sequent: a theorem of the context, an assumption, or a new one.
-use Rattle.std.specs.Prelude.{◌≡◌, ◌+◌, ◌<◌, ◌&&◌, ℕ, List, [], ◌∷◌, ◌++◌, length, map, find, Bool, true, false, cond, Option, Some, None, Result, Ok, Err, MatchBool}
+use Rattle.std.specs.Prelude.{◌≡◌, ◌+◌, ◌<◌, ◌&&◌, ℕ, zero, suc, take, List, [], ◌∷◌, ◌++◌, length, map, find, Bool, true, false, cond, Option, Some, None, Result, Ok, Err, MatchBool}
 use Rattle.std.specs.Bool.{Decides}
-use Rattle.std.specs.List.{list_all}
-use Rattle.std.proofs.Common.{refl, sym, ap, ◌∙◌, subst, arith, drop, get_or}
+use Rattle.std.specs.List.{All, list_all}
+use Rattle.std.proofs.Common.{refl, sym, ap, ◌∙◌, arith, drop, get_or}
 use Rattle.std.proofs.lemmas.List.{drop_more}
+use Rattle.std.proofs.lemmas.List.Elements.{All-head, All-tail}
 use Rattle.std.proofs.Math.ListN.{get_or-map}
 use Rattle.ot_plain.specs.Names.{Name}
 use Rattle.ot_plain.specs.Trees.{Tm, Sequent}
@@ -23,7 +24,9 @@ use Rattle.ot_machine.specs.Rows.{given_as, or_assumed, theorem_entry}
 use Rattle.ot_machine.specs.Discharge.{weakened, given_for, or_weakened, discharged}
 use Rattle.ot_machine.specs.Assumptions.{term_entries, assumed_new, used}
 use Rattle.ot_machine.specs.declared.session.Session.{Session}
-use Rattle.ot_machine.specs.Meaning.{origin_of, givens_of}
+use Rattle.ot_machine.specs.declared.context.Given as code
+use Rattle.ot_machine.specs.Meaning.{origin_of, givens_of, concls_of}
+use Rattle.ot_machine.specs.Contexts.{given_of}
 
 -- ---- a sequent, and the same with each hypothesis once
 abbrev pub stated : List (Tm Name) → Tm Name → Sequent Name
@@ -127,3 +130,38 @@ not-here q all rest x e same = e ∙ ap (λ b. cond b (Some x) (given_as q rest)
 -- what a number at a place stands for
 pub theorem-from : (k : kernel.State) (ths : List ℕ) (i th : ℕ) → map (kernel.theorem_at k) ths ≡ k.assumptions → th ≡ get_or ths i th → kernel.theorem_at k th ≡ get_or k.assumptions i (kernel.theorem_at k th)
 theorem-from k ths i th all e = ap (kernel.theorem_at k) e ∙ sym (get_or-map (kernel.theorem_at k) ths i th) ∙ ap (λ qs. get_or qs i (kernel.theorem_at k th)) all
+
+-- ---- a search that begins at a place before which no conclusion is the stated one
+-- a conjunction fails where its last part does
+and-last : (x y : Bool) → y ≡ false → (x && y) ≡ false
+and-last true y e = e
+and-last false y e = refl
+
+pub assumed-past : (s : Session) (q : Sequent Name) (qs : List (Sequent Name)) (is : List ℕ) (n : ℕ) → length is ≡ length qs → All (λ r. same_tm names r.concl q.concl ≡ false) (take n qs)
+    → given_as q (givens_of s qs is) ≡ given_as q (givens_of s (drop n qs) (drop n is))
+assumed-past s q qs is zero same none = refl
+assumed-past s q [] [] (suc n) same none = refl
+assumed-past s q [] (i ∷ is) (suc n) same none = absurd (omega (arith, same))
+assumed-past s q (r ∷ qs) [] (suc n) same none = absurd (omega (arith, same))
+assumed-past s q (r ∷ qs) (i ∷ is) (suc n) same none =
+    let here = All-head (λ (r : Sequent Name). same_tm names r.concl q.concl ≡ false) r (take n qs) none in
+    let rest = assumed-past s q qs is n (omega (arith, same)) (All-tail (λ (r : Sequent Name). same_tm names r.concl q.concl ≡ false) r (take n qs) none) in
+    ap (λ b. cond b (Some (record { sequent = r; origin = origin_of s i })) (given_as q (givens_of s qs is))) (and-last _ _ here) ∙ rest
+
+pub context-past : (s : Session) (q : Sequent Name) (gs : List code.Given) (n : ℕ) → All (λ p. same_tm names p q.concl ≡ false) (take n (concls_of s.kernel (map (λ g. g.th) gs)))
+    → given_for q (map (given_of s) gs) ≡ given_for q (map (given_of s) (drop n gs))
+context-past s q gs zero none = refl
+context-past s q [] (suc n) none = refl
+context-past s q (g ∷ gs) (suc n) none =
+    let concls = take n (concls_of s.kernel (map (λ g. g.th) gs)) in
+    let here = All-head (λ p. same_tm names p q.concl ≡ false) (kernel.theorem_at s.kernel g.th).concl concls none in
+    let rest = context-past s q gs n (All-tail (λ p. same_tm names p q.concl ≡ false) (kernel.theorem_at s.kernel g.th).concl concls none) in
+    ap (λ b. cond b (Some (given_of s g)) (given_for q (map (given_of s) gs))) (and-last _ _ here) ∙ rest
+
+pub context-none : (s : Session) (q : Sequent Name) (gs : List code.Given) → All (λ p. same_tm names p q.concl ≡ false) (concls_of s.kernel (map (λ g. g.th) gs)) → given_for q (map (given_of s) gs) ≡ None
+context-none s q [] none = refl
+context-none s q (g ∷ gs) none =
+    let concls = concls_of s.kernel (map (λ g. g.th) gs) in
+    let here = All-head (λ p. same_tm names p q.concl ≡ false) (kernel.theorem_at s.kernel g.th).concl concls none in
+    let rest = context-none s q gs (All-tail (λ p. same_tm names p q.concl ≡ false) (kernel.theorem_at s.kernel g.th).concl concls none) in
+    ap (λ b. cond b (Some (given_of s g)) (given_for q (map (given_of s) gs))) (and-last _ _ here) ∙ rest

@@ -20,7 +20,7 @@ use Rattle.ot_machine.specs.declared.object.Object.TheVariants as objects
 use Rattle.ot_machine.specs.declared.object.Entry as code_entry
 use Rattle.ot_machine.specs.declared.machine.Machine.{Machine}
 use Rattle.ot_machine.specs.declared.session.Session.{Session}
-use Rattle.ot_machine.specs.Meaning.{object_of, cells_of, origin_of, origin_or, AreNamesBelow, AreAllNamesBelow, entry_of, lists_of, article_of, IsNumber, HasStep, IsEntryIn, IsOf, Traces}
+use Rattle.ot_machine.specs.Meaning.{object_of, cells_of, origin_of, origin_or, AreNamesBelow, AreAllNamesBelow, entry_of, lists_of, article_of, IsNumber, HasStep, IsOf, Traces}
 use Rattle.ot_machine.proofs.Tops.{top-one, top-two}
 use Rattle.ot_machine.proofs.Kept.{at-Extends, origin-kept, traces-grow, with_trace, added-extends, added-named, traces}
 

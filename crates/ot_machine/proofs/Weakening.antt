@@ -1,5 +1,5 @@
 -- A theorem with hypotheses more, from what the rules of the kernel and the trace make.
-use Rattle.std.specs.Prelude.{◌≡◌, ◌<◌, ℕ, Bool, true, false, List, [], ◌∷◌, length, map, Result, Ok, Err, if◌then◌else◌}
+use Rattle.std.specs.Prelude.{◌≡◌, ◌<◌, ℕ, true, false, List, [], ◌∷◌, length, map, Result, Ok, Err, if◌then◌else◌}
 use Rattle.std.specs.List.{All}
 use Rattle.std.proofs.lemmas.List.Elements.{All-head, All-tail}
 use Rattle.std.proofs.Common.{refl, sym, ap, ◌∙◌, arith}
@@ -10,23 +10,19 @@ use Rattle.ot_plain.specs.Hol.{nameless, is_in}
 use Rattle.ot_plain.specs.Faults.{Fault}
 use Rattle.ot_plain.specs.Answers.{◌>>=◌}
 use Rattle.ot_plain.specs.Rules.{assume_rule, deduct_antisym_rule, eq_mp_rule}
-use Rattle.ot_plain.specs.declared.command.Cmd.{Cmd}
 use Rattle.ot_plain.specs.declared.command.Cmd.TheVariants as words
-use Rattle.ot_plain.proofs.TableLemmas.{Extends-refl}
 use Rattle.ot_kernel.specs.State as kernel
 use Rattle.ot_trace.specs.Origins.{Origin, make_one, make_two, operand}
-use Rattle.ot_machine.specs.Objects.{Object, term, theorem}
-use Rattle.ot_machine.specs.States.{Entry, Given, RunState}
+use Rattle.ot_machine.specs.Objects.{term, theorem}
+use Rattle.ot_machine.specs.States.{Entry, RunState}
 use Rattle.ot_machine.specs.declared.fault.Fault as code
 use Rattle.ot_machine.specs.Answers.{Makes}
-use Rattle.ot_machine.specs.Rows.{made, theorem_entry}
+use Rattle.ot_machine.specs.Rows.{made}
 use Rattle.ot_machine.specs.Discharge.{adding, weakened}
 use Rattle.ot_machine.specs.Assumptions.{term_entries, supposing}
 use Rattle.ot_machine.specs.declared.machine.Machine.{Machine}
 use Rattle.ot_machine.specs.declared.session.Session.{Session}
-use Rattle.ot_machine.specs.declared.context.Given as code_given
-use Rattle.ot_machine.specs.Contexts.{given_of}
-use Rattle.ot_machine.specs.Meaning.{origin_of, IsRun, IsOf, Grows, Leaves, Traces}
+use Rattle.ot_machine.specs.Meaning.{origin_of, IsOf, Leaves, Traces}
 use Rattle.ot_machine.specs.Stays.{Stays}
 use Rattle.ot_machine.proofs.Kept.{at-Extends, trace-same, traces-grow, grows-on, origin-kept}
 use Rattle.ot_machine.proofs.Turning.{grows-same}

@@ -10,6 +10,7 @@ use Rattle.ot_plain.specs.Hol.{same_var}
 use Rattle.ot_kernel.specs.State.{type_at, variable_at, named_at}
 use Rattle.ot_trace.specs.Origins.{Origin}
 use Rattle.ot_machine.specs.Nodes.{IsKey}
+use Rattle.ot_machine.specs.Occurrences.{AreOccurrences}
 use Rattle.ot_machine.specs.Version5.{canon_ty, var_origin, var_term, const_term, app, lam, numbered}
 use Rattle.ot_machine.specs.declared.makers.canonical.Binder.{Binder}
 use Rattle.ot_machine.specs.declared.makers.canonical.Part.{Part}
@@ -75,3 +76,4 @@ pub record AreTerms (s : Session) (es : List (Part × ℕ)) : Type 0 where
 pub record AreKnown (s : Session) (k : Known) : Type 0 where
   pub types : AreTypes s k.types.entries
   pub terms : AreTerms s k.terms.entries
+  pub free : AreOccurrences s.kernel k.free.entries

@@ -3,11 +3,12 @@ use Rattle.std.specs.Prelude.{◌<◌, length, map}
 use Rattle.std.specs.List.{All}
 use Rattle.ot_interp.specs.Interpretation.{map_interpretation, IsWithin}
 use Rattle.ot_kernel.specs.State as kernel
+use Rattle.ot_kernel.specs.Alike.{AreFirstPlaces}
 use Rattle.ot_machine.specs.declared.session.Session.{Session}
 use Rattle.ot_machine.specs.declared.context.Context as code
 use Rattle.ot_machine.specs.declared.context.Given as code_given
 use Rattle.ot_machine.specs.States.{Given, Context}
-use Rattle.ot_machine.specs.Meaning.{origin_of}
+use Rattle.ot_machine.specs.Meaning.{origin_of, concls_of}
 
 abbrev pub given_of : Session → code_given.Given → Given
 given_of s g = record { sequent = kernel.theorem_at s.kernel g.th; origin = origin_of s g.step }
@@ -16,8 +17,9 @@ given_of s g = record { sequent = kernel.theorem_at s.kernel g.th; origin = orig
 abbrev pub context_of : Session → code.Context → Context
 context_of s c = record { interpretation = map_interpretation (kernel.name_at s.kernel) c.interp.now; theorems = map (given_of s) c.theorems.now }
 
--- the numbers of a context are of the session
+-- the numbers of a context are of the session, and its theorems are found by the classes of their conclusions
 pub record IsContextOf (s : Session) (c : code.Context) : Type 0 where
   pub interpretation : IsWithin (length s.kernel.names) c.interp.now
   pub theorems : All (λ g. g.th < length s.kernel.theorems) c.theorems.now
   pub steps : All (λ g. g.step < length s.trace) c.theorems.now
+  pub placed : AreFirstPlaces s.kernel (concls_of s.kernel (map (λ g. g.th) c.theorems.now)) c.places.now

@@ -11,6 +11,7 @@ pub mod Discharge
 pub mod Values
 pub mod Version5
 pub mod Nodes
+pub mod Occurrences
 pub mod Canonical
 pub mod OpenTypes
 pub mod Step

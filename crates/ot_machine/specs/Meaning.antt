@@ -8,8 +8,9 @@ use Rattle.std.specs.FinMap.{FinMap, from_entries}
 use Rattle.ot_plain.specs.Table.{Extends}
 use Rattle.ot_plain.specs.Hol.{depth_limit}
 use Rattle.ot_plain.specs.Names.{Name}
-use Rattle.ot_plain.specs.Trees.{Sequent, Definition}
+use Rattle.ot_plain.specs.Trees.{Tm, Sequent, Definition}
 use Rattle.ot_kernel.specs.State as kernel
+use Rattle.ot_kernel.specs.Alike.{AreFirstPlaces}
 use Rattle.ot_machine.specs.Objects.{Object, Objects, number, name, list, type_op, a_type, constant, variable, term, theorem, no_objects, more_objects, nesting}
 use Rattle.ot_machine.specs.States.{Entry, Export, Given, Made, Version, open_version, version_5, version_6, ArticleState, RunState, State}
 use Rattle.ot_trace.specs.Origins.{Origin, Origins, Number, Named, Make, Define, Outcome, NoOrigins, MoreOrigins, map_origin}
@@ -208,12 +209,17 @@ pub record IsExportIn (s : Session) (e : code.Export) : Type 0 where
   pub list : e.list < length s.trace
   pub term : e.term < length s.trace
 
--- the machine's numbers are of the session
+-- the conclusions of theorems
+abbrev pub concls_of : kernel.State → List ℕ → List (Tm Name)
+concls_of k = map (λ th. (kernel.theorem_at k th).concl)
+
+-- the machine's numbers are of the session, and its exports are found by the classes of their conclusions
 pub record IsOf (s : Session) (m : Machine) : Type 0 where
   pub run : IsRun s
   pub stack : All (IsEntryIn s (length m.cells.items)) m.stack.items
   pub dictionary : (q : ℤ) (e : code_entry.Entry) → lookup (is_at (int_cmp q)) m.dictionary.entries ≡ Some e → IsEntryIn s (length m.cells.items) e
   pub exports : All (IsExportIn s) m.exports.items
+  pub placed : AreFirstPlaces s.kernel (concls_of s.kernel (map (λ e. e.th) m.exports.items)) m.places
   pub cells : AreCells s.kernel m.cells.items
 
 -- ---- a session that grew

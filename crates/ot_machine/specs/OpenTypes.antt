@@ -2,8 +2,8 @@
 use Rattle.std.specs.Prelude.{◌≡◌, ◌<◌, ℕ, List, [], ◌∷◌, length, codes}
 use Rattle.ot_plain.specs.Names.{Name}
 use Rattle.ot_plain.specs.Naming.{names}
-use Rattle.ot_plain.specs.Trees.{Ty, TyOp, Tm, App, Sequent}
-use Rattle.ot_plain.specs.Hol.{type_of, tys_of_vars}
+use Rattle.ot_plain.specs.Trees.{Ty, Tm, App, Sequent}
+use Rattle.ot_plain.specs.Hol.{type_of}
 use Rattle.ot_plain.specs.declared.command.Cmd.TheVariants as words
 use Rattle.ot_trace.specs.Origins.{Origin, Named, Make, Outcome, NoOrigins, make_one, make_two, type_op_origin, constant_origin}
 use Rattle.ot_machine.specs.Objects.{theorem}

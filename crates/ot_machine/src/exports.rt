@@ -4,12 +4,13 @@ ghost use Rattle.std.specs.List.{All};
 ghost use Rattle.ot_plain.specs.Hol.{same_sequent};
 ghost use Rattle.ot_plain.specs.Naming.{names};
 ghost use Rattle.ot_kernel.specs.State.{theorem_at};
-ghost use Rattle.ot_machine.specs.Meaning.{export_of, article_of, IsOf};
+ghost use Rattle.ot_kernel.specs.Alike.{AreFirstPlaces};
+ghost use Rattle.ot_machine.specs.Meaning.{export_of, concls_of, article_of, IsOf};
 ghost use Rattle.ot_machine.specs.Rows.{exported, is_exported};
 
 use crate::machine::{Export, Machine};
 use crate::session::Session;
-use ot_kernel::ThmId;
+use ot_kernel::{Places, ThmId};
 use ot_plain::Memory;
 use ot_trace::StepId;
 
@@ -34,9 +35,12 @@ impl Session {
         ensures of { IsOf self.now machine.new }
         ensures stack { vec_len machine.new.stack ≡ vec_len machine.old.stack }
     {
-        if self.is_exported(&machine.exports, th) {
+        if self.is_exported(&machine.exports, &machine.places, th) {
             return Ok(());
         }
+        let concl = self.kernel.concl(th);
+        let place = machine.exports.len();
+        self.kernel.note_term(&mut machine.places, concl, place)?;
         machine.exports.push(Export {
             th,
             theorem,
@@ -47,8 +51,21 @@ impl Session {
     }
 
     /// Whether one of these exports is the theorem's sequent: the same set of hypotheses and the same conclusion, up to the
-    /// names of binders. All numbers have to be of this session.
-    pub fn is_exported(&self, exports: &[Export], theorem: ThmId) -> bool
+    /// names of binders. All numbers have to be of this session, and the places those of the exports' conclusions.
+    pub fn is_exported(&self, exports: &[Export], places: &Places, theorem: ThmId) -> bool
+        requires exports { All (λ e. e.th < length self.now.kernel.theorems) exports.now }
+        requires placed { AreFirstPlaces self.now.kernel (concls_of self.now.kernel (map (λ e. e.th) exports.now)) places.now }
+        requires inside { theorem < length self.now.kernel.theorems }
+        ensures { result ≡ is_exported (theorem_at self.now.kernel theorem) (map (export_of self.now) exports.now) }
+    {
+        match self.kernel.place_of(places, self.kernel.concl(theorem)) {
+            Some(place) => self.is_among(&exports[place..], theorem),
+            None => false,
+        }
+    }
+
+    // Whether one of these exports is the theorem's sequent.
+    fn is_among(&self, exports: &[Export], theorem: ThmId) -> bool
         requires exports { All (λ e. e.th < length self.now.kernel.theorems) exports.now }
         requires inside { theorem < length self.now.kernel.theorems }
         ensures { result ≡ is_exported (theorem_at self.now.kernel theorem) (map (export_of self.now) exports.now) }

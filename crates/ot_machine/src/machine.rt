@@ -18,7 +18,7 @@ use crate::object::{Cell, Command, Entry, Object};
 use crate::rows;
 use crate::session::Session;
 use ot_io::Source;
-use ot_kernel::ThmId;
+use ot_kernel::{Places, ThmId};
 use ot_plain::Cmd;
 use ot_scan::{Lines, Word, command as read_word};
 use ot_trace::StepId;
@@ -49,6 +49,8 @@ pub struct Machine {
     pub(crate) stack: Vec<Entry>,
     pub(crate) dictionary: BTreeMap<i64, Entry>,
     pub(crate) exports: Vec<Export>,
+    // The places of their conclusions among the exports.
+    pub(crate) places: Places,
     pub(crate) cells: Vec<Cell>,
     count: u64,
     version: Version,
@@ -65,6 +67,7 @@ impl Machine {
             stack: Vec::new(alloc),
             dictionary: BTreeMap::new(alloc),
             exports: Vec::new(alloc),
+            places: Places::new(alloc),
             cells: Vec::new(alloc),
             count: 0,
             version: Version::Open,

@@ -13,6 +13,7 @@ mod accepted;
 mod axioms;
 mod canonical;
 mod definitions;
+mod occurrences;
 mod open_types;
 mod renamed;
 mod terms;

@@ -1,18 +1,13 @@
 // What a kernel's numbers stand for, one node at a time.
-ghost use Rattle.std.specs.Prelude.{◌≡◌, ◌<◌, ◌↔◌, length, map, Some, IfOk};
-ghost use Rattle.ot_plain.specs.Lists.{IsMember};
-ghost use Rattle.ot_plain.specs.Names.{Name as NameValue};
+ghost use Rattle.std.specs.Prelude.{◌≡◌, ◌<◌, length, Some};
 ghost use Rattle.ot_plain.specs.Naming.{names};
-ghost use Rattle.ot_plain.specs.Trees.{Variable};
-ghost use Rattle.ot_plain.specs.Hol.{same_var, named_type, IsFreeIn};
+ghost use Rattle.ot_plain.specs.Hol.{same_var, named_type};
 ghost use Rattle.ot_kernel.specs.State.{type_at, variable_at, named_at};
-ghost use Rattle.ot_machine.specs.Nodes.{type_tree, IsTypeNode, term_tree, IsTermNode, IsKey, AreKeysIn};
+ghost use Rattle.ot_machine.specs.Nodes.{type_tree, IsTypeNode, term_tree, IsTermNode, IsKey};
 
 use ot_kernel::Kernel;
-use ot_plain::Memory;
 use ot_term::{TermId, TermNode, VarKey};
 use ot_type::{TypeId, TypeNode};
-use std::alloc::Global;
 
 /// The node of a type.
 pub(crate) fn type_node(kernel: &Kernel, id: TypeId) -> &TypeNode
@@ -53,15 +48,4 @@ pub(crate) fn type_of(kernel: &Kernel, id: TermId) -> TypeId
 {
     kernel.sound();
     kernel.terms().type_of(id)
-}
-
-/// The free variables of a term.
-pub(crate) fn free_vars(alloc: Global, kernel: &Kernel, id: TermId) -> Result<Vec<VarKey>, Memory>
-    requires { id < length kernel.now.terms }
-    ensures inside { IfOk result (λ vars. AreKeysIn kernel.now vars.items) }
-    ensures free { IfOk result (λ vars. (v : Variable NameValue)
-        → IsMember v (map (variable_at kernel.now) vars.items) ↔ IsFreeIn names v (named_at kernel.now.terms id)) }
-{
-    kernel.sound();
-    kernel.terms().free_vars(alloc, id)
 }

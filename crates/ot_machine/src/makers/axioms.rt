@@ -123,7 +123,7 @@ impl Session {
         ensures first { option_map (given_of self.now) result ≡ given_as (record { hyps = map (term_at self.now.kernel) hyps.now; concl = term_at self.now.kernel concl }) (run_of self.now).assumptions }
     {
         let theorems = self.kernel.assumptions();
-        for place in 0..theorems.len() {
+        for place in self.kernel.first_place(concl)..theorems.len() {
             let given = Given {
                 th: theorems[place],
                 step: self.assumption_steps[place],

@@ -1,25 +1,25 @@
 // The canonical origins of types and of terms: those that an article of version 5 derives its theorems with.
-ghost use Rattle.std.specs.Prelude.{◌≡◌, ◌<◌, ◌+◌, ◌^◌, ◌∷◌, [], length, map, IfOk, IfSome, IfNone, OnOk, true};
+ghost use Rattle.std.specs.Prelude.{◌≡◌, ◌<◌, ◌+◌, ◌^◌, ◌∷◌, [], length, IfOk, IfSome, IfNone, OnOk};
 ghost use Rattle.std.specs.Fmt.{decimal};
 ghost use Rattle.std.specs.List.{All};
 ghost use Rattle.ot_plain.specs.Hol.{IsFreeIn};
-ghost use Rattle.ot_plain.specs.Lists.{IsMember};
 ghost use Rattle.ot_plain.specs.Names.{Name as NameValue};
 ghost use Rattle.ot_plain.specs.Naming.{names};
 ghost use Rattle.ot_plain.specs.Trees.{Variable};
 ghost use Rattle.ot_plain.specs.declared.command.Cmd.TheVariants as words;
 ghost use Rattle.ot_kernel.specs.State.{name_at, type_at, types_at, variable_at, named_at};
 ghost use Rattle.ot_trace.specs.Origins.{Named, make_two, constant_origin};
-ghost use Rattle.ot_machine.specs.Nodes.{IsKey, AreKeysIn};
+ghost use Rattle.ot_machine.specs.Nodes.{IsKey};
+ghost use Rattle.ot_machine.specs.Occurrences.{AreOccurrences};
 ghost use Rattle.ot_machine.specs.Version5.{canon_ty, canon_tys, var_origin};
 ghost use Rattle.ot_machine.specs.Canonical.{variable_in, canon_in, binders_at, IsBinderIn, Adds, AreTypes, AreKnown};
 ghost use Rattle.ot_machine.specs.Meaning.{origin_of, IsOf, Leaves, Traces};
 
 use crate::machine::Machine;
-use crate::nodes::{free_vars, same_variable, term_node, type_node};
+use crate::makers::occurrences::{Occurrence, is_free};
+use crate::nodes::{same_variable, term_node, type_node};
 use crate::session::Session;
 use indexmap::IndexMap;
-use ot_kernel::Kernel;
 use ot_plain::{Cmd, Memory, Name, NameId};
 use ot_term::{TermId, TermNode, VarKey};
 use ot_trace::StepId;
@@ -46,6 +46,8 @@ pub(crate) struct Part {
 pub(crate) struct Known {
     pub types: IndexMap<TypeId, StepId>,
     pub terms: IndexMap<Part, StepId>,
+    // Which variables are free in which terms.
+    pub free: IndexMap<Occurrence, bool>,
 }
 
 impl Known {
@@ -53,10 +55,12 @@ impl Known {
     pub(crate) fn new(alloc: Global) -> Known
         ensures types { result.types.entries ≡ [] }
         ensures terms { result.terms.entries ≡ [] }
+        ensures free { result.free.entries ≡ [] }
     {
         Known {
             types: IndexMap::new(alloc),
             terms: IndexMap::new(alloc),
+            free: IndexMap::new(alloc),
         }
     }
 }
@@ -256,18 +260,21 @@ impl Session {
         alloc: Global,
         binders: &[Binder],
         id: TermId,
+        known: &mut IndexMap<Occurrence, bool>,
     ) -> Result<Vec<Binder>, Memory>
         requires id { id < length self.now.kernel.terms }
         requires binders { All (IsBinderIn self.now) binders.now }
+        requires known { AreOccurrences self.now.kernel known.old.entries }
         ensures inside { IfOk result (λ bs. All (IsBinderIn self.now) bs.items) }
         ensures same { IfOk result (λ bs. (v : Variable NameValue) → IsFreeIn names v (named_at self.now.kernel.terms id)
             → variable_in (binders_at self.now bs.items) v ≡ variable_in (binders_at self.now binders.now) v) }
+        ensures known { OnOk result (AreOccurrences self.now.kernel known.new.entries) }
     {
-        let free = free_vars(alloc, &self.kernel, id)?;
         let mut kept = Vec::new(alloc);
         let mut rest = binders;
         'binders: while let Some((binder, others)) = rest.split_first() {
-            if is_among(&self.kernel, &free, &binder.variable) {
+            let free = is_free(&self.kernel, &binder.variable, id, known)?;
+            if free {
                 kept.push(*binder)?;
             }
             rest = others;
@@ -295,7 +302,7 @@ impl Session {
         ensures kept { Adds self.old self.new machine.now }
         ensures known { OnOk result (AreKnown self.new known.new) }
     {
-        let binders = self.binders_within(machine.alloc, binders, id)?;
+        let binders = self.binders_within(machine.alloc, binders, id, &mut known.free)?;
         let part = Part { id, depth, binders };
         if let Some(step) = known.terms.get(&part) {
             return Ok(*step);
@@ -358,15 +365,4 @@ fn inside(alloc: Global, binder: Binder, around: &[Binder]) -> Result<Vec<Binder
     binders.push(binder)?;
     binders.extend_from_slice(around)?;
     Ok(binders)
-}
-
-// Whether a variable is one of these.
-fn is_among(kernel: &Kernel, vars: &[VarKey], v: &VarKey) -> bool
-    requires vars { AreKeysIn kernel.now vars.now }
-    requires key { IsKey kernel.now v.now }
-    ensures { IsMember (variable_at kernel.now v.now) (map (variable_at kernel.now) vars.now) → result ≡ true }
-{
-    kernel.sound();
-    let _terms = kernel.terms();
-    vars.contains(v)
 }

@@ -36,7 +36,23 @@ impl Session {
         ensures step { IfSome result (λ g. g.step < length self.now.trace) }
         ensures first { option_map (given_of self.now) result ≡ given_for (record { hyps = map (term_at self.now.kernel) hyps.now; concl = term_at self.now.kernel concl }) (context_of self.now ctx.now).theorems }
     {
-        for given in ctx.theorems {
+        match self.kernel.place_of(ctx.places, concl) {
+            Some(place) => self.first_given(&ctx.theorems[place..], hyps, concl),
+            None => None,
+        }
+    }
+
+    // The first of these theorems with this conclusion and with hypotheses among these.
+    fn first_given(&self, theorems: &[Given], hyps: &[TermId], concl: TermId) -> Option<Given>
+        requires theorems { All (λ g. g.th < length self.now.kernel.theorems) theorems.now }
+        requires steps { All (λ g. g.step < length self.now.trace) theorems.now }
+        requires hyps { All (λ t. t < length self.now.kernel.terms) hyps.now }
+        requires concl { concl < length self.now.kernel.terms }
+        ensures theorem { IfSome result (λ g. g.th < length self.now.kernel.theorems) }
+        ensures step { IfSome result (λ g. g.step < length self.now.trace) }
+        ensures first { option_map (given_of self.now) result ≡ given_for (record { hyps = map (term_at self.now.kernel) hyps.now; concl = term_at self.now.kernel concl }) (map (given_of self.now) theorems.now) }
+    {
+        for given in theorems {
             if self.kernel.is_within(given.th, hyps, concl) {
                 return Some(*given);
             }

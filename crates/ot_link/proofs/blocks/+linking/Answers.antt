@@ -1,39 +1,42 @@
-use Rattle.std.proofs.Common.{◌≡◌, ◌∙◌, ◌<◌, ◌+◌, ◌-◌, ◌++◌, ◌∷◌, [], suc, List, length, map, drop, get_or, Err, sym, ap, subst, arith}
-use Rattle.std.specs.Prelude.{Ok, codes, flat_map, position, slice_get, string_bytes}
+use Rattle.std.proofs.Common.{rules, ◌≡◌, ◌∙◌, ◌<◌, ◌+◌, ◌-◌, ◌++◌, ◌∷◌, [], suc, List, length, map, drop, get_or, Err, refl, sym, ap, subst, arith}
+use Rattle.std.specs.Prelude.{◌==◌, Ok, codes, flat_map, position, slice_get, string_bytes}
 use Rattle.std.specs.List.{All, list_any}
+use Rattle.std.specs.Map.{lookup}
 use Rattle.std.specs.Str.{bytes_eq}
 use Rattle.std.proofs.lemmas.List.{drop_all, get_or_default}
 use Rattle.std.proofs.lemmas.Result.{err_from_is_err_and}
 use Rattle.ot_plain.specs.Naming.{IsNameTable}
 use Rattle.ot_interp.specs.Interpretation.{map_interpretation}
 use Rattle.ot_kernel.specs.State.{name_at}
+use Rattle.ot_kernel.specs.Alike.{AreFirstPlaces}
 use Rattle.ot_theory.specs.Answers.{theory_of, block_of, blocks_of, tags_of}
 use Rattle.ot_blocks.specs.Answers.{plan_of}
 use Rattle.ot_blocks.specs.Structure.{place_of}
 use Rattle.ot_blocks.specs.declared.fault.StructureFault.TheVariants.{PackageCycle, PackageDepth}
-use Rattle.ot_machine.specs.Meaning.{export_of, run_of, IsExportIn}
+use Rattle.ot_machine.specs.Meaning.{export_of, concls_of, run_of, IsExportIn}
 use Rattle.ot_machine.specs.States.{Export}
 use Rattle.ot_machine.specs.declared.machine.Export as code
 use Rattle.ot_machine.specs.declared.context.Context.{Context}
 use Rattle.ot_machine.specs.Contexts.{context_of}
 use Rattle.ot_machine.proofs.Kept.{grows-on}
+use Rattle.ot_machine.proofs.Turning.{grows-same}
 use Rattle.ot_machine.proofs.InContext.{context-kept, of_context-kept}
 use Rattle.ot_link.specs.Stops.{InStructure}
 use Rattle.ot_link.specs.Answers.{setting_of, Comes, ran_of}
 use Rattle.ot_link.specs.Planned.{Planned}
 use Rattle.ot_link.specs.Renaming.{interpretation_of}
 use Rattle.ot_link.specs.Blocks.{Ran, source_at, run_article, run_source, run_block}
-use Rattle.ot_link.specs.Link.{imported, run_at, exports_at, opener, run_file}
-use Rattle.ot_link.specs.Holding.{given_to, held_at, done_of}
+use Rattle.ot_link.specs.Link.{none_done, imported, run_at, exports_at, opener, run_file}
+use Rattle.ot_link.specs.Holding.{given_to, items_of, held_at, done_of}
 use Rattle.ot_blocks.specs.Paths.{article_path, package_path}
 use Rattle.ot_machine.specs.Lawful.{IsLawfulRun}
 use Rattle.ot_machine.specs.Writable.{IsWritable}
 use Rattle.ot_link.specs.Lawful.{AreLawfulExports, AreLawfulOnce}
 use Rattle.ot_link.specs.Running.{chain_of, first_source, opener_of, source_value, IsRunnable, IsSourceRight}
 use Rattle.ot_link.proofs.Held.{exports-kept, exports-later, held-done, held-inside}
-use Rattle.ot_link.proofs.InBlock.{block-context, of_block-context}
+use Rattle.ot_link.proofs.InBlock.{given-all, block-context, of_block-context}
 use Rattle.ot_link.proofs.Runnable.{runnable}
-use Rattle.ot_link.proofs.Sequence.{IsLeft, one-ran, one-stopped, all-ran}
+use Rattle.ot_link.proofs.Sequence.{IsLeft, all-left, one-ran, one-stopped, all-ran}
 use Rattle.ot_link.proofs.Standing.{block-there, block-all, block-none, place-at, imported-as, imported-inside, exports-as}
 use Rattle.ot_link.proofs.Opened.{any-now, open-again, open-deep, open-inside, file-unread, file-unparsed, file-unplanned, file-ran}
 use Rattle.ot_link.proofs.Lawful.{stays-as, stays-on, inner-lawful, same-exports-lawful, none-lawful, place-lawful, imported-lawful, context-lawful, held-lawful}
@@ -175,6 +178,21 @@ run_block-returns-in_err-theorems-clause-cause g t c =
     let p = err_from_is_err_and c.from_residual-in_err-theorems.result c.from_residual-in_err-theorems.ensures.1 in
     rw (p.1, p.2) tt
 
+pub run_block-returns-in_err-places-clause-comes : goal.run_block-returns-in_err-places-clause-comes
+run_block-returns-in_err-places-clause-comes g t c =
+    let p = err_from_is_err_and c.from_residual-in_err-places.result c.from_residual-in_err-places.ensures.1 in
+    rw (p.1, p.2) (λ folder e. tt)
+
+pub run_block-returns-in_err-places-clause-symbols : goal.run_block-returns-in_err-places-clause-symbols
+run_block-returns-in_err-places-clause-symbols g t c =
+    let p = err_from_is_err_and c.from_residual-in_err-places.result c.from_residual-in_err-places.ensures.1 in
+    rw (p.1, p.2) tt
+
+pub run_block-returns-in_err-places-clause-cause : goal.run_block-returns-in_err-places-clause-cause
+run_block-returns-in_err-places-clause-cause g t c =
+    let p = err_from_is_err_and c.from_residual-in_err-places.result c.from_residual-in_err-places.ensures.1 in
+    rw (p.1, p.2) tt
+
 -- ---- a theory file's blocks, and a block's file
 
 pub link_file-run_blocks-requires : goal.link_file-run_blocks-requires
@@ -182,6 +200,11 @@ link_file-run_blocks-requires g t c κs within =
     let blocks = runnable (theory_of c.in_ok-theory.theory) (plan_of c.in_ok-plan.plan) c.in_ok-theory.ensures.sound (rw c.deref-5.ensures.value at c.in_ok-plan.ensures.sound) in
     let right : All IsRunnable (blocks_of c.deref-6.result.now) = rw c.deref-6.ensures.value blocks in
     (omega arith, (within, (c.requires.limits, (c.requires.session, (c.requires.lawful, (c.requires.context, (c.requires.lawful_context, right)))))))
+
+pub run_block-places_of-requires : goal.run_block-places_of-requires
+run_block-places_of-requires g t c =
+    given-all c.args.session.now c.interpretation_of.new.session c.requires.session c.in_ok-own.ensures.grown c.args.file.now.outer.now c.args.imports.now c.deref-2.result.now c.requires.context c.requires.imports
+    (c.deref-2.ensures.value ∙ c.in_ok-theorems.ensures)
 
 pub run_block-run_source-requires : goal.run_block-run_source-requires
 run_block-run_source-requires g t c κs within =
@@ -192,11 +215,13 @@ run_block-run_source-requires g t c κs within =
     let imports = c.args.imports.now in
     let statements = tags_of c.args.block.now.statements.items in
     let named : map_interpretation (name_at mid.kernel) c.in_ok-own.own ≡ interpretation_of statements = rw c.deref.ensures.value at c.in_ok-own.ensures.names in
-    let given : c.deref-2.result.now ≡ map given_to imports ++ outer.theorems.now = c.deref-2.ensures.value ∙ c.in_ok-theorems.ensures in
+    let given : c.deref-3.result.now ≡ map given_to imports ++ outer.theorems.now = c.deref-3.ensures.value ∙ c.in_ok-theorems.ensures in
     let symbols = c.in_ok-interp.ensures.within (length mid.kernel.names) c.in_ok-own.ensures.within (of_context-kept old mid c.requires.session kept outer c.requires.context).interpretation in
-    let source : source_value c.source_of.result ≡ source_at (first_source statements) = c.source_of.ensures ∙ ap (λ ts. source_at (first_source (tags_of ts))) c.deref-3.ensures.value in
-    let inner : Context = record { interp = record { ref_ptr = outer.interp.ref_ptr; now = c.in_ok-interp.interp }; theorems = c.deref-2.result } in
-    let context = of_block-context old mid c.requires.session kept outer _ c.in_ok-own.own statements imports c.requires.context c.in_ok-own.ensures.within named c.in_ok-interp.ensures.pairs given c.requires.imports symbols in
+    let source : source_value c.source_of.result ≡ source_at (first_source statements) = c.source_of.ensures ∙ ap (λ ts. source_at (first_source (tags_of ts))) c.deref-4.ensures.value in
+    let inner : Context = record { interp = record { ref_ptr = outer.interp.ref_ptr; now = c.in_ok-interp.interp }; theorems = c.deref-3.result; places = record { ref_ptr = outer.places.ref_ptr; now = c.in_ok-places.places } } in
+    let same_theorems = c.deref-2.ensures.value ∙ sym c.deref-3.ensures.value in
+    let placed = subst (λ gs. AreFirstPlaces mid.kernel (concls_of mid.kernel (map (λ g. g.th) gs)) c.in_ok-places.places) same_theorems c.in_ok-places.ensures in
+    let context = of_block-context old mid c.requires.session kept outer _ c.in_ok-own.own statements imports c.requires.context c.in_ok-own.ensures.within named c.in_ok-interp.ensures.pairs given c.requires.imports symbols placed in
     let same = block-context old mid c.requires.session kept outer inner c.in_ok-own.own statements imports c.requires.context c.in_ok-own.ensures.within named c.in_ok-interp.ensures.pairs given c.requires.imports (subst (λ state. IsNameTable state.names) c.kernel.ensures c.sound.ensures.names) in
     let run = subst (IsLawfulRun IsWritable) (sym c.in_ok-own.ensures.run) c.requires.lawful in
     let theorems = inner-lawful old mid outer _ statements imports c.in_ok-own.ensures.run same c.naming_law.ensures c.requires.block.statements c.requires.lawful_context c.requires.lawful_imports in
@@ -213,9 +238,9 @@ run_block-returns-clause-comes g t c =
     let imports = c.args.imports.now in
     let statements = tags_of c.args.block.now.statements.items in
     let named : map_interpretation (name_at mid.kernel) c.in_ok-own.own ≡ interpretation_of statements = rw c.deref.ensures.value at c.in_ok-own.ensures.names in
-    let given : c.deref-2.result.now ≡ map given_to imports ++ outer.theorems.now = c.deref-2.ensures.value ∙ c.in_ok-theorems.ensures in
-    let source : source_value c.source_of.result ≡ source_at (first_source statements) = c.source_of.ensures ∙ ap (λ ts. source_at (first_source (tags_of ts))) c.deref-3.ensures.value in
-    let inner : Context = record { interp = record { ref_ptr = outer.interp.ref_ptr; now = c.in_ok-interp.interp }; theorems = c.deref-2.result } in
+    let given : c.deref-3.result.now ≡ map given_to imports ++ outer.theorems.now = c.deref-3.ensures.value ∙ c.in_ok-theorems.ensures in
+    let source : source_value c.source_of.result ≡ source_at (first_source statements) = c.source_of.ensures ∙ ap (λ ts. source_at (first_source (tags_of ts))) c.deref-4.ensures.value in
+    let inner : Context = record { interp = record { ref_ptr = outer.interp.ref_ptr; now = c.in_ok-interp.interp }; theorems = c.deref-3.result; places = record { ref_ptr = outer.places.ref_ptr; now = c.in_ok-places.places } } in
     let context = block-context old mid c.requires.session kept outer inner c.in_ok-own.own statements imports c.requires.context c.in_ok-own.ensures.within named c.in_ok-interp.ensures.pairs given c.requires.imports (subst (λ state. IsNameTable state.names) c.kernel.ensures c.sound.ensures.names) in
     let same = exports-kept old mid kept c.requires.session imports c.requires.imports in
     let run = c.in_ok-own.ensures.run in
@@ -247,6 +272,26 @@ run_blocks-returns-in_err-exports-clause-comes g t c =
     c.each.place-index b (done_of mid c.each.done) (run_of mid) lt is (c.each.invariant.left folder e)
     (context_of mid outer) (context-kept old mid c.requires.session c.each.invariant.grown outer c.requires.context) new.kernel c.in_err-exports.field-0.0
     (c.in_err-exports.ensures.comes folder (c.each.invariant.folder ∙ e)))
+
+pub run_blocks-each-init : goal.run_blocks-each-init
+run_blocks-each-init g t c = record {
+  grown = grows-same c.args.session.now;
+  session = c.requires.session;
+  inside = search rules;
+  lawful = stays-as c.args.session.now c.args.session.now refl c.requires.lawful;
+  exports = search rules;
+  later = (omega arith, omega arith);
+  folder = refl;
+  left = λ folder e.
+      let s = setting_of folder c.args.setting in
+      let old = c.args.session.now in
+      let f : Planned = record { blocks = blocks_of c.args.blocks.now; plan = plan_of c.args.plan.now } in
+      let opener = opener_of s c.args.file.now in
+      let path = string_bytes c.args.file.now.path in
+      let outer = context_of old c.args.file.now.outer.now in
+      let none : done_of old c.new-done.result ≡ none_done = λ i b. ap (λ es. map (export_of old) (items_of (lookup (λ key. b == key) es))) c.new-done.ensures.empty i in
+      subst (λ done. IsLeft s opener path outer f (run_of old) 0 done (run_of old)) (sym none) (all-left s opener path outer f (run_of old));
+}
 
 pub run_blocks-each-preserved : goal.run_blocks-each-preserved
 run_blocks-each-preserved g t c =
@@ -370,6 +415,9 @@ run_block-returns-in_err-interp-clause-lawful g t c = stays-as c.args.session.no
 
 pub run_block-returns-in_err-theorems-clause-lawful : goal.run_block-returns-in_err-theorems-clause-lawful
 run_block-returns-in_err-theorems-clause-lawful g t c = stays-as c.args.session.now c.interpretation_of.new.session c.in_ok-own.ensures.run c.requires.lawful
+
+pub run_block-returns-in_err-places-clause-lawful : goal.run_block-returns-in_err-places-clause-lawful
+run_block-returns-in_err-places-clause-lawful g t c = stays-as c.args.session.now c.interpretation_of.new.session c.in_ok-own.ensures.run c.requires.lawful
 
 pub run_block-returns-clause-lawful : goal.run_block-returns-clause-lawful
 run_block-returns-clause-lawful g t c = stays-on (stays-as c.args.session.now c.interpretation_of.new.session c.in_ok-own.ensures.run c.requires.lawful) c.run_source.ensures.lawful

@@ -3,7 +3,7 @@ use Rattle.ot_kernel.proofs.Growth.{Grown, terms_grown}
 use Rattle.ot_kernel.proofs.Numbers.{makes_abs, abs-named}
 use Rattle.ot_kernel.proofs.kernel.Kernel.abs.Goals as goal
 
-grown : (c : goal.After-abs) → Grown c.args.self.now c.self.inside.names c.abs.new.self (record { theorems = c.self.inside.theorems.items; assumptions = c.self.inside.assumptions.items; definitions = c.self.inside.definitions.items; signature = c.self.inside.signature; places = c.self.inside.places.entries })
+grown : (c : goal.After-abs) → Grown c.args.self.now c.self.inside.names c.abs.new.self (record { theorems = c.self.inside.theorems.items; assumptions = c.self.inside.assumptions.items; definitions = c.self.inside.definitions.items; signature = c.self.inside.signature; places = c.self.inside.places })
 grown c = terms_grown (max (c.args.v.name + 1) 1) _ _ _ _ _ c.self.view_is c.self.invariant c.abs.ensures.grows c.abs.ensures.table c.abs.ensures.names (omega (arith, c.requires.name))
 
 pub invariant_of-self : goal.invariant_of-self

@@ -3,7 +3,7 @@ use Rattle.ot_kernel.proofs.Growth.{Grown, terms_grown}
 use Rattle.ot_kernel.proofs.Numbers.{makes_app, app-named}
 use Rattle.ot_kernel.proofs.kernel.Kernel.app.Goals as goal
 
-grown : (c : goal.After-app) → Grown c.args.self.now c.self.inside.names c.app.new.self (record { theorems = c.self.inside.theorems.items; assumptions = c.self.inside.assumptions.items; definitions = c.self.inside.definitions.items; signature = c.self.inside.signature; places = c.self.inside.places.entries })
+grown : (c : goal.After-app) → Grown c.args.self.now c.self.inside.names c.app.new.self (record { theorems = c.self.inside.theorems.items; assumptions = c.self.inside.assumptions.items; definitions = c.self.inside.definitions.items; signature = c.self.inside.signature; places = c.self.inside.places })
 grown c = terms_grown 0 _ _ _ _ _ c.self.view_is c.self.invariant c.app.ensures.grows c.app.ensures.table c.app.ensures.names (omega (arith))
 
 pub invariant_of-self : goal.invariant_of-self

@@ -5,7 +5,7 @@ use Rattle.ot_kernel.proofs.kernel.Kernel.new.Goals as goal
 
 pub invariant_of-result : goal.invariant_of-result
 invariant_of-result c =
-    let none = no_places c.new-2.result.classes c.new-3.result.items c.new-5.result.entries c.new-5.ensures.empty in
+    let none = no_places c.new-2.result.classes c.new-3.result.items c.new-5.result c.new-5.ensures.empty in
     record {
       names = search rules;
       types = search rules;
@@ -15,6 +15,6 @@ invariant_of-result c =
       numbered = search rules;
       accepted = search rules;
       signature = search rules;
-      placed = subst (λ (is : List ℕ). ArePlaces c.new-2.result.classes c.new-3.result.items is c.new-5.result.entries) (sym c.new-4.ensures.items) none;
+      placed = subst (λ (is : List ℕ). ArePlaces c.new-2.result.classes c.new-3.result.items is c.new-5.result) (sym c.new-4.ensures.items) none;
       sound = search rules;
     }

@@ -11,16 +11,16 @@ use Rattle.ot_kernel.proofs.kernel.Kernel.suppose.Goals.{Else-is_err}
 count : (c : Else-is_err) → c.len.result ≡ length c.self.inside.theorems.items
 count c = omega (arith, c.len.ensures, c.self.inside.theorems.ok.0)
 
-added : (c : Else-is_err) → Assumed c.args.self.now c.self.inside.names c.self.inside.terms (record { theorems = c.push.new.self.items; assumptions = c.push-2.new.self.items; definitions = c.self.inside.definitions.items; signature = c.self.inside.signature; places = c.note_place.new.places.entries }) c.args.theorem
+added : (c : Else-is_err) → Assumed c.args.self.now c.self.inside.names c.self.inside.terms (record { theorems = c.push.new.self.items; assumptions = c.push-2.new.self.items; definitions = c.self.inside.definitions.items; signature = c.self.inside.signature; places = c.note.new.self }) c.args.theorem
 added c =
     let pushed = pushed_items c.push-2.result _ _ _ (sym c.is_err.ensures.value ∙ c.if-is_err.false) c.push-2.ensures.items in
     let here : c.len-place.result ≡ length c.self.inside.assumptions.items = omega (arith, c.len-place.ensures, c.self.inside.assumptions.ok.0) in
-    assumed _ _ (held_of c.self.inside) _ c.args.theorem _ _ c.len.result _ c.class-class.result c.len-place.result c.class-class.ensures.class here c.in_ok-note_place.ensures.ok c.self.view_is c.self.invariant c.in_ok-push.ensures.items (count c) pushed c.requires.proposed c.requires.new
+    assumed _ _ (held_of c.self.inside) _ c.args.theorem _ _ c.len.result _ c.class-class.result c.len-place.result c.class-class.ensures.class here c.in_ok-note.ensures.ok c.self.view_is c.self.invariant c.in_ok-push.ensures.items (count c) pushed c.requires.proposed c.requires.new
 
 pub invariant_of-self-in_err-push : goal.invariant_of-self-in_err-push
 invariant_of-self-in_err-push c =
     let here : c.len-place.result ≡ length c.self.inside.assumptions.items = omega (arith, c.len-place.ensures, c.self.inside.assumptions.ok.0) in
-    noted c.self.inside.names c.self.inside.terms (held_of c.self.inside) c.push.new.self.items c.note_place.new.places.entries c.class-class.result c.len-place.result here c.in_ok-note_place.ensures.ok c.in_err-push.ensures.items c.self.invariant
+    noted c.self.inside.names c.self.inside.terms (held_of c.self.inside) c.push.new.self.items c.note.new.self c.class-class.result c.len-place.result here c.in_ok-note.ensures.ok c.in_err-push.ensures.items c.self.invariant
 
 pub invariant_of-self-then-is_err : goal.invariant_of-self-then-is_err
 invariant_of-self-then-is_err c =
@@ -30,8 +30,8 @@ invariant_of-self-then-is_err c =
     c.pop.ensures.rest
     ∙ ap (take (vec_len c.push.new.self - 1)) c.in_ok-push.ensures.items
     ∙ take_at c.self.inside.theorems.items (c.args.theorem ∷ []) (vec_len c.push.new.self - 1) (omega (arith, c.in_ok-push.ensures.len, c.self.inside.theorems.ok.0)) in
-    subst (λ (is : List ℕ). IsKernel c.self.inside.names c.self.inside.terms (record (held_of c.self.inside) { theorems = c.pop.new.self.items; assumptions = is; places = c.note_place.new.places.entries })) (sym kept)
-    (noted c.self.inside.names c.self.inside.terms (held_of c.self.inside) c.pop.new.self.items c.note_place.new.places.entries c.class-class.result c.len-place.result here c.in_ok-note_place.ensures.ok back c.self.invariant)
+    subst (λ (is : List ℕ). IsKernel c.self.inside.names c.self.inside.terms (record (held_of c.self.inside) { theorems = c.pop.new.self.items; assumptions = is; places = c.note.new.self })) (sym kept)
+    (noted c.self.inside.names c.self.inside.terms (held_of c.self.inside) c.pop.new.self.items c.note.new.self c.class-class.result c.len-place.result here c.in_ok-note.ensures.ok back c.self.invariant)
 
 pub invariant_of-self-else-is_err : goal.invariant_of-self-else-is_err
 invariant_of-self-else-is_err c = (added c).kernel

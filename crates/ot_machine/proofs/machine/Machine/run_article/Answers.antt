@@ -5,7 +5,7 @@ use Rattle.ot_machine.specs.Meaning.{state_of}
 use Rattle.ot_machine.specs.Contexts.{context_of}
 use Rattle.ot_machine.specs.Run.{line_step}
 use Rattle.ot_machine.specs.Commanded.{LeadsTo}
-use Rattle.ot_machine.proofs.Commanded.{leads-none, leads-line}
+use Rattle.ot_machine.proofs.Commanded.{leads-line}
 use Rattle.ot_machine.specs.Answers.{Refuses}
 use Rattle.ot_machine.specs.declared.fault.Fault.TheVariants.{Memory}
 use Rattle.ot_machine.specs.declared.fault.ArticleFault.TheVariants.{At}

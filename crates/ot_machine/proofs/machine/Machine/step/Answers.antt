@@ -8,7 +8,7 @@ use Rattle.ot_machine.specs.Meaning.{article_of, state_of, command_at, version_o
 use Rattle.ot_machine.specs.Contexts.{context_of}
 use Rattle.ot_machine.specs.Step.{row, step}
 use Rattle.ot_machine.proofs.Kept.{trace-same}
-use Rattle.ot_machine.proofs.InContext.{context-kept}
+use Rattle.ot_machine.proofs.InContext.{context-kept, of_context-kept}
 use Rattle.ot_machine.proofs.Turning.{with_count, stepped, refused-moves}
 use Rattle.ot_machine.proofs.machine.Machine.step.Goals as goal
 use Rattle.ot_machine.proofs.machine.Machine.step.Goals.{In_ok-version}
@@ -46,3 +46,8 @@ returns-clause-moves c =
     by_row before
     ∙ ap (with_count (version_of c.in_ok-version.version)) (sym (as_stated before) ∙ c.in_ok-row.ensures.moves)
     ∙ ap (λ n. Ok (record (state_of c.row.new.session next) { article = record (article_of c.row.new.session next) { count = n; version = version_of c.in_ok-version.version } })) counts
+
+pub row-requires-clause-context : goal.row-requires-clause-context
+row-requires-clause-context c =
+    let there = c.in_ok-command.ensures.kept in
+    of_context-kept c.args.session.now c.command.new.self c.requires.of.run (record { kernel = there.machine.grown; trace = trace-same _ _ there.machine.trace }) c.args.ctx.now c.requires.context

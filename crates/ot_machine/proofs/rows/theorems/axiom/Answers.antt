@@ -6,7 +6,7 @@ use Rattle.ot_machine.specs.Places.{replaced}
 use Rattle.ot_machine.specs.Rows.{theorem_entry}
 use Rattle.ot_machine.specs.Discharge.{axiom_row}
 use Rattle.ot_machine.specs.Contexts.{context_of, given_of}
-use Rattle.ot_machine.specs.Meaning.{origin_of, lists_of, list_at, run_of, state_of, article_of}
+use Rattle.ot_machine.specs.Meaning.{run_of, state_of}
 use Rattle.ot_machine.proofs.Turning.{refused-turn, axiom-read}
 use Rattle.ot_machine.proofs.rows.theorems.axiom.Goals as goal
 

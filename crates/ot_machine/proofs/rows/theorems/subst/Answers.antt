@@ -1,4 +1,4 @@
-use Rattle.std.specs.Prelude.{Ok, Err}
+use Rattle.std.specs.Prelude.{Ok}
 use Rattle.std.proofs.Common.{rules, ◌∙◌, sym, ap}
 use Rattle.ot_plain.specs.Answers.{◌>>=◌}
 use Rattle.ot_plain.specs.declared.command.Cmd.TheVariants as words

@@ -1,19 +1,18 @@
-use Rattle.std.proofs.Common.{◌≡◌, ◌<◌, ℕ, List, [], ◌∷◌, ◌+◌, refl, sym, ap, subst, ◌∙◌, length, suc, arith}
+use Rattle.std.proofs.Common.{◌≡◌, [], ◌∷◌, ◌+◌, sym, ap, subst, ◌∙◌, suc, arith}
 use Rattle.std.specs.Fmt.{decimal}
 use Rattle.std.specs.List.{All}
-use Rattle.std.proofs.lemmas.List.Elements.{All-nil, All-cons}
+use Rattle.std.proofs.lemmas.List.Elements.{All-cons}
 use Rattle.ot_plain.specs.declared.command.Cmd.TheVariants as words
-use Rattle.ot_kernel.specs.State.{name_at, type_at, variable_at, named_at}
+use Rattle.ot_kernel.specs.State.{name_at, named_at}
 use Rattle.ot_trace.specs.Origins.{Named, make_two, constant_origin}
-use Rattle.ot_machine.specs.Nodes.{IsKey}
-use Rattle.ot_machine.specs.Version5.{canon_ty, var_term, const_term, app, lam, numbered}
+use Rattle.ot_machine.specs.Version5.{var_term, app, lam}
 use Rattle.ot_machine.specs.Canonical.{canon_in, binders_at, IsBinderIn}
 use Rattle.ot_machine.specs.declared.makers.canonical.Part.{Part}
 use Rattle.ot_machine.specs.declared.makers.canonical.Binder.{Binder}
-use Rattle.ot_machine.specs.Meaning.{origin_of}
 use Rattle.ot_machine.proofs.Kept.{origin-kept, traces-grow}
-use Rattle.ot_machine.proofs.Traced.{traces-none, traces-on, traced-origin, origin-number}
-use Rattle.ot_machine.proofs.Canonical.{adds-none, adds-traces, adds-on, canon-agree, binders-inside, binders-later, named-later, type-later, name-later, key-later, types-later, terms-later, known-later, terms-insert}
+use Rattle.ot_machine.proofs.Traced.{traces-on}
+use Rattle.ot_machine.proofs.Canonical.{adds-traces, adds-on, canon-agree, binders-inside, binders-later, named-later, type-later, name-later, key-later, types-later, terms-later, known-later, terms-insert}
+use Rattle.ot_machine.proofs.Occurrences.{occurrences-later}
 use Rattle.ot_machine.proofs.session.Session.+term_origin.Goals as goal
 
 pub term_origin-returns-in-Some-clause-made : goal.term_origin-returns-in-Some-clause-made
@@ -51,6 +50,7 @@ term_origin-returns-clause-known t c =
             binders = binders-inside s u grown items inside;
             origin = c.in_ok-step.ensures.made ∙ (λ k. canon_in c.args.depth (binders_at s (c.deref.ensures.value k)) (named_at s.kernel.terms c.args.id)) ∙ (λ k. canon_in c.args.depth (sym bs k) (sym here k));
           }) c.in_ok-insert.ensures.updates.0;
+      free = c.in_ok-step.ensures.known.free;
     }
 
 -- ---- a variable
@@ -85,6 +85,7 @@ node_origin-returns-in_ok-constant_step-in-Const-clause-known t c =
     record {
       types = types-later t1 t2 (traces-grow t1 t2 m two) one.of.run c.type_origin.new.known.entries c.in_ok-ty-in-Const.ensures.known;
       terms = terms-later s t2 (traces-grow s t2 m (traces-on s t1 t2 m one two)) c.requires.of.run c.args.known.now.terms.entries c.requires.known.terms;
+      free = occurrences-later s.kernel t2.kernel (traces-grow s t2 m (traces-on s t1 t2 m one two)).kernel c.args.known.now.free.entries c.requires.known.free;
     }
 
 -- ---- an application
@@ -167,6 +168,7 @@ node_origin-term_origin-requires-in-Abs t c =
               record {
                 types = types-later t1 t2 two.grown one.of.run c.type_origin-in-Abs.new.known.entries c.in_ok-ty-in-Abs.ensures.known;
                 terms = terms-later s t2 grown c.requires.of.run c.args.known.now.terms.entries c.requires.known.terms;
+                free = occurrences-later s.kernel t2.kernel grown.kernel c.args.known.now.free.entries c.requires.known.free;
               },
             ),
           ),

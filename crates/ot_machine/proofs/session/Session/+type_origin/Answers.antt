@@ -1,15 +1,14 @@
-use Rattle.std.proofs.Common.{◌≡◌, ◌<◌, ℕ, List, [], ◌∷◌, ◌++◌, ◌+◌, refl, sym, ap, subst, ◌∙◌, length, arith, length-append}
+use Rattle.std.proofs.Common.{◌<◌, ℕ, List, [], ◌∷◌, ◌++◌, ◌+◌, refl, sym, ap, subst, ◌∙◌, length, arith, length-append}
 use Rattle.std.specs.List.{All}
 use Rattle.std.proofs.lemmas.List.{take_at, get_or-append-add}
 use Rattle.std.proofs.lemmas.List.Elements.{All-take, All-nil, All-cons}
 use Rattle.ot_plain.specs.declared.command.Cmd.TheVariants as words
-use Rattle.ot_kernel.specs.State.{name_at, type_at, types_at}
+use Rattle.ot_kernel.specs.State.{type_at, types_at}
 use Rattle.ot_trace.specs.Origins.{Named, make_two, type_op_origin}
-use Rattle.ot_machine.specs.Nodes.{type_tree, IsTypeNode}
 use Rattle.ot_machine.specs.Version5.{canon_ty, canon_tys}
 use Rattle.ot_machine.specs.Meaning.{origin_of}
 use Rattle.ot_machine.proofs.Kept.{traces-grow}
-use Rattle.ot_machine.proofs.Traced.{traces-none, traces-on, traced-origin, origin-number}
+use Rattle.ot_machine.proofs.Traced.{traces-on, traced-origin, origin-number}
 use Rattle.ot_machine.proofs.Canonical.{types-later, types-insert, types_onto, types_onto-push, types_onto-whole, rest-empty}
 use Rattle.ot_machine.proofs.session.Session.+type_origin.Goals as goal
 

@@ -1,15 +1,14 @@
-use Rattle.std.specs.Prelude.{◌≡◌, ◌<◌, ℕ, List, [], ◌∷◌, length, map, Ok}
+use Rattle.std.specs.Prelude.{[], map, Ok}
 use Rattle.std.proofs.Common.{refl, ap, ◌∙◌, arith}
-use Rattle.ot_plain.specs.Names.{Name}
 use Rattle.ot_plain.specs.Naming.{names}
-use Rattle.ot_plain.specs.Trees.{TyOp, Bound, Sequent}
-use Rattle.ot_plain.specs.Hol.{bool_ty, HasType, tys_of_vars}
+use Rattle.ot_plain.specs.Trees.{TyOp, Bound}
+use Rattle.ot_plain.specs.Hol.{tys_of_vars}
 use Rattle.ot_kernel.specs.State.{name_at, theorem_at}
 use Rattle.ot_kernel.specs.Defining.{type_definition}
 use Rattle.ot_machine.specs.OpenTypes.{first_origin, second_origin, open_entries}
 use Rattle.ot_machine.specs.Meaning.{origin_of, run_of}
 use Rattle.ot_machine.proofs.Kept.{keeps-same}
-use Rattle.ot_machine.proofs.OpenAccepted.{IsAccepted, is-accepted, opened-are, stated-made, stated-refused}
+use Rattle.ot_machine.proofs.OpenAccepted.{is-accepted, opened-are, stated-made, stated-refused}
 use Rattle.ot_machine.proofs.Stepped.{with_steps, steps-grow, article-with, run-same, of-same, defined-of, defined-is, popped}
 use Rattle.ot_machine.proofs.Refusals.{refuses-definition}
 use Rattle.ot_machine.proofs.session.Session.accept_open_type.Goals as goal

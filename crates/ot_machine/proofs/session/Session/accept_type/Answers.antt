@@ -1,7 +1,7 @@
-use Rattle.std.specs.Prelude.{[], ◌∷◌, map}
-use Rattle.std.proofs.Common.{refl, ap, ◌∙◌, arith}
+use Rattle.std.specs.Prelude.{map}
+use Rattle.std.proofs.Common.{refl, arith}
 use Rattle.ot_plain.specs.Naming.{names}
-use Rattle.ot_kernel.specs.State.{name_at, variable_at, term_at, theorem_at}
+use Rattle.ot_kernel.specs.State.{name_at, theorem_at}
 use Rattle.ot_kernel.specs.Defining.{type_definition}
 use Rattle.ot_machine.proofs.Kept.{keeps-same}
 use Rattle.ot_machine.proofs.Defined.{type-theorems}

@@ -1,11 +1,10 @@
 use Rattle.std.specs.Prelude.{Ok}
-use Rattle.std.proofs.Common.{rules, ◌∷◌, [], ap, sym, ◌∙◌}
+use Rattle.std.proofs.Common.{rules, ap, sym, ◌∙◌}
 use Rattle.ot_plain.specs.Naming.{names}
-use Rattle.ot_plain.specs.Rules.{assume_rule, deduct_antisym_rule, eq_mp_rule}
+use Rattle.ot_plain.specs.Rules.{deduct_antisym_rule, eq_mp_rule}
 use Rattle.ot_plain.specs.declared.command.Cmd.TheVariants as words
 use Rattle.ot_kernel.specs.State.{term_at, theorem_at}
-use Rattle.ot_trace.specs.Origins.{Make, make_one, make_two, from_list}
-use Rattle.ot_machine.specs.Objects.{theorem}
+use Rattle.ot_trace.specs.Origins.{make_one, make_two}
 use Rattle.ot_machine.specs.Meaning.{origin_of}
 use Rattle.ot_machine.proofs.Refusals.{refused}
 use Rattle.ot_machine.proofs.Weakening.{leaves-stay, traces-stay, stays-on, stays-origin, stays-theorem, proof, adding-first, adding-second, adding-third, adding-ok}

@@ -1,12 +1,10 @@
-use Rattle.std.proofs.Common.{rules, ◌≡◌, ◌≤◌, map, length, ap, sym, subst, ◌∙◌, arith}
+use Rattle.std.proofs.Common.{◌≤◌, map, length, ap, sym, subst, ◌∙◌, arith}
 use Rattle.std.proofs.lemmas.List.{length-map}
 use Rattle.ot_plain.specs.declared.command.Cmd.TheVariants as words
 use Rattle.ot_kernel.specs.State.{term_at}
 use Rattle.ot_trace.specs.Origins.{Make, MoreOrigins, NoOrigins}
-use Rattle.ot_machine.specs.Answers.{Makes, Refuses}
-use Rattle.ot_machine.specs.Places.{top, origins_of}
+use Rattle.ot_machine.specs.Answers.{Makes}
 use Rattle.ot_machine.specs.Rows.{given_as, theorem_entry, origin_at}
-use Rattle.ot_machine.specs.Assumptions.{assumed_new}
 use Rattle.ot_machine.specs.Contexts.{given_of}
 use Rattle.ot_machine.specs.Meaning.{run_of, article_of, entry_of, lists_of}
 use Rattle.ot_machine.proofs.Kept.{traces-grow, grows-on}

@@ -1,7 +1,8 @@
-use Rattle.std.proofs.Common.{◌≡◌, ◌∷◌, [], ◌++◌, refl, sym, ap, subst, ◌∙◌}
+use Rattle.std.proofs.Common.{◌∷◌, [], ◌++◌, sym, ap, subst, ◌∙◌}
 use Rattle.std.specs.List.{All}
 use Rattle.std.proofs.lemmas.List.{append_assoc, append-nil}
 use Rattle.std.proofs.lemmas.List.Elements.{All-nil, All-cons, All-append, All-head, All-tail}
+use Rattle.ot_kernel.specs.State.{named_at, variable_at}
 use Rattle.ot_machine.specs.Canonical.{variable_in, binders_at, IsBinderIn}
 use Rattle.ot_machine.proofs.Canonical.{variable-skip, other-variable, rest-empty}
 use Rattle.ot_machine.proofs.session.Session.binders_within.Goals as goal
@@ -13,11 +14,12 @@ binders-init c =
     record {
       here = subst (All (IsBinderIn s)) (sym empty) (All-nil (IsBinderIn s));
       left = c.requires.binders;
+      known = c.requires.known;
       same = λ v p. ap (λ bs. variable_in (binders_at s (bs ++ c.args.binders.now)) v) empty;
     }
 
-pub is_among-requires-clause-key : goal.is_among-requires-clause-key
-is_among-requires-clause-key c =
+pub is_free-requires-clause-key : goal.is_free-requires-clause-key
+is_free-requires-clause-key c =
     let s = c.args.self.now in
     (All-head (IsBinderIn s) c.in-Some.binder.now c.in-Some.others.now (subst (All (IsBinderIn s)) c.in-Some.ensures.cases.0 c.binders.invariant.left)).0
 
@@ -32,6 +34,7 @@ binders-preserved-in_ok-push c =
     record {
       here = subst (All (IsBinderIn s)) (sym pushed) (All-append (IsBinderIn s) c.binders.kept.items (b ∷ []) c.binders.invariant.here (All-cons (IsBinderIn s) b [] (All-head (IsBinderIn s) b others left) (All-nil (IsBinderIn s))));
       left = All-tail (IsBinderIn s) b others left;
+      known = c.in_ok-free.ensures.known;
       same = λ v p.
           ap (λ bs. variable_in (binders_at s (bs ++ others)) v) pushed
           ∙ ap (λ bs. variable_in (binders_at s bs) v) (append_assoc c.binders.kept.items (b ∷ []) others)
@@ -48,8 +51,9 @@ binders-preserved c =
     record {
       here = c.binders.invariant.here;
       left = All-tail (IsBinderIn s) b others (subst (All (IsBinderIn s)) split c.binders.invariant.left);
+      known = c.in_ok-free.ensures.known;
       same = λ v p.
-          sym (variable-skip s c.binders.kept.items others b v (other-variable s.kernel c.in_ok-free.free.items b.variable v c.is_among.result (rw c.deref.ensures.value at c.is_among.ensures) c.if-is_among.false ((c.in_ok-free.ensures.free v).1 p)))
+          sym (variable-skip s c.binders.kept.items others b v (other-variable (named_at s.kernel.terms c.args.id) (variable_at s.kernel b.variable) v c.in_ok-free.free c.in_ok-free.ensures.free c.if-free.false p))
           ∙ ap (λ bs. variable_in (binders_at s (c.binders.kept.items ++ bs)) v) (sym split)
           ∙ c.binders.invariant.same v p;
     }

@@ -1,4 +1,4 @@
-use Rattle.std.proofs.Common.{◌<◌, ℕ, [], ◌∷◌, ◌++◌, ◌+◌, List, map, refl, sym, ap, subst, ◌∙◌, length, slice_index_or, arith, length-append}
+use Rattle.std.proofs.Common.{◌<◌, ℕ, [], ◌∷◌, ◌++◌, ◌+◌, List, map, refl, sym, ap, subst, ◌∙◌, length, arith, length-append}
 use Rattle.std.specs.List.{All}
 use Rattle.std.proofs.lemmas.List.{map-append, take_at, get_or-append-add}
 use Rattle.std.proofs.lemmas.List.Elements.{All-take}

@@ -16,5 +16,6 @@ returns-clause-of c = record {
   stack = c.requires.stack;
   dictionary = each-changed (IsEntryIn c.args.self.now (length c.args.machine.now.cells.items)) _ _ _ None c.remove.ensures.updates.0 c.requires.dictionary (λ x e. cc);
   exports = c.requires.exports;
+  placed = c.requires.placed;
   cells = c.requires.cells;
 }

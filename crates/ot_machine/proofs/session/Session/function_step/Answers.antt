@@ -1,12 +1,9 @@
 use Rattle.std.specs.Prelude.{[]}
-use Rattle.std.proofs.Common.{refl, ap, ◌∙◌, arith}
+use Rattle.std.proofs.Common.{refl, ap, ◌∙◌}
 use Rattle.std.proofs.lemmas.Option.{get_or_from_slice_get}
 use Rattle.ot_plain.specs.declared.command.Cmd.TheVariants as words
 use Rattle.ot_kernel.specs.State.{name_at}
-use Rattle.ot_trace.specs.Origins.{Named, Make, NoOrigins, make_one, make_two, type_op_origin}
-use Rattle.ot_machine.specs.Version5.{app}
-use Rattle.ot_machine.specs.OpenTypes.{fun_origin, bool_origin, constant_at, variable_at, term_of, redex, composed, outcome_at, reduced}
-use Rattle.ot_machine.specs.Meaning.{origin_of}
+use Rattle.ot_trace.specs.Origins.{Named, make_two, type_op_origin}
 use Rattle.ot_machine.proofs.Traced.{traces-on, traced-origin}
 use Rattle.ot_machine.proofs.session.Session.function_step.Goals as goal
 

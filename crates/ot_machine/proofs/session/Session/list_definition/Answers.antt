@@ -1,16 +1,14 @@
 use Rattle.std.specs.Prelude.{Ok}
-use Rattle.std.proofs.Common.{rules, ◌≡◌, ◌∷◌, [], map, ap, sym, subst, ◌∙◌}
+use Rattle.std.proofs.Common.{rules, ◌∷◌, [], ap, sym, subst, ◌∙◌}
 use Rattle.ot_plain.specs.Naming.{names}
 use Rattle.ot_plain.specs.declared.command.Cmd.TheVariants as words
 use Rattle.ot_interp.specs.Interpretation.{renamed}
-use Rattle.ot_kernel.specs.State.{name_at, variable_at, theorem_at}
-use Rattle.ot_kernel.specs.Defining.{list_definition}
-use Rattle.ot_trace.specs.Origins.{Origin, Define, Outcome, from_list, renamed_pairs}
+use Rattle.ot_kernel.specs.State.{theorem_at}
+use Rattle.ot_trace.specs.Origins.{Define, Outcome, from_list, renamed_pairs}
 use Rattle.ot_machine.specs.Objects.{theorem}
-use Rattle.ot_machine.specs.Rows.{defined}
 use Rattle.ot_machine.specs.Contexts.{context_of}
 use Rattle.ot_machine.specs.Answers.{Refuses}
-use Rattle.ot_machine.specs.Meaning.{origin_of, run_of}
+use Rattle.ot_machine.specs.Meaning.{run_of}
 use Rattle.ot_machine.proofs.Kept.{origin-kept, traces-grow, grows-on}
 use Rattle.ot_machine.proofs.Refusals.{refused}
 use Rattle.ot_machine.proofs.Stated.{on-err, list-same}

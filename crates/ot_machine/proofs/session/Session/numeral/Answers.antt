@@ -1,5 +1,4 @@
-use Rattle.std.specs.Prelude.{[], ◌∷◌}
-use Rattle.std.proofs.Common.{ap, ◌∙◌}
+use Rattle.std.specs.Prelude.{[]}
 use Rattle.std.proofs.lemmas.Option.{slice_get_within, get_or_from_slice_get}
 use Rattle.ot_machine.proofs.Kept.{leaves}
 use Rattle.ot_machine.proofs.session.Session.numeral.Goals as goal

@@ -1,20 +1,17 @@
-use Rattle.std.specs.Prelude.{◌≡◌, ◌<◌, ℕ, [], ◌∷◌, length, map}
-use Rattle.std.proofs.Common.{refl, ap, sym, subst, ◌∙◌, arith}
-use Rattle.std.proofs.lemmas.List.Elements.{All-nil}
-use Rattle.ot_plain.specs.Names.{Name}
+use Rattle.std.specs.Prelude.{map}
+use Rattle.std.proofs.Common.{ap, sym, ◌∙◌}
 use Rattle.ot_plain.specs.Naming.{names}
 use Rattle.ot_plain.specs.Trees.{TyOp}
-use Rattle.ot_plain.specs.Hol.{nameless, type_of, tys_of_vars}
+use Rattle.ot_plain.specs.Hol.{nameless, tys_of_vars}
 use Rattle.ot_plain.specs.declared.command.Cmd.TheVariants as words
-use Rattle.ot_kernel.specs.State.{name_at, type_at, named_at, theorem_at}
+use Rattle.ot_kernel.specs.State.{name_at, type_at, named_at}
 use Rattle.ot_trace.specs.Origins.{Named, make_two, type_op_origin}
-use Rattle.ot_machine.specs.Canonical.{IsBinderIn}
 use Rattle.ot_machine.specs.OpenTypes.{fun_origin, bool_origin, constant_at, returned_origin, opened_origin, first_origin, second_origin}
-use Rattle.ot_machine.specs.Version5.{canon, canon_ty, canon_tys}
+use Rattle.ot_machine.specs.Version5.{canon_ty, canon_tys}
 use Rattle.ot_machine.specs.Meaning.{origin_of}
 use Rattle.ot_machine.proofs.Kept.{origin-kept, traces-grow, grows-on}
 use Rattle.ot_machine.proofs.Traced.{traces-on, traced-origin}
-use Rattle.ot_machine.proofs.Canonical.{adds-traces, adds-on, known-none, canon-is, type-is, name-later, names-later, type-later, names-inside}
+use Rattle.ot_machine.proofs.Canonical.{adds-traces, adds-on, canon-is, type-is, name-later, names-later, type-later}
 use Rattle.ot_machine.proofs.session.Session.open_steps.Goals as goal
 
 pub returns-in_ok-second-in-App-clause-first : goal.returns-in_ok-second-in-App-clause-first
@@ -133,3 +130,82 @@ returns-in_ok-second-in-App-clause-second c =
     let p6 = traced-origin t1 t6 m k1.of a1_6 c.in_ok-predicate-in-App.predicate c.in_ok-predicate-in-App.ensures.inside ∙ c.in_ok-predicate-in-App.ensures.made ∙ canon-is p in
     let o6 = traced-origin t2 t6 m k2.of a2_6 c.in_ok-old-in-App.old c.in_ok-old-in-App.ensures.inside ∙ o2 in
     c.in_ok-second-in-App.ensures.made ∙ (λ i. opened_origin (d6 i) (a6 i) (r6 i) (e6 i) (p6 i) (o6 i)) ∙ ap (second_origin (origin_of s d) ab rp ty) (sym concl)
+
+-- ---- the machine stays
+pub returns-in_err-new-in-App-clause-kept : goal.returns-in_err-new-in-App-clause-kept
+returns-in_err-new-in-App-clause-kept c =
+    let s = c.args.self.now in
+    let m = c.args.machine.now in
+    let t1 = c.term_origin.new.self in
+    let t2 = c.type_origin.new.self in
+    let t3 = c.type_variables_step.new.self in
+    let t4 = c.operated_step.new.self in
+    let a3 = traces-on t1 t2 t3 m c.in_ok-old-in-App.ensures.kept c.in_ok-list-in-App.ensures.kept in
+    let a4 = traces-on t1 t3 t4 m a3 c.in_err-new-in-App.ensures.kept in
+    adds-on s t1 t4 m c.in_ok-predicate-in-App.ensures.kept (adds-traces t1 t4 m a4)
+
+pub returns-in_err-constants-in-App-clause-kept : goal.returns-in_err-constants-in-App-clause-kept
+returns-in_err-constants-in-App-clause-kept c =
+    let s = c.args.self.now in
+    let m = c.args.machine.now in
+    let t1 = c.term_origin.new.self in
+    let t2 = c.type_origin.new.self in
+    let t3 = c.type_variables_step.new.self in
+    let t4 = c.operated_step.new.self in
+    let t5 = c.constants_between.new.self in
+    let a3 = traces-on t1 t2 t3 m c.in_ok-old-in-App.ensures.kept c.in_ok-list-in-App.ensures.kept in
+    let a4 = traces-on t1 t3 t4 m a3 c.in_ok-new-in-App.ensures.kept in
+    let a5 = traces-on t1 t4 t5 m a4 c.in_err-constants-in-App.ensures.kept in
+    adds-on s t1 t5 m c.in_ok-predicate-in-App.ensures.kept (adds-traces t1 t5 m a5)
+
+pub returns-in_err-first-in-App-clause-kept : goal.returns-in_err-first-in-App-clause-kept
+returns-in_err-first-in-App-clause-kept c =
+    let s = c.args.self.now in
+    let m = c.args.machine.now in
+    let t1 = c.term_origin.new.self in
+    let t2 = c.type_origin.new.self in
+    let t3 = c.type_variables_step.new.self in
+    let t4 = c.operated_step.new.self in
+    let t5 = c.constants_between.new.self in
+    let t6 = c.returned_step.new.self in
+    let a3 = traces-on t1 t2 t3 m c.in_ok-old-in-App.ensures.kept c.in_ok-list-in-App.ensures.kept in
+    let a4 = traces-on t1 t3 t4 m a3 c.in_ok-new-in-App.ensures.kept in
+    let a5 = traces-on t1 t4 t5 m a4 c.in_ok-constants-in-App.ensures.kept in
+    let a6 = traces-on t1 t5 t6 m a5 c.in_err-first-in-App.ensures.kept in
+    adds-on s t1 t6 m c.in_ok-predicate-in-App.ensures.kept (adds-traces t1 t6 m a6)
+
+pub returns-in_err-second-in-App-clause-kept : goal.returns-in_err-second-in-App-clause-kept
+returns-in_err-second-in-App-clause-kept c =
+    let s = c.args.self.now in
+    let m = c.args.machine.now in
+    let t1 = c.term_origin.new.self in
+    let t2 = c.type_origin.new.self in
+    let t3 = c.type_variables_step.new.self in
+    let t4 = c.operated_step.new.self in
+    let t5 = c.constants_between.new.self in
+    let t6 = c.returned_step.new.self in
+    let t7 = c.opened_step.new.self in
+    let a3 = traces-on t1 t2 t3 m c.in_ok-old-in-App.ensures.kept c.in_ok-list-in-App.ensures.kept in
+    let a4 = traces-on t1 t3 t4 m a3 c.in_ok-new-in-App.ensures.kept in
+    let a5 = traces-on t1 t4 t5 m a4 c.in_ok-constants-in-App.ensures.kept in
+    let a6 = traces-on t1 t5 t6 m a5 c.in_ok-first-in-App.ensures.kept in
+    let a7 = traces-on t1 t6 t7 m a6 c.in_err-second-in-App.ensures.kept in
+    adds-on s t1 t7 m c.in_ok-predicate-in-App.ensures.kept (adds-traces t1 t7 m a7)
+
+pub returns-in_ok-second-in-App-clause-kept : goal.returns-in_ok-second-in-App-clause-kept
+returns-in_ok-second-in-App-clause-kept c =
+    let s = c.args.self.now in
+    let m = c.args.machine.now in
+    let t1 = c.term_origin.new.self in
+    let t2 = c.type_origin.new.self in
+    let t3 = c.type_variables_step.new.self in
+    let t4 = c.operated_step.new.self in
+    let t5 = c.constants_between.new.self in
+    let t6 = c.returned_step.new.self in
+    let t7 = c.opened_step.new.self in
+    let a3 = traces-on t1 t2 t3 m c.in_ok-old-in-App.ensures.kept c.in_ok-list-in-App.ensures.kept in
+    let a4 = traces-on t1 t3 t4 m a3 c.in_ok-new-in-App.ensures.kept in
+    let a5 = traces-on t1 t4 t5 m a4 c.in_ok-constants-in-App.ensures.kept in
+    let a6 = traces-on t1 t5 t6 m a5 c.in_ok-first-in-App.ensures.kept in
+    let a7 = traces-on t1 t6 t7 m a6 c.in_ok-second-in-App.ensures.kept in
+    adds-on s t1 t7 m c.in_ok-predicate-in-App.ensures.kept (adds-traces t1 t7 m a7)

@@ -1,18 +1,12 @@
-use Rattle.std.specs.Prelude.{◌≡◌, ◌<◌, ℕ, Ok}
+use Rattle.std.specs.Prelude.{◌<◌, ℕ, Ok}
 use Rattle.std.specs.List.{All}
-use Rattle.std.proofs.Common.{rules, ◌∷◌, [], length, map, ap, sym, subst, ◌∙◌, arith}
-use Rattle.ot_plain.specs.Names.{Name}
-use Rattle.ot_plain.specs.Naming.{names}
-use Rattle.ot_plain.specs.Trees.{TyOp}
-use Rattle.ot_plain.specs.Hol.{tys_of_vars}
+use Rattle.std.proofs.Common.{rules, ◌∷◌, [], length, sym, subst, ◌∙◌, arith}
 use Rattle.ot_plain.specs.declared.command.Cmd.TheVariants as words
 use Rattle.ot_kernel.specs.State.{name_at, theorem_at}
-use Rattle.ot_trace.specs.Origins.{Origin, Named, Define, from_list}
+use Rattle.ot_trace.specs.Origins.{Named, Define, from_list}
 use Rattle.ot_machine.specs.Objects.{theorem}
-use Rattle.ot_machine.specs.States.{RunState}
-use Rattle.ot_machine.specs.OpenTypes.{first_origin, second_origin, open_entries}
 use Rattle.ot_machine.specs.Answers.{Refuses}
-use Rattle.ot_machine.specs.Meaning.{origin_of, run_of, Grows}
+use Rattle.ot_machine.specs.Meaning.{run_of}
 use Rattle.ot_machine.proofs.Kept.{origin-kept, traces-grow, grows-on}
 use Rattle.ot_machine.proofs.Refusals.{refused}
 use Rattle.ot_machine.proofs.Stated.{on-err}

@@ -1,5 +1,4 @@
-use Rattle.std.proofs.Common.{map, ap, sym, subst, ◌∙◌}
-use Rattle.ot_plain.specs.Answers.{◌>>=◌}
+use Rattle.std.proofs.Common.{map, sym, subst}
 use Rattle.ot_kernel.specs.State.{term_at}
 use Rattle.ot_machine.specs.Answers.{Makes}
 use Rattle.ot_machine.specs.Places.{top, origins_of}

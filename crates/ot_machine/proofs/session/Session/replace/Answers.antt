@@ -28,5 +28,6 @@ returns-clause-of c =
       stack = subst (All P) (sym items) (All-append P (take (c.len.result - c.args.count) stack.items) (e ∷ []) (All-take P (c.len.result - c.args.count) stack.items c.requires.of.stack) (All-cons P e [] (record { object = c.requires.inside; step = c.requires.step }) (All-nil P)));
       dictionary = c.requires.of.dictionary;
       exports = c.requires.of.exports;
+      placed = c.requires.of.placed;
       cells = c.requires.of.cells;
     }

@@ -1,6 +1,6 @@
-use Rattle.std.proofs.Common.{length, sym}
+use Rattle.std.proofs.Common.{sym}
 use Rattle.ot_machine.specs.Meaning.{lists_of, article_of}
-use Rattle.ot_machine.proofs.Traced.{number-there, step-there, step-inside, none-other}
+use Rattle.ot_machine.proofs.Traced.{step-there, step-inside, none-other}
 use Rattle.ot_machine.proofs.session.Session.step_on.Goals as goal
 
 pub returns-in-Some-clause-made : goal.returns-in-Some-clause-made

@@ -14,6 +14,7 @@ returns-in_err-insert-clause-of c = record {
   stack = c.requires.of.stack;
   dictionary = λ q o p. c.requires.of.dictionary q o (ap (lookup (is_at (int_cmp q))) (sym c.in_err-insert.ensures.err) ∙ p);
   exports = c.requires.of.exports;
+  placed = c.requires.of.placed;
   cells = c.requires.of.cells;
 }
 
@@ -28,5 +29,6 @@ returns-clause-of c = record {
   stack = c.requires.of.stack;
   dictionary = each-changed (IsEntryIn c.args.self.now (length c.args.machine.now.cells.items)) _ _ _ _ c.in_ok-insert.ensures.updates.0 c.requires.of.dictionary (λ x e. subst (IsEntryIn c.args.self.now (length c.args.machine.now.cells.items)) (same_Some (record { object = c.args.object; step = c.args.step }) x e) (record { object = c.requires.inside; step = c.requires.step }));
   exports = c.requires.of.exports;
+  placed = c.requires.of.placed;
   cells = c.requires.of.cells;
 }

@@ -1,4 +1,4 @@
-use Rattle.std.proofs.Common.{◌<◌, ◌∷◌, [], length, ap, sym, subst, ◌∙◌, arith}
+use Rattle.std.proofs.Common.{◌∷◌, [], ap, sym, ◌∙◌, arith}
 use Rattle.ot_plain.specs.declared.command.Cmd.TheVariants as words
 use Rattle.ot_trace.specs.Origins.{Named, Define, NoOrigins, MoreOrigins, constant_origin, type_op_origin}
 use Rattle.ot_machine.proofs.Traced.{traces-on, traced-origin, number-later, origin-number}

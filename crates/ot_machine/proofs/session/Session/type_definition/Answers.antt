@@ -1,13 +1,11 @@
 use Rattle.std.specs.Prelude.{ℕ, Ok}
-use Rattle.std.proofs.Common.{rules, ◌≡◌, ◌∷◌, [], map, ap, sym, subst, ◌∙◌, arith}
-use Rattle.ot_plain.specs.Names.{Name}
+use Rattle.std.proofs.Common.{rules, ◌∷◌, [], ap, sym, subst, ◌∙◌, arith}
 use Rattle.ot_plain.specs.declared.command.Cmd.TheVariants as words
 use Rattle.ot_kernel.specs.State.{name_at, theorem_at}
-use Rattle.ot_trace.specs.Origins.{Origin, Named, Define, Outcome, from_list}
+use Rattle.ot_trace.specs.Origins.{Named, Define, Outcome, from_list}
 use Rattle.ot_machine.specs.Objects.{theorem}
-use Rattle.ot_machine.specs.Defining.{closed_defined}
 use Rattle.ot_machine.specs.Answers.{Refuses}
-use Rattle.ot_machine.specs.Meaning.{origin_of, run_of}
+use Rattle.ot_machine.specs.Meaning.{run_of}
 use Rattle.ot_machine.proofs.Kept.{origin-kept, traces-grow, grows-on}
 use Rattle.ot_machine.proofs.Refusals.{refused}
 use Rattle.ot_machine.proofs.Stated.{on-err, type-same}

@@ -1,6 +1,7 @@
 use Rattle.ot_machine.proofs.Kept.{traces-grow}
 use Rattle.ot_machine.proofs.Traced.{traces-on}
 use Rattle.ot_machine.proofs.Canonical.{types-later, terms-later}
+use Rattle.ot_machine.proofs.Occurrences.{occurrences-later}
 use Rattle.ot_machine.proofs.session.Session.variable_origin.Goals as goal
 
 pub returns-in_ok-variable_step-in-None-clause-known : goal.returns-in_ok-variable_step-in-None-clause-known
@@ -14,4 +15,5 @@ returns-in_ok-variable_step-in-None-clause-known c =
     record {
       types = types-later t1 t2 (traces-grow t1 t2 m two) one.of.run c.type_origin.new.known.entries c.in_ok-ty-in-None.ensures.known;
       terms = terms-later s t2 (traces-grow s t2 m (traces-on s t1 t2 m one two)) c.requires.of.run c.args.known.now.terms.entries c.requires.known.terms;
+      free = occurrences-later s.kernel t2.kernel (traces-grow s t2 m (traces-on s t1 t2 m one two)).kernel c.args.known.now.free.entries c.requires.known.free;
     }

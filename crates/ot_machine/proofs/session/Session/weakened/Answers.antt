@@ -1,8 +1,7 @@
 use Rattle.std.specs.Prelude.{Ok, Err}
 use Rattle.std.specs.List.{All}
-use Rattle.std.proofs.Common.{rules, ◌≡◌, ◌<◌, ◌+◌, ◌∷◌, [], ℕ, List, drop, get_or, length, map, refl, ap, sym, subst, ◌∙◌, arith}
+use Rattle.std.proofs.Common.{rules, ◌≡◌, ◌<◌, ◌+◌, ◌∷◌, ℕ, List, drop, get_or, length, map, refl, ap, sym, subst, ◌∙◌, arith}
 use Rattle.std.proofs.lemmas.List.{drop_more, drop_all}
-use Rattle.ot_plain.specs.Answers.{◌>>=◌}
 use Rattle.ot_kernel.specs.State.{State, term_at}
 use Rattle.ot_trace.specs.Origins.{operand}
 use Rattle.ot_machine.specs.Rows.{theorem_entry}

@@ -2,7 +2,7 @@ use Rattle.std.proofs.Common.{◌≡◌, drop, map}
 use Rattle.ot_kernel.specs.State.{theorem_at}
 use Rattle.ot_machine.specs.Rows.{is_exported}
 use Rattle.ot_machine.specs.Meaning.{export_of}
-use Rattle.ot_machine.proofs.session.Session.is_exported.Given as goal
+use Rattle.ot_machine.proofs.session.Session.is_among.Given as goal
 
 abbrev pub invariant-loop-export : goal.invariant-loop-export
 invariant-loop-export l =
