@@ -11,7 +11,7 @@ use std::alloc::Global;
 use std::collections::BTreeSet;
 
 /// The texts of items. `TooLarge` only where they have more than `max` bytes together.
-pub(crate) fn gathered<T: Printable>(
+pub fn gathered<T: Printable>(
     alloc: Global,
     kernel: &Kernel,
     items: &[T],

@@ -12,7 +12,9 @@ mod terms;
 mod tests;
 mod types;
 
+pub use gather::gathered;
 pub use ot_text::{PrintFault, one_text};
+pub use printable::Printable;
 pub use sequents::sequent_text;
 pub use summary::summary_text;
 pub use terms::term_text;

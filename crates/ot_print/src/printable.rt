@@ -8,7 +8,7 @@ use ot_text::{Page, PrintFault};
 use std::alloc::Global;
 
 /// What has a text under a kernel.
-pub(crate) trait Printable {
+pub trait Printable {
     /// Whether its numbers are of the kernel.
     ghost is_inside: { State → Self → Type 0 };
 

@@ -1,0 +1,266 @@
+-- What a theorem of a lawful run rests on suffices for it.
+use Rattle.std.specs.Prelude.{◌&&◌, not}
+use Rattle.std.specs.Bool.{Decides}
+use Rattle.std.specs.List.{All}
+use Rattle.std.proofs.Common.{◌≡◌, ℕ, zero, suc, true, false, List, [], ◌∷◌, Some, Result, Ok, refl, sym, ap, subst, ◌∙◌, map, take, slice_get, inl, inr, ◌⊎◌, arith}
+use Rattle.ot_plain.specs.Names.{Name, same_name-Decides}
+use Rattle.ot_plain.specs.Naming.{names}
+use Rattle.ot_plain.specs.Lists.{IsMember, IsPart}
+use Rattle.ot_plain.specs.Trees.{Sequent, Definition}
+use Rattle.ot_plain.specs.Faults.{Fault}
+use Rattle.ot_plain.specs.declared.command.Cmd.{Cmd}
+use Rattle.ot_plain.specs.declared.command.Cmd.TheVariants as words
+use Rattle.ot_laws.specs.Theorem.{AreSequents}
+use Rattle.ot_laws.proofs.Tests.{cases_of}
+use Rattle.ot_trace.specs.Origins.{Origin, Origins, Number, Named, Make, Define, Outcome, NoOrigins, MoreOrigins, listed}
+use Rattle.ot_trace.specs.Reach.{IsReached, Root, Operand, OfTheorem}
+use Rattle.ot_written.specs.Needed.{is_among, needed_definitions, needed_origins}
+use Rattle.ot_written.specs.Laws.{Tells}
+use Rattle.ot_written.proofs.Filters.{filter-from}
+use Rattle.ot_written.proofs.Kept.{kept, kept-is}
+use Rattle.ot_written.proofs.NeededDefinitions.{needed-reached, reached-needed, reached-origin}
+use Rattle.ot_written.proofs.NeededLaw.{among-to, among-from}
+use Rattle.ot_written.proofs.Same.{same-origin-law}
+use Rattle.ot_machine.specs.Objects.{Object, theorem}
+use Rattle.ot_machine.specs.States.{Given, Made}
+use Rattle.ot_machine.specs.Rows.{definitions_of}
+use Rattle.ot_machine.specs.Values.{value, definition_of}
+use Rattle.ot_machine.specs.Lawful.{Basis, RestsOn, AreOn, IsTaken, GivenFits, basis_of, run_basis}
+use Rattle.ot_machine.proofs.Fewer.{none-fewer}
+use Rattle.ot_machine.proofs.DefinitionFewer.{definition-fewer}
+use Rattle.ot_uses.specs.Used.{same, is_assumed, used_assumptions, used_definitions}
+use Rattle.ot_uses.specs.Suffices.{UsesSuffice}
+use Rattle.ot_uses.proofs.Parted.{IsInOrder, at_member, member_at}
+use Rattle.ot_uses.proofs.Resting.{IsAssumed, StandsOn, AllStand, StandsMade, Suffice}
+use Rattle.ot_uses.proofs.Suffices.{parts_suffice, member-map, take-part, get-map, ok_if, value-axiom, IsProposed}
+
+map-member : {A B : Type 0} (f : A → B) (y : B) (xs : List A) → IsMember y (map f xs) → (x : A) × IsMember x xs × (f x ≡ y)
+map-member f y [] m = absurd m
+map-member f y (x ∷ xs) (inl e) = (x, inl refl, e)
+map-member f y (x ∷ xs) (inr m) = let (z, i, e) = map-member f y xs m in (z, inr i, e)
+
+all-member : {A : Type 0} (P : A → Type 0) (xs : List A) → All P xs → (x : A) → IsMember x xs → P x
+all-member P [] h x m = absurd m
+all-member P (y ∷ ys) h x (inl e) = subst P e (h 0 y (omega arith))
+all-member P (y ∷ ys) h x (inr m) = all-member P ys (λ k d l. h (suc k) d (omega arith)) x m
+
+pub tells : Tells same
+tells = same-origin-law names.same same_name-Decides
+
+-- ---- the definitions that are kept
+
+module _ (found : List (Origin Name)) where
+  abbrev origin : Made → Origin Name
+  origin m = m.origin
+
+  -- those that are kept behind some
+  abbrev rest : List (Origin Name) → List Made → List Made
+  rest before ms = kept same origin found before ms
+
+  any-member : (o : Origin Name) (ds : List (Origin Name)) → Decides (is_among same o ds) (IsMember o ds)
+  any-member o ds = (among-to same tells o ds, among-from same tells o ds)
+
+  -- what is kept of a front, by its origin
+  abbrev HasKept : List (Origin Name) → List Made → List Made → Type 0
+  HasKept before front keeps = (x : Made) → IsMember x front → IsMember x.origin found → ¬ (IsMember x.origin before) → (y : Made) × IsMember y keeps × (y.origin ≡ x.origin)
+
+  abbrev Placed : List (Origin Name) → List Made → List Made → ℕ → Made → Type 0
+  Placed before ms es i m = (k : ℕ) × (slice_get ms k ≡ Some m) × IsPart (take i es) (take k ms) × HasKept before (take k ms) (take i es)
+
+  -- the two cases of a definition
+  test-cases : (before : List (Origin Name)) (o : Origin Name) →
+      (((is_among same o found && not (is_among same o before)) ≡ true) × IsMember o found)
+      ⊎ (((is_among same o found && not (is_among same o before)) ≡ false) × (IsMember o found → ¬ (IsMember o before) → ⊥))
+  test-cases before o = elim (cases_of (is_among same o found) (any-member o found)) [
+    | inl p ↦ elim (cases_of (is_among same o before) (any-member o before)) [
+      | inl q ↦ inr (rw (p.0, q.0) refl, (λ i n. n q.1))
+      | inr q ↦ inl (rw (p.0, q.0) refl, p.1)
+    ]
+    | inr p ↦ inr (rw p.0 refl, (λ i n. p.1 i))
+  ]
+
+  more : (before : List (Origin Name)) (n : Made) (front keeps : List Made) → ((y : Made) → IsMember n.origin found → ¬ (IsMember n.origin before) → (z : Made) × IsMember z keeps × (z.origin ≡ n.origin))
+      → HasKept (n.origin ∷ before) front keeps → HasKept before (n ∷ front) keeps
+  more before n front keeps own rest x (inl e) i o =
+      let a : IsMember n.origin found = subst (λ z. IsMember z.origin found) (sym e) i in
+      let b : ¬ (IsMember n.origin before) = λ h. o (subst (λ z. IsMember z.origin before) e h) in
+      let (z, m, s) = own n a b in (z, m, s ∙ ap (λ w. w.origin) e)
+  more before n front keeps own rest x (inr h) i o = elim (cases_of (same n.origin x.origin) (tells n.origin x.origin)) [
+    | inl q ↦
+        let (z, m, s) = own n (subst (λ w. IsMember w found) (sym q.1) i) (λ g. o (subst (λ w. IsMember w before) q.1 g)) in (z, m, s ∙ q.1)
+    | inr q ↦ rest x h i (λ g. elim g [ inl e ↦ q.1 e | inr j ↦ o j ])
+  ]
+
+  wider : (before : List (Origin Name)) (front keeps : List Made) (n : Made) → HasKept before front keeps → HasKept before front (n ∷ keeps)
+  wider before front keeps n h x i a b = let (z, m, s) = h x i a b in (z, inr m, s)
+
+  kept-place : (before : List (Origin Name)) (ms : List Made) (i : ℕ) (m : Made) → slice_get (rest before ms) i ≡ Some m → Placed before ms (rest before ms) i m
+  kept-place before [] i m e = absurd cc
+  kept-place before (n ∷ ns) i m e = elim (test-cases before n.origin) [
+    | inl p ↦
+        let e' : slice_get (n ∷ rest (n.origin ∷ before) ns) i ≡ Some m = rw p.0 at e in
+        rw p.0 (taken i e' (λ j f. kept-place (n.origin ∷ before) ns j m f))
+    | inr p ↦
+        let e' : slice_get (rest (n.origin ∷ before) ns) i ≡ Some m = rw p.0 at e in
+        let (k, at, part, has) = kept-place (n.origin ∷ before) ns i m e' in
+        rw p.0 (suc k, at, (λ x h. inr (part x h)), more before n (take k ns) (take i (rest (n.origin ∷ before) ns)) (λ y a b. absurd (p.1 a b)) has)
+  ]
+    where
+      taken : (i : ℕ) → slice_get (n ∷ rest (n.origin ∷ before) ns) i ≡ Some m
+          → ((j : ℕ) → slice_get (rest (n.origin ∷ before) ns) j ≡ Some m → Placed (n.origin ∷ before) ns (rest (n.origin ∷ before) ns) j m)
+          → Placed before (n ∷ ns) (n ∷ rest (n.origin ∷ before) ns) i m
+      taken zero f ih = (0, f, (λ x h. absurd h), (λ x h. absurd h))
+      taken (suc j) f ih =
+          let (k, at, part, has) = ih j f in (
+            suc k,
+            at,
+            (λ x h. elim h [ inl q ↦ inl q | inr g ↦ inr (part x g) ]),
+            more before n (take k ns) (n ∷ take j (rest (n.origin ∷ before) ns)) (λ y a b. (n, inl refl, refl)) (wider (n.origin ∷ before) (take k ns) (take j (rest (n.origin ∷ before) ns)) n has),
+          )
+
+  kept-all : (before : List (Origin Name)) (ms : List Made) → HasKept before ms (rest before ms)
+  kept-all before [] = λ x h. absurd h
+  kept-all before (n ∷ ns) = elim (test-cases before n.origin) [
+    | inl p ↦ rw p.0 (more before n ns (n ∷ rest (n.origin ∷ before) ns) (λ y a b. (n, inl refl, refl)) (wider (n.origin ∷ before) ns (rest (n.origin ∷ before) ns) n (kept-all (n.origin ∷ before) ns)))
+    | inr p ↦ rw p.0 (more before n ns (rest (n.origin ∷ before) ns) (λ y a b. absurd (p.1 a b)) (kept-all (n.origin ∷ before) ns))
+  ]
+
+  kept-found : (before : List (Origin Name)) (ms : List Made) (y : Made) → IsMember y (rest before ms) → IsMember y.origin found
+  kept-found before [] y h = absurd h
+  kept-found before (n ∷ ns) y h = elim (test-cases before n.origin) [
+    | inl p ↦
+        let g : IsMember y (n ∷ rest (n.origin ∷ before) ns) = rw p.0 at h in
+        elim g [ inl e ↦ subst (λ z. IsMember z.origin found) e p.1 | inr j ↦ kept-found (n.origin ∷ before) ns y j ]
+    | inr p ↦
+        let g : IsMember y (rest (n.origin ∷ before) ns) = rw p.0 at h in kept-found (n.origin ∷ before) ns y g
+  ]
+
+-- ---- what is reached stands on what is kept
+
+module _ (bl : List (Sequent Name)) (roots ds : List (Origin Name)) (b : Basis) (es : List Made)
+    (definitions : (d : Origin Name) → IsMember d b.definitions → IsReached roots ds d → (m : Made) × IsMember m es × (definition_of [] d ≡ Ok m.definition))
+    (axioms : (os : Origins Name) (q : Sequent Name) → IsMember (Make words.Axiom os) b.axioms → IsReached roots ds (Make words.Axiom os) → value (Make words.Axiom os) ≡ Ok (theorem q) → IsMember q bl) where
+  assumed : (w : Cmd) (os : Origins Name) → IsTaken b w os → IsReached roots ds (Make w os) → IsAssumed bl es w os
+  assumed words.Axiom os t r = λ q e. axioms os q t r e
+  assumed _ os t r = tt
+
+  mutual
+    reached-stands : (o : Origin Name) → RestsOn b o → IsReached roots ds o → StandsOn bl es o
+    reached-stands (Number k) h r = tt
+    reached-stands (Named n) h r = tt
+    reached-stands (Make w os) h r = (all-stand os h.0 (λ p m. Operand (Make w os) p r m), assumed w os h.1 r)
+    reached-stands (Define w os) h r = all-stand os h (λ p m. Operand (Define w os) p r m)
+    reached-stands (Outcome j d) h r = definitions d h.0 (OfTheorem j d r)
+
+    all-stand : (os : Origins Name) → AreOn b os → ((p : Origin Name) → IsMember p (listed os) → IsReached roots ds p) → AllStand bl es os
+    all-stand NoOrigins h r = tt
+    all-stand (MoreOrigins o os) h r = (reached-stands o h.0 (r o (inl refl)), all-stand os h.1 (λ p m. r p (inr m)))
+
+-- only a definition is accepted
+is-define : (ds : List (Definition Name)) (o : Origin Name) (x : Definition Name) → definition_of ds o ≡ Ok x → (w : Cmd) × (os : Origins Name) × (o ≡ Define w os)
+is-define ds (Number k) x e = absurd cc
+is-define ds (Named n) x e = absurd cc
+is-define ds (Make w os) x e = absurd cc
+is-define ds (Define w os) x e = (w, os, refl)
+is-define ds (Outcome j d) x e = absurd cc
+
+same_ok : {A E : Type 0} (x y : A) → ◌≡◌ {A = Result A E} (Ok x) (Ok y) → x ≡ y
+same_ok x y e = cc
+
+same_theorem : (p q : Sequent Name) → ◌≡◌ {A = Object} (theorem p) (theorem q) → p ≡ q
+same_theorem p q e = cc
+
+pub uses_suffice : (IsNamed : Name → Type 0) → UsesSuffice IsNamed
+uses_suffice IsNamed r lawful acc e law = record { accepted = s.accepted; theorem = s.theorems o e.sequent stands law.proved.value_is }
+  where
+    o : Origin Name
+    o = e.roots.theorem
+
+    ms : List Made
+    ms = r.definitions
+
+    ds : List (Origin Name)
+    ds = map (λ m. m.origin) r.definitions
+
+    found : List (Origin Name)
+    found = needed_definitions same (o ∷ []) ds
+
+    al : List (Sequent Name)
+    al = map (λ g. g.sequent) r.assumptions
+
+    bl : List (Sequent Name)
+    bl = map (λ g. g.sequent) (used_assumptions r o)
+
+    -- what lawful runs have
+    given : (g : Given) → IsMember g r.assumptions → value g.origin ≡ Ok (theorem g.sequent)
+    given g m = (all-member (GivenFits (run_basis IsNamed r)) r.assumptions lawful.assumptions g m).value_is
+
+    own : (m : Made) → IsMember m ms → definition_of [] m.origin ≡ Ok m.definition
+    own m here =
+        let (k, at) = member_at ms m here in
+        definition-fewer [] (definitions_of (take k ms)) (none-fewer (definitions_of (take k ms))) m.definition m.origin (lawful.definitions k m at).accepted
+
+    seqs : AreSequents names al
+    seqs i q at =
+        let (g, here, is) = get-map (λ g. g.sequent) r.assumptions i q at in
+        let m = at_member r.assumptions i g here in
+        let (os, made) = all-member (λ g. (os : Origins Name) × (g.origin ≡ Make words.Axiom os)) r.assumptions lawful.axioms g m in
+        let v : value (Make words.Axiom os) ≡ Ok (theorem q) = ap value (sym made) ∙ given g m ∙ ap (λ z. Ok (theorem z)) is in
+        (ok_if (value (Make words.Axiom os)) IsProposed (value-axiom os) (theorem q) v).0
+
+    held : (g : Given) → IsMember g r.assumptions → IsReached (o ∷ []) ds g.origin → IsMember g.sequent bl
+    held g m reach = member-map (λ g. g.sequent) g (used_assumptions r o) (filter-from (is_assumed r o) g r.assumptions m (among-from same tells g.origin (needed_origins same (o ∷ []) ds) (reached-origin same tells (o ∷ []) ds g.origin reach)))
+
+    axioms : (os : Origins Name) (p : Sequent Name) → IsMember (Make words.Axiom os) (map (λ g. g.origin) r.assumptions) → IsReached (o ∷ []) ds (Make words.Axiom os) → value (Make words.Axiom os) ≡ Ok (theorem p) → IsMember p bl
+    axioms os p m reach e =
+        let (g, here, is) = map-member (λ g. g.origin) (Make words.Axiom os) r.assumptions m in
+        let v : ◌≡◌ {A = Result Object (Fault Name)} (Ok (theorem g.sequent)) (Ok (theorem p)) = sym (given g here) ∙ ap value is ∙ e in
+        subst (λ z. IsMember z bl) (same_theorem g.sequent p (same_ok (theorem g.sequent) (theorem p) v)) (held g here (subst (IsReached (o ∷ []) ds) (sym is) reach))
+
+    -- the definitions that are kept
+    es : List Made
+    es = kept same (λ m. m.origin) found [] ms
+
+    es-are : es ≡ used_definitions r o
+    es-are = kept-is same tells (λ m. m.origin) found ms
+
+    es-part : IsPart es ms
+    es-part y n = let (i, at) = member_at es y n in let (k, old, part, has) = kept-place found [] ms i y at in at_member ms k y old
+
+    -- of a front of the definitions, each that is reached is kept
+    front : (xs keeps : List Made) → IsPart xs ms → IsPart keeps ms → HasKept found [] xs keeps → (d : Origin Name) → IsMember d (map (λ m. m.origin) xs) → IsReached (o ∷ []) ds d → (m : Made) × IsMember m keeps × (definition_of [] d ≡ Ok m.definition)
+    front xs keeps part inner has d m reach =
+        let (x, here, is) = map-member (λ m. m.origin) d xs m in
+        let inside : IsMember d ds = subst (λ z. IsMember z ds) is (member-map (λ m. m.origin) x ms (part x here)) in
+        let (y, kept_y, same_y) = has x here (subst (λ z. IsMember z found) (sym is) (reached-needed same tells (o ∷ []) ds d inside reach)) (λ h. h) in
+        (y, kept_y, ap (definition_of []) (sym (same_y ∙ is)) ∙ own y (inner y kept_y))
+
+    order : IsInOrder es ms
+    order i m at = let (k, old, part, has) = kept-place found [] ms i m at in (k, old, part)
+
+    made : (i : ℕ) (m : Made) → slice_get es i ≡ Some m → StandsMade bl (take i es) m
+    made i m at =
+        let (k, old, part, has) = kept-place found [] ms i m at in
+        let law = lawful.definitions k m old in
+        let (w, os, is) = is-define (definitions_of (take k ms)) m.origin m.definition law.accepted in
+        let reach : IsReached (o ∷ []) ds m.origin = (needed-reached same tells (o ∷ []) ds m.origin (kept-found found [] ms m (at_member es i m at))).1 in
+        let st : StandsOn bl (take i es) m.origin =
+        reached-stands bl (o ∷ []) ds (basis_of IsNamed r.assumptions (take k ms)) (take i es)
+        (front (take k ms) (take i es) (take-part k ms) (λ x n. es-part x (take-part i es x n)) has) axioms m.origin law.rests reach in
+        record {
+          word = w;
+          operands = os;
+          before = definitions_of (take k ms);
+          origin = is;
+          accepted = subst (λ z. definition_of (definitions_of (take k ms)) z ≡ Ok m.definition) is law.accepted;
+          stand = subst (λ z. StandsOn bl (take i es) z) is st;
+        }
+
+    stands-kept : StandsOn bl es o
+    stands-kept = reached-stands bl (o ∷ []) ds (run_basis IsNamed r) es (front ms es (λ x n. n) es-part (kept-all found [] ms)) axioms o law.proved.rests (Root o (inl refl))
+
+    s : Suffice al bl ms (used_definitions r o)
+    s = subst (Suffice al bl ms) es-are (parts_suffice al bl ms es seqs acc order made)
+
+    stands : StandsOn bl (used_definitions r o) o
+    stands = subst (λ z. StandsOn bl z o) es-are stands-kept

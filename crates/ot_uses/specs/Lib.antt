@@ -1,0 +1,6 @@
+-- What a reader of the contracts has to believe: what each theorem of a run rests on, and its text.
+pub mod Used
+pub mod Suffices
+pub mod Texts
+pub mod Placing
+pub mod Picked

@@ -1,0 +1,12 @@
+//! What each theorem of a run rests on: the assumptions and the definitions that its origin leads to.
+#![tactic(auto)]
+
+mod finding;
+mod laws;
+mod places;
+mod text;
+
+pub use finding::uses;
+pub use laws::uses_law;
+pub use places::Uses;
+pub use text::uses_text;
