@@ -1,25 +1,28 @@
 -- What a kernel and the numbers of exports say of their run.
-use Rattle.std.proofs.Common.{◌≡◌, ℕ, suc, ◌<◌, ◌≤◌, List, [], ◌∷◌, ◌++◌, length, map, refl, sym, ap, subst, ◌∙◌, arith}
+use Rattle.std.proofs.Common.{◌≡◌, ℕ, ◌<◌, List, [], ◌∷◌, length, map, refl, sym, ap, subst, ◌∙◌, arith}
 use Rattle.std.specs.Prelude.{Result, IfOk}
 use Rattle.std.specs.List.{All}
 use Rattle.std.proofs.lemmas.List.{length-map}
 use Rattle.std.proofs.lemmas.List.Elements.{All-map}
 use Rattle.std.proofs.lemmas.Simd.{map-map}
 use Rattle.ot_plain.specs.Naming.{names}
+use Rattle.ot_plain.specs.Hol.{Accepted as AcceptedLists}
 use Rattle.ot_laws.specs.Theorem.{IsTheorem}
 use Rattle.ot_args.specs.declared.sections.Sections.{Sections}
 use Rattle.ot_kernel.specs.State.{State, theorem_at, IsSoundState}
 use Rattle.ot_machine.specs.declared.machine.Export.{Export}
 use Rattle.ot_machine.specs.declared.session.Session.{Session}
-use Rattle.ot_machine.specs.Meaning.{givens_of, made_of, IsRun, IsExportIn}
+use Rattle.ot_machine.specs.Meaning.{givens_of, made_of, run_of, IsRun, IsExportIn}
+use Rattle.ot_machine.specs.Writable.{IsWritable}
+use Rattle.ot_uses.specs.Suffices.{UsesSuffice}
 use Rattle.ot_plain.specs.Names.{Name}
 use Rattle.ot_plain.specs.Trees.{Sequent, Definition}
 use Rattle.ot_print.specs.Texts.{summary_text}
 use Rattle.ot_text.specs.Pages.{Appended}
 use Rattle.opentheory.specs.Texts.{large_line}
 use Rattle.opentheory.specs.Reply.{assumptions_of, definitions_of, exports_of, run_lists, summary, summary_limit}
-use Rattle.opentheory.specs.Answer.{IsProved}
-use Rattle.opentheory.specs.Verdicts.{ran_from, IsSaid, SummaryEndsAs}
+use Rattle.opentheory.specs.Answer.{IsProved, AreSupported}
+use Rattle.opentheory.specs.Verdicts.{ran_from, IsSaid, SummaryEndsAs, IsLawfulEnds}
 use Rattle.opentheory.specs.declared.report.Verdict.{Verdict}
 use Rattle.opentheory.specs.declared.status.Status.TheVariants.{Accepted, Refused}
 use Rattle.opentheory.proofs.LimitLemmas.{text_printed, text_too_large}
@@ -58,6 +61,12 @@ is_proved s es r sound within = record {
   accepted = rw (assumptions_are s es r, definitions_are s es r) sound.accepted;
   theorems = rw (assumptions_are s es r, definitions_are s es r, exports_are s es) (All-map (IsTheorem names s.kernel.assumptions s.kernel.definitions) (λ e. theorem_at s.kernel e.th) es (λ i d here. sound.theorems _ _ (within i d here).th));
 }
+
+-- what each exported theorem rests on suffices for it
+pub are_supported : (s : Session) (es : List Export) → UsesSuffice IsWritable → IsRun s → IsSoundState s.kernel → IsLawfulEnds s es → AreSupported (ran_from s es)
+are_supported s es law r sound lawful =
+    let accepted : AcceptedLists names (assumptions_of (ran_from s es)) (definitions_of (ran_from s es)) = rw (assumptions_are s es r, definitions_are s es r) sound.accepted in
+    λ i d here. law (run_of s) lawful.run accepted _ (lawful.exports i d here)
 
 -- the numbers of the exports are of the kernel
 pub exported_within : (s : Session) (es : List Export) (ths : List ℕ) → ths ≡ map (λ e. e.th) es → All (IsExportIn s) es → All (λ i. i < length s.kernel.theorems) ths

@@ -2,7 +2,6 @@
 use Rattle.std.proofs.Common.{◌≡◌, ◌≤◌, ℕ, List, [], refl, subst, arith}
 use Rattle.std.specs.Global.{Global}
 use Rattle.std.specs.Prelude.{true, Vec, Option, Some, None, Result, Ok, Err, IfOk, IfSome, OnOk}
-use Rattle.std.specs.List.{All}
 use Rattle.std.proofs.lemmas.List.Elements.{All-nil}
 use Rattle.ot_io.specs.Causes.{Rose}
 use Rattle.ot_io.specs.Folder.{Folder}
@@ -23,7 +22,7 @@ use Rattle.opentheory.specs.declared.status.Status.TheVariants.{Accepted}
 pub sample_ended : {E : Type 0} (n : ℕ) (r : Ran) (a : Result Verdict E) → IfOk a (EndsAs (RunSample n) r) → OnOk a (article_fits r ≡ true → IsRewritten r)
     → IsProved (run_lists r) → OneSequent → OneSequentInFront → IfOk a (IsVerdictOf (RunSample n) (Some (Finished r)))
 sample_ended n r (Err e) ends rewritten proved one front = tt
-sample_ended n r (Ok v) ends rewritten proved one front = record { ends = ends; proved = proved; rewritten = rewritten; one_text = one; one_in_front = front }
+sample_ended n r (Ok v) ends rewritten proved one front = record { ends = ends; proved = proved; promised = rewritten; one_text = one; one_in_front = front }
 
 -- its written article, as a text that is within the limit
 pub written_text : (r : Ran) (o : Option (Vec ℕ Global)) (text : Vec ℕ Global) → o ≡ Some text
@@ -61,4 +60,4 @@ not_failed (Err e) Q h = tt
 pub sample_made : (n : ℕ) (folder : Option Folder) (input at : Option (List ℕ)) (v : Verdict) → IsSaid v Accepted (sample n) → OneSequent → OneSequentInFront → AcceptedLists names [] []
     → Says v.status (MakeSample n) folder input at v.text.items
 sample_made n folder input at v said one front none =
-    rw said.status_is (record { made = tt; ended = refl; proved = record { accepted = none; theorems = All-nil (IsTheorem names [] []) }; rewritten = tt; one_text = one; one_in_front = front; fits_is = refl; text_is = said.text_is })
+    rw said.status_is (record { made = tt; ended = refl; proved = record { accepted = none; theorems = All-nil (IsTheorem names [] []) }; promised = tt; one_text = one; one_in_front = front; fits_is = refl; text_is = said.text_is })

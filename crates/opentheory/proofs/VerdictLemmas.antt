@@ -48,7 +48,7 @@ final_says : (t : TaskValue) (folder : Option Folder) (input at : Option (List �
     → Says v.status t folder input at v.text.items
 final_says t folder input at x v true fit said final told =
     let P : Status → Type 0 = λ s. Says s t folder input at v.text.items in
-    subst P (sym said.status_is) (record { made = x; ended = told; proved = final.proved; rewritten = final.rewritten fit; one_text = final.one_text; one_in_front = final.one_in_front; fits_is = fit; text_is = said.text_is })
+    subst P (sym said.status_is) (record { made = x; ended = told; proved = final.proved; promised = final.promised fit; one_text = final.one_text; one_in_front = final.one_in_front; fits_is = fit; text_is = said.text_is })
 final_says t folder input at x v false fit said final told =
     let P : Status → Type 0 = λ s. Says s t folder input at v.text.items in
     subst P (sym said.status_is) (inr (record { made = x; ended = told; large = fit; line_is = said.text_is }))

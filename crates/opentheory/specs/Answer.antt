@@ -14,8 +14,10 @@ use Rattle.ot_link.specs.Stops.{Stop, InArticle, InTheory, InStructure, TooLarge
 use Rattle.ot_link.specs.Blocks.{Ran}
 use Rattle.ot_text.specs.Laws.{OneSequent, OneSequentInFront}
 use Rattle.ot_minimise.specs.Minimised.{IsMinimised}
+use Rattle.ot_uses.specs.Used.{support_of}
+use Rattle.ot_uses.specs.Suffices.{IsSupported}
 use Rattle.opentheory.specs.declared.task.View.{View}
-use Rattle.opentheory.specs.declared.task.View.TheVariants.{Counts, Summary, Article}
+use Rattle.opentheory.specs.declared.task.View.TheVariants.{Counts, Summary, Uses, Article}
 use Rattle.opentheory.specs.Texts.{usage_line, read_fault_line, write_fault_line, memory_line}
 use Rattle.opentheory.specs.Reply.{Reply, TaskValue, RunInput, RunSample, MakeSample, input_of, sample_path, is_standard, Product, Halt, Told, result_of, opened, text_of, fits, Lists, lists_of, halt_status, halt_line, over_line, written_limit, article_text}
 use Rattle.opentheory.specs.declared.status.Status.{Status}
@@ -63,23 +65,29 @@ pub record IsProved (l : Lists) : Type 0 where
 abbrev pub IsRewritten : Ran → Type 0
 IsRewritten r = IsMinimised written_limit r.run r.exports (article_text r)
 
-abbrev pub IsRewrittenIn : View → Ran → Type 0
-IsRewrittenIn Counts r = Unit {0}
-IsRewrittenIn (Summary sections) r = Unit {0}
-IsRewrittenIn Article r = IsRewritten r
+-- each theorem is derivable from what it rests on alone
+abbrev pub AreSupported : Ran → Type 0
+AreSupported r = All (λ e. IsSupported (support_of r.run e)) r.exports
 
-abbrev pub IsRewrittenBy : (t : TaskValue) → Product t → Type 0
-IsRewrittenBy (RunInput packages path view) r = IsRewrittenIn view r
-IsRewrittenBy (RunSample n) r = IsRewritten r
-IsRewrittenBy (MakeSample n) x = Unit {0}
+-- what a view, and what a task, promises of the run besides
+abbrev pub IsPromisedIn : View → Ran → Type 0
+IsPromisedIn Counts r = Unit {0}
+IsPromisedIn (Summary sections) r = Unit {0}
+IsPromisedIn Uses r = AreSupported r
+IsPromisedIn Article r = IsRewritten r
 
--- it is what the task prints of its end, whose theorems are proved; an article that is written does what it is written for;
--- and a text is that of one sequent, whatever stands behind it
+abbrev pub IsPromisedBy : (t : TaskValue) → Product t → Type 0
+IsPromisedBy (RunInput packages path view) r = IsPromisedIn view r
+IsPromisedBy (RunSample n) r = IsRewritten r
+IsPromisedBy (MakeSample n) x = Unit {0}
+
+-- it is what the task prints of its end, whose theorems are proved; a theorem's own assumptions and definitions suffice for it
+-- where they are printed, and an article that is written does what it is written for; and a text is that of one sequent, whatever stands behind it
 pub record IsReport (t : TaskValue) (told : Told t) (text : List ℕ) : Type 0 where
   pub made : Product t
   pub ended : IfSome told (λ answer. answer ≡ Ok made)
   pub proved : IsProved (lists_of t made)
-  pub rewritten : IsRewrittenBy t made
+  pub promised : IsPromisedBy t made
   pub one_text : OneSequent
   pub one_in_front : OneSequentInFront
   pub fits_is : fits t made ≡ true

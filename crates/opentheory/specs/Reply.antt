@@ -9,7 +9,7 @@ use Rattle.ot_plain.specs.Trees.{Sequent, Definition}
 use Rattle.ot_plain.specs.Answers.{◌>>=◌, some_or}
 use Rattle.ot_plain.specs.declared.limits.Limits.{Limits}
 use Rattle.ot_io.specs.Folder.{Folder, bytes_at}
-use Rattle.ot_args.specs.Grammar.{CommandValue, Check, Info, Link, Minimise, Sample, SampleArticle, command_of, is_theory}
+use Rattle.ot_args.specs.Grammar.{CommandValue, Check, Info, Uses as InfoUses, Link, Minimise, Sample, SampleArticle, command_of, is_theory}
 use Rattle.ot_args.specs.declared.sections.Sections.{Sections}
 use Rattle.ot_scan.specs.Lines.{lines_of}
 use Rattle.ot_machine.specs.States.{State, no_context, fresh_article, fresh_run}
@@ -20,11 +20,12 @@ use Rattle.ot_link.specs.Link.{link}
 use Rattle.ot_minimise.specs.Minimised.{minimised}
 use Rattle.ot_sample.specs.Sample.{sample}
 use Rattle.ot_print.specs.Texts.{summary_text}
+use Rattle.ot_uses.specs.Texts.{uses_text}
 use Rattle.opentheory.specs.Texts.{stop_line, large_line, large_article_line, usage_line}
 use Rattle.opentheory.specs.declared.status.Status.{Status}
 use Rattle.opentheory.specs.declared.status.Status.TheVariants.{Accepted, Refused, Usage, NoFile}
 use Rattle.opentheory.specs.declared.task.View.{View}
-use Rattle.opentheory.specs.declared.task.View.TheVariants.{Counts, Summary, Article}
+use Rattle.opentheory.specs.declared.task.View.TheVariants.{Counts, Summary, Uses, Article}
 
 -- a text on standard output, one on standard error, and how the program ends
 pub record Reply : Type 0 where
@@ -62,6 +63,7 @@ pub data TaskValue : Type 0 where
 abbrev pub task : CommandValue → TaskValue
 task (Check packages path) = RunInput packages path Counts
 task (Info packages path sections) = RunInput packages path (Summary sections)
+task (InfoUses packages path) = RunInput packages path Uses
 task (Link packages path) = RunInput packages path Article
 task (Minimise packages path) = RunInput packages path Article
 task (Sample n) = RunSample n
@@ -179,6 +181,10 @@ count_line r = line_of_counts (length r.exports) (length r.run.assumptions) (len
 abbrev pub summary : Sections → Ran → List ℕ
 summary sections r = summary_text sections (assumptions_of r) (definitions_of r) (exports_of r)
 
+-- what each of its theorems rests on
+abbrev pub uses : Ran → List ℕ
+uses r = uses_text r.run r.exports
+
 -- the written article of its exports
 abbrev pub article_text : Ran → List ℕ
 article_text r = minimised r.run r.exports
@@ -190,18 +196,21 @@ article_fits r = nat_le (length (article_text r)) written_limit
 abbrev pub run_text : View → Ran → List ℕ
 run_text Counts r = count_line r
 run_text (Summary sections) r = summary sections r
+run_text Uses r = uses r
 run_text Article r = article_text r
 
--- whether it is within the limit, which summaries and written articles have
+-- whether it is within the limit, which all but the counts have
 abbrev pub run_fits : View → Ran → Bool
 run_fits Counts r = true
 run_fits (Summary sections) r = nat_le (length (summary sections r)) summary_limit
+run_fits Uses r = nat_le (length (uses r)) summary_limit
 run_fits Article r = article_fits r
 
 -- the line that says that it is past the limit
 abbrev pub view_large : View → List ℕ → List ℕ
 view_large Counts path = large_line path
 view_large (Summary sections) path = large_line path
+view_large Uses path = large_line path
 view_large Article path = large_article_line path
 
 -- how many lines a text has, each with its newline

@@ -120,7 +120,7 @@ read_fault_line path = line_of path (codes "read fault")
 
 -- the line for words that are no command
 abbrev pub usage_line : List ℕ
-usage_line = codes "usage: opentheory check|info|link|minimise [--packages DIR] INPUT; info also takes --assumptions --definitions --theorems; opentheory sample [--article] N\n"
+usage_line = codes "usage: opentheory check|info|link|minimise [--packages DIR] INPUT; info also takes --assumptions --definitions --theorems; opentheory sample [--article] N; opentheory info --uses INPUT\n"
 
 abbrev pub write_fault_line : List ℕ
 write_fault_line = codes "opentheory: write fault\n"

@@ -18,8 +18,8 @@ use Rattle.ot_link.specs.declared.fault.LinkFault.{LinkFault}
 use Rattle.ot_link.specs.declared.fault.LinkFault.TheVariants as faults
 use Rattle.ot_text.specs.Laws.{OneSequent, OneSequentInFront}
 use Rattle.opentheory.specs.Texts.{stop_line, large_line, large_article_line, read_fault_line, write_fault_line}
-use Rattle.opentheory.specs.Reply.{Reply, accepted, fails, TaskValue, RunInput, RunSample, MakeSample, input_of, Product, Halt, result_of, opened, text_of, fits, article_text, article_fits, lists_of, summary, summary_limit, over_line, stop_status, halt_status, halt_line}
-use Rattle.opentheory.specs.Answer.{IsProved, IsRewrittenBy, IsOwnStop, IsOwnHalt, IsReadPath}
+use Rattle.opentheory.specs.Reply.{Reply, accepted, fails, TaskValue, RunInput, RunSample, MakeSample, input_of, Product, Halt, result_of, opened, text_of, fits, article_text, article_fits, lists_of, summary, uses, summary_limit, over_line, stop_status, halt_status, halt_line}
+use Rattle.opentheory.specs.Answer.{IsProved, IsPromisedBy, IsOwnStop, IsOwnHalt, IsReadPath}
 use Rattle.opentheory.specs.declared.status.Status.{Status}
 use Rattle.opentheory.specs.declared.status.Status.TheVariants.{Accepted, Refused, Usage, NoFile, ReadFault, WriteFault, Memory}
 use Rattle.opentheory.specs.declared.report.Counts.{Counts}
@@ -133,6 +133,10 @@ EndsAs t x v = MatchBool (fits t x) (IsSaid v Accepted (text_of t x)) (IsSaid v 
 abbrev pub SummaryEndsAs : List ℕ → Sections → Ran → Verdict → Type 0
 SummaryEndsAs path sections r v = MatchBool (nat_le (length (summary sections r)) summary_limit) (IsSaid v Accepted (summary sections r)) (IsSaid v Refused (large_line path))
 
+-- what each of its theorems rests on
+abbrev pub UsesEndsAs : List ℕ → Ran → Verdict → Type 0
+UsesEndsAs path r v = MatchBool (nat_le (length (uses r)) summary_limit) (IsSaid v Accepted (uses r)) (IsSaid v Refused (large_line path))
+
 -- the written article of its exports
 abbrev pub ArticleEndsAs : List ℕ → Ran → Verdict → Type 0
 ArticleEndsAs path r v = MatchBool (article_fits r) (IsSaid v Accepted (article_text r)) (IsSaid v Refused (large_article_line path))
@@ -148,7 +152,7 @@ IsLawfulEnd s exports = IsLawfulEnds s exports.items
 pub record IsFinal (t : TaskValue) (x : Product t) (v : Verdict) : Type 0 where
   pub ends : EndsAs t x v
   pub proved : IsProved (lists_of t x)
-  pub rewritten : fits t x ≡ true → IsRewrittenBy t x
+  pub promised : fits t x ≡ true → IsPromisedBy t x
   pub one_text : OneSequent
   pub one_in_front : OneSequentInFront
 

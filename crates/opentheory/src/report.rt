@@ -8,8 +8,8 @@ ghost use Rattle.ot_plain.specs.Hol.{Accepted as AcceptedLists};
 ghost use Rattle.ot_sample.specs.Sample.{sample};
 ghost use Rattle.opentheory.specs.Reply.{RunSample, line_of_counts, sample_front, sample_back, line_count, article_text, article_fits, run_fits, run_lists};
 ghost use Rattle.opentheory.specs.Texts.{large_line, large_article_line, missing_line, read_fault_line};
-ghost use Rattle.opentheory.specs.Answer.{IsProved, IsRewritten, IsRewrittenIn};
-ghost use Rattle.opentheory.specs.Verdicts.{job_task, ran_from, AreCounts, end_at, end_of, IsVerdictOf, IsStopVerdict, IsSaid, EndsAs, SummaryEndsAs, ArticleEndsAs, IsLawfulEnd, IsLawfulEnds};
+ghost use Rattle.opentheory.specs.Answer.{IsProved, IsRewritten, IsPromisedIn, AreSupported};
+ghost use Rattle.opentheory.specs.Verdicts.{job_task, ran_from, AreCounts, end_at, end_of, IsVerdictOf, IsStopVerdict, IsSaid, EndsAs, SummaryEndsAs, UsesEndsAs, ArticleEndsAs, IsLawfulEnd, IsLawfulEnds};
 
 use crate::sample::SAMPLE;
 use crate::status::Status;
@@ -23,6 +23,7 @@ use ot_machine::{Export, Session};
 use ot_minimise::minimise;
 use ot_plain::{Limits, Memory};
 use ot_print::{PrintFault, one_text, summary_text};
+use ot_uses::{uses_law, uses_text};
 use ot_write::WriteRefusal;
 use std::alloc::{AllocError, Global};
 
@@ -132,7 +133,7 @@ fn failed(alloc: Global, path: &str) -> Result<Verdict, Memory>
     })
 }
 
-/// That the summary of the input of a path is too large.
+/// That the summary of the input of a path, or what its theorems rest on, is too large.
 fn too_large(alloc: Global, path: &str) -> Result<Verdict, Memory>
     ensures { IfOk result (λ v. IsSaid v Status.Refused (large_line path.now)) }
 {
@@ -151,11 +152,12 @@ fn ended(
     requires exports { All (IsExportIn session.now) exports.now }
     requires lawful { IsLawfulEnds session.now exports.now }
     ensures ends { IfOk result (EndsAs (job_task job.entry) (ran_from session.now exports.now)) }
-    ensures rewritten { OnOk result (let r = ran_from session.now exports.now in run_fits job.entry.view r ≡ true → IsRewrittenIn job.entry.view r) }
+    ensures promised { OnOk result (let r = ran_from session.now exports.now in run_fits job.entry.view r ≡ true → IsPromisedIn job.entry.view r) }
 {
     match job.view {
         View::Counts => Ok(accepted(count_line(alloc, counts_of(session, exports))?)),
         View::Summary(sections) => summary(alloc, job.path, sections, session, exports),
+        View::Uses => uses(alloc, job.path, session, exports),
         View::Article => written(alloc, job.path, session, exports),
     }
 }
@@ -221,6 +223,25 @@ fn summary(
     ) {
         Ok(()) => Ok(accepted(text)),
         Err(PrintFault::TooLarge) => too_large(alloc, path),
+        Err(PrintFault::Memory) => Err(Memory),
+    }
+}
+
+/// What each theorem of a run rests on, or the line for a text that is too large.
+fn uses(alloc: Global, path: &str, session: &Session, exports: &[Export]) -> Result<Verdict, Memory>
+    requires session { IsRun session.now }
+    requires exports { All (IsExportIn session.now) exports.now }
+    requires lawful { IsLawfulEnds session.now exports.now }
+    ensures ends { IfOk result (UsesEndsAs path.now (ran_from session.now exports.now)) }
+    ensures supported { OnOk result (AreSupported (ran_from session.now exports.now)) }
+{
+    session.kernel().sound();
+    uses_law();
+    let limit = Limits::standard().summary_bytes;
+    let mut text = Vec::new(alloc);
+    match uses_text(alloc, session, exports, limit, &mut text) {
+        Ok(()) => Ok(accepted(text)),
+        Err(PrintFault::TooLarge) => Ok(too_large(alloc, path)?),
         Err(PrintFault::Memory) => Err(Memory),
     }
 }

@@ -13,6 +13,8 @@ pub enum View {
     Counts,
     /// These sections of the summary.
     Summary(Sections),
+    /// What each of its theorems rests on.
+    Uses,
     /// The written article of its exports.
     Article,
 }
@@ -60,6 +62,11 @@ impl<'a> Task<'a> {
                 packages,
                 path: input,
                 view: View::Summary(sections),
+            }),
+            Command::Uses { packages, input } => Task::RunInput(Job {
+                packages,
+                path: input,
+                view: View::Uses,
             }),
             Command::Link { packages, file } => Task::RunInput(Job {
                 packages,

@@ -1,7 +1,6 @@
 -- The number of a sample is found by its decimal text.
-use Rattle.std.proofs.Common.{◌≡◌, ◌≢◌, ℕ, zero, suc, ◌+◌, ◌<◌, ◌≤◌, ◌^◌, Bool, true, false, cond, List, length, get_or, leb-true, leb-false, ltb-true, ltb-false, refl, ap, sym, ◌∙◌, subst, arith}
+use Rattle.std.proofs.Common.{◌≡◌, ◌≢◌, ℕ, zero, suc, ◌<◌, ◌≤◌, ◌^◌, Bool, true, false, cond, List, length, get_or, leb-true, leb-false, ltb-true, ltb-false, refl, ap, sym, ◌∙◌, arith}
 use Rattle.std.specs.Prelude.{Option, None, Some, Result, Ok, Err, decimal, nat_le, nat_lt}
-use Rattle.std.specs.Str.{bytes_eq}
 use Rattle.std.specs.Bool.{then_some}
 use Rattle.std.specs.Result.{OkIff}
 use Rattle.std.specs.Str.Parse.{AllDigits, ParsesUnsigned, digits_value}

@@ -4,7 +4,7 @@ use Rattle.std.specs.Prelude.{Option, None, Some, is_some}
 use Rattle.std.specs.Option.{option_or, option_and_then}
 use Rattle.std.specs.List.{list_all, list_any}
 use Rattle.std.proofs.Math.Bool.{and_comm, or-false}
-use Rattle.ot_args.specs.Grammar.{OptionValue, Packages, Assumptions, Definitions, Theorems, Article, SettingsValue, is_option, is_same, are_once, are_options, folder_of, settings_of}
+use Rattle.ot_args.specs.Grammar.{OptionValue, Packages, Assumptions, Definitions, Theorems, UsesFlag, Article, SettingsValue, is_option, is_same, are_once, are_options, folder_of, settings_of}
 use Rattle.ot_args.specs.Reading.{no_settings, is_set, with, set_all}
 
 -- settings with options behind them
@@ -16,6 +16,7 @@ joined s os = record {
     definitions = s.sections.definitions || list_any (is_same Definitions) os;
     theorems = s.sections.theorems || list_any (is_same Theorems) os;
   };
+  uses = s.uses || list_any (is_same UsesFlag) os;
   article = s.article || list_any (is_same Article) os;
 }
 
@@ -25,6 +26,7 @@ is_set-with s (Packages _) (Packages _) = refl
 is_set-with s Assumptions Assumptions = refl
 is_set-with s Definitions Definitions = refl
 is_set-with s Theorems Theorems = refl
+is_set-with s UsesFlag UsesFlag = refl
 is_set-with s Article Article = refl
 is_set-with s _ _ = refl
 
@@ -50,10 +52,11 @@ first_folder (Some other) folder rest h = cc
 joined-with : (s : SettingsValue) (o : OptionValue) (os : List OptionValue) → is_set s o ≡ false → joined (with s o) os ≡ joined s (o ∷ os)
 joined-with s (Packages folder) os h =
     let t : SettingsValue = joined s os in
-    ap (λ (w : Option (List ℕ)). record { folder = w; sections = t.sections; article = t.article }) (first_folder s.folder folder (folder_of os) h)
+    ap (λ (w : Option (List ℕ)). record { folder = w; sections = t.sections; uses = t.uses; article = t.article }) (first_folder s.folder folder (folder_of os) h)
 joined-with s Assumptions os h = rw h refl
 joined-with s Definitions os h = rw h refl
 joined-with s Theorems os h = rw h refl
+joined-with s UsesFlag os h = rw h refl
 joined-with s Article os h = rw h refl
 
 -- nothing in place of nothing
@@ -63,7 +66,7 @@ option_or-none (Some folder) = refl
 
 -- no options leave the settings
 joined-nothing : (s : SettingsValue) → joined s [] ≡ s
-joined-nothing s = rw (option_or-none s.folder, or-false s.sections.assumptions, or-false s.sections.definitions, or-false s.sections.theorems, or-false s.article) refl
+joined-nothing s = rw (option_or-none s.folder, or-false s.sections.assumptions, or-false s.sections.definitions, or-false s.sections.theorems, or-false s.uses, or-false s.article) refl
 
 -- ---- all options
 
@@ -110,6 +113,7 @@ none_set (Packages _ ∷ os) = none_set os
 none_set (Assumptions ∷ os) = none_set os
 none_set (Definitions ∷ os) = none_set os
 none_set (Theorems ∷ os) = none_set os
+none_set (UsesFlag ∷ os) = none_set os
 none_set (Article ∷ os) = none_set os
 
 -- what options ask for, which are read one by one from the first

@@ -1,5 +1,5 @@
 -- One word more is read as the grammar has it.
-use Rattle.std.proofs.Common.{◌≡◌, ℕ, ◌≤◌, ◌-◌, Bool, true, false, cond, List, [], ◌∷◌, length, get_or, take, drop, length-drop, codes, refl, ap, sym, ◌∙◌, arith}
+use Rattle.std.proofs.Common.{◌≡◌, ℕ, ◌≤◌, ◌-◌, Bool, true, false, cond, List, [], ◌∷◌, length, get_or, take, drop, length-drop, refl, ap, sym, ◌∙◌, arith}
 use Rattle.std.specs.Prelude.{String, Option, None, Some}
 use Rattle.std.specs.Global.{Global}
 use Rattle.std.specs.String.{string_bytes}

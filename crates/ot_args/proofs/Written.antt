@@ -1,12 +1,12 @@
 -- Commands are read exactly as they are written.
-use Rattle.std.proofs.Common.{◌≡◌, ◌≤◌, ℕ, Bool, true, false, ◌&&◌, cond, List, [], ◌∷◌, ◌++◌, codes, refl, ap, sym, ◌∙◌, subst, arith}
+use Rattle.std.proofs.Common.{◌≡◌, ◌≤◌, ℕ, Bool, true, false, not, ◌&&◌, cond, List, [], ◌∷◌, ◌++◌, codes, refl, ap, sym, ◌∙◌, subst, arith}
 use Rattle.std.specs.Prelude.{Option, None, Some, Result, Ok, Err, IfOk, decimal}
 use Rattle.std.specs.Option.{option_map, option_and_then}
 use Rattle.std.specs.Str.{bytes_eq}
 use Rattle.std.proofs.lemmas.Slice.Eq.{bytes_eq-Decides}
 use Rattle.ot_args.specs.declared.command.Command.{Command}
 use Rattle.ot_args.specs.declared.command.Usage.{Usage}
-use Rattle.ot_args.specs.Grammar.{OptionValue, Packages, Assumptions, Definitions, Theorems, Article, Arguments, SettingsValue, CommandValue, Check, Info, Link, Minimise, Sample, SampleArticle, packages_name, option_name, option_words, flag_named, with_option, are_options, settings_of, packages_of, shown, is_input, is_theory, count_of, arguments, argument_words, sample, command, command_with, command_of, word_of, operand_of, FitsOperand, FitsSettings, Writes, IsRead, command_value, answer}
+use Rattle.ot_args.specs.Grammar.{OptionValue, Packages, Assumptions, Definitions, Theorems, UsesFlag, Article, Arguments, SettingsValue, CommandValue, Check, Info, Uses, Link, Minimise, Sample, SampleArticle, packages_name, option_name, option_words, flag_named, with_option, are_options, settings_of, packages_of, names_any, shown, is_input, is_theory, count_of, arguments, argument_words, sample, command, command_with, command_of, word_of, operand_of, FitsOperand, FitsSettings, Writes, IsRead, command_value, answer}
 use Rattle.ot_args.proofs.Counts.{found, finds}
 
 -- ---- what is written is read
@@ -22,6 +22,7 @@ arguments_read (Packages folder ∷ os) operand = rw (arguments_read os operand)
 arguments_read (Assumptions ∷ os) operand = flag_read Assumptions (argument_words os operand) _ refl refl (arguments_read os operand)
 arguments_read (Definitions ∷ os) operand = flag_read Definitions (argument_words os operand) _ refl refl (arguments_read os operand)
 arguments_read (Theorems ∷ os) operand = flag_read Theorems (argument_words os operand) _ refl refl (arguments_read os operand)
+arguments_read (UsesFlag ∷ os) operand = flag_read UsesFlag (argument_words os operand) _ refl refl (arguments_read os operand)
 arguments_read (Article ∷ os) operand = flag_read Article (argument_words os operand) _ refl refl (arguments_read os operand)
 
 -- a command whose operand passes its test
@@ -33,6 +34,15 @@ both : (a b : Bool) → a ≡ true → b ≡ true → (a && b) ≡ true
 both true b h h' = h'
 both false b h h' = h
 
+neither : (a b : Bool) → b ≡ false → (a && b) ≡ false
+neither true b h = h
+neither false b h = refl
+
+-- a command whose test fails
+skipped : (b : Bool) (r s : Option CommandValue) → b ≡ false → cond b r s ≡ s
+skipped true r s h = cc
+skipped false r s h = refl
+
 -- a sample of its number
 sample_read : (article : Bool) (n : ℕ) (c : CommandValue) → 1 ≤ n → n ≤ 1000 → sample article n ≡ c → option_map (sample article) (count_of (decimal n)) ≡ Some c
 sample_read article n c one most e =
@@ -42,7 +52,10 @@ sample_read article n c one most e =
 fits_read : (c : CommandValue) (s : SettingsValue) → FitsSettings s c → FitsOperand c → command_with (word_of c) s (operand_of c) ≡ Some c
 fits_read (Check packages input) s e h = passed (is_input input) _ _ _ h (ap (λ (p : List ℕ). Check p input) e)
 fits_read (Info packages input sections) s e h =
-    passed (is_input input) _ _ _ h (ap (λ (p : List ℕ). Info p input (shown s.sections)) e.0 ∙ ap (Info packages input) e.1)
+    passed (is_input input && not s.uses) _ _ _ (both (is_input input) (not s.uses) h (ap not e.2)) (ap (λ (p : List ℕ). Info p input (shown s.sections)) e.0 ∙ ap (Info packages input) e.1)
+fits_read (Uses packages input) s e h =
+    skipped (is_input input && not s.uses) _ _ (neither (is_input input) (not s.uses) (ap not e.1))
+    ∙ passed (is_input input && (s.uses && not (names_any s.sections))) _ _ _ (both (is_input input) (s.uses && not (names_any s.sections)) h (both s.uses (not (names_any s.sections)) e.1 (ap not e.2))) (ap (λ (p : List ℕ). Uses p input) e.0)
 fits_read (Link packages file) s e h =
     passed (is_input file && is_theory file) _ _ _ (both (is_input file) (is_theory file) h.0 h.1) (ap (λ (p : List ℕ). Link p file) e)
 fits_read (Minimise packages input) s e h = passed (is_input input) _ _ _ h (ap (λ (p : List ℕ). Minimise p input) e)
@@ -59,20 +72,23 @@ reads words c w =
 -- ---- what is read was written
 
 -- an option without a value is written by its name, whichever of the tests finds it
-spelled : (name : List ℕ) (o : OptionValue) (a d t l : Bool) → (a ≡ true → name ≡ option_name Assumptions) → (d ≡ true → name ≡ option_name Definitions) → (t ≡ true → name ≡ option_name Theorems) → (l ≡ true → name ≡ option_name Article) → cond a (Some Assumptions) (cond d (Some Definitions) (cond t (Some Theorems) (cond l (Some Article) None))) ≡ Some o → option_words o ≡ name ∷ []
-spelled name o true d t l is_a is_d is_t is_l h =
+spelled : (name : List ℕ) (o : OptionValue) (a d t u l : Bool) → (a ≡ true → name ≡ option_name Assumptions) → (d ≡ true → name ≡ option_name Definitions) → (t ≡ true → name ≡ option_name Theorems) → (u ≡ true → name ≡ option_name UsesFlag) → (l ≡ true → name ≡ option_name Article)
+    → cond a (Some Assumptions) (cond d (Some Definitions) (cond t (Some Theorems) (cond u (Some UsesFlag) (cond l (Some Article) None)))) ≡ Some o → option_words o ≡ name ∷ []
+spelled name o true d t u l is_a is_d is_t is_u is_l h =
     let same : Assumptions ≡ o = cc in ap option_words (sym same) ∙ ap (λ (n : List ℕ). n ∷ []) (sym (is_a refl))
-spelled name o false true t l is_a is_d is_t is_l h =
+spelled name o false true t u l is_a is_d is_t is_u is_l h =
     let same : Definitions ≡ o = cc in ap option_words (sym same) ∙ ap (λ (n : List ℕ). n ∷ []) (sym (is_d refl))
-spelled name o false false true l is_a is_d is_t is_l h =
+spelled name o false false true u l is_a is_d is_t is_u is_l h =
     let same : Theorems ≡ o = cc in ap option_words (sym same) ∙ ap (λ (n : List ℕ). n ∷ []) (sym (is_t refl))
-spelled name o false false false true is_a is_d is_t is_l h =
+spelled name o false false false true l is_a is_d is_t is_u is_l h =
+    let same : UsesFlag ≡ o = cc in ap option_words (sym same) ∙ ap (λ (n : List ℕ). n ∷ []) (sym (is_u refl))
+spelled name o false false false false true is_a is_d is_t is_u is_l h =
     let same : Article ≡ o = cc in ap option_words (sym same) ∙ ap (λ (n : List ℕ). n ∷ []) (sym (is_l refl))
-spelled name o false false false false is_a is_d is_t is_l h = cc
+spelled name o false false false false false is_a is_d is_t is_u is_l h = cc
 
 flag_spelled : (name : List ℕ) (o : OptionValue) → flag_named name ≡ Some o → option_words o ≡ name ∷ []
 flag_spelled name o h =
-    spelled name o _ _ _ _ (bytes_eq-Decides name (option_name Assumptions)).0 (bytes_eq-Decides name (option_name Definitions)).0 (bytes_eq-Decides name (option_name Theorems)).0 (bytes_eq-Decides name (option_name Article)).0 h
+    spelled name o _ _ _ _ _ (bytes_eq-Decides name (option_name Assumptions)).0 (bytes_eq-Decides name (option_name Definitions)).0 (bytes_eq-Decides name (option_name Theorems)).0 (bytes_eq-Decides name (option_name UsesFlag)).0 (bytes_eq-Decides name (option_name Article)).0 h
 
 -- the words are these arguments, written out
 abbrev IsWritten : List (List ℕ) → Arguments → Type 0
@@ -130,6 +146,10 @@ second : (a b : Bool) → (a && b) ≡ true → b ≡ true
 second true b h = h
 second false b h = cc
 
+off : (b : Bool) → not b ≡ true → b ≡ false
+off true h = cc
+off false h = refl
+
 -- a sample of the number that was found
 sample_fits : (word : List ℕ) (s : SettingsValue) (operand : List ℕ) (c : CommandValue) (article : Bool) (r : Option ℕ) → word ≡ codes "sample" → s.article ≡ article → count_of operand ≡ r → option_map (sample article) r ≡ Some c → Fits word s operand c
 sample_fits word s operand c article None is asks e h = cc
@@ -161,11 +181,20 @@ named word name b h = (bytes_eq-Decides word name).0 (first (bytes_eq word name)
 command_fits : (word : List ℕ) (s : SettingsValue) (operand : List ℕ) (c : CommandValue) → command_with word s operand ≡ Some c → Fits word s operand c
 command_fits word s operand c =
     chosen word s operand _ c (Check (packages_of s) operand) _ (λ h. record { same_word = named word (codes "check") _ h; same_operand = refl; settings = refl; fits = second _ _ h })
-    (chosen word s operand _ c (Info (packages_of s) operand (shown s.sections)) _ (λ h. record { same_word = named word (codes "info") _ h; same_operand = refl; settings = (refl, refl); fits = second _ _ h })
+    (chosen word s operand _ c (Info (packages_of s) operand (shown s.sections)) _ (λ h. record { same_word = named word (codes "info") _ h; same_operand = refl; settings = (refl, refl, off s.uses (second _ _ (second _ _ h))); fits = first _ _ (second _ _ h) })
+    (chosen word s operand _ c (Uses (packages_of s) operand) _
+    (λ h.
+    let alone = second (is_input operand) (s.uses && not (names_any s.sections)) (second (bytes_eq word (codes "info")) _ h) in
+    record {
+      same_word = named word (codes "info") _ h;
+      same_operand = refl;
+      settings = (refl, first s.uses (not (names_any s.sections)) alone, off (names_any s.sections) (second s.uses (not (names_any s.sections)) alone));
+      fits = first (is_input operand) _ (second (bytes_eq word (codes "info")) _ h);
+    })
     (chosen word s operand _ c (Link (packages_of s) operand) _ (λ h. record { same_word = named word (codes "link") _ h; same_operand = refl; settings = refl; fits = (first _ _ (second _ _ h), second _ _ (second _ _ h)) })
     (chosen word s operand _ c (Minimise (packages_of s) operand) _ (λ h. record { same_word = named word (codes "minimise") _ h; same_operand = refl; settings = refl; fits = second _ _ h })
     (sample_or word s operand _ c _ (bytes_eq-Decides word (codes "sample")).0
-    (no_command word s operand c)))))
+    (no_command word s operand c))))))
 
 -- ---- commands
 

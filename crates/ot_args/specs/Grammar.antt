@@ -2,13 +2,14 @@
 --
 --   check [--packages DIR] INPUT
 --   info [--assumptions] [--definitions] [--theorems] [--packages DIR] INPUT
+--   info --uses [--packages DIR] INPUT
 --   link [--packages DIR] FILE
 --   minimise [--packages DIR] INPUT
 --   sample [--article] N
 --
--- DIR isn't empty; without it the folder is `packages`. Where `info` names no section, it asks for all three. INPUT and LOG
--- are `-`, or a name that doesn't begin with `-` and isn't empty; an INPUT that ends in `.thy` is a theory file's name, and FILE
--- is such an INPUT. N is a number from 1 to 1,000 in decimal, without sign or leading zero.
+-- DIR isn't empty; without it the folder is `packages`. Where `info` names no section, it asks for all three; `--uses` stands
+-- beside no section. INPUT and LOG are `-`, or a name that doesn't begin with `-` and isn't empty; an INPUT that ends in `.thy` is
+-- a theory file's name, and FILE is such an INPUT. N is a number from 1 to 1,000 in decimal, without sign or leading zero.
 use Rattle.std.specs.Prelude.{◌≡◌, ◌≤◌, ◌↔◌, ℕ, zero, suc, Bool, true, false, not, ◌&&◌, ◌||◌, List, [], ◌∷◌, ◌++◌, map, codes, decimal, nat_eq, String, Option, None, Some, unwrap_or, Result, Ok, Err, if◌then◌else◌}
 use Rattle.std.specs.Global.{Global}
 use Rattle.std.specs.Option.{option_map, option_and_then}
@@ -20,12 +21,14 @@ use Rattle.ot_args.specs.declared.command.Command.TheVariants as code
 use Rattle.ot_args.specs.declared.command.Usage.{Usage}
 use Rattle.ot_args.specs.declared.sections.Sections.{Sections}
 
--- an option, with its value where it has one: the folder of the packages, a section of the summary, or the sample's article
+-- an option, with its value where it has one: the folder of the packages, a section of the summary, what theorems rest on, or
+-- the sample's article
 pub data OptionValue : Type 0 where
   Packages : List ℕ → OptionValue
   Assumptions : OptionValue
   Definitions : OptionValue
   Theorems : OptionValue
+  UsesFlag : OptionValue
   Article : OptionValue
 
 -- what stands behind a command's word
@@ -33,17 +36,20 @@ pub record Arguments : Type 0 where
   pub options : List OptionValue
   pub operand : List ℕ
 
--- what options ask for: a folder where they name one, sections of the summary, and whether it is the sample's article
+-- what options ask for: a folder where they name one, sections of the summary, whether it is what theorems rest on, and whether
+-- it is the sample's article
 pub record SettingsValue : Type 0 where
   pub folder : Option (List ℕ)
   pub sections : Sections
+  pub uses : Bool
   pub article : Bool
 
--- a command: Check, Info, Link and Minimise have the folder of the packages and the input, Info has the sections too; a sample
--- has its number
+-- a command: Check, Info, Uses, Link and Minimise have the folder of the packages and the input, Info has the sections too; a
+-- sample has its number
 pub data CommandValue : Type 0 where
   Check : List ℕ → List ℕ → CommandValue
   Info : List ℕ → List ℕ → Sections → CommandValue
+  Uses : List ℕ → List ℕ → CommandValue
   Link : List ℕ → List ℕ → CommandValue
   Minimise : List ℕ → List ℕ → CommandValue
   Sample : ℕ → CommandValue
@@ -61,6 +67,7 @@ option_name (Packages _) = packages_name
 option_name Assumptions = codes "--assumptions"
 option_name Definitions = codes "--definitions"
 option_name Theorems = codes "--theorems"
+option_name UsesFlag = codes "--uses"
 option_name Article = codes "--article"
 
 -- a command takes an option
@@ -102,6 +109,7 @@ abbrev pub settings_of : List OptionValue → SettingsValue
 settings_of os = record {
   folder = folder_of os;
   sections = record { assumptions = list_any (is_same Assumptions) os; definitions = list_any (is_same Definitions) os; theorems = list_any (is_same Theorems) os };
+  uses = list_any (is_same UsesFlag) os;
   article = list_any (is_same Article) os;
 }
 
@@ -148,6 +156,7 @@ flag_named name =
     if bytes_eq name (option_name Assumptions) then Some Assumptions
     else if bytes_eq name (option_name Definitions) then Some Definitions
     else if bytes_eq name (option_name Theorems) then Some Theorems
+    else if bytes_eq name (option_name UsesFlag) then Some UsesFlag
     else if bytes_eq name (option_name Article) then Some Article else None
 
 -- ARGUMENTS = OPERAND | --packages DIR ARGUMENTS | FLAG ARGUMENTS
@@ -167,7 +176,8 @@ sample article n = if article then SampleArticle n else Sample n
 abbrev pub command_with : List ℕ → SettingsValue → List ℕ → Option CommandValue
 command_with word s operand =
     if bytes_eq word (codes "check") && is_input operand then Some (Check (packages_of s) operand)
-    else if bytes_eq word (codes "info") && is_input operand then Some (Info (packages_of s) operand (shown s.sections))
+    else if bytes_eq word (codes "info") && (is_input operand && not s.uses) then Some (Info (packages_of s) operand (shown s.sections))
+    else if bytes_eq word (codes "info") && (is_input operand && (s.uses && not (names_any s.sections))) then Some (Uses (packages_of s) operand)
     else if bytes_eq word (codes "link") && (is_input operand && is_theory operand) then Some (Link (packages_of s) operand)
     else if bytes_eq word (codes "minimise") && is_input operand then Some (Minimise (packages_of s) operand)
     else if bytes_eq word (codes "sample") then option_map (sample s.article) (count_of operand) else None
@@ -197,6 +207,7 @@ argument_words (o ∷ os) operand = option_words o ++ argument_words os operand
 abbrev pub word_of : CommandValue → List ℕ
 word_of (Check _ _) = codes "check"
 word_of (Info _ _ _) = codes "info"
+word_of (Uses _ _) = codes "info"
 word_of (Link _ _) = codes "link"
 word_of (Minimise _ _) = codes "minimise"
 word_of (Sample _) = codes "sample"
@@ -206,6 +217,7 @@ word_of (SampleArticle _) = codes "sample"
 abbrev pub operand_of : CommandValue → List ℕ
 operand_of (Check _ input) = input
 operand_of (Info _ input _) = input
+operand_of (Uses _ input) = input
 operand_of (Link _ file) = file
 operand_of (Minimise _ input) = input
 operand_of (Sample n) = decimal n
@@ -215,6 +227,7 @@ operand_of (SampleArticle n) = decimal n
 abbrev pub FitsOperand : CommandValue → Type 0
 FitsOperand (Check _ input) = is_input input ≡ true
 FitsOperand (Info _ input _) = is_input input ≡ true
+FitsOperand (Uses _ input) = is_input input ≡ true
 FitsOperand (Link _ file) = (is_input file ≡ true) × (is_theory file ≡ true)
 FitsOperand (Minimise _ input) = is_input input ≡ true
 FitsOperand (Sample n) = (1 ≤ n) × (n ≤ 1000)
@@ -223,7 +236,8 @@ FitsOperand (SampleArticle n) = (1 ≤ n) × (n ≤ 1000)
 -- the command has what its options ask for
 abbrev pub FitsSettings : SettingsValue → CommandValue → Type 0
 FitsSettings s (Check packages _) = packages_of s ≡ packages
-FitsSettings s (Info packages _ sections) = (packages_of s ≡ packages) × (shown s.sections ≡ sections)
+FitsSettings s (Info packages _ sections) = (packages_of s ≡ packages) × (shown s.sections ≡ sections) × (s.uses ≡ false)
+FitsSettings s (Uses packages _) = (packages_of s ≡ packages) × (s.uses ≡ true) × (names_any s.sections ≡ false)
 FitsSettings s (Link packages _) = packages_of s ≡ packages
 FitsSettings s (Minimise packages _) = packages_of s ≡ packages
 FitsSettings s (Sample _) = s.article ≡ false
@@ -251,6 +265,7 @@ texts_of words = map string_bytes words
 abbrev pub command_value : Command → CommandValue
 command_value (code.Check packages input) = Check packages.now input.now
 command_value (code.Info packages input sections) = Info packages.now input.now sections
+command_value (code.Uses packages input) = Uses packages.now input.now
 command_value (code.Link packages file) = Link packages.now file.now
 command_value (code.Minimise packages input) = Minimise packages.now input.now
 command_value (code.Sample count) = Sample count

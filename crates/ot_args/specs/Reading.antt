@@ -1,7 +1,7 @@
 -- What the code reads behind a command's word. Only contracts of private functions speak of it.
 use Rattle.std.specs.Prelude.{ℕ, Bool, true, false, not, ◌&&◌, is_some, List, [], ◌∷◌, Option, None, Some, Result, Ok, Err, if◌then◌else◌}
 use Rattle.std.specs.Option.{option_map, option_and_then, option_copied}
-use Rattle.ot_args.specs.Grammar.{OptionValue, Packages, Assumptions, Definitions, Theorems, Article, Arguments, SettingsValue, is_option, arguments}
+use Rattle.ot_args.specs.Grammar.{OptionValue, Packages, Assumptions, Definitions, Theorems, UsesFlag, Article, Arguments, SettingsValue, is_option, arguments}
 use Rattle.ot_args.specs.declared.arguments.Given.{Given}
 use Rattle.ot_args.specs.declared.command.Usage.{Usage}
 use Rattle.ot_args.specs.declared.settings.CommandOption.{CommandOption}
@@ -10,7 +10,7 @@ use Rattle.ot_args.specs.declared.settings.Settings.{Settings}
 
 -- before any option
 abbrev pub no_settings : SettingsValue
-no_settings = record { folder = None; sections = record { assumptions = false; definitions = false; theorems = false }; article = false }
+no_settings = record { folder = None; sections = record { assumptions = false; definitions = false; theorems = false }; uses = false; article = false }
 
 -- ---- options behind others
 
@@ -20,6 +20,7 @@ is_set s (Packages _) = is_some s.folder
 is_set s Assumptions = s.sections.assumptions
 is_set s Definitions = s.sections.definitions
 is_set s Theorems = s.sections.theorems
+is_set s UsesFlag = s.uses
 is_set s Article = s.article
 
 -- settings with an option
@@ -28,6 +29,7 @@ with s (Packages folder) = record s { folder = Some folder }
 with s Assumptions = record s { sections = record s.sections { assumptions = true } }
 with s Definitions = record s { sections = record s.sections { definitions = true } }
 with s Theorems = record s { sections = record s.sections { theorems = true } }
+with s UsesFlag = record s { uses = true }
 with s Article = record s { article = true }
 
 -- one option more, where it may stand behind those before
@@ -66,11 +68,12 @@ option_value (code.Packages folder) = Packages folder.now
 option_value code.Assumptions = Assumptions
 option_value code.Definitions = Definitions
 option_value code.Theorems = Theorems
+option_value code.Uses = UsesFlag
 option_value code.Article = Article
 
 -- settings without where their folder lies in memory
 abbrev pub settings_value : Settings → SettingsValue
-settings_value s = record { folder = option_copied s.packages; sections = s.sections; article = s.article }
+settings_value s = record { folder = option_copied s.packages; sections = s.sections; uses = s.uses; article = s.article }
 
 -- what was given without where it lies in memory
 abbrev pub given_value : Given → GivenValue

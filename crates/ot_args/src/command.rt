@@ -5,7 +5,7 @@ ghost use Rattle.ot_args.specs.Reading.{settings_value};
 
 use crate::arguments::Given;
 use crate::count::count_of;
-use crate::sections::{Sections, shown};
+use crate::sections::{Sections, names_any, shown};
 use crate::settings::Settings;
 
 /// What the words of the command line ask for. An input is `-` for an article on standard input, a
@@ -22,6 +22,11 @@ pub enum Command<'a> {
         packages: &'a str,
         input: &'a str,
         sections: Sections,
+    },
+    /// Runs the input and shows what each of its theorems rests on.
+    Uses {
+        packages: &'a str,
+        input: &'a str,
     },
     /// Links a theory file's packages to one article.
     Link {
@@ -53,13 +58,14 @@ impl<'a> Command<'a> {
     /// ```text
     /// check [--packages DIR] INPUT
     /// info [--assumptions] [--definitions] [--theorems] [--packages DIR] INPUT
+    /// info --uses [--packages DIR] INPUT
     /// link [--packages DIR] FILE
     /// minimise [--packages DIR] INPUT
     /// sample [--article] N
     /// ```
     ///
     /// Options stand in any order, each at most once. DIR isn't empty, and is `packages` where the words name no folder. `info`
-    /// asks for all three sections where they name none. INPUT and LOG are `-`, or a name that isn't empty and doesn't begin with
+    /// asks for all three sections where they name none, and `--uses` stands beside none of them. INPUT and LOG are `-`, or a name that isn't empty and doesn't begin with
     /// `-`; FILE is an INPUT that ends in `.thy`. N is a number from 1 to 1,000 in decimal, without sign or leading zero.
     /// `Usage` comes exactly for words outside this grammar, which is the program's own. No memory is taken.
     pub fn read(words: &'a [String]) -> Result<Command<'a>, Usage>
@@ -94,13 +100,15 @@ fn command_with<'a>(
     let input = operand;
     if word == "check" && is_input(input) {
         Ok(Command::Check { packages, input })
-    } else if word == "info" && is_input(input) {
+    } else if word == "info" && is_input(input) && !settings.uses {
         let sections = shown(settings.sections);
         Ok(Command::Info {
             packages,
             input,
             sections,
         })
+    } else if word == "info" && is_input(input) && settings.uses && !names_any(settings.sections) {
+        Ok(Command::Uses { packages, input })
     } else if word == "link" && is_input(input) && is_theory(input) {
         Ok(Command::Link {
             packages,

@@ -27,7 +27,7 @@ const ALL: Sections = Sections {
 };
 
 /// Whether a section is among them.
-fn names_any(sections: Sections) -> bool
+pub fn names_any(sections: Sections) -> bool
     ensures { result ≡ names_any sections }
 {
     sections.assumptions || sections.definitions || sections.theorems

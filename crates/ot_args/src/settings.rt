@@ -17,6 +17,8 @@ pub enum CommandOption<'a> {
     Definitions,
     /// `--theorems`: a section of the summary.
     Theorems,
+    /// `--uses`: what each theorem rests on, in place of the summary.
+    Uses,
     /// `--article`: the article of the sample.
     Article,
 }
@@ -28,6 +30,8 @@ pub struct Settings<'a> {
     pub packages: Option<&'a str>,
     /// The sections that are named.
     pub sections: Sections,
+    /// Whether what each theorem rests on is asked for.
+    pub uses: bool,
     /// Whether the article of the sample is asked for.
     pub article: bool,
 }
@@ -36,6 +40,7 @@ pub struct Settings<'a> {
 pub const UNSET: Settings<'static> = Settings {
     packages: None,
     sections: NONE,
+    uses: false,
     article: false,
 };
 
@@ -61,6 +66,7 @@ impl<'a> Settings<'a> {
             CommandOption::Assumptions => self.sections.assumptions,
             CommandOption::Definitions => self.sections.definitions,
             CommandOption::Theorems => self.sections.theorems,
+            CommandOption::Uses => self.uses,
             CommandOption::Article => self.article,
         }
     }
@@ -75,6 +81,7 @@ impl<'a> Settings<'a> {
             CommandOption::Assumptions => settings.sections.assumptions = true,
             CommandOption::Definitions => settings.sections.definitions = true,
             CommandOption::Theorems => settings.sections.theorems = true,
+            CommandOption::Uses => settings.uses = true,
             CommandOption::Article => settings.article = true,
         }
         settings
@@ -90,9 +97,10 @@ fn takes(word: &str, option: CommandOption<'_>) -> bool
             word == "check" || word == "info" || word == "link" || word == "minimise"
         }
         CommandOption::Article => word == "sample",
-        CommandOption::Assumptions | CommandOption::Definitions | CommandOption::Theorems => {
-            word == "info"
-        }
+        CommandOption::Assumptions
+        | CommandOption::Definitions
+        | CommandOption::Theorems
+        | CommandOption::Uses => word == "info",
     }
 }
 
@@ -116,6 +124,8 @@ pub fn flag_named(name: &str) -> Option<CommandOption<'static>>
         Some(CommandOption::Definitions)
     } else if name == "--theorems" {
         Some(CommandOption::Theorems)
+    } else if name == "--uses" {
+        Some(CommandOption::Uses)
     } else if name == "--article" {
         Some(CommandOption::Article)
     } else {

@@ -172,6 +172,20 @@ const COMMANDS: &[(&[&str], Command<'static>)] = &[
         },
     ),
     (
+        &["info", "--uses", "a.thy"],
+        Command::Uses {
+            packages: "packages",
+            input: "a.thy",
+        },
+    ),
+    (
+        &["info", "--packages", "p", "--uses", "-"],
+        Command::Uses {
+            packages: "p",
+            input: "-",
+        },
+    ),
+    (
         &["link", "t.thy"],
         Command::Link {
             packages: "packages",
@@ -258,6 +272,11 @@ const REFUSED: &[&[&str]] = &[
     &["info", "--theorems", "-x"],
     &["info", "--theorems", "--theorems", "a"],
     &["info", "--article", "a"],
+    &["info", "--uses"],
+    &["info", "--uses", "--uses", "a"],
+    &["info", "--uses", "--theorems", "a"],
+    &["info", "--assumptions", "--packages", "p", "--uses", "a"],
+    &["check", "--uses", "a"],
     &["info", "--packages"],
     &["info", "--packages", "", "a"],
     &[

@@ -232,7 +232,17 @@ const ORDERS: &[&[u8]] = &[
 ];
 
 /// Articles in parts, the words behind `info`, and what it prints.
-pub const SUMMARIES: [(&[&[u8]], &[&str], &[u8]); 18] = [
+pub const SUMMARIES: [(&[&[u8]], &[&str], &[u8]); 20] = [
+    (
+        ASSUMED,
+        &["--uses", "-"],
+        b"theorem 1: |- \"p\":\"bool\"\n  assumptions: 1\n    |- \"p\":\"bool\"\n  definitions: 0\n",
+    ),
+    (
+        &[super::written::NEEDLESS],
+        &["--uses", "a.art"],
+        b"theorem 1: \"p\":\"bool\" |- \"p\":\"bool\"\n  assumptions: 0\n  definitions: 0\n",
+    ),
     (
         &[
             b"6 version \"p\" \"bool\" typeOp nil opType var varTerm 0 def assume 0 ref nil cons 0 ref thm",

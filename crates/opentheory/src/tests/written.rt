@@ -4,7 +4,7 @@
 pub type Written = (&'static [&'static [u8]], &'static [u8]);
 
 /// An assumption and a definition that nothing exported needs.
-const NEEDLESS: &[u8] =
+pub const NEEDLESS: &[u8] =
     b"6 version \"bool\" typeOp nil opType 0 def pop \"p\" \"bool\" typeOp nil opType var varTerm 1 def pop nil 1 ref axiom pop \"c\" \"k\" const 0 ref constTerm defineConst pop pop 1 ref assume 1 ref nil cons 1 ref thm";
 
 /// What is left of it: 22 lines of 97 bytes.

@@ -1,6 +1,6 @@
 use Rattle.std.proofs.Common.{ap}
 use Rattle.std.specs.Prelude.{string_bytes}
-use Rattle.opentheory.proofs.InputLemmas.{limits_are, alone_answer, alone_own, alone_cause, lawful_end}
+use Rattle.opentheory.proofs.InputLemmas.{alone_answer, alone_own, alone_cause, lawful_end}
 use Rattle.opentheory.proofs.input.run_article.Goals as goal
 
 pub returns-clause-end : goal.returns-clause-end

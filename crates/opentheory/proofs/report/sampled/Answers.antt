@@ -1,5 +1,4 @@
-use Rattle.std.proofs.Common.{◌≡◌, ◌∙◌, ◌++◌, List, ℕ, Some, sym, ap}
-use Rattle.std.specs.Prelude.{IfSome}
+use Rattle.std.proofs.Common.{◌∙◌, ◌++◌, ap}
 use Rattle.opentheory.specs.Reply.{sample_front, sample_back, line_count}
 use Rattle.opentheory.specs.Verdicts.{ran_from}
 use Rattle.opentheory.proofs.SampleLemmas.{sample_within, written_text}

@@ -1,4 +1,4 @@
-use Rattle.std.proofs.Common.{◌≡◌, ◌∙◌, refl, ap, map, Err}
+use Rattle.std.proofs.Common.{◌≡◌, ◌∙◌, ap, map, Err}
 use Rattle.opentheory.specs.Reply.{summary_limit}
 use Rattle.opentheory.proofs.RunLemmas.{exported_within, summary_printed, summary_too_large}
 use Rattle.opentheory.proofs.report.summary.Goals as goal
