@@ -177,7 +177,7 @@ module _ (ts : List Item) (one : IsInjective ts) where
           let r = rest (sym (ap (λ b. cond b (Some e.1) (lookup (nat_eq n) es)) t) ∙ p) in
           (r.0, ap (λ b. cond b (type_at ts e.1) (image_of names (type_map ts es) (name_at ts n))) (same-names n e.0 g head.0 ∙ t) ∙ r.1)
 
-  same-types : (i j : ℕ) → HasType ts i → HasType ts j → same_ty names (type_at ts i) (type_at ts j) ≡ nat_eq i j
+  pub same-types : (i j : ℕ) → HasType ts i → HasType ts j → same_ty names (type_at ts i) (type_at ts j) ≡ nat_eq i j
   same-types i j g h = by (nat_eq i j) refl
     where
       by : (b : Bool) → nat_eq i j ≡ b → same_ty names (type_at ts i) (type_at ts j) ≡ b

@@ -42,7 +42,7 @@ impl Model for TypeId {
 }
 
 /// The number of a nameless term in its table.
-#[derive(Clone, Copy, Debug, PartialEq, Eq, Hash)]
+#[derive(Clone, Copy, Debug, PartialEq, Eq, PartialOrd, Ord, Hash)]
 pub struct TermId(pub(crate) usize);
 
 impl Model for TermId {

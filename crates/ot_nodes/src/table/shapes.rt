@@ -66,8 +66,8 @@ impl Nodes {
         }
     }
 
-    // The primitive names have their numbers.
-    pub(super) fn primitives(&self)
+    /// A law: the primitive names have their numbers, and nothing stands at two numbers.
+    pub fn primitives(&self)
         ensures first { Extends first_items self.now }
         ensures once { IsInjective self.now }
     {
