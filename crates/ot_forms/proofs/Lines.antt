@@ -8,7 +8,7 @@ use Rattle.ot_plain.specs.Trees.{Symbol}
 use Rattle.ot_forms.specs.Words.{is_letter}
 use Rattle.ot_forms.specs.Forms.{Written, Place, IsWritten, most_open, term_text, further_hyps, hyps_text, WrittenSequent, line_text}
 use Rattle.ot_forms.specs.Reading.{NoForm, Reading, Got, Halted, next, mapped, literal_at, further_hyps_at, first_hyp_at, turnstile_at, hyps_at, line_at}
-use Rattle.ot_forms.proofs.Readers.{Follows, Reads, Joined, Image, Begins, Is, Any, Either, picked, join, told, mapped-reads, mapped-follows, pick, literal-reads, behind, same_at, at_end, halts_here, unchanged, second-read, first-halted, same-reads}
+use Rattle.ot_forms.proofs.Readers.{IsRead, Follows, Reads, Joined, Image, Begins, Is, Any, Either, picked, join, told, mapped-reads, mapped-follows, pick, literal-reads, behind, same_at, at_end, halts_here, unchanged, second-read, first-halted, same-reads}
 use Rattle.ot_forms.proofs.Types.{IsEnd, differs}
 use Rattle.ot_forms.proofs.Terms.{SaysTerm, starts_of}
 
@@ -33,7 +33,7 @@ module _ (hidden : List (Symbol Name)) (m : ℕ) (term : List ℕ → Reading Wr
   abbrev Comma : List Written → List ℕ → Type 0
   Comma = Joined (Is (codes " ")) (λ _. Hyps)
 
-  abbrev comma_at : List ℕ → Reading (List Written)
+  abbrev pub comma_at : List ℕ → Reading (List Written)
   comma_at z = next (literal_at (codes " ") z) (λ _ r. first_hyp_at term r)
 
   skip : (x r : List ℕ) → further_hyps_at term (length x) (x ++ r) ≡ more_at r
@@ -45,7 +45,7 @@ module _ (hidden : List (Symbol Name)) (m : ℕ) (term : List ℕ → Reading Wr
       let k : length s - length r ≡ length x = let q : length s ≡ length x + length r = ap length e ∙ length-append x r in omega arith in
       (λ i. further_hyps_at term (k i) (e i)) ∙ skip x r
 
-  comma-step : (b : ℕ) (z : List ℕ) → (b == 44) ≡ true → more_at (b ∷ z) ≡ comma_at z
+  pub comma-step : (b : ℕ) (z : List ℕ) → (b == 44) ≡ true → more_at (b ∷ z) ≡ comma_at z
   comma-step b z e = ap (λ t. cond t (next (literal_at (codes " ") z) (λ _ r. next (term r) (λ a q. mapped (put a) (further_hyps_at term (length z - length q) z)))) (mapped (λ _. []) (literal_at (codes " |- ") (b ∷ z)))) e
       ∙ space (literal_at (codes " ") z) ((literal-reads (codes " ")).follows z)
     where
@@ -174,6 +174,12 @@ module _ (hidden : List (Symbol Name)) (m : ℕ) (term : List ℕ → Reading Wr
     | inl p ↦ let b = p.0 in subst (λ z. (y ≡ hyps_text hidden z) × AreFine z) (sym b.is) (b.says, tt)
     | inr p ↦ let k = p.0 in let q = k.then in subst (λ z. (y ≡ hyps_text hidden z) × AreFine z) (sym q.is) (k.is ∙ (λ i. k.says.text i ++ q.says.text i), ((k.says.fine, k.says.within), q.says.fine))
   ]
+
+  -- the bytes of the hypotheses and the turnstile
+  pub hyps-length : (s : List ℕ) (hs : List Written) (r : List ℕ) → hyps_at term s ≡ Got hs r → length s ≡ length (hyps_text hidden hs) + length r
+  hyps-length s hs r e =
+      let h : IsRead Front (hyps_at term) s hs r = subst (Follows Front (hyps_at term) s) e (front-reads.follows s) in
+      ap length h.is ∙ length-append h.text r ∙ ap (λ z. length z + length r) (front-says hs h.text h.says).0
 
   says-front : (hs : List Written) → AreFine hs → Front hs (hyps_text hidden hs)
   says-front [] h = inl (some-bar, bar-byte [] _ some-bar)

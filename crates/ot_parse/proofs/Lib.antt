@@ -1,0 +1,23 @@
+-- Lemmas on names, words and trees.
+pub mod Components
+pub mod Texts
+pub mod Gluing
+pub mod Lookups
+pub mod Halts
+pub mod Rivals
+pub mod Hiding
+pub mod FrameLaws
+pub mod TypeFronts
+pub mod Meanings
+pub mod Lengths
+pub mod TermLaws
+pub mod ValueLaws
+pub mod Causes
+pub mod TermLoops
+pub mod HypsOnce
+pub mod TermBacks
+pub mod TermOpens
+pub mod Places
+pub mod Made
+pub mod WholeLines
+pub mod Refusing

@@ -1,0 +1,5 @@
+use Rattle.ot_parse.specs.TermCode.{IsOn}
+use Rattle.ot_parse.proofs.terms.read_part.Given as goal
+
+abbrev pub invariant-terms : goal.invariant-terms
+invariant-terms l = IsOn l.total l.notation l.text l.frames.items l.rest

@@ -1,0 +1,39 @@
+ghost use Rattle.std.specs.Prelude.{◌≡◌};
+ghost use Rattle.ot_parse.specs.declared.halt.Halt.TheVariants.{Memory as OutOfMemory};
+
+use ot_plain::Memory;
+use std::alloc::{AllocError, AllocFailed};
+
+/// Why reading stops, with the bytes from there on.
+#[derive(Clone, Copy, Debug)]
+pub(crate) enum Halt<'a> {
+    /// No text of the forms goes on with the next byte.
+    Syntax(&'a [u8]),
+    /// The next byte opens one parenthesis or brace too many.
+    TooManyOpen(&'a [u8]),
+    Memory,
+}
+
+impl From<AllocError> for Halt<'_> {
+    ghost from_gives = { λ _ e. e ≡ OutOfMemory };
+
+    fn from(_: AllocError) -> Self {
+        Halt::Memory
+    }
+}
+
+impl<T: Drop> From<AllocFailed<T>> for Halt<'_> {
+    ghost from_gives = { λ _ e. e ≡ OutOfMemory };
+
+    fn from(_: AllocFailed<T>) -> Self {
+        Halt::Memory
+    }
+}
+
+impl From<Memory> for Halt<'_> {
+    ghost from_gives = { λ _ e. e ≡ OutOfMemory };
+
+    fn from(_: Memory) -> Self {
+        Halt::Memory
+    }
+}

@@ -1,0 +1,29 @@
+//! Readable text: the notation of a run, and sequents and terms that are read back from text.
+#![tactic(auto)]
+
+mod gather;
+mod halt;
+mod names;
+mod notation;
+mod parts;
+mod plain;
+mod readable;
+mod reader;
+mod refusal;
+mod spelling;
+mod symbols;
+mod terms;
+#[cfg(test)]
+mod tests;
+mod trees;
+mod types;
+mod values;
+mod words;
+
+pub use notation::{Notation, WordKind};
+pub use ot_forms::TextFault;
+pub use ot_text::PrintFault as PlainFault;
+pub use plain::plain_text;
+pub use readable::Readable;
+pub use reader::{read_sequent, read_term};
+pub use refusal::ReadRefusal;

@@ -1,0 +1,252 @@
+//! The printed text of a sequent that was read.
+ghost use Rattle.std.specs.Prelude.{◌≡◌, ◌<◌, ◌++◌, codes, map, length, OnOk, OnErr, Err};
+ghost use Rattle.ot_plain.specs.Naming.{names};
+ghost use Rattle.ot_plain.specs.Names.{Name as NameValue};
+ghost use Rattle.ot_plain.specs.Trees.{TyOp, App, Tm as TermTree};
+ghost use Rattle.ot_text.specs.Texts.{name_text, ty_text, spaced_text, tm_text, argument_text, hyps_text, sequent_text, is_equation};
+ghost use Rattle.ot_text.specs.Gathered.{texts_of};
+ghost use Rattle.ot_text.specs.Pages.{IsPut, printed, Appended};
+ghost use Rattle.ot_plain.specs.PlainTrees.{type_of_tree, tys_of, term_of_tree};
+ghost use Rattle.ot_parse.specs.Plain.{sequent_of, equality_test, front_text};
+
+use crate::gather::gathered;
+use crate::readable::Readable;
+use crate::trees::{function_parts, is_arrow, is_bool, is_text, same_type};
+use ot_plain::{Name, Tm, Ty};
+use ot_text::{Page, PrintFault, put_hyps};
+use std::alloc::Global;
+use std::collections::BTreeSet;
+
+/// Appends the printed text of a sequent that was read. `TooLarge` exactly where it has more than `max` bytes. After a refusal
+/// `out` is as it was.
+pub fn plain_text(
+    alloc: Global,
+    sequent: &Readable,
+    max: usize,
+    out: &mut Vec<u8>,
+) -> Result<(), PrintFault>
+    ensures ok { OnOk result (Appended (sequent_text (sequent_of sequent.now)) max out.old.items out.new.items) }
+    ensures too_large { result ≡ Err PrintFault.TooLarge → max < length (sequent_text (sequent_of sequent.now)) }
+    ensures err { OnErr result (out.new.items ≡ out.old.items) }
+{
+    let texts = gathered(alloc, sequent.hyps.as_slice(), max)?;
+    write_sequent(alloc, &texts, &sequent.concl, max, out)
+}
+
+// Appends the text of a sequent, of whose hypotheses these are the texts.
+fn write_sequent(
+    alloc: Global,
+    texts: &BTreeSet<Vec<u8>>,
+    concl: &Tm,
+    max: usize,
+    out: &mut Vec<u8>,
+) -> Result<(), PrintFault>
+    ensures ok { OnOk result (Appended (hyps_text (texts_of texts.now) ++ tm_text (term_of_tree concl.now)) max out.old.items out.new.items) }
+    ensures too_large { result ≡ Err PrintFault.TooLarge → max < length (hyps_text (texts_of texts.now) ++ tm_text (term_of_tree concl.now)) }
+    ensures err { OnErr result (out.new.items ≡ out.old.items) }
+{
+    let mut page = Page::new(alloc, max);
+    put_sequent(&mut page, texts, concl);
+    page.finish(out)
+}
+
+// A sequent, of whose hypotheses these are the texts.
+fn put_sequent(page: &mut Page, texts: &BTreeSet<Vec<u8>>, concl: &Tm)
+    ensures { IsPut (hyps_text (texts_of texts.now) ++ tm_text (term_of_tree concl.now)) (printed page.old) (printed page.new) }
+{
+    put_hyps(page, texts);
+    put_term(page, concl);
+}
+
+/// Appends the text of a term. `TooLarge` exactly where it has more than `max` bytes.
+pub(crate) fn append(
+    alloc: Global,
+    term: &Tm,
+    max: usize,
+    out: &mut Vec<u8>,
+) -> Result<(), PrintFault>
+    ensures ok { OnOk result (Appended (tm_text (term_of_tree term.now)) max out.old.items out.new.items) }
+    ensures too_large { result ≡ Err PrintFault.TooLarge → max < length (tm_text (term_of_tree term.now)) }
+{
+    let mut page = Page::new(alloc, max);
+    put_term(&mut page, term);
+    page.finish(out)
+}
+
+// A term.
+#[cycle(terms)]
+#[tactic(auto, using(ot_plain::proofs::PlainTrees::term_Free, ot_plain::proofs::PlainTrees::term_Con, ot_plain::proofs::PlainTrees::term_Bound, ot_plain::proofs::PlainTrees::term_App, ot_plain::proofs::PlainTrees::term_Abs))]
+fn put_term(page: &mut Page, term: &Tm)
+    ensures { IsPut (tm_text (term_of_tree term.now)) (printed page.old) (printed page.new) }
+{
+    match term {
+        Tm::Free(name, ty) => put_typed(page, name, ty),
+        Tm::Con(name, ty) => {
+            page.put(b"@");
+            put_typed(page, name, ty);
+        }
+        Tm::Bound(place) => {
+            page.put(b"#");
+            page.put_number(*place as usize);
+        }
+        Tm::App(f, x) => {
+            page.put(b"(");
+            put_front(page, f);
+            put_term(page, x);
+            page.put(b")");
+        }
+        Tm::Abs(ty, body) => {
+            page.put(b"(\\");
+            put_type(page, ty);
+            page.put(b". ");
+            put_term(page, body);
+            page.put(b")");
+        }
+    }
+}
+
+// What stands before an argument: the function and a space, or the left side of an equation and `=`.
+#[cycle(terms)]
+fn put_front(page: &mut Page, f: &Tm)
+    ensures { (x : TermTree NameValue) → IsPut (front_text (term_of_tree f.now) x) (printed page.old) (printed page.new) }
+{
+    if !is_half_equation(f) {
+        put_term(page, f);
+        page.put(b" ");
+        return;
+    }
+    put_argument(page, f);
+    page.put(b" = ");
+}
+
+// What a function was applied to.
+#[cycle(terms)]
+#[tactic(auto, using(ot_plain::proofs::PlainTrees::term_Free, ot_plain::proofs::PlainTrees::term_Con, ot_plain::proofs::PlainTrees::term_Bound, ot_plain::proofs::PlainTrees::term_App, ot_plain::proofs::PlainTrees::term_Abs, ot_text::proofs::Putting::nothing))]
+fn put_argument(page: &mut Page, f: &Tm)
+    ensures { IsPut (argument_text (term_of_tree f.now)) (printed page.old) (printed page.new) }
+{
+    match f {
+        Tm::App(_, x) => put_term(page, x),
+        Tm::Free(_, _) => {}
+        Tm::Con(_, _) => {}
+        Tm::Bound(_) => {}
+        Tm::Abs(_, _) => {}
+    }
+}
+
+// Whether a function makes an equation of a further argument.
+#[tactic(auto, using(ot_plain::proofs::PlainTrees::term_Free, ot_plain::proofs::PlainTrees::term_Con, ot_plain::proofs::PlainTrees::term_Bound, ot_plain::proofs::PlainTrees::term_App, ot_plain::proofs::PlainTrees::term_Abs))]
+fn is_half_equation(f: &Tm) -> bool
+    ensures { (x : TermTree NameValue) → is_equation names (App (term_of_tree f.now) x) ≡ result }
+{
+    match f {
+        Tm::App(head, _) => is_equality(head),
+        Tm::Free(_, _) => false,
+        Tm::Con(_, _) => false,
+        Tm::Bound(_) => false,
+        Tm::Abs(_, _) => false,
+    }
+}
+
+// Whether a term is `=` at a type a -> (a -> bool).
+#[tactic(auto, using(ot_plain::proofs::PlainTrees::term_Free, ot_plain::proofs::PlainTrees::term_Con, ot_plain::proofs::PlainTrees::term_Bound, ot_plain::proofs::PlainTrees::term_App, ot_plain::proofs::PlainTrees::term_Abs))]
+fn is_equality(head: &Tm) -> bool
+    ensures { (a b : TermTree NameValue) → is_equation names (App (App (term_of_tree head.now) a) b) ≡ result }
+{
+    match head {
+        Tm::Con(name, ty) => is_text(name, b"=") && is_equality_type(ty),
+        Tm::Free(_, _) => false,
+        Tm::Bound(_) => false,
+        Tm::App(_, _) => false,
+        Tm::Abs(_, _) => false,
+    }
+}
+
+// Whether a type is a -> (a -> bool).
+fn is_equality_type(ty: &Ty) -> bool
+    ensures { result ≡ equality_test (type_of_tree ty.now) }
+{
+    let Some((left, rest)) = function_parts(ty) else {
+        return false;
+    };
+    let Some((right, value)) = function_parts(rest) else {
+        return false;
+    };
+    if !same_type(right, left) {
+        return false;
+    }
+    is_bool(value)
+}
+
+// A name and a type.
+fn put_typed(page: &mut Page, name: &Name, ty: &Ty)
+    ensures { IsPut (name_text name.now ++ codes ":" ++ ty_text (type_of_tree ty.now)) (printed page.old) (printed page.new) }
+{
+    put_name(page, name);
+    page.put(b":");
+    put_type(page, ty);
+}
+
+// The spelling of a name.
+fn put_name(page: &mut Page, name: &Name)
+    ensures { IsPut (name_text name.now) (printed page.old) (printed page.new) }
+{
+    let _components = name.components();
+    page.put_name(name);
+}
+
+// A type.
+#[cycle(types)]
+fn put_type(page: &mut Page, ty: &Ty)
+    ensures { IsPut (ty_text (type_of_tree ty.now)) (printed page.old) (printed page.new) }
+{
+    match ty {
+        Ty::Var(name) => {
+            page.put(b"'");
+            put_name(page, name);
+        }
+        Ty::Op(name, args) => put_operator(page, name, args),
+    }
+}
+
+// An operator with its arguments.
+#[cycle(types)]
+fn put_operator(page: &mut Page, name: &Name, args: &Vec<Ty>)
+    ensures { IsPut (ty_text (TyOp name.now (tys_of (map type_of_tree args.now.items)))) (printed page.old) (printed page.new) }
+{
+    if args.is_empty() {
+        put_name(page, name);
+        return;
+    }
+    if is_arrow(name, args) {
+        page.put(b"(");
+        put_type(page, &args[0]);
+        page.put(b" -> ");
+        put_type(page, &args[1]);
+        page.put(b")");
+        return;
+    }
+    put_arguments(page, name, args);
+}
+
+// An operator and its arguments in parentheses.
+#[cycle(types)]
+fn put_arguments(page: &mut Page, name: &Name, args: &Vec<Ty>)
+    ensures { IsPut (codes "(" ++ name_text name.now ++ spaced_text (tys_of (map type_of_tree args.now.items)) ++ codes ")") (printed page.old) (printed page.new) }
+{
+    page.put(b"(");
+    put_name(page, name);
+    put_types(page, args);
+    page.put(b")");
+}
+
+// Types, a space before each.
+#[cycle(types)]
+fn put_types(page: &mut Page, types: &Vec<Ty>)
+    ensures { IsPut (spaced_text (tys_of (map type_of_tree types.now.items))) (printed page.old) (printed page.new) }
+{
+    for ty in types {
+        page.put(b" ");
+        put_type(page, ty);
+    }
+}

@@ -1,0 +1,362 @@
+//! Types in a text, with what is open around them kept in a list.
+ghost use Rattle.std.specs.Prelude.{◌≡◌, ◌≤◌, length, ◌==◌, ◌||◌, ℕ, false, IfNone, IfSome, List, ◌++◌, ◌∷◌, [], IfOk, map};
+ghost use Rattle.ot_plain.specs.Names.{Name as NameValue};
+ghost use Rattle.ot_plain.specs.Trees.{Ty as TypeTree, TyVar, TyOp, NoTys};
+ghost use Rattle.ot_plain.specs.Naming.{names};
+ghost use Rattle.ot_plain.specs.Hol.{fun_ty};
+ghost use Rattle.ot_forms.specs.Reading.{Got, mapped, variable_at, operator_at, behind_word_at, further_at, type_at};
+ghost use Rattle.ot_parse.specs.Gives.{Gives};
+ghost use Rattle.ot_plain.specs.PlainTrees.{type_of_tree};
+ghost use Rattle.ot_parse.specs.Frames.{Domain, Range, Argument, frame_of, frames_of, closed, word_first, is_spaced, IsFrontOf, IsLeafOf, IsInside, IsInsideOf, IsBackOf, IsClosed, IsOn, IsNext};
+
+use crate::halt::Halt;
+use crate::notation::Notation;
+use crate::spelling::{literal, variable_word};
+use crate::symbols::operator_word;
+use crate::trees::is_arrow;
+use ot_plain::{Name, Ty};
+use std::alloc::{AllocError, Global};
+
+/// What is open around a type that is read next.
+#[derive(Drop)]
+pub(crate) enum Open {
+    /// The type is the domain of a function type.
+    Domain,
+    /// It is the range, behind this domain.
+    Range(Ty),
+    /// It is an argument of this operator, behind these.
+    Argument(Name, Vec<Ty>),
+}
+
+/// What the front of a text is.
+#[derive(Drop)]
+pub(crate) enum Front<'a> {
+    /// A type without parentheses, with the bytes behind it.
+    Leaf(Ty, &'a [u8]),
+    /// A parenthesis with what is open behind it.
+    Inside(Open, &'a [u8]),
+}
+
+/// What comes of a type that has ended.
+#[derive(Drop)]
+pub(crate) enum Back<'a> {
+    /// A whole type, with the bytes behind it.
+    Whole(Ty, &'a [u8]),
+    /// A further type is to be read.
+    Further(Open, &'a [u8]),
+}
+
+/// The type at the front of the text, with room for so many open parentheses, and the bytes behind it.
+pub(crate) fn read_type<'a>(
+    alloc: Global,
+    notation: &Notation,
+    room: usize,
+    text: &'a [u8],
+) -> Result<(Ty, &'a [u8]), Halt<'a>>
+    ensures { Gives (λ x. type_of_tree x.0) (λ x. x.1.now) result (type_at notation.now room text.now) }
+{
+    notation.sound();
+    let mut frames = Vec::new(alloc);
+    let mut rest = text;
+    'types: for _ in 0..u64::MAX {
+        match next_of(alloc, notation, room, &mut frames, rest) {
+            Err(halt) => return Err(halt),
+            Ok(Next::Ended(ty, behind)) => return Ok((ty, behind)),
+            Ok(Next::Begins(behind)) => rest = behind,
+        }
+    }
+    // Each turn passes a byte of the text, so that it ends before.
+    Err(Halt::Memory)
+}
+
+// Where reading goes on.
+#[derive(Drop)]
+pub(crate) enum Next<'a> {
+    /// A type begins here.
+    Begins(&'a [u8]),
+    /// The whole type has ended.
+    Ended(Ty, &'a [u8]),
+}
+
+// Reads on up to the next type that begins inside what is open.
+fn next_of<'a>(
+    alloc: Global,
+    notation: &Notation,
+    room: usize,
+    frames: &mut Vec<Open>,
+    text: &'a [u8],
+) -> Result<Next<'a>, Halt<'a>>
+    requires { length frames.old.items ≤ room }
+    ensures { (start : List ℕ) → IsOn notation.now room start frames.old.items text.now → IsNext notation.now room start frames.new.items result }
+{
+    match front_of(alloc, notation, room - frames.len(), text) {
+        Err(halt) => Err(halt),
+        Ok(Front::Inside(inside, after)) => {
+            frames.push(inside)?;
+            Ok(Next::Begins(after))
+        }
+        Ok(Front::Leaf(ty, after)) => match close(alloc, notation, frames, ty, after) {
+            Err(halt) => Err(halt),
+            Ok(Back::Whole(ty, behind)) => Ok(Next::Ended(ty, behind)),
+            Ok(Back::Further(inside, behind)) => {
+                frames.push(inside)?;
+                Ok(Next::Begins(behind))
+            }
+        },
+    }
+}
+
+// The front of a type, with room for so many open parentheses.
+fn front_of<'a>(
+    alloc: Global,
+    notation: &Notation,
+    room: usize,
+    text: &'a [u8],
+) -> Result<Front<'a>, Halt<'a>>
+    ensures { IsFrontOf notation.now room text.now result }
+{
+    match text.split_first() {
+        None => Err(Halt::Syntax(text)),
+        Some((byte, after)) => {
+            if *byte == 39 {
+                return variable_front(alloc, after);
+            }
+            if *byte != 40 {
+                return operator_front(alloc, notation, text);
+            }
+            if room == 0 {
+                return Err(Halt::TooManyOpen(text));
+            }
+            inside(alloc, notation, after)
+        }
+    }
+}
+
+// A type variable behind its quote.
+fn variable_front(alloc: Global, text: &[u8]) -> Result<Front<'_>, Halt<'_>>
+    ensures { IsLeafOf (mapped TyVar (variable_at text.now)) result }
+{
+    match variable_word(alloc, text) {
+        Ok((name, rest)) => Ok(Front::Leaf(Ty::Var(name), rest)),
+        Err(halt) => Err(halt),
+    }
+}
+
+// An operator without arguments.
+fn operator_front<'a>(
+    alloc: Global,
+    notation: &Notation,
+    text: &'a [u8],
+) -> Result<Front<'a>, Halt<'a>>
+    ensures { IsLeafOf (mapped (λ n. TyOp n NoTys) (operator_at notation.now text.now)) result }
+{
+    match operator_word(alloc, notation, text) {
+        Ok((name, rest)) => Ok(Front::Leaf(Ty::Op(name, Vec::new(alloc)), rest)),
+        Err(halt) => Err(halt),
+    }
+}
+
+// What a parenthesis opens.
+fn inside<'a>(alloc: Global, notation: &Notation, text: &'a [u8]) -> Result<Front<'a>, Halt<'a>>
+    ensures { (m : ℕ) → IsInside notation.now m text.now result }
+{
+    match text.split_first() {
+        None => Err(Halt::Syntax(text)),
+        Some((byte, _)) => {
+            if opens_domain(*byte) {
+                Ok(Front::Inside(Open::Domain, text))
+            } else {
+                inside_word(alloc, notation, text)
+            }
+        }
+    }
+}
+
+// Whether a type that begins with this byte is no operator without arguments.
+fn opens_domain(byte: u8) -> bool
+    ensures { result ≡ ((byte == 39) || (byte == 40)) }
+{
+    byte == 39 || byte == 40
+}
+
+// The same where it isn't a domain with a quote or parenthesis.
+fn inside_word<'a>(
+    alloc: Global,
+    notation: &Notation,
+    text: &'a [u8],
+) -> Result<Front<'a>, Halt<'a>>
+    ensures { (m : ℕ) → IsInsideOf (closed (word_first notation.now (type_at notation.now m) text.now)) notation.now m result }
+{
+    match operator_word(alloc, notation, text) {
+        Err(halt) => Err(halt),
+        Ok((name, end)) => match literal(end, b" ") {
+            Err(halt) => Err(halt),
+            Ok(rest) => behind_word(alloc, notation, name, rest),
+        },
+    }
+}
+
+// Behind an operator's word and a space.
+fn behind_word<'a>(
+    alloc: Global,
+    notation: &Notation,
+    name: Name,
+    text: &'a [u8],
+) -> Result<Front<'a>, Halt<'a>>
+    ensures { (m : ℕ) → IsInsideOf (closed (behind_word_at notation.now (type_at notation.now m) name text.now)) notation.now m result }
+{
+    let _ = notation;
+    match text.split_first() {
+        None => Err(Halt::Syntax(text)),
+        Some((byte, _)) => {
+            if *byte != 45 {
+                return Ok(Front::Inside(Open::Argument(name, Vec::new(alloc)), text));
+            }
+            match literal(text, b"-> ") {
+                Err(halt) => Err(halt),
+                Ok(rest) => {
+                    let domain = Ty::Op(name, Vec::new(alloc));
+                    Ok(Front::Inside(Open::Range(domain), rest))
+                }
+            }
+        }
+    }
+}
+
+// Closes what ends with the type, up to a further type that is to be read.
+fn close<'a>(
+    alloc: Global,
+    notation: &Notation,
+    frames: &mut Vec<Open>,
+    ty: Ty,
+    text: &'a [u8],
+) -> Result<Back<'a>, Halt<'a>>
+    ensures { IsClosed notation.now (frames_of frames.old.items) (frames_of frames.new.items) (Got (type_of_tree ty) text.now) result }
+{
+    let mut ty = ty;
+    let mut rest = text;
+    'frames: loop {
+        match frames.pop() {
+            None => return Ok(Back::Whole(ty, rest)),
+            Some(inside) => match back_of(alloc, notation, inside, ty, rest) {
+                Err(halt) => return Err(halt),
+                Ok(Back::Further(inside, behind)) => return Ok(Back::Further(inside, behind)),
+                Ok(Back::Whole(whole, behind)) => {
+                    ty = whole;
+                    rest = behind;
+                }
+            },
+        }
+    }
+}
+
+// The function type.
+pub(crate) fn function_type(alloc: Global, domain: Ty, range: Ty) -> Result<Ty, AllocError>
+    ensures { IfOk result (λ t. type_of_tree t ≡ fun_ty names (type_of_tree domain) (type_of_tree range)) }
+{
+    let mut args = Vec::new(alloc);
+    args.push(domain)?;
+    args.push(range)?;
+    Ok(Ty::Op(Name::of_text(alloc, b"->")?, args))
+}
+
+// What comes of a type that has ended inside this.
+fn back_of<'a>(
+    alloc: Global,
+    notation: &Notation,
+    inside: Open,
+    ty: Ty,
+    text: &'a [u8],
+) -> Result<Back<'a>, Halt<'a>>
+    ensures { (m : ℕ) → IsBackOf notation.now m (frame_of inside) (type_of_tree ty) text.now result }
+{
+    match inside {
+        Open::Domain => back_of_domain(notation, ty, text),
+        Open::Range(domain) => back_of_range(alloc, notation, domain, ty, text),
+        Open::Argument(name, args) => back_of_argument(notation, name, args, ty, text),
+    }
+}
+
+// Behind a domain stand the arrow and the range.
+fn back_of_domain<'a>(notation: &Notation, ty: Ty, text: &'a [u8]) -> Result<Back<'a>, Halt<'a>>
+    ensures { (m : ℕ) → IsBackOf notation.now m Domain (type_of_tree ty) text.now result }
+{
+    let space = literal(text, b" ")?;
+    let rest = literal(space, b"-> ")?;
+    Ok(Back::Further(Open::Range(ty), rest))
+}
+
+// Behind a range the function type ends.
+fn back_of_range<'a>(
+    alloc: Global,
+    notation: &Notation,
+    domain: Ty,
+    ty: Ty,
+    text: &'a [u8],
+) -> Result<Back<'a>, Halt<'a>>
+    ensures { (m : ℕ) → IsBackOf notation.now m (Range (type_of_tree domain)) (type_of_tree ty) text.now result }
+{
+    let _ = notation;
+    let rest = literal(text, b")")?;
+    let whole = function_type(alloc, domain, ty)?;
+    Ok(Back::Whole(whole, rest))
+}
+
+// Behind an argument stands a further one, or the type ends.
+fn back_of_argument<'a>(
+    notation: &Notation,
+    name: Name,
+    args: Vec<Ty>,
+    ty: Ty,
+    text: &'a [u8],
+) -> Result<Back<'a>, Halt<'a>>
+    ensures { (m : ℕ) → IsBackOf notation.now m (Argument name (map type_of_tree args.items)) (type_of_tree ty) text.now result }
+{
+    let mut args = args;
+    args.push(ty)?;
+    behind_arguments(notation, name, args, text)
+}
+
+// The same behind the arguments, the last one among them.
+fn behind_arguments<'a>(
+    notation: &Notation,
+    name: Name,
+    args: Vec<Ty>,
+    text: &'a [u8],
+) -> Result<Back<'a>, Halt<'a>>
+    ensures { (m : ℕ) (ts : List (TypeTree NameValue)) (t : TypeTree NameValue) → map type_of_tree args.items ≡ ts ++ t ∷ [] → IsBackOf notation.now m (Argument name ts) t text.now result }
+{
+    notation.sound();
+    match next_argument(text) {
+        Some(after) => Ok(Back::Further(Open::Argument(name, args), after)),
+        None => end_arguments(notation, name, args, text),
+    }
+}
+
+// What follows a space.
+fn next_argument(text: &[u8]) -> Option<&[u8]>
+    ensures none { IfNone result (is_spaced text.now ≡ false) }
+    ensures some { IfSome result (λ after. text.now ≡ 32 ∷ after.now) }
+{
+    match text {
+        [] => None,
+        [byte, after @ ..] => { if *byte == 32 { Some(after) } else { None } }
+    }
+}
+
+// The type ends behind its arguments, which make no function type.
+fn end_arguments<'a>(
+    notation: &Notation,
+    name: Name,
+    args: Vec<Ty>,
+    text: &'a [u8],
+) -> Result<Back<'a>, Halt<'a>>
+    ensures { (m : ℕ) (ts : List (TypeTree NameValue)) (t : TypeTree NameValue) → map type_of_tree args.items ≡ ts ++ t ∷ [] → further_at notation.now (type_at notation.now m) 0 text.now ≡ Got NoTys text.now → IsBackOf notation.now m (Argument name ts) t text.now result }
+{
+    let _ = notation;
+    if is_arrow(&name, &args) {
+        return Err(Halt::Syntax(text));
+    }
+    let rest = literal(text, b")")?;
+    Ok(Back::Whole(Ty::Op(name, args), rest))
+}

@@ -1,0 +1,354 @@
+//! Nameless terms in the making, with their types, and what is wrong with a part that has none.
+ghost use Rattle.std.specs.Prelude.{◌≡◌, ◌≤◌, ℕ, suc, min, List, ◌∷◌, IfOk, Ok};
+ghost use Rattle.std.specs.Option.{option_map};
+ghost use Rattle.ot_plain.specs.Naming.{names};
+ghost use Rattle.ot_plain.specs.Trees.{Free as FreeTree, Con as ConTree, Bound as BoundTree, Abs as AbsTree};
+ghost use Rattle.ot_plain.specs.Hol.{bool_ty, result_ty, depth_ty, depth_limit};
+ghost use Rattle.ot_forms.specs.Meaning.{Around, fits as fits_test};
+ghost use Rattle.ot_plain.specs.PlainTrees.{type_of_tree, term_of_tree};
+ghost use Rattle.ot_parse.specs.Meant.{equal_of, infix_of, apply_of, abstracted as abstracted_value, relation_of, related_at};
+ghost use Rattle.ot_parse.specs.Values.{IsValue, IsBoundTo, IsMeant, meant_of, deeper, IsWholly, IsApplied, IsMade, IsRelated};
+
+use crate::names::copy_name;
+use crate::notation::{Notation, WordKind};
+use crate::trees::{is_arrow, is_bool, same_type};
+use crate::types::function_type;
+use ot_forms::TextFault;
+use ot_plain::{DEPTH_LIMIT, Memory, Name, Tm, Ty};
+use std::alloc::{AllocError, Global};
+
+/// A nameless term with its type.
+#[derive(Drop)]
+pub(crate) struct Value {
+    term: Tm,
+    ty: Ty,
+    /// The depth of the term, or one past the nesting limit.
+    depth: u64,
+    /// The same of its type.
+    type_depth: u64,
+    /// Whether the types of all its parts are within the nesting limit.
+    has_shallow_types: bool,
+}
+
+/// What a part of the text stands for, or the place of its first refused part, from 0, with the fault.
+#[derive(Drop)]
+pub(crate) enum Meant {
+    Value(Value),
+    Wrong(u64, TextFault),
+}
+
+impl Value {
+    /// The term.
+    pub(crate) fn into_term(self) -> Tm
+        ensures { result ≡ self.term }
+    {
+        let Value {
+            term,
+            ty: _,
+            depth: _,
+            type_depth: _,
+            has_shallow_types: _,
+        } = self;
+        term
+    }
+
+    // Whether the term is within the nesting limit.
+    fn fits(&self) -> bool
+        ensures { (l : Around) → IsValue l self.now → result ≡ fits_test l (term_of_tree self.now.term) }
+    {
+        self.depth <= DEPTH_LIMIT as u64 && self.has_shallow_types
+    }
+}
+
+/// A free variable.
+pub(crate) fn free_value(alloc: Global, name: Name, ty: Ty) -> Result<Value, AllocError>
+    ensures kept { IfOk result (λ v. (l : Around) → IsValue l v) }
+    ensures term { IfOk result (λ v. term_of_tree v.term ≡ FreeTree (record { name = name; ty = type_of_tree ty })) }
+{
+    let copy = copy_type(alloc, &ty)?;
+    let type_depth = type_depth(&ty, DEPTH_LIMIT as u64);
+    Ok(Value {
+        term: Tm::Free(name, ty),
+        ty: copy,
+        depth: 1,
+        type_depth,
+        has_shallow_types: type_depth <= DEPTH_LIMIT as u64,
+    })
+}
+
+/// A constant.
+pub(crate) fn constant_value(alloc: Global, name: Name, ty: Ty) -> Result<Value, AllocError>
+    ensures kept { IfOk result (λ v. (l : Around) → IsValue l v) }
+    ensures term { IfOk result (λ v. term_of_tree v.term ≡ ConTree name (type_of_tree ty)) }
+{
+    let copy = copy_type(alloc, &ty)?;
+    let type_depth = type_depth(&ty, DEPTH_LIMIT as u64);
+    Ok(Value {
+        term: Tm::Con(name, ty),
+        ty: copy,
+        depth: 1,
+        type_depth,
+        has_shallow_types: type_depth <= DEPTH_LIMIT as u64,
+    })
+}
+
+/// A bound place of this type.
+pub(crate) fn bound_value(alloc: Global, place: u64, ty: &Ty) -> Result<Value, AllocError>
+    ensures kept { IfOk result (λ v. (l : Around) → IsBoundTo l place (type_of_tree ty.now) → IsValue l v) }
+    ensures term { IfOk result (λ v. term_of_tree v.term ≡ BoundTree place) }
+{
+    let type_depth = type_depth(ty, DEPTH_LIMIT as u64);
+    Ok(Value {
+        term: Tm::Bound(place),
+        ty: copy_type(alloc, ty)?,
+        depth: 1,
+        type_depth,
+        has_shallow_types: type_depth <= DEPTH_LIMIT as u64,
+    })
+}
+
+/// A type equal to this one.
+pub(crate) fn copy_type(alloc: Global, ty: &Ty) -> Result<Ty, AllocError>
+    ensures { IfOk result (λ copy. type_of_tree copy ≡ type_of_tree ty.now) }
+{
+    match ty {
+        Ty::Var(name) => Ok(Ty::Var(copy_name(alloc, name)?)),
+        Ty::Op(name, args) => {
+            let mut copies = Vec::new(alloc);
+            for arg in args {
+                copies.push(copy_type(alloc, arg)?)?;
+            }
+            Ok(Ty::Op(copy_name(alloc, name)?, copies))
+        }
+    }
+}
+
+// The depth of a type, or one past this limit.
+#[tactic(auto, using(ot_plain::proofs::PlainTrees::type_Var, ot_plain::proofs::PlainTrees::type_Op))]
+fn type_depth(ty: &Ty, limit: u64) -> u64
+    requires { limit ≤ depth_limit }
+    ensures { result ≡ min (depth_ty names (type_of_tree ty.now)) (suc limit) }
+{
+    match ty {
+        Ty::Var(_) => 1,
+        Ty::Op(_, args) => {
+            if limit == 0 {
+                return 1;
+            }
+            let mut deepest = 0;
+            for arg in args {
+                let depth = type_depth(arg, limit - 1);
+                if deepest < depth {
+                    deepest = depth;
+                }
+            }
+            deepest + 1
+        }
+    }
+}
+
+/// What a whole part stands for that begins at this place: a proposition, where one is wanted, within the nesting limit.
+pub(crate) fn whole(wanted: bool, at: u64, part: Meant) -> Meant
+    ensures { (l : Around) → IsMeant l part → IsWholly l wanted at (meant_of part) result }
+{
+    match part {
+        Meant::Wrong(place, fault) => Meant::Wrong(place, fault),
+        Meant::Value(value) => whole_value(wanted, at, value),
+    }
+}
+
+fn whole_value(wanted: bool, at: u64, value: Value) -> Meant
+    ensures { (l : Around) → IsValue l value → IsWholly l wanted at (Ok (term_of_tree value.term)) result }
+{
+    if wanted && !is_bool(&value.ty) {
+        return Meant::Wrong(at, TextFault::BadTypes);
+    }
+    if !value.fits() {
+        return Meant::Wrong(at, TextFault::TooDeep);
+    }
+    Meant::Value(value)
+}
+
+// The depth of what stands over two parts, or one past the nesting limit.
+fn one_deeper(left: u64, right: u64) -> u64
+    ensures { result ≡ deeper left right }
+{
+    let limit = DEPTH_LIMIT as u64;
+    let most = left.max(right);
+    if most <= limit { most + 1 } else { limit + 1 }
+}
+
+// What a function of the first type gives at an argument of the second.
+fn result_type(function: Ty, argument: &Ty) -> Option<Ty>
+    ensures { option_map type_of_tree result ≡ result_ty names (type_of_tree function) (type_of_tree argument.now) }
+{
+    match function {
+        Ty::Var(_) => None,
+        Ty::Op(name, args) => {
+            let mut args = args;
+            if !is_arrow(&name, &args) || !same_type(&args[0], argument) {
+                return None;
+            }
+            args.pop()
+        }
+    }
+}
+
+// An application, where it fits.
+fn applied(alloc: Global, function: Value, argument: Value) -> Result<Option<Value>, Memory>
+    ensures { (l : Around) → IsValue l function → IsValue l argument → IsApplied l (term_of_tree function.term) (term_of_tree argument.term) result }
+{
+    let depth = one_deeper(function.depth, argument.depth);
+    let are_shallow = function.has_shallow_types && argument.has_shallow_types;
+    match result_type(function.ty, &argument.ty) {
+        None => Ok(None),
+        Some(ty) => {
+            let f = Box::new(alloc, function.term)?;
+            let term = Tm::App(f, Box::new(alloc, argument.term)?);
+            let type_depth = type_depth(&ty, DEPTH_LIMIT as u64);
+            Ok(Some(Value {
+                term,
+                ty,
+                depth,
+                type_depth,
+                has_shallow_types: type_depth <= DEPTH_LIMIT as u64 && are_shallow,
+            }))
+        }
+    }
+}
+
+/// An application that begins at this place.
+pub(crate) fn application(
+    alloc: Global,
+    at: u64,
+    function: Meant,
+    argument: Meant,
+) -> Result<Meant, Memory>
+    ensures { (l : Around) → IsMeant l function → IsMeant l argument → IsMade l (apply_of l at (meant_of function) (meant_of argument)) result }
+{
+    match (function, argument) {
+        (Meant::Wrong(place, fault), _) => Ok(Meant::Wrong(place, fault)),
+        (Meant::Value(_), Meant::Wrong(place, fault)) => Ok(Meant::Wrong(place, fault)),
+        (Meant::Value(f), Meant::Value(x)) => match applied(alloc, f, x)? {
+            Some(value) => Ok(Meant::Value(value)),
+            None => Ok(Meant::Wrong(at, TextFault::BadTypes)),
+        },
+    }
+}
+
+// A constant of this name for a relation between terms of this type, at two terms; where it fits.
+fn related(
+    alloc: Global,
+    name: Name,
+    ty: &Ty,
+    left: Value,
+    right: Value,
+) -> Result<Option<Value>, Memory>
+    ensures { (l : Around) → IsValue l left → IsValue l right → IsRelated l (related_at name (type_of_tree ty.now) (term_of_tree left.term) (term_of_tree right.term)) result }
+{
+    let constant = constant_value(alloc, name, relation_type(alloc, ty)?)?;
+    match applied(alloc, constant, left)? {
+        None => Ok(None),
+        Some(half) => applied(alloc, half, right),
+    }
+}
+
+/// An equation that begins at this place.
+pub(crate) fn equation(alloc: Global, at: u64, left: Meant, right: Meant) -> Result<Meant, Memory>
+    ensures { (l : Around) → IsMeant l left → IsMeant l right → IsMade l (equal_of l at (meant_of left) (meant_of right)) result }
+{
+    match (left, right) {
+        (Meant::Wrong(place, fault), _) => Ok(Meant::Wrong(place, fault)),
+        (Meant::Value(_), Meant::Wrong(place, fault)) => Ok(Meant::Wrong(place, fault)),
+        (Meant::Value(a), Meant::Value(b)) => equated(alloc, at, a, b),
+    }
+}
+
+fn equated(alloc: Global, at: u64, left: Value, right: Value) -> Result<Meant, Memory>
+    ensures { (l : Around) → IsValue l left → IsValue l right → IsMade l (equal_of l at (Ok (term_of_tree left.term)) (Ok (term_of_tree right.term))) result }
+{
+    let ty = copy_type(alloc, &left.ty)?;
+    match related(alloc, Name::of_text(alloc, b"=")?, &ty, left, right)? {
+        Some(value) => Ok(Meant::Value(value)),
+        None => Ok(Meant::Wrong(at, TextFault::BadTypes)),
+    }
+}
+
+/// Two terms at the sides of an operator word, in a part that begins at this place.
+pub(crate) fn operation(
+    alloc: Global,
+    notation: &Notation,
+    at: u64,
+    operator: &[u8],
+    left: Meant,
+    right: Meant,
+) -> Result<Meant, Memory>
+    ensures { (l : Around) → IsMeant l left → IsMeant l right → IsMade l (infix_of notation.now l at operator.now (meant_of left) (meant_of right)) result }
+{
+    match (left, right) {
+        (Meant::Wrong(place, fault), _) => Ok(Meant::Wrong(place, fault)),
+        (Meant::Value(_), Meant::Wrong(place, fault)) => Ok(Meant::Wrong(place, fault)),
+        (Meant::Value(a), Meant::Value(b)) => operated(alloc, notation, at, operator, a, b),
+    }
+}
+
+fn operated(
+    alloc: Global,
+    notation: &Notation,
+    at: u64,
+    operator: &[u8],
+    left: Value,
+    right: Value,
+) -> Result<Meant, Memory>
+    ensures { (l : Around) → IsValue l left → IsValue l right → IsMade l (infix_of notation.now l at operator.now (Ok (term_of_tree left.term)) (Ok (term_of_tree right.term))) result }
+{
+    match notation.with_base(WordKind::Con, operator) {
+        None => Ok(Meant::Wrong(at, TextFault::UnknownOperator)),
+        Some(name) => {
+            let ty = bool_type(alloc)?;
+            match related(alloc, copy_name(alloc, name)?, &ty, left, right)? {
+                Some(value) => Ok(Meant::Value(value)),
+                None => Err(Memory),
+            }
+        }
+    }
+}
+
+/// An abstraction over a variable of this type.
+pub(crate) fn abstraction(alloc: Global, ty: Ty, body: Meant) -> Result<Meant, Memory>
+    ensures { (l : Around) (x : List ℕ) → IsMeant ((x, type_of_tree ty) ∷ l) body → IsMade l (abstracted_value (type_of_tree ty) (meant_of body)) result }
+{
+    match body {
+        Meant::Wrong(place, fault) => Ok(Meant::Wrong(place, fault)),
+        Meant::Value(value) => abstracted(alloc, ty, value),
+    }
+}
+
+fn abstracted(alloc: Global, ty: Ty, body: Value) -> Result<Meant, Memory>
+    ensures { (l : Around) (x : List ℕ) → IsValue ((x, type_of_tree ty) ∷ l) body → IsMade l (Ok (AbsTree (type_of_tree ty) (term_of_tree body.term))) result }
+{
+    let type_depth = one_deeper(type_depth(&ty, DEPTH_LIMIT as u64), body.type_depth);
+    let whole = function_type(alloc, copy_type(alloc, &ty)?, body.ty)?;
+    Ok(Meant::Value(Value {
+        term: Tm::Abs(ty, Box::new(alloc, body.term)?),
+        ty: whole,
+        depth: one_deeper(body.depth, body.depth),
+        type_depth,
+        has_shallow_types: type_depth <= DEPTH_LIMIT as u64 && body.has_shallow_types,
+    }))
+}
+
+// The type of a relation between terms of this type.
+fn relation_type(alloc: Global, ty: &Ty) -> Result<Ty, AllocError>
+    ensures { IfOk result (λ t. type_of_tree t ≡ relation_of (type_of_tree ty.now)) }
+{
+    let half = function_type(alloc, copy_type(alloc, ty)?, bool_type(alloc)?)?;
+    function_type(alloc, copy_type(alloc, ty)?, half)
+}
+
+// The type of propositions.
+fn bool_type(alloc: Global) -> Result<Ty, AllocError>
+    ensures { IfOk result (λ t. type_of_tree t ≡ bool_ty names) }
+{
+    Ok(Ty::Op(Name::of_text(alloc, b"bool")?, Vec::new(alloc)))
+}
