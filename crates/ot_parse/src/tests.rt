@@ -63,36 +63,16 @@ fn check_texts(rt: &impl Abort, alloc: Global, read: &Readable) -> Result<(), Fa
     Ok(())
 }
 
-fn name_of(alloc: Global, components: &[&[u8]]) -> Result<Name, Fail> {
-    let mut quoted = Vec::new(alloc);
-    quoted.push(34)?;
-    for (i, component) in components.iter().enumerate() {
-        if i > 0 {
-            quoted.push(46)?;
-        }
-        for byte in *component {
-            if *byte == 92 {
-                quoted.push(92)?;
-            }
-            quoted.push(*byte)?;
-        }
-    }
-    quoted.push(34)?;
-    Ok(Name::read(alloc, &quoted)?)
-}
-
+/// The notation that shows `Data.Bool`, over a few symbols.
 fn test_notation(alloc: Global) -> Result<Notation, Fail> {
     let mut shown = Vec::new(alloc);
-    shown.push(name_of(alloc, &[b"Data", b"Bool"])?)?;
+    shown.push(Name::read(alloc, b"\"Data.Bool\"")?)?;
     let mut symbols = Vec::new(alloc);
-    for base in [b"T".as_slice(), b"/\\", b"==>"] {
-        symbols.push((WordKind::Con, name_of(alloc, &[b"Data", b"Bool", base])?))?;
-    }
-    symbols.push((WordKind::TyOp, name_of(alloc, &[b"bool"])?))?;
-    symbols.push((
-        WordKind::TyOp,
-        name_of(alloc, &[b"Data", b"Bool", b"pair"])?,
-    ))?;
+    symbols.push((WordKind::Con, Name::read(alloc, b"\"Data.Bool.T\"")?))?;
+    symbols.push((WordKind::Con, Name::read(alloc, b"\"Data.Bool./\\\\\"")?))?;
+    symbols.push((WordKind::Con, Name::read(alloc, b"\"Data.Bool.==>\"")?))?;
+    symbols.push((WordKind::TyOp, Name::read(alloc, b"\"bool\"")?))?;
+    symbols.push((WordKind::TyOp, Name::read(alloc, b"\"Data.Bool.pair\"")?))?;
     Ok(Notation::new(alloc, &shown, &symbols)?)
 }
 
