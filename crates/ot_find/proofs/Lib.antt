@@ -1,0 +1,4 @@
+-- Lemmas on matches and their text.
+mod Matching
+mod Indented
+mod Pieces
