@@ -1,0 +1,44 @@
+-- What was found for the elements of a list, one after another.
+use Rattle.std.proofs.Common.{◌≡◌, Option, Some, None, refl, Err, ℕ, zero, suc, ◌+◌, ◌<◌, ◌≤◌, List, [], ◌∷◌, ◌++◌, length, get_or, take, sym, ap, subst, arith}
+use Rattle.std.proofs.lemmas.List.{take_more, take_all}
+use Rattle.ot_plain.specs.Names.{Name}
+use Rattle.ot_plain.specs.Naming.{names}
+use Rattle.ot_records.specs.State.{LogState, Change}
+use Rattle.ot_verify.specs.Asking.{AreEach}
+use Rattle.ot_verify.specs.Finding.{FindsEach}
+use Rattle.ot_verify.specs.Logged.{MadeBy}
+use Rattle.ot_verify.specs.declared.log.Refusal.{Refusal}
+use Rattle.ot_verify.specs.declared.log.Refusal.TheVariants as refusals
+use Rattle.ot_verify.proofs.Collecting.{each-push}
+
+-- the element at a place of the list, whatever stands for none
+pub get-same : {X : Type 0} (xs : List X) (i : ℕ) (a b : X) → i < length xs → get_or xs i a ≡ get_or xs i b
+get-same [] i a b h = absurd (omega arith)
+get-same (x ∷ xs) zero a b h = refl
+get-same (x ∷ xs) (suc i) a b h = get-same xs i a b (omega arith)
+
+pub none-some : {X : Type 0} (o : Option X) (y : X) → o ≡ None → o ≡ Some y → ⊥
+none-some o y p q = cc
+
+module _ {X Y : Type 0} (is : X → Y → Type 0) where
+  -- one more
+  pub each-next : (xs : List X) (i : ℕ) (x : X) (ys : List Y) (y : Y) → i < length xs → x ≡ get_or xs i x → AreEach is (take i xs) ys → is x y → AreEach is (take (i + 1) xs) (ys ++ y ∷ [])
+  each-next xs i x ys y h p a e = subst (λ zs. AreEach is zs (ys ++ y ∷ [])) (sym (take_more xs i x h)) (each-push is (take i xs) ys (get_or xs i x) y a (subst (λ z. is z y) p e))
+
+  -- all of them
+  pub each-all : (xs : List X) (i : ℕ) (ys : List Y) → length xs ≤ i → AreEach is (take i xs) ys → AreEach is xs ys
+  each-all xs i ys h a = subst (λ zs. AreEach is zs ys) (take_all i xs h) a
+
+  -- one that stands for nothing
+  pub each-none : (xs : List X) (i : ℕ) (x : X) → i < length xs → x ≡ get_or xs i x → ((y : Y) → is x y → ⊥) → (ys : List Y) → AreEach is xs ys → ⊥
+  each-none [] i x h p fails ys a = absurd (omega arith)
+  each-none (z ∷ xs) i x h p fails [] a = a
+  each-none (z ∷ xs) zero x h p fails (y ∷ ys) a = fails y (subst (λ w. is w y) (sym p) a.0)
+  each-none (z ∷ xs) (suc i) x h p fails (y ∷ ys) a = each-none xs i x (omega arith) p fails ys a.1
+
+-- a refusal of what stands for something can only be want of memory
+pub missed : {X Y : Type 0} (is : X → Y → Type 0) (e : Refusal) (xs : List X) (c : Change names) (old new : LogState Name) → FindsEach is (Err e) xs → (ys : List Y) × AreEach is xs ys → MadeBy (Err e) c old new
+missed is refusals.NoSuch xs c old new f g = absurd (f g.0 g.1)
+missed is refusals.Memory xs c old new f g = tt
+missed is refusals.BadStep xs c old new f g = absurd f
+missed is refusals.LogNesting xs c old new f g = absurd f

@@ -1,0 +1,7 @@
+use Rattle.std.proofs.Common.{take}
+use Rattle.ot_verify.specs.Asking.{IsAt, AreEach}
+use Rattle.ot_verify.specs.Finding.{IsFoundTypePair, IsFoundTermPair, IsFoundConstantPair}
+use Rattle.ot_verify.proofs.finding.type_pairs_at.Given as goal
+
+abbrev pub invariant-loop-pair : goal.invariant-loop-pair
+invariant-loop-pair l = AreEach (IsFoundTypePair l.nodes l.types) (take l.pair-index l.pairs) l.found.items

@@ -1,0 +1,68 @@
+use Rattle.std.specs.Prelude.{Ok, Err, slice_get}
+use Rattle.std.proofs.Common.{◌≡◌, ◌∙◌, ℕ, ap, subst}
+use Rattle.ot_plain.specs.Names.{Name}
+use Rattle.ot_plain.specs.Trees.{Ty, Tm, Variable}
+use Rattle.ot_records.specs.State.{LogState}
+use Rattle.ot_records.specs.Records.{AskName, AskType, AskTerm, ask_variable, ask_type_pair}
+use Rattle.ot_verify.specs.Asking.{AnsweredFrom, IsAt}
+use Rattle.ot_verify.specs.Logged.{IsNamed, IsVariable, IsTypePair, IsTermPair, IsConstantPair}
+use Rattle.ot_verify.specs.declared.operand.NamedType.{NamedType}
+use Rattle.ot_verify.specs.declared.operand.TermPair.{TermPair}
+use Rattle.ot_verify.specs.declared.operand.ConstantPair.{ConstantPair}
+use Rattle.ot_verify.proofs.Collecting.{both-read, second-stop}
+use Rattle.ot_verify.proofs.Meeting.{meets-then, named-later}
+use Rattle.ot_verify.proofs.operands.named_type.Goals as goal
+
+pub returns-clause-pair : goal.returns-clause-pair
+returns-clause-pair g c =
+    let st = c.args.log.now.state in
+    let l = g.S.Source.left c.args.source.now in
+    let m = g.S.Source.left c.name_number.new.source in
+    let n = g.S.Source.left c.type_number.new.source in
+    let old = c.args.reader.now in
+    let mid = c.name_number.new.reader in
+    let new = c.type_number.new.reader in
+    let meets = c.in_ok-name.ensures.meets in
+    let second = subst (λ (s : LogState Name). AnsweredFrom s AskType (IsAt s.types) (Ok c.in-Ok.ty) mid new m n) meets.state c.in-Ok.ensures.answered in
+    both-read st AskName AskType (λ x t. (x, t)) (IsNamed c.name_number.new.log) (IsAt st.types) (IsTypePair c.name_number.new.log) c.in_ok-name.name c.in-Ok.ty (record { name = c.in_ok-name.name; ty = c.in-Ok.ty }) old mid new l m n c.in_ok-name.ensures.answered second
+    (λ a b h k. (h, ap (λ (s : LogState Name). slice_get s.types c.in-Ok.ty) meets.state ∙ k))
+
+pub returns-in-Err-clause-pair : goal.returns-in-Err-clause-pair
+returns-in-Err-clause-pair g c =
+    let st = c.args.log.now.state in
+    let l = g.S.Source.left c.args.source.now in
+    let m = g.S.Source.left c.name_number.new.source in
+    let n = g.S.Source.left c.type_number.new.source in
+    let old = c.args.reader.now in
+    let mid = c.name_number.new.reader in
+    let new = c.type_number.new.reader in
+    let meets = c.in_ok-name.ensures.meets in
+    let second = subst (λ (s : LogState Name). AnsweredFrom {X = ℕ} s AskType (IsAt s.types) (Err c.in-Err.fault) mid new m n) meets.state c.in-Err.ensures.answered in
+    second-stop {Z = NamedType} st AskName AskType (λ x t. (x, t)) (IsNamed c.name_number.new.log) (IsAt st.types) (IsTypePair c.name_number.new.log) c.in_ok-name.name c.in-Err.fault old mid new l m n c.in_ok-name.ensures.answered second
+
+pub returns-clause-variable : goal.returns-clause-variable
+returns-clause-variable g c =
+    let st = c.args.log.now.state in
+    let l = g.S.Source.left c.args.source.now in
+    let m = g.S.Source.left c.name_number.new.source in
+    let n = g.S.Source.left c.type_number.new.source in
+    let old = c.args.reader.now in
+    let mid = c.name_number.new.reader in
+    let new = c.type_number.new.reader in
+    let meets = c.in_ok-name.ensures.meets in
+    let second = subst (λ (s : LogState Name). AnsweredFrom s AskType (IsAt s.types) (Ok c.in-Ok.ty) mid new m n) meets.state c.in-Ok.ensures.answered in
+    both-read st AskName AskType (λ x t. record { name = x; ty = t }) (IsNamed c.name_number.new.log) (IsAt st.types) (IsVariable c.name_number.new.log) c.in_ok-name.name c.in-Ok.ty (record { name = c.in_ok-name.name; ty = c.in-Ok.ty }) old mid new l m n c.in_ok-name.ensures.answered second
+    (λ a b h k. (h, ap (λ (s : LogState Name). slice_get s.types c.in-Ok.ty) meets.state ∙ k))
+
+pub returns-in-Err-clause-variable : goal.returns-in-Err-clause-variable
+returns-in-Err-clause-variable g c =
+    let st = c.args.log.now.state in
+    let l = g.S.Source.left c.args.source.now in
+    let m = g.S.Source.left c.name_number.new.source in
+    let n = g.S.Source.left c.type_number.new.source in
+    let old = c.args.reader.now in
+    let mid = c.name_number.new.reader in
+    let new = c.type_number.new.reader in
+    let meets = c.in_ok-name.ensures.meets in
+    let second = subst (λ (s : LogState Name). AnsweredFrom {X = ℕ} s AskType (IsAt s.types) (Err c.in-Err.fault) mid new m n) meets.state c.in-Err.ensures.answered in
+    second-stop {Z = NamedType} st AskName AskType (λ x t. record { name = x; ty = t }) (IsNamed c.name_number.new.log) (IsAt st.types) (IsVariable c.name_number.new.log) c.in_ok-name.name c.in-Err.fault old mid new l m n c.in_ok-name.ensures.answered second

@@ -1,0 +1,41 @@
+use Rattle.std.specs.Prelude.{Ok, Err, slice_get}
+use Rattle.std.proofs.Common.{◌≡◌, ◌∙◌, ℕ, ap, subst}
+use Rattle.ot_plain.specs.Names.{Name}
+use Rattle.ot_plain.specs.Trees.{Ty, Tm, Variable}
+use Rattle.ot_records.specs.State.{LogState}
+use Rattle.ot_records.specs.Records.{AskName, AskType, AskTerm, ask_variable, ask_type_pair}
+use Rattle.ot_verify.specs.Asking.{AnsweredFrom, IsAt}
+use Rattle.ot_verify.specs.Logged.{IsNamed, IsVariable, IsTypePair, IsTermPair, IsConstantPair}
+use Rattle.ot_verify.specs.declared.operand.NamedType.{NamedType}
+use Rattle.ot_verify.specs.declared.operand.TermPair.{TermPair}
+use Rattle.ot_verify.specs.declared.operand.ConstantPair.{ConstantPair}
+use Rattle.ot_verify.proofs.Collecting.{both-read, second-stop}
+use Rattle.ot_verify.proofs.Meeting.{meets-then, named-later}
+use Rattle.ot_verify.proofs.operands.term_pair.Goals as goal
+
+pub returns-clause-answered : goal.returns-clause-answered
+returns-clause-answered g c =
+    let st = c.args.log.now.state in
+    let l = g.S.Source.left c.args.source.now in
+    let m = g.S.Source.left c.named_type.new.source in
+    let n = g.S.Source.left c.term_number.new.source in
+    let old = c.args.reader.now in
+    let mid = c.named_type.new.reader in
+    let new = c.term_number.new.reader in
+    let meets = c.in_ok-variable.ensures.meets in
+    let second = subst (λ (s : LogState Name). AnsweredFrom s AskTerm (IsAt s.terms) (Ok c.in-Ok.term) mid new m n) meets.state c.in-Ok.ensures.answered in
+    both-read st ask_variable AskTerm (λ v t. (v, t)) (IsVariable c.named_type.new.log) (IsAt st.terms) (IsTermPair c.named_type.new.log) c.in_ok-variable.variable c.in-Ok.term (record { variable = c.in_ok-variable.variable; term = c.in-Ok.term }) old mid new l m n c.in_ok-variable.ensures.variable second
+    (λ a b h k. (h, ap (λ (s : LogState Name). slice_get s.terms c.in-Ok.term) meets.state ∙ k))
+
+pub returns-in-Err-clause-answered : goal.returns-in-Err-clause-answered
+returns-in-Err-clause-answered g c =
+    let st = c.args.log.now.state in
+    let l = g.S.Source.left c.args.source.now in
+    let m = g.S.Source.left c.named_type.new.source in
+    let n = g.S.Source.left c.term_number.new.source in
+    let old = c.args.reader.now in
+    let mid = c.named_type.new.reader in
+    let new = c.term_number.new.reader in
+    let meets = c.in_ok-variable.ensures.meets in
+    let second = subst (λ (s : LogState Name). AnsweredFrom {X = ℕ} s AskTerm (IsAt s.terms) (Err c.in-Err.fault) mid new m n) meets.state c.in-Err.ensures.answered in
+    second-stop {Z = TermPair} st ask_variable AskTerm (λ v t. (v, t)) (IsVariable c.named_type.new.log) (IsAt st.terms) (IsTermPair c.named_type.new.log) c.in_ok-variable.variable c.in-Err.fault old mid new l m n c.in_ok-variable.ensures.variable second

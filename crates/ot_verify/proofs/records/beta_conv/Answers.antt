@@ -1,0 +1,28 @@
+use Rattle.std.specs.Prelude.{Ok, Err, Vec, slice_get}
+use Rattle.std.proofs.Common.{◌≡◌, ◌∙◌, ℕ, List, refl, sym, ap, subst, Global}
+use Rattle.ot_plain.specs.Names.{Name}
+use Rattle.ot_plain.specs.Naming.{names}
+use Rattle.ot_plain.specs.Trees.{Ty, TyVar, TyOp, Variable, Tm, Free, Con, Bound, App, Abs, Sequent}
+use Rattle.ot_records.specs.Steps.{refl_step, assume_step, eq_mp_step, abs_thm_step, app_thm_step, deduct_antisym_step, beta_step, subst_step, assumption_step, constant_step, constants_step, type_operator_step}
+use Rattle.ot_records.specs.State.{LogState, Change, makes_type, makes_term, makes_sequent, makes_assumption, makes_definition, makes_result}
+use Rattle.ot_records.specs.Records.{Makes, AskName, AskCount, AskType, AskTerm, AskSequent, ask_list, ask_variable, ask_type_pair, ask_term_pair, ask_constant_pair, arguments}
+use Rattle.ot_verify.specs.Asking.{AnsweredFrom, IsAt, IsValue, AreEach}
+use Rattle.ot_verify.specs.Logged.{LogView, IsNamed, IsVariable, IsTypePair, IsTermPair, IsConstantPair, MeetsNames, MadeBy, settled_at}
+use Rattle.ot_verify.specs.declared.operand.NamedType.{NamedType}
+use Rattle.ot_verify.specs.declared.operand.TermPair.{TermPair}
+use Rattle.ot_verify.specs.declared.operand.ConstantPair.{ConstantPair}
+use Rattle.ot_verify.proofs.Collecting.{each-more}
+use Rattle.ot_verify.proofs.Meeting.{meets-nothing, meets-then, named-later, variable-later, type_pair-later, term_pair-later, constant_pair-later}
+use Rattle.ot_verify.proofs.Recording.{answered-then, made-settled}
+use Rattle.ot_verify.proofs.records.beta_conv.Goals as goal
+
+pub returns-clause-recorded : goal.returns-clause-recorded
+returns-clause-recorded g c =
+    let st = c.args.log.now.state in
+    let now = c.beta_conv-made.new.self.state in
+    let first = c.args.first in
+    let made = c.beta_conv-made.result in
+    rw c.settle.ensures
+    (answered-then st now AskTerm (IsAt c.args.log.now.state.terms) c.in_ok-term.term (λ x0. Makes (makes_sequent names (beta_step names x0))) first (settled_at first made) c.args.reader.now c.term_number.new.reader c.term_number.new.reader (g.S.Source.left c.args.source.now) (g.S.Source.left c.term_number.new.source) (g.S.Source.left c.term_number.new.source)
+    c.in_ok-term.ensures.answered
+    (λ x0 h0. made-settled (makes_sequent names (beta_step names x0)) first st now c.term_number.new.reader (g.S.Source.left c.term_number.new.source) made (c.beta_conv-made.ensures x0 h0)))

@@ -1,0 +1,67 @@
+ghost use Rattle.std.specs.Prelude.{◌≡◌, ◌≤◌, ◌<◌, ◌^◌, ◌++◌, [], length, Err, IfOk, OnOk, OnErr, IfSome};
+ghost use Rattle.ot_io.specs.Causes.{Rose};
+ghost use Rattle.ot_verify.specs.Reading.{log_check};
+ghost use Rattle.ot_verify.specs.Verifying.{Verifies, AreProved};
+
+use crate::fault::VerifyFault;
+use crate::log::Log;
+use crate::reader::Reader;
+use crate::records::take_record;
+use ot_io::Source;
+use std::alloc::Global;
+use std::marker::Model;
+
+/// What a log that is accepted proves: its assumptions, its definitions, and its results.
+#[derive(Drop)]
+pub struct Verified {
+    log: Log,
+}
+
+impl Model for Verified {
+    ghost use Rattle.ot_verify.specs.Verifying.{Proved, coded_proved, proved_by};
+
+    ghost Value = { Proved };
+
+    ghost coded = { coded_proved };
+
+    ghost view = { λ v. proved_by v.log.state };
+}
+
+/// Checks a proof log of at most `max_bytes` bytes, in one pass over a source.
+///
+/// `At` comes exactly where the check stops, with its line and fault. `ReadFault` comes only where
+/// the source failed in this call. Where the log is accepted the source was read to its end, the
+/// definitions are accepted, and each result is derivable from the assumptions under them.
+pub fn verify<S: Source>(
+    alloc: Global,
+    source: &mut S,
+    max_bytes: u64,
+) -> Result<Verified, VerifyFault>
+    requires { max_bytes ≤ 2 ^ 32 }
+    ensures checked { IfSome (S.left source.old) (λ bytes. Verifies result (log_check max_bytes
+        bytes)) }
+    ensures proved { IfOk result AreProved }
+    ensures spent { OnOk result (IfSome (S.left source.old) (λ _. IfSome (S.left source.new) (λ
+        bytes. bytes ≡ []))) }
+    ensures cause { result ≡ Err VerifyFault.ReadFault → Rose (S.faults source.old) (S.faults
+        source.new) }
+    ensures later { S.faults source.old ≤ S.faults source.new }
+    ensures folder { S.folder source.new ≡ S.folder source.old }
+    ensures misses { S.misses source.new ≡ S.misses source.old }
+    ensures at { S.at source.new ≡ S.at source.old }
+{
+    let mut log = Log::new(alloc)?;
+    let mut reader = Reader::new(max_bytes);
+    reader.header(alloc, source)?;
+    'records: loop {
+        let Some(word) = reader.begin(alloc, source)? else {
+            log.sound();
+            return Ok(Verified { log });
+        };
+        let first = reader.last();
+        match take_record(alloc, &mut log, &mut reader, source, word, first) {
+            Ok(()) => (),
+            Err(fault) => return Err(fault),
+        }
+    }
+}
