@@ -11,6 +11,3 @@ pub use fault::ScanFault;
 pub use laws::earlier_limit;
 pub use lines::{Line, Lines};
 pub use words::{Word, WordFault, command};
-
-#[cfg(test)]
-mod tests;

