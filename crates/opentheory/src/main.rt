@@ -1,21 +1,11 @@
-//! Runs an OpenTheory article or theory file, checks its proofs, and reports the result.
+//! Runs an OpenTheory article or theory file, or a proof log, checks its proofs, and reports the result.
 #![tactic(auto)]
-
-mod input;
-mod program;
-mod report;
-mod sample;
-mod status;
-mod task;
-mod texts;
 
 use ot_io::{DirFiles, StdSink, StdSource, write_whole};
 use ot_plain::Memory;
-use program::run;
-use status::Status;
+use ot_program::{OUT_OF_MEMORY, Status, run};
 use std::process::ExitCode;
 use std::{env, io};
-use texts::OUT_OF_MEMORY;
 
 /// Runs the program on the command's words, the system's files and the standard streams. Words that are no text are no
 /// command.

@@ -4,22 +4,23 @@ ghost use Rattle.ot_io.specs.Folder.{has_distinct_paths};
 ghost use Rattle.ot_io.specs.FileList.{folder_of};
 
 mod hostile;
+mod logs;
+mod repetitions;
 mod tables;
 mod theories;
 mod written;
 
-use crate::program::run;
-use crate::status::Status;
 use ot_io::{MemFiles, MemSink, MemSource};
+use ot_program::{Status, run};
+use repetitions::{DOUBLED, REPEATED, Repeated, TOO_LARGE};
 use std::alloc::Global;
 use std::test::Fail;
-use tables::{
-    ARTICLES, DOUBLED, FAULTS, FIRST, NONE, ONE, PARTS, REPEATED, Repeated, SUMMARIES, TOO_LARGE,
-};
+use tables::{ARTICLES, FAULTS, FIRST, NONE, ONE, PARTS, SUMMARIES};
 use theories::{
     ASSUMED_ONE, ASSUMES, BAD_LINE, CHAIN, CYCLE, Entry, FAR, GONE, IMPORT_CYCLE, IMPORTS,
-    IMPORTS_LATE, IMPORTS_NONE, NO_ARTICLE, NOT_EQUATION, NOT_EQUATION_FAR, RENAMED, RENAMES,
-    SYMMETRIC, THEORY_FAILED, TOO_DEEP, UNREADABLE, WEAKENED, WEAKENS, WEAKENS_NONE,
+    IMPORTS_LATE, IMPORTS_NONE, NO_ARTICLE, NO_THEORY, NOT_EQUATION, NOT_EQUATION_FAR, RENAMED,
+    RENAMES, SHOWN, SHOWS, SYMMETRIC, THEORY_FAILED, TOO_DEEP, UNREADABLE, WEAKENED, WEAKENS,
+    WEAKENS_NONE,
 };
 use written::{LEAN, LINKED, SAMPLES, WRITTEN};
 
@@ -322,6 +323,8 @@ fn theory_files(rt: HostRuntime) -> Result<(), Fail> {
     assert!(rt; says(alloc, theorems, &WEAKENS, 0, Status::Accepted, WEAKENED)?);
     assert!(rt; says(alloc, info, &ASSUMES, 0, Status::Accepted, SYMMETRIC)?);
     assert!(rt; says(alloc, info, &RENAMES, 0, Status::Accepted, RENAMED)?);
+    let readable = &["info", "--readable", "t.thy"];
+    assert!(rt; says(alloc, readable, &SHOWS, 0, Status::Accepted, SHOWN)?);
     Ok(())
 }
 
@@ -389,6 +392,11 @@ fn theory_faults(rt: HostRuntime) -> Result<(), Fail> {
     assert!(rt; says(alloc, check, &GONE, 0, Status::NoFile, NO_ARTICLE)?);
     // The second call reads the theory file.
     assert!(rt; says(alloc, check, &GONE, 2, Status::ReadFault, THEORY_FAILED)?);
+    let readable = &["info", "--readable", "t.thy"];
+    let gone = &["info", "--readable", "gone.thy"];
+    assert!(rt; says(alloc, readable, &CYCLE, 0, Status::Refused, IMPORT_CYCLE)?);
+    assert!(rt; says(alloc, readable, &SHOWS, 2, Status::ReadFault, THEORY_FAILED)?);
+    assert!(rt; says(alloc, gone, &SHOWS, 0, Status::NoFile, NO_THEORY)?);
     Ok(())
 }
 
@@ -425,14 +433,16 @@ fn long_names(rt: HostRuntime) -> Result<(), Fail> {
 }
 
 const USAGE: &[u8] =
-    b"usage: opentheory check|info|link|minimise [--packages DIR] INPUT; info also takes --assumptions --definitions --theorems; opentheory sample [--article] N; opentheory info --uses INPUT\n";
+    b"usage: opentheory check|info|link|minimise [--packages DIR] INPUT; info also takes --assumptions --definitions --theorems; opentheory sample [--article] N; opentheory info --uses INPUT; opentheory info --readable INPUT; opentheory verify LOG\n";
 
 /// Words that are no command.
-const OTHER_WORDS: [&[&str]; 10] = [
+const OTHER_WORDS: [&[&str]; 12] = [
     &[],
     &["check"],
     &["check", "a", "b"],
     &["info", "--theorems", "--theorems", "a"],
+    &["info", "--readable", "--theorems", "a"],
+    &["info", "--uses", "--readable", "a"],
     &["check", "-.thy"],
     &["link", "a.art"],
     &["sample", "0"],

@@ -1,16 +1,17 @@
 -- What the code reads behind a command's word. Only contracts of private functions speak of it.
 use Rattle.std.specs.Prelude.{ℕ, Bool, true, false, not, ◌&&◌, is_some, List, [], ◌∷◌, Option, None, Some, Result, Ok, Err, if◌then◌else◌}
 use Rattle.std.specs.Option.{option_map, option_and_then, option_copied}
-use Rattle.ot_args.specs.Grammar.{OptionValue, Packages, Assumptions, Definitions, Theorems, UsesFlag, Article, Arguments, SettingsValue, is_option, arguments}
+use Rattle.ot_args.specs.Grammar.{OptionValue, Packages, Assumptions, Definitions, Theorems, UsesFlag, ReadableFlag, Article, Arguments, SettingsValue, is_option, arguments, texts_of}
 use Rattle.ot_args.specs.declared.arguments.Given.{Given}
 use Rattle.ot_args.specs.declared.command.Usage.{Usage}
 use Rattle.ot_args.specs.declared.settings.CommandOption.{CommandOption}
 use Rattle.ot_args.specs.declared.settings.CommandOption.TheVariants as code
 use Rattle.ot_args.specs.declared.settings.Settings.{Settings}
+use Rattle.ot_args.specs.declared.verb.Verb.{Verb}
 
 -- before any option
 abbrev pub no_settings : SettingsValue
-no_settings = record { folder = None; sections = record { assumptions = false; definitions = false; theorems = false }; uses = false; article = false }
+no_settings = record { folder = None; sections = record { assumptions = false; definitions = false; theorems = false }; uses = false; readable = false; article = false }
 
 -- ---- options behind others
 
@@ -21,6 +22,7 @@ is_set s Assumptions = s.sections.assumptions
 is_set s Definitions = s.sections.definitions
 is_set s Theorems = s.sections.theorems
 is_set s UsesFlag = s.uses
+is_set s ReadableFlag = s.readable
 is_set s Article = s.article
 
 -- settings with an option
@@ -30,35 +32,36 @@ with s Assumptions = record s { sections = record s.sections { assumptions = tru
 with s Definitions = record s { sections = record s.sections { definitions = true } }
 with s Theorems = record s { sections = record s.sections { theorems = true } }
 with s UsesFlag = record s { uses = true }
+with s ReadableFlag = record s { readable = true }
 with s Article = record s { article = true }
 
 -- one option more, where it may stand behind those before
-abbrev pub set_one : List ℕ → SettingsValue → OptionValue → Option SettingsValue
-set_one word s o = if is_option word o && not (is_set s o) then Some (with s o) else None
+abbrev pub set_one : Verb → SettingsValue → OptionValue → Option SettingsValue
+set_one v s o = if is_option v o && not (is_set s o) then Some (with s o) else None
 
 -- more options, each where it may stand
-abbrev pub set_all : List ℕ → List OptionValue → SettingsValue → Option SettingsValue
-set_all word [] s = Some s
-set_all word (o ∷ os) s = option_and_then (set_all word os) (set_one word s o)
+abbrev pub set_all : Verb → List OptionValue → SettingsValue → Option SettingsValue
+set_all v [] s = Some s
+set_all v (o ∷ os) s = option_and_then (set_all v os) (set_one v s o)
 
 -- ---- what was given
 
--- what options ask for, and the operand
+-- what options ask for, and the operands
 pub record GivenValue : Type 0 where
   pub settings : SettingsValue
-  pub operand : List ℕ
+  pub operands : List (List ℕ)
 
--- what was given with an operand
-abbrev pub with_operand : List ℕ → SettingsValue → GivenValue
-with_operand operand s = record { settings = s; operand = operand }
+-- what was given with operands
+abbrev pub with_operands : List (List ℕ) → SettingsValue → GivenValue
+with_operands operands s = record { settings = s; operands = operands }
 
 -- arguments behind options that were read before
-abbrev pub given_after : List ℕ → SettingsValue → Arguments → Option GivenValue
-given_after word s a = option_map (with_operand a.operand) (set_all word a.options s)
+abbrev pub given_after : Verb → SettingsValue → Arguments → Option GivenValue
+given_after v s a = option_map (with_operands a.operands) (set_all v a.options s)
 
 -- what words come to behind options that were read before
-abbrev pub read_after : List ℕ → SettingsValue → List (List ℕ) → Option GivenValue
-read_after word s words = option_and_then (given_after word s) (arguments words)
+abbrev pub read_after : Verb → SettingsValue → List (List ℕ) → Option GivenValue
+read_after v s words = option_and_then (given_after v s) (arguments words)
 
 -- ---- the values and answers of the code
 
@@ -69,15 +72,16 @@ option_value code.Assumptions = Assumptions
 option_value code.Definitions = Definitions
 option_value code.Theorems = Theorems
 option_value code.Uses = UsesFlag
+option_value code.Readable = ReadableFlag
 option_value code.Article = Article
 
 -- settings without where their folder lies in memory
 abbrev pub settings_value : Settings → SettingsValue
-settings_value s = record { folder = option_copied s.packages; sections = s.sections; uses = s.uses; article = s.article }
+settings_value s = record { folder = option_copied s.packages; sections = s.sections; uses = s.uses; readable = s.readable; article = s.article }
 
 -- what was given without where it lies in memory
 abbrev pub given_value : Given → GivenValue
-given_value g = record { settings = settings_value g.settings; operand = g.operand.now }
+given_value g = record { settings = settings_value g.settings; operands = texts_of g.operands.now }
 
 -- what the code answers to one option more
 abbrev pub settings_answer : Result Settings Usage → Option SettingsValue

@@ -1,12 +1,14 @@
 ghost use Rattle.std.specs.Prelude.{◌≡◌, ℕ, List, IfOk};
-ghost use Rattle.std.specs.Option.{option_map};
-ghost use Rattle.ot_args.specs.Grammar.{texts_of, answer, command_of, command_value, command_with, count_of, sample, is_input, is_theory, CommandValue, FitsOperand, IsRead};
+ghost use Rattle.std.specs.Option.{option_map, option_and_then};
+ghost use Rattle.ot_args.specs.Grammar.{CommandValue, FitsOperands, IsRead, answer, arguments, command, command_of, command_on};
+ghost use Rattle.ot_args.specs.Grammar.{command_value, command_with, count_of, info, is_input, is_theory, sample, texts_of};
 ghost use Rattle.ot_args.specs.Reading.{settings_value};
 
 use crate::arguments::Given;
 use crate::count::count_of;
 use crate::sections::{Sections, names_any, shown};
 use crate::settings::Settings;
+use crate::verb::Verb;
 
 /// What the words of the command line ask for. An input is `-` for an article on standard input, a
 /// theory file's name or an article file's, and the theory packages are in a folder.
@@ -28,6 +30,11 @@ pub enum Command<'a> {
         packages: &'a str,
         input: &'a str,
     },
+    /// Runs the input and shows its assumptions and theorems in readable form.
+    Readable {
+        packages: &'a str,
+        input: &'a str,
+    },
     /// Links a theory file's packages to one article.
     Link {
         packages: &'a str,
@@ -46,6 +53,10 @@ pub enum Command<'a> {
     SampleArticle {
         count: u64,
     },
+    /// Checks a proof log, on standard input where it is `-`, else in a file.
+    Verify {
+        log: &'a str,
+    },
 }
 
 /// The words are no command.
@@ -59,23 +70,26 @@ impl<'a> Command<'a> {
     /// check [--packages DIR] INPUT
     /// info [--assumptions] [--definitions] [--theorems] [--packages DIR] INPUT
     /// info --uses [--packages DIR] INPUT
+    /// info --readable [--packages DIR] INPUT
     /// link [--packages DIR] FILE
     /// minimise [--packages DIR] INPUT
     /// sample [--article] N
+    /// verify LOG
     /// ```
     ///
-    /// Options stand in any order, each at most once. DIR isn't empty, and is `packages` where the words name no folder. `info`
-    /// asks for all three sections where they name none, and `--uses` stands beside none of them. INPUT and LOG are `-`, or a name that isn't empty and doesn't begin with
-    /// `-`; FILE is an INPUT that ends in `.thy`. N is a number from 1 to 1,000 in decimal, without sign or leading zero.
+    /// Options stand before the operands, in any order, each at most once. DIR isn't empty, and is `packages` where the words
+    /// name no folder. `info` asks for all three sections where they name none; `--uses` and `--readable` stand beside none of
+    /// them, nor beside each other. INPUT and LOG are `-`, or a name that isn't empty and doesn't begin with `-`; FILE is an
+    /// INPUT that ends in `.thy`. N is a number from 1 to 1,000 in decimal, without sign or leading zero.
     /// `Usage` comes exactly for words outside this grammar, which is the program's own. No memory is taken.
     pub fn read(words: &'a [String]) -> Result<Command<'a>, Usage>
         ensures value { answer result ≡ command_of (texts_of words.now) }
-        ensures operand { IfOk result (λ command. FitsOperand (command_value command)) }
+        ensures operands { IfOk result (λ command. FitsOperands (command_value command)) }
     {
         match words {
-            [word, words @ ..] => match Given::read(word.as_str(), words) {
-                Ok(given) => command_with(word.as_str(), given.settings, given.operand),
-                Err(usage) => Err(usage),
+            [word, words @ ..] => match Verb::named(word.as_str()) {
+                Some(verb) => read_behind(verb, words),
+                None => Err(Usage),
             },
             [] => Err(Usage),
         }
@@ -83,48 +97,80 @@ impl<'a> Command<'a> {
 }
 
 /// A law: words are a command exactly where they are its word, options that it takes, in any order and each at most once, and
-/// its operand, written out.
+/// its operands, written out.
 pub fn one_reading()
     ensures { (words : List (List ℕ)) (c : CommandValue) → IsRead words c }
 {}
 
-/// The command of a word, what its options ask for, and its operand.
+/// The command of its options and operands.
+fn read_behind<'a>(verb: Verb, words: &'a [String]) -> Result<Command<'a>, Usage>
+    ensures { answer result ≡ option_and_then (command verb) (arguments (texts_of words.now)) }
+{
+    match Given::read(verb, words) {
+        Ok(given) => command_with(verb, given.settings, given.operands),
+        Err(usage) => Err(usage),
+    }
+}
+
+/// The command of what its options ask for and its operands.
 fn command_with<'a>(
-    word: &str,
+    verb: Verb,
+    settings: Settings<'a>,
+    operands: &'a [String],
+) -> Result<Command<'a>, Usage>
+    ensures { answer result ≡ command_with verb (settings_value settings.entry) (texts_of operands.now) }
+{
+    match operands {
+        [operand] => command_on(verb, settings, operand.as_str()),
+        _ => Err(Usage),
+    }
+}
+
+/// The command of what its options ask for and its one operand.
+fn command_on<'a>(
+    verb: Verb,
     settings: Settings<'a>,
     operand: &'a str,
 ) -> Result<Command<'a>, Usage>
-    ensures { answer result ≡ command_with word.now (settings_value settings.entry) operand.now }
+    ensures { answer result ≡ command_on verb (settings_value settings.entry) operand.now }
 {
     let packages = settings.packages.unwrap_or("packages");
     let input = operand;
-    if word == "check" && is_input(input) {
-        Ok(Command::Check { packages, input })
-    } else if word == "info" && is_input(input) && !settings.uses {
-        let sections = shown(settings.sections);
-        Ok(Command::Info {
-            packages,
-            input,
-            sections,
-        })
-    } else if word == "info" && is_input(input) && settings.uses && !names_any(settings.sections) {
-        Ok(Command::Uses { packages, input })
-    } else if word == "link" && is_input(input) && is_theory(input) {
-        Ok(Command::Link {
+    match verb {
+        Verb::Check if is_input(input) => Ok(Command::Check { packages, input }),
+        Verb::Info if is_input(input) => info(settings, packages, input),
+        Verb::Link if is_input(input) && is_theory(input) => Ok(Command::Link {
             packages,
             file: input,
-        })
-    } else if word == "minimise" && is_input(input) {
-        Ok(Command::Minimise { packages, input })
-    } else if word == "sample" {
-        sample(settings.article, operand)
-    } else {
-        Err(Usage)
+        }),
+        Verb::Minimise if is_input(input) => Ok(Command::Minimise { packages, input }),
+        Verb::Sample => sample(settings.article, operand),
+        Verb::Verify if is_input(operand) => Ok(Command::Verify { log: operand }),
+        _ => Err(Usage),
+    }
+}
+
+/// What `info` shows of the run of an input: sections of its summary, what its theorems rest on, or readable text.
+fn info<'a>(settings: Settings<'a>, packages: &'a str, input: &'a str) -> Result<Command<'a>, Usage>
+    ensures { answer result ≡ info (settings_value settings.entry) packages.now input.now }
+{
+    if names_any(settings.sections) && (settings.uses || settings.readable) {
+        return Err(Usage);
+    }
+    match (settings.uses, settings.readable) {
+        (false, false) => Ok(Command::Info {
+            packages,
+            input,
+            sections: shown(settings.sections),
+        }),
+        (true, false) => Ok(Command::Uses { packages, input }),
+        (false, true) => Ok(Command::Readable { packages, input }),
+        (true, true) => Err(Usage),
     }
 }
 
 /// A sample, or its article, of the number that a word is.
-fn sample<'a>(article: bool, word: &'a str) -> Result<Command<'a>, Usage>
+fn sample(article: bool, word: &str) -> Result<Command<'_>, Usage>
     ensures { answer result ≡ option_map (sample article) (count_of word.now) }
 {
     match count_of(word) {

@@ -6,8 +6,7 @@ mod command;
 mod count;
 mod sections;
 mod settings;
-#[cfg(test)]
-mod tests;
+mod verb;
 
 pub use command::{Command, Usage, is_theory, one_reading};
 pub use sections::Sections;

@@ -1,10 +1,11 @@
 ghost use Rattle.std.specs.Prelude.{◌≡◌};
 ghost use Rattle.std.specs.Option.{option_map};
-ghost use Rattle.ot_args.specs.Grammar.{flag_named, has_value, takes};
+ghost use Rattle.ot_args.specs.Grammar.{flag_named, has_value};
 ghost use Rattle.ot_args.specs.Reading.{is_set, option_value, set_one, settings_answer, settings_value, with};
 
 use crate::command::Usage;
 use crate::sections::{NONE, Sections};
+use crate::verb::Verb;
 
 /// An option of a command, with its value where it has one.
 #[derive(Clone, Copy)]
@@ -19,6 +20,8 @@ pub enum CommandOption<'a> {
     Theorems,
     /// `--uses`: what each theorem rests on, in place of the summary.
     Uses,
+    /// `--readable`: assumptions and theorems in readable form, in place of the summary.
+    Readable,
     /// `--article`: the article of the sample.
     Article,
 }
@@ -32,6 +35,8 @@ pub struct Settings<'a> {
     pub sections: Sections,
     /// Whether what each theorem rests on is asked for.
     pub uses: bool,
+    /// Whether readable text is asked for.
+    pub readable: bool,
     /// Whether the article of the sample is asked for.
     pub article: bool,
 }
@@ -41,16 +46,16 @@ pub const UNSET: Settings<'static> = Settings {
     packages: None,
     sections: NONE,
     uses: false,
+    readable: false,
     article: false,
 };
 
 impl<'a> Settings<'a> {
-    /// The settings with one option more; `Usage` where the command of the word doesn't take it, it was set before, or its value
-    /// is empty.
-    pub fn set(self, word: &str, option: CommandOption<'a>) -> Result<Settings<'a>, Usage>
-        ensures { settings_answer result ≡ set_one word.now (settings_value self.entry) (option_value option.entry) }
+    /// The settings with one option more; `Usage` where the command doesn't take it, it was set before, or its value is empty.
+    pub fn set(self, verb: Verb, option: CommandOption<'a>) -> Result<Settings<'a>, Usage>
+        ensures { settings_answer result ≡ set_one verb (settings_value self.entry) (option_value option.entry) }
     {
-        if takes(word, option) && has_value(option) && !self.is_set(option) {
+        if verb.takes(option) && has_value(option) && !self.is_set(option) {
             Ok(self.with(option))
         } else {
             Err(Usage)
@@ -67,6 +72,7 @@ impl<'a> Settings<'a> {
             CommandOption::Definitions => self.sections.definitions,
             CommandOption::Theorems => self.sections.theorems,
             CommandOption::Uses => self.uses,
+            CommandOption::Readable => self.readable,
             CommandOption::Article => self.article,
         }
     }
@@ -82,25 +88,10 @@ impl<'a> Settings<'a> {
             CommandOption::Definitions => settings.sections.definitions = true,
             CommandOption::Theorems => settings.sections.theorems = true,
             CommandOption::Uses => settings.uses = true,
+            CommandOption::Readable => settings.readable = true,
             CommandOption::Article => settings.article = true,
         }
         settings
-    }
-}
-
-/// Whether the command of a word takes an option.
-fn takes(word: &str, option: CommandOption<'_>) -> bool
-    ensures { result ≡ takes word.now (option_value option.entry) }
-{
-    match option {
-        CommandOption::Packages(_) => {
-            word == "check" || word == "info" || word == "link" || word == "minimise"
-        }
-        CommandOption::Article => word == "sample",
-        CommandOption::Assumptions
-        | CommandOption::Definitions
-        | CommandOption::Theorems
-        | CommandOption::Uses => word == "info",
     }
 }
 
@@ -126,6 +117,8 @@ pub fn flag_named(name: &str) -> Option<CommandOption<'static>>
         Some(CommandOption::Theorems)
     } else if name == "--uses" {
         Some(CommandOption::Uses)
+    } else if name == "--readable" {
+        Some(CommandOption::Readable)
     } else if name == "--article" {
         Some(CommandOption::Article)
     } else {

@@ -29,3 +29,4 @@ pub mod Held
 pub mod EachOnce
 -- What is lawful over a run is lawful over a later one.
 pub mod Lawful
+pub mod FileTags

@@ -9,3 +9,4 @@ pub mod Adding
 pub mod Holding
 pub mod Running
 pub mod Lawful
+pub mod Shown

@@ -9,10 +9,9 @@ mod linking;
 mod reading;
 mod renaming;
 mod setting;
+mod showing;
 
 pub use article::run_alone;
 pub use fault::LinkFault;
 pub use linking::link;
-
-#[cfg(test)]
-mod tests;
+pub use showing::shown;

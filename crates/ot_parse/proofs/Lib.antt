@@ -5,6 +5,7 @@ pub mod Gluing
 pub mod Lookups
 pub mod Halts
 pub mod Rivals
+pub mod BaseNames
 pub mod Hiding
 pub mod FrameLaws
 pub mod TypeFronts

@@ -1,20 +1,20 @@
 -- Which symbols are hidden.
-use Rattle.std.specs.Prelude.{◌≡◌, Bool, true, false, cond, [], ◌∷◌, ◌++◌, not, ◌&&◌, ◌||◌, List, map}
+use Rattle.std.specs.Prelude.{◌≡◌, Bool, true, false, cond, [], ◌∷◌, ◌++◌, ◌&&◌, List, map}
 use Rattle.std.specs.List.{list_all, list_any}
 use Rattle.std.proofs.Common.{refl, sym, ◌∙◌, ap}
-use Rattle.std.proofs.lemmas.List.Folds.{list_all-map}
 use Rattle.ot_plain.specs.Names.{Name, same_name}
 use Rattle.ot_plain.specs.Trees.{Symbol}
-use Rattle.ot_forms.specs.Words.{namespace, base, same_text, same_kind, same_symbol, symbol_name, is_alike, is_shown, is_short, is_hidden_in}
+use Rattle.ot_forms.specs.Words.{namespace, same_kind, symbol_name, is_shown, is_short, is_hidden_in}
 use Rattle.ot_parse.specs.declared.notation.WordKind.{WordKind}
 use Rattle.ot_parse.specs.declared.notation.WordKind.TheVariants as kinds
-use Rattle.ot_parse.specs.Symbols.{symbol_of, kind_test, is_no_rival, with_passing}
+use Rattle.ot_parse.specs.Bases.{is_no_rival}
+use Rattle.ot_parse.specs.Symbols.{symbol_of, kind_test, with_passing}
 
-name-of : (k : WordKind) (n : Name) → symbol_name (symbol_of (k, n)) ≡ n
+pub name-of : (k : WordKind) (n : Name) → symbol_name (symbol_of (k, n)) ≡ n
 name-of kinds.Con n = refl
 name-of kinds.TyOp n = refl
 
-kind-of : (k l : WordKind) (n m : Name) → same_kind (symbol_of (k, n)) (symbol_of (l, m)) ≡ kind_test k l
+pub kind-of : (k l : WordKind) (n m : Name) → same_kind (symbol_of (k, n)) (symbol_of (l, m)) ≡ kind_test k l
 kind-of kinds.Con kinds.Con n m = refl
 kind-of kinds.Con kinds.TyOp n m = refl
 kind-of kinds.TyOp kinds.Con n m = refl
@@ -24,50 +24,25 @@ module _ (shown : List Name) (k : WordKind) (n : Name) where
   shown-is : is_shown shown (symbol_of (k, n)) ≡ list_any (same_name (namespace n)) shown
   shown-is = ap (λ z. list_any (same_name (namespace z)) shown) (name-of k n)
 
-  module _ (xs : List (WordKind × Name)) where
+  module _ (ss : List (Symbol Name)) where
     abbrev alone : Bool
-    alone = list_all (is_no_rival shown (k, n)) xs
+    alone = list_all (is_no_rival shown (symbol_of (k, n))) ss
 
-    parts : is_hidden_in shown (map symbol_of xs) (symbol_of (k, n)) ≡ (list_any (same_name (namespace n)) shown && (is_short (symbol_of (k, n)) && alone))
-    parts = λ i. shown-is i && (is_short (symbol_of (k, n)) && list_all-map (λ t. not (is_alike (symbol_of (k, n)) t && is_shown shown t) || same_symbol (symbol_of (k, n)) t) symbol_of xs i)
+    parts : is_hidden_in shown ss (symbol_of (k, n)) ≡ (list_any (same_name (namespace n)) shown && (is_short (symbol_of (k, n)) && alone))
+    parts = λ i. shown-is i && (is_short (symbol_of (k, n)) && alone)
 
     and-false : (e : Bool) → false ≡ (e && false)
     and-false true = refl
     and-false false = refl
 
-    pub not-shown : list_any (same_name (namespace n)) shown ≡ false → false ≡ is_hidden_in shown (map symbol_of xs) (symbol_of (k, n))
+    pub not-shown : list_any (same_name (namespace n)) shown ≡ false → false ≡ is_hidden_in shown ss (symbol_of (k, n))
     not-shown h = ap (λ e. e && (is_short (symbol_of (k, n)) && alone)) (sym h) ∙ sym parts
 
-    pub not-short : is_short (symbol_of (k, n)) ≡ false → false ≡ is_hidden_in shown (map symbol_of xs) (symbol_of (k, n))
+    pub not-short : is_short (symbol_of (k, n)) ≡ false → false ≡ is_hidden_in shown ss (symbol_of (k, n))
     not-short h = and-false (list_any (same_name (namespace n)) shown) ∙ ap (λ e. list_any (same_name (namespace n)) shown && (e && alone)) (sym h) ∙ sym parts
 
-    pub if-alone : list_any (same_name (namespace n)) shown ≡ true → is_short (symbol_of (k, n)) ≡ true → alone ≡ is_hidden_in shown (map symbol_of xs) (symbol_of (k, n))
+    pub if-alone : list_any (same_name (namespace n)) shown ≡ true → is_short (symbol_of (k, n)) ≡ true → alone ≡ is_hidden_in shown ss (symbol_of (k, n))
     if-alone h g = (λ i. sym h i && (sym g i && alone)) ∙ sym parts
-
-  module _ (l : WordKind) (m : Name) where
-    rival-is : is_no_rival shown (k, n) (l, m) ≡ (not ((kind_test k l && same_text (base n) (base m)) && list_any (same_name (namespace m)) shown) || (kind_test k l && same_name n m))
-    rival-is = λ i. not ((kind-of k l n m i && same_text (base (name-of k n i)) (base (name-of l m i))) && list_any (same_name (namespace (name-of l m i))) shown) || (kind-of k l n m i && same_name (name-of k n i) (name-of l m i))
-
-    pub other-kind : kind_test k l ≡ false → true ≡ is_no_rival shown (k, n) (l, m)
-    other-kind h = ap (λ e. not ((e && same_text (base n) (base m)) && list_any (same_name (namespace m)) shown) || (e && same_name n m)) (sym h) ∙ sym rival-is
-
-    base-false : (a c d : Bool) → true ≡ (not ((a && false) && c) || (a && d))
-    base-false true c d = refl
-    base-false false c d = refl
-
-    shown-false : (a b d : Bool) → true ≡ (not ((a && b) && false) || (a && d))
-    shown-false true true d = refl
-    shown-false true false d = refl
-    shown-false false b d = refl
-
-    pub other-base : same_text (base n) (base m) ≡ false → true ≡ is_no_rival shown (k, n) (l, m)
-    other-base h = base-false (kind_test k l) (list_any (same_name (namespace m)) shown) (same_name n m) ∙ ap (λ e. not ((kind_test k l && e) && list_any (same_name (namespace m)) shown) || (kind_test k l && same_name n m)) (sym h) ∙ sym rival-is
-
-    pub other-shown : list_any (same_name (namespace m)) shown ≡ false → true ≡ is_no_rival shown (k, n) (l, m)
-    other-shown h = shown-false (kind_test k l) (same_text (base n) (base m)) (same_name n m) ∙ ap (λ e. not ((kind_test k l && same_text (base n) (base m)) && e) || (kind_test k l && same_name n m)) (sym h) ∙ sym rival-is
-
-    pub rival-name : kind_test k l ≡ true → same_text (base n) (base m) ≡ true → list_any (same_name (namespace m)) shown ≡ true → same_name n m ≡ is_no_rival shown (k, n) (l, m)
-    rival-name h g f = (λ i. not ((sym h i && sym g i) && sym f i) || (sym h i && same_name n m)) ∙ sym rival-is
 
 -- ---- a symbol more
 map-push : (xs : List (WordKind × Name)) (x : WordKind × Name) → map symbol_of (xs ++ x ∷ []) ≡ map symbol_of xs ++ symbol_of x ∷ []

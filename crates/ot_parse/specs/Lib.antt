@@ -1,5 +1,6 @@
 -- What the code's trees and answers stand for.
 pub mod Symbols
+pub mod Bases
 pub mod Plain
 pub mod Gives
 pub mod Pieces

@@ -1,9 +1,9 @@
 -- What a symbol of the code stands for.
-use Rattle.std.specs.Prelude.{ℕ, Bool, true, false, cond, not, ◌&&◌, ◌||◌, List, [], ◌∷◌, ◌++◌, ◌==◌, Option, Some, None}
+use Rattle.std.specs.Prelude.{ℕ, Bool, true, false, cond, ◌&&◌, List, [], ◌∷◌, ◌++◌, ◌==◌, Option, Some, None}
 use Rattle.ot_plain.specs.Lists.{IsMember}
 use Rattle.ot_plain.specs.Names.{Name, IsName}
 use Rattle.ot_plain.specs.Trees.{Symbol, ConSymbol, OpSymbol}
-use Rattle.ot_forms.specs.Words.{is_alike, is_shown, same_symbol, same_kind, same_text, base, symbol_name, is_operator}
+use Rattle.ot_forms.specs.Words.{same_kind, same_text, base, symbol_name, is_operator}
 use Rattle.ot_parse.specs.declared.notation.WordKind.{WordKind}
 use Rattle.ot_parse.specs.declared.notation.WordKind.TheVariants as kinds
 
@@ -16,10 +16,6 @@ abbrev pub kind_test : WordKind → WordKind → Bool
 kind_test kinds.Con kinds.Con = true
 kind_test kinds.TyOp kinds.TyOp = true
 kind_test _ _ = false
-
--- whether the second isn't another symbol of the kind with the same base name and a shown namespace
-abbrev pub is_no_rival : List Name → WordKind × Name → WordKind × Name → Bool
-is_no_rival shown s t = not (is_alike (symbol_of s) (symbol_of t) && is_shown shown (symbol_of t)) || same_symbol (symbol_of s) (symbol_of t)
 
 -- a symbol more, where it passes
 abbrev pub with_passing : (Symbol Name → Bool) → Symbol Name → List (Symbol Name) → List (Symbol Name)

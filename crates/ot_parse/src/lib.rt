@@ -1,6 +1,7 @@
 //! Readable text: the notation of a run, and sequents and terms that are read back from text.
 #![tactic(auto)]
 
+mod bases;
 mod gather;
 mod halt;
 mod names;
@@ -13,13 +14,12 @@ mod refusal;
 mod spelling;
 mod symbols;
 mod terms;
-#[cfg(test)]
-mod tests;
 mod trees;
 mod types;
 mod values;
 mod words;
 
+pub use names::{base_of, copy_name, is_bare};
 pub use notation::{Notation, WordKind};
 pub use ot_forms::TextFault;
 pub use ot_text::PrintFault as PlainFault;
@@ -27,3 +27,4 @@ pub use plain::plain_text;
 pub use readable::Readable;
 pub use reader::{read_sequent, read_term};
 pub use refusal::ReadRefusal;
+pub use words::is_operator;

@@ -8,8 +8,8 @@ use crate::words::is_part;
 use ot_plain::Name;
 use std::alloc::{AllocError, Global};
 
-/// A name equal to this one.
-pub(crate) fn copy_name(alloc: Global, name: &Name) -> Result<Name, AllocError>
+/// A name equal to this one. It fails only for want of memory.
+pub fn copy_name(alloc: Global, name: &Name) -> Result<Name, AllocError>
     ensures { IfOk result (λ copy. copy ≡ name.now) }
 {
     let mut components = Vec::new(alloc);
@@ -20,8 +20,8 @@ pub(crate) fn copy_name(alloc: Global, name: &Name) -> Result<Name, AllocError>
     Ok(Name::from_components(components))
 }
 
-/// The last component.
-pub(crate) fn base_of(name: &Name) -> &[u8]
+/// The base name: the last component, without quotes.
+pub fn base_of(name: &Name) -> &[u8]
     ensures { result.now ≡ base name.now }
 {
     let components = name.components();
@@ -43,8 +43,8 @@ pub(crate) fn are_same(left: &[Vec<u8>], right: &[Vec<u8>]) -> bool
     left == right
 }
 
-/// Whether each component is a part.
-pub(crate) fn is_bare(name: &Name) -> bool
+/// Whether a name has a bare word: each component is a letter, followed by letters, digits and `_`.
+pub fn is_bare(name: &Name) -> bool
     ensures { result ≡ bare_test name.now }
 {
     are_parts(name.components())

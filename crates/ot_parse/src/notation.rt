@@ -1,12 +1,15 @@
 //! The notation of a run: which symbols are written by their base names.
-ghost use Rattle.std.specs.Prelude.{◌≡◌, ◌&&◌, [], true, not, map, IfOk, OnOk};
+ghost use Rattle.std.specs.Prelude.{◌≡◌, ◌&&◌, [], true, not, map, List, IfOk, OnOk};
 ghost use Rattle.std.specs.Option.{option_map};
-ghost use Rattle.std.specs.List.{list_any, list_all};
-ghost use Rattle.ot_plain.specs.Names.{same_name, IsName};
+ghost use Rattle.std.specs.List.{list_any};
+ghost use Rattle.ot_plain.specs.Names.{Name as NameValue, same_name, IsName};
+ghost use Rattle.ot_plain.specs.Trees.{Symbol};
 ghost use Rattle.ot_forms.specs.Words.{IsNotation, hidden_symbols, is_hidden_in as hidden_test, is_short as short_test, namespace, is_hidden as hidden_now, is_taken, is_bare as bare_test, dotted, same_symbol};
 ghost use Rattle.ot_forms.specs.Reading.{with_base as based, is_spelled as spelled_test, settled, operators};
-ghost use Rattle.ot_parse.specs.Symbols.{symbol_of, is_no_rival, kind_test, with_passing, AreNames, has_base as has_base_test, operator_base};
+ghost use Rattle.ot_parse.specs.Bases.{AreBases};
+ghost use Rattle.ot_parse.specs.Symbols.{symbol_of, kind_test, with_passing, AreNames, has_base as has_base_test, operator_base};
 
+use crate::bases::Bases;
 use crate::names::{are_same, base_of, copy_name, is_bare, namespace_of};
 use crate::words::{is_operator, is_part, is_same};
 use ot_plain::{Memory, Name};
@@ -53,15 +56,16 @@ impl Notation {
         ensures { IfOk result (λ n. n ≡ hidden_symbols shown.now (map symbol_of symbols.now)) }
     {
         are_names(shown);
+        let bases = Bases::of(alloc, shown, symbols)?;
         let mut hidden = Vec::new(alloc);
         for symbol in symbols {
-            push_hidden(alloc, shown, symbols, symbol, &mut hidden)?;
+            push_hidden(alloc, shown, &bases, symbol, &mut hidden)?;
         }
         Ok(Notation { hidden })
     }
 
-    /// Whether this symbol is hidden.
-    pub(crate) fn is_hidden(&self, kind: WordKind, name: &Name) -> bool
+    /// Whether this symbol is hidden: its word is its base name.
+    pub fn is_hidden(&self, kind: WordKind, name: &Name) -> bool
         ensures { result ≡ hidden_now self.now (symbol_of (kind, name.now)) }
     {
         has_symbol(self.hidden.as_slice(), kind, name)
@@ -79,8 +83,9 @@ impl Notation {
         None
     }
 
-    /// Whether the symbol's word is its spelling.
-    pub(crate) fn is_spelled(&self, kind: WordKind, name: &Name) -> bool
+    /// Whether the symbol's word is its spelling: it isn't hidden, and it has no bare word or that is the base name of a
+    /// hidden symbol of its kind.
+    pub fn is_spelled(&self, kind: WordKind, name: &Name) -> bool
         ensures { result ≡ spelled_test self.now (symbol_of (kind, name.now)) }
     {
         !self.is_hidden(kind, name) && !self.is_plain(kind, name)
@@ -142,8 +147,9 @@ impl Notation {
         Ok(words)
     }
 
-    /// A law: of one kind no two hidden symbols have one base name, which may stand alone.
-    pub(crate) fn sound(&self)
+    /// A law: each hidden symbol has a namespace and a base name that may stand alone, and of one kind no two have one base
+    /// name.
+    pub fn sound(&self)
         ensures { IsNotation self.now }
     {
         let _hidden = &self.hidden;
@@ -210,13 +216,14 @@ fn is_name(name: &Name)
 fn push_hidden(
     alloc: Global,
     shown: &[Name],
-    symbols: &[(WordKind, Name)],
+    bases: &Bases<'_>,
     symbol: &(WordKind, Name),
     hidden: &mut Vec<(WordKind, Name)>,
 ) -> Result<(), AllocError>
-    ensures { OnOk result (map symbol_of hidden.new.items ≡ with_passing (hidden_test shown.now (map symbol_of symbols.now)) (symbol_of symbol.now) (map symbol_of hidden.old.items)) }
+    ensures { OnOk result ((symbols : List (Symbol NameValue)) → AreBases shown.now symbols bases.now
+        → map symbol_of hidden.new.items ≡ with_passing (hidden_test shown.now symbols) (symbol_of symbol.now) (map symbol_of hidden.old.items)) }
 {
-    if !is_hidden_in(shown, symbols, symbol) {
+    if !is_hidden_in(shown, bases, symbol) {
         return Ok(());
     }
     hidden.push(copy_symbol(alloc, symbol)?)?;
@@ -231,8 +238,8 @@ fn copy_symbol(alloc: Global, symbol: &(WordKind, Name)) -> Result<(WordKind, Na
     Ok((symbol.0, name))
 }
 
-// Whether the symbol's namespace is among these.
-fn is_shown(shown: &[Name], name: &Name) -> bool
+/// Whether the symbol's namespace is among these.
+pub(crate) fn is_shown(shown: &[Name], name: &Name) -> bool
     ensures { result ≡ list_any (same_name (namespace name.now)) shown.now }
 {
     shown
@@ -248,9 +255,9 @@ fn is_short(kind: WordKind, name: &Name) -> bool
     is_part(base) || (kind == WordKind::Con && is_operator(base))
 }
 
-// Whether a symbol is hidden among these.
-fn is_hidden_in(shown: &[Name], symbols: &[(WordKind, Name)], symbol: &(WordKind, Name)) -> bool
-    ensures { result ≡ hidden_test shown.now (map symbol_of symbols.now) (symbol_of symbol.now) }
+// Whether a symbol is hidden among those that these bases are of.
+fn is_hidden_in(shown: &[Name], bases: &Bases<'_>, symbol: &(WordKind, Name)) -> bool
+    ensures { (symbols : List (Symbol NameValue)) → AreBases shown.now symbols bases.now → result ≡ hidden_test shown.now symbols (symbol_of symbol.now) }
 {
     if !is_shown(shown, &symbol.1) {
         return false;
@@ -258,36 +265,11 @@ fn is_hidden_in(shown: &[Name], symbols: &[(WordKind, Name)], symbol: &(WordKind
     if !is_short(symbol.0, &symbol.1) {
         return false;
     }
-    has_no_rival(shown, symbols, symbol)
+    bases.is_alone(symbol.0, &symbol.1)
 }
 
-// Whether none of these is another symbol of the kind with the same base name and a shown namespace.
-fn has_no_rival(shown: &[Name], symbols: &[(WordKind, Name)], symbol: &(WordKind, Name)) -> bool
-    ensures { result ≡ list_all (is_no_rival shown.now symbol.now) symbols.now }
-{
-    symbols
-        .iter()
-        .all(|other| leaves_alone(shown, symbol, other))
-}
-
-// Whether a symbol isn't another one of the kind with the same base name and a shown namespace.
-fn leaves_alone(shown: &[Name], symbol: &(WordKind, Name), other: &(WordKind, Name)) -> bool
-    ensures { result ≡ is_no_rival shown.now symbol.now other.now }
-{
-    if !is_one_kind(symbol.0, other.0) {
-        return true;
-    }
-    if !is_same(base_of(&symbol.1), base_of(&other.1)) {
-        return true;
-    }
-    if !is_shown(shown, &other.1) {
-        return true;
-    }
-    symbol.1 == other.1
-}
-
-// Whether two kinds are one.
-fn is_one_kind(left: WordKind, right: WordKind) -> bool
+/// Whether two kinds are one.
+pub(crate) fn is_one_kind(left: WordKind, right: WordKind) -> bool
     ensures { result ≡ kind_test left right }
 {
     match (left, right) {

@@ -54,8 +54,8 @@ fn are_inner(text: &[u8]) -> bool
     text.iter().all(|byte| is_inner(*byte))
 }
 
-/// One sign or more, but not `=` alone.
-pub(crate) fn is_operator(text: &[u8]) -> bool
+/// Whether a text is an operator word: one or more of the bytes `/ \ = < > ~ & |`, but not `=` alone.
+pub fn is_operator(text: &[u8]) -> bool
     ensures { result ≡ operator_test text.now }
 {
     match text {

@@ -106,7 +106,7 @@ module _ (s : State) (t : TermTable) (k : IsSpelled s t) (table : IsNameTable s.
   type_outside : (i : ℕ) → i < length t.types → i < length s.types
   type_outside i h = omega (arith, types-length)
 
-  name_is : (i : ℕ) → i < length s.names → f i ≡ name_at s i
+  pub name_is : (i : ℕ) → i < length s.names → f i ≡ name_at s i
   name_is = name_of-index s.names table
 
   type_is : (i : ℕ) → i < length t.types → map_ty f (types.type_at t.types i) ≡ type_at s i
@@ -122,7 +122,7 @@ module _ (s : State) (t : TermTable) (k : IsSpelled s t) (table : IsNameTable s.
   variable_is : (v : VarKey) → v.name < length s.names → v.ty < length t.types → map_variable f (terms.variable_of t.types v) ≡ variable_at s v
   variable_is v h g = let a = name_is v.name h in let b = type_is v.ty g in λ j. record { name = a j; ty = b j }
 
-  term_is : (i : ℕ) → i < length t.terms → map_named f (terms.term_at t.terms i) ≡ named_at s.terms i
+  pub term_is : (i : ℕ) → i < length t.terms → map_named f (terms.term_at t.terms i) ≡ named_at s.terms i
   term_is i h = sym (index-map (map_named f) t.terms i (NConst 0 (TyVar 0)) (NConst [] (TyVar [])) h) ∙ ap (λ ts. named_at ts i) (sym k.terms)
 
   -- ---- types
@@ -146,7 +146,7 @@ module _ (s : State) (t : TermTable) (k : IsSpelled s t) (table : IsNameTable s.
       sym (type_is id w) ∙ ap (map_ty f) (get_or_from_slice_get t.types id _ (TyVar 0) p) ∙ node-tree n id (omega arith) (type_node-inside id n p h)
 
   -- ---- from numbers to names
-  abbrev lettered : IsLettering f numbers names
+  abbrev pub lettered : IsLettering f numbers names
   lettered = lettering s.names (table_names s.names table)
 
   abbrev alphabet_at : (i : 𝕀) → Alphabet (Line (naming s.names) i)

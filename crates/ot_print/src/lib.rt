@@ -3,13 +3,11 @@
 
 mod definitions;
 mod gather;
-mod nodes;
+pub mod nodes;
 mod printable;
 mod sequents;
 mod summary;
 mod terms;
-#[cfg(test)]
-mod tests;
 mod types;
 
 pub use gather::gathered;
@@ -17,5 +15,5 @@ pub use ot_text::{PrintFault, one_text};
 pub use printable::Printable;
 pub use sequents::sequent_text;
 pub use summary::summary_text;
-pub use terms::term_text;
+pub use terms::{Binders, place, term_text};
 pub use types::type_text;

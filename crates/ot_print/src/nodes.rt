@@ -24,7 +24,7 @@ pub(crate) fn put_name(page: &mut Page, kernel: &Kernel, name: NameId)
 }
 
 /// The node of a type.
-pub(crate) fn type_node(kernel: &Kernel, id: TypeId) -> &TypeNode
+pub fn type_node(kernel: &Kernel, id: TypeId) -> &TypeNode
     requires { id < length kernel.now.types }
     ensures tree { type_at kernel.now id ≡ type_tree kernel.now result.now }
     ensures inside { IsTypeNode kernel.now id result.now }
@@ -34,7 +34,7 @@ pub(crate) fn type_node(kernel: &Kernel, id: TypeId) -> &TypeNode
 }
 
 /// The argument type and the result type of a function type.
-pub(crate) fn function_parts(kernel: &Kernel, id: TypeId) -> Option<(TypeId, TypeId)>
+pub fn function_parts(kernel: &Kernel, id: TypeId) -> Option<(TypeId, TypeId)>
     requires { id < length kernel.now.types }
     ensures none { IfNone result (is_function names (type_at kernel.now id) ≡ false) }
     ensures parts { IfSome result (λ p. type_at kernel.now id ≡ fun_ty names (type_at kernel.now p.0) (type_at kernel.now p.1)) }
@@ -45,7 +45,7 @@ pub(crate) fn function_parts(kernel: &Kernel, id: TypeId) -> Option<(TypeId, Typ
 }
 
 /// The node of a term.
-pub(crate) fn term_node(kernel: &Kernel, id: TermId) -> &TermNode
+pub fn term_node(kernel: &Kernel, id: TermId) -> &TermNode
     requires { id < length kernel.now.terms }
     ensures tree { named_at kernel.now.terms id ≡ term_tree kernel.now result.now }
     ensures inside { IsTermNode kernel.now id result.now }
@@ -55,7 +55,7 @@ pub(crate) fn term_node(kernel: &Kernel, id: TermId) -> &TermNode
 }
 
 /// The two sides of an equation.
-pub(crate) fn equation_sides(kernel: &Kernel, id: TermId) -> Option<(TermId, TermId)>
+pub fn equation_sides(kernel: &Kernel, id: TermId) -> Option<(TermId, TermId)>
     requires { id < length kernel.now.terms }
     ensures none { IfNone result ((e : List (Variable Name)) → is_equation names (nameless_in names e (named_at kernel.now.terms id)) ≡ false) }
     ensures sides { IfSome result (λ p. (ty : Ty Name) × (named_at kernel.now.terms id ≡ equation_of ty (named_at kernel.now.terms p.0) (named_at kernel.now.terms p.1))) }

@@ -19,7 +19,7 @@ use std::alloc::Global;
 
 /// The binders around a term, the innermost first.
 #[derive(Clone, Copy)]
-pub(crate) enum Binders<'a> {
+pub enum Binders<'a> {
     Outermost,
     Inside(&'a VarKey, &'a Binders<'a>),
 }
@@ -116,8 +116,8 @@ fn put_variable(page: &mut Page, kernel: &Kernel, binders: &Binders<'_>, v: &Var
     }
 }
 
-// The place of a variable among binders.
-fn place(kernel: &Kernel, binders: &Binders<'_>, v: &VarKey) -> Option<usize>
+/// The place of a variable among binders.
+pub fn place(kernel: &Kernel, binders: &Binders<'_>, v: &VarKey) -> Option<usize>
     requires key { IsKey kernel.now v.now }
     requires binders { AreKeys kernel.now binders.now }
     requires fits { length (binders_at kernel.now binders.now) < 2 ^ 64 }

@@ -16,7 +16,7 @@ use Rattle.ot_laws.proofs.Tests.{tells_names}
 use Rattle.ot_laws.proofs.Theorems.{defined-theorem}
 use Rattle.ot_records.specs.Tokens as stated
 use Rattle.ot_records.specs.Steps.{is_sequent_within, assumption_step}
-use Rattle.ot_records.specs.State.{LogState, kept_once, makes_assumption, makes_definition, makes_result}
+use Rattle.ot_records.specs.State.{kept_once, makes_assumption, makes_definition, makes_result}
 use Rattle.ot_records.proofs.StateSound.{place_of, assumption-sound, definition-sound, result-sound}
 use Rattle.ot_nodes.specs.Items.{Item, term_at}
 use Rattle.ot_rules.specs.Limits.{AreWellTyped}

@@ -1,6 +1,6 @@
 -- A list that a record asks for, element after element; and two things that are asked for together.
-use Rattle.std.specs.Prelude.{Ok, Err, Result, Option, Some, None}
-use Rattle.std.proofs.Common.{◌≡◌, ℕ, zero, suc, List, [], ◌∷◌, ◌++◌, sym, ap, ◌∙◌, refl, append_assoc, arith}
+use Rattle.std.specs.Prelude.{Ok, Err, Option, Some, None}
+use Rattle.std.proofs.Common.{ℕ, suc, List, [], ◌∷◌, ◌++◌, sym, ap, ◌∙◌, append_assoc, arith}
 use Rattle.std.proofs.lemmas.List.{append-nil}
 use Rattle.ot_plain.specs.Names.{Name}
 use Rattle.ot_plain.specs.Naming.{names}

@@ -1,12 +1,11 @@
 -- Definitions that a record makes, over a table that grew.
 use Rattle.std.specs.List.{All}
 use Rattle.std.specs.Global.{Vec}
-use Rattle.std.proofs.Common.{◌≡◌, ℕ, List, map, Result, Ok, Err, refl, sym, ap, ◌∙◌, subst}
+use Rattle.std.proofs.Common.{◌≡◌, List, Result, Ok, Err, sym, ap, ◌∙◌, subst}
 use Rattle.ot_plain.specs.Names.{Name}
 use Rattle.ot_plain.specs.Naming.{names}
 use Rattle.ot_plain.specs.Table.{Extends}
-use Rattle.ot_plain.specs.Trees.{Sequent, Definition}
-use Rattle.ot_laws.specs.Theorem.{IsTheorem}
+use Rattle.ot_plain.specs.Trees.{Definition}
 use Rattle.ot_records.specs.Tokens as stated
 use Rattle.ot_records.specs.Steps.{Step}
 use Rattle.ot_records.specs.State.{LogState, Change, makes_assumption, makes_definition}
@@ -14,14 +13,13 @@ use Rattle.ot_records.proofs.DefinitionSound.{IsAcceptable}
 use Rattle.ot_nodes.specs.Items.{Item, HasTerm, term_at}
 use Rattle.ot_rules.specs.Statements.{sequent_at, terms_at, HasStatement, Gives}
 use Rattle.ot_rules.specs.Definitions.{definition_at, HasDefinition, Defines}
-use Rattle.ot_rules.specs.Limits.{AreWellTyped}
 use Rattle.ot_rules.specs.declared.statement.Statement.{Statement}
 use Rattle.ot_rules.specs.declared.statement.StepFault.{StepFault}
 use Rattle.ot_rules.specs.declared.statement.StepFault.TheVariants as step
 use Rattle.ot_rules.specs.declared.definition.Definition as code
 use Rattle.ot_rules.proofs.Staying.{definition-stays}
 use Rattle.ot_verify.specs.Logged.{LogView, MadeBy}
-use Rattle.ot_verify.specs.Held.{view_of, state_of, of_step, Establishes, AddsDefinition}
+use Rattle.ot_verify.specs.Held.{state_of, of_step, Establishes, AddsDefinition}
 use Rattle.ot_verify.specs.declared.log.Log.TheInside.{Inside}
 use Rattle.ot_verify.specs.declared.log.Refusal.{Refusal}
 use Rattle.ot_verify.specs.declared.log.Refusal.TheVariants as refusals

@@ -1,17 +1,16 @@
 -- The check of a log, from one record to the next, over a source that may tell its bytes.
-use Rattle.std.specs.Prelude.{Ok, Err, Result, Option, Some, None, IfSome}
-use Rattle.std.proofs.Common.{◌≡◌, ℕ, List, [], sym, ap, subst, ◌∙◌, refl}
+use Rattle.std.specs.Prelude.{Ok, Err, Option, Some, None, IfSome}
+use Rattle.std.proofs.Common.{◌≡◌, ℕ, List, [], sym, ap, ◌∙◌}
 use Rattle.ot_plain.specs.Names.{Name}
 use Rattle.ot_plain.specs.Naming.{names}
 use Rattle.ot_records.specs.State.{LogState, nothing_made}
 use Rattle.ot_records.specs.Records.{form}
-use Rattle.ot_records.specs.Check.{AtFirst, Between, Stops, check}
+use Rattle.ot_records.specs.Check.{AtFirst, Between, check}
 use Rattle.ot_records.specs.declared.word.RecordWord.{RecordWord}
 use Rattle.ot_verify.specs.Reading.{log_check}
-use Rattle.ot_verify.specs.Taking.{fault_of, Rest, rest}
-use Rattle.ot_verify.specs.Asking.{outcome_in}
+use Rattle.ot_verify.specs.Taking.{rest}
 use Rattle.ot_verify.specs.Logged.{Recorded, RecordedFrom}
-use Rattle.ot_verify.specs.Verifying.{Proved, Verifies}
+use Rattle.ot_verify.specs.Verifying.{Verifies}
 use Rattle.ot_verify.specs.Going.{Begins, BeginsFrom, HeadsFrom, Follows}
 use Rattle.ot_verify.specs.declared.reader.Reader.{Reader}
 use Rattle.ot_verify.specs.declared.fault.VerifyFault.{VerifyFault}

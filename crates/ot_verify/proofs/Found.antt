@@ -1,5 +1,4 @@
 -- What the numbers that a record names stand for, against what the record asked for.
-use Rattle.std.specs.Prelude.{◌≢◌}
 use Rattle.std.specs.List.{All}
 use Rattle.std.proofs.Common.{◌≡◌, ℕ, List, [], ◌∷◌, map, slice_get, Option, Some, None, refl, sym, ap, ◌∙◌, subst}
 use Rattle.std.proofs.lemmas.List.Elements.{All-nil, All-cons}

@@ -8,8 +8,8 @@ use Rattle.ot_plain.specs.Names.{Name}
 use Rattle.ot_plain.specs.Naming.{names}
 use Rattle.ot_plain.specs.Lists.{IsMember}
 use Rattle.ot_plain.specs.Table.{Extends}
-use Rattle.ot_plain.specs.Trees.{Ty, Tm, Sequent, Definition}
-use Rattle.ot_plain.specs.Hol.{bool_ty, HasType as IsOfType, IsWellTyped, depth_ty, depth_tm, once_each, theorems}
+use Rattle.ot_plain.specs.Trees.{Tm, Sequent}
+use Rattle.ot_plain.specs.Hol.{bool_ty, IsWellTyped, depth_ty, depth_tm, once_each}
 use Rattle.ot_plain.specs.Answers.{unless}
 use Rattle.ot_laws.specs.Theorem.{IsTheorem}
 use Rattle.ot_laws.proofs.Hypotheses.{IsMember-once_each}
@@ -23,7 +23,7 @@ use Rattle.ot_nodes.specs.Items.{Item, HasType, HasTerm, type_at, term_at}
 use Rattle.ot_nodes.specs.Typing.{AreTypings}
 use Rattle.ot_nodes.specs.declared.table.typing.Scope.{Scope}
 use Rattle.ot_nodes.specs.declared.table.typing.Typed.{Typed}
-use Rattle.ot_nodes.proofs.ItemLemmas.{still-term, term-stays}
+use Rattle.ot_nodes.proofs.ItemLemmas.{term-stays}
 use Rattle.ot_rules.specs.Limits.{AreWellTyped}
 use Rattle.ot_rules.specs.Statements.{sequent_at, terms_at, HasStatement, Gives}
 use Rattle.ot_rules.specs.Keeping.{AreKeyed}
@@ -36,7 +36,7 @@ use Rattle.ot_rules.specs.declared.kept.Kept.{Kept}
 use Rattle.ot_rules.specs.declared.statement.Statement.{Statement}
 use Rattle.ot_rules.proofs.Staying.{map-agree, terms-stay, sequent-stays, still-statement}
 use Rattle.ot_verify.specs.Logged.{LogView, MadeBy}
-use Rattle.ot_verify.specs.Held.{Held, state_of, view_of, IsAcceptable, IsLog, IsWhole, Supports, Establishes}
+use Rattle.ot_verify.specs.Held.{Held, state_of, view_of, IsAcceptable, IsWhole, Supports, Establishes}
 use Rattle.ot_verify.specs.declared.log.Log.TheInside.{Inside}
 use Rattle.ot_verify.specs.declared.log.Refusal.{Refusal}
 use Rattle.ot_verify.specs.declared.log.Refusal.TheVariants as refusals

@@ -1,5 +1,5 @@
 -- A log whose table grows, and what is added to it.
-use Rattle.std.specs.Prelude.{◌≢◌, nat_le, if◌then◌else◌}
+use Rattle.std.specs.Prelude.{◌≢◌, nat_le}
 use Rattle.std.specs.List.{All}
 use Rattle.std.proofs.Common.{◌≡◌, ℕ, Bool, true, false, List, [], ◌∷◌, ◌++◌, map, slice_get, Option, Some, None, Result, Ok, Err, refl, sym, ap, ◌∙◌, subst, zero, suc, inl, inr}
 use Rattle.std.proofs.lemmas.Option.{same_Some}
@@ -36,11 +36,10 @@ use Rattle.ot_rules.specs.declared.kept.Kept.{Kept}
 use Rattle.ot_rules.proofs.Freshness.{signature-grown}
 use Rattle.ot_rules.proofs.Staying.{map-agree, sequent-stays, still-statement, definition-stays, still-definition}
 use Rattle.ot_verify.specs.Logged.{LogView, IsNamed, MeetsNames, MadeBy}
-use Rattle.ot_verify.specs.Held.{Held, state_of, view_of, IsSound, IsLog, IsWhole, Supports, of_step, AddsSequent}
+use Rattle.ot_verify.specs.Held.{Held, state_of, view_of, IsSound, IsLog, IsWhole, Supports, AddsSequent}
 use Rattle.ot_verify.proofs.Sound.{sound-here}
 use Rattle.ot_verify.specs.declared.log.Log.TheInside.{Inside}
 use Rattle.ot_verify.specs.declared.log.Refusal.{Refusal}
-use Rattle.ot_verify.specs.declared.log.Refusal.TheVariants as refusals
 
 -- ---- places
 pub map-at : {X A : Type 0} (f : X → A) (xs : List X) (i : ℕ) (x : X) → slice_get xs i ≡ Some x → slice_get (map f xs) i ≡ Some (f x)

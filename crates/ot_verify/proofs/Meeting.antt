@@ -1,5 +1,5 @@
 -- Names that are met while a record is read.
-use Rattle.std.proofs.Common.{◌≡◌, ◌∙◌, ℕ, slice_get, Some, refl, sym, ap, subst}
+use Rattle.std.proofs.Common.{◌∙◌, ℕ, slice_get, refl, ap}
 use Rattle.ot_plain.specs.Names.{Name}
 use Rattle.ot_plain.specs.Trees.{Ty, Tm, Variable}
 use Rattle.ot_plain.proofs.TableLemmas.{Extends-refl, Extends-trans}

@@ -1,6 +1,6 @@
 -- A name that was read, by its number.
-use Rattle.std.specs.Prelude.{Ok, Err, Result, Option, Some, None}
-use Rattle.std.proofs.Common.{◌≡◌, ℕ, List, sym, ap, ◌∙◌, refl}
+use Rattle.std.specs.Prelude.{Ok, Err, Option, Some, None}
+use Rattle.std.proofs.Common.{ℕ, List, ap, ◌∙◌}
 use Rattle.ot_plain.specs.Names.{Name}
 use Rattle.ot_records.specs.State.{LogState}
 use Rattle.ot_records.specs.Records.{AskName}

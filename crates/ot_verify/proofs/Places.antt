@@ -1,5 +1,5 @@
 -- What was found for the elements of a list, one after another.
-use Rattle.std.proofs.Common.{◌≡◌, Option, Some, None, refl, Err, ℕ, zero, suc, ◌+◌, ◌<◌, ◌≤◌, List, [], ◌∷◌, ◌++◌, length, get_or, take, sym, ap, subst, arith}
+use Rattle.std.proofs.Common.{◌≡◌, Option, Some, None, refl, Err, ℕ, zero, suc, ◌+◌, ◌<◌, ◌≤◌, List, [], ◌∷◌, ◌++◌, length, get_or, take, sym, subst, arith}
 use Rattle.std.proofs.lemmas.List.{take_more, take_all}
 use Rattle.ot_plain.specs.Names.{Name}
 use Rattle.ot_plain.specs.Naming.{names}

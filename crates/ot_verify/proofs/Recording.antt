@@ -1,15 +1,15 @@
 -- A record, token after token.
 use Rattle.std.specs.Prelude.{Ok, Err, Result, Option, Some, None}
-use Rattle.std.proofs.Common.{◌≡◌, ℕ, List, sym, ap, ◌∙◌, refl}
+use Rattle.std.proofs.Common.{◌≡◌, ℕ, List, ap, ◌∙◌}
 use Rattle.ot_plain.specs.Names.{Name}
 use Rattle.ot_plain.specs.Naming.{names}
 use Rattle.ot_plain.specs.Answers.{◌>>=◌}
 use Rattle.ot_records.specs.Tokens as stated
 use Rattle.ot_records.specs.State.{LogState, Change}
 use Rattle.ot_records.specs.Records.{RecordForm, Makes}
-use Rattle.ot_records.specs.Check.{Place, Between, Stops, at_line, go_on, check}
-use Rattle.ot_verify.specs.Taking.{fault_of, Rest, rest}
-use Rattle.ot_verify.specs.Asking.{outcome_in, Answered, AnsweredFrom}
+use Rattle.ot_records.specs.Check.{Between, Stops, at_line, go_on, check}
+use Rattle.ot_verify.specs.Taking.{Rest, rest}
+use Rattle.ot_verify.specs.Asking.{outcome_in, AnsweredFrom}
 use Rattle.ot_verify.specs.Logged.{MadeBy, refused, settled_at, Recorded, RecordedFrom}
 use Rattle.ot_verify.specs.declared.reader.Reader.{Reader}
 use Rattle.ot_verify.specs.declared.log.Refusal.{Refusal}

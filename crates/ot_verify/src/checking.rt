@@ -1,13 +1,15 @@
 ghost use Rattle.std.specs.Prelude.{◌≡◌, ◌≤◌, ◌<◌, ◌^◌, ◌++◌, [], length, Err, IfOk, OnOk, OnErr, IfSome};
 ghost use Rattle.ot_io.specs.Causes.{Rose};
 ghost use Rattle.ot_verify.specs.Reading.{log_check};
-ghost use Rattle.ot_verify.specs.Verifying.{Verifies, AreProved};
+ghost use Rattle.ot_text.specs.Pages.{Appended};
+ghost use Rattle.ot_verify.specs.Verifying.{Verifies, AreProved, proved_text};
 
-use crate::fault::VerifyFault;
+use crate::fault::{VerifiedText, VerifyFault};
 use crate::log::Log;
 use crate::reader::Reader;
 use crate::records::take_record;
 use ot_io::Source;
+use ot_listing::PrintFault;
 use std::alloc::Global;
 use std::marker::Model;
 
@@ -25,6 +27,24 @@ impl Model for Verified {
     ghost coded = { coded_proved };
 
     ghost view = { λ v. proved_by v.log.state };
+}
+
+impl Verified {
+    /// Appends the summary: the assumptions in the order of the bytes of their texts, the
+    /// definitions in the order in which they were accepted, and the results in the order in which
+    /// they came, each once. `TooLarge` exactly where the summary has more than `max` bytes. After
+    /// a refusal `out` is as it was.
+    pub fn text(&self, alloc: Global, max: usize, out: &mut Vec<u8>) -> Result<(), VerifiedText>
+        ensures ok { OnOk result (Appended (proved_text self.now) max out.old.items out.new.items) }
+        ensures too_large { result ≡ Err VerifiedText.TooLarge → max < length (proved_text self.now) }
+        ensures err { OnErr result (out.new.items ≡ out.old.items) }
+    {
+        match self.log.text(alloc, max, out) {
+            Ok(()) => Ok(()),
+            Err(PrintFault::TooLarge) => Err(VerifiedText::TooLarge),
+            Err(PrintFault::Memory) => Err(VerifiedText::Memory),
+        }
+    }
 }
 
 /// Checks a proof log of at most `max_bytes` bytes, in one pass over a source.

@@ -13,6 +13,3 @@ mod token;
 
 pub use checking::{Verified, verify};
 pub use fault::{LogFault, VerifiedText, VerifyFault};
-
-#[cfg(test)]
-mod tests;

@@ -1,5 +1,5 @@
 //! What the records of a log made, by number.
-ghost use Rattle.std.specs.Prelude.{◌≡◌, ◌<◌, ◌≤◌, ◌+◌, ◌++◌, ◌∷◌, [], List, length, slice_get, map, vec_len, vec_capacity, Ok, Some, None, IfOk, MatchResult};
+ghost use Rattle.std.specs.Prelude.{◌≡◌, ◌<◌, ◌≤◌, ◌+◌, ◌++◌, ◌∷◌, [], List, length, slice_get, map, vec_len, vec_capacity, Ok, Err, Some, None, IfOk, OnOk, OnErr, MatchResult};
 ghost use Rattle.std.specs.List.{All};
 ghost use Rattle.ot_plain.specs.Names.{Name as NameValue};
 ghost use Rattle.ot_plain.specs.Naming.{names};
@@ -12,6 +12,8 @@ ghost use Rattle.ot_rules.specs.Statements.{terms_at, sequent_at, HasStatement, 
 ghost use Rattle.ot_verify.specs.Logged.{IsNamed, IsVariable, IsTypePair, IsTermPair, IsConstantPair, MeetsNames, MadeBy};
 ghost use Rattle.ot_records.specs.Records.{arguments};
 ghost use Rattle.ot_verify.specs.Asking.{IsAt, AreEach};
+ghost use Rattle.ot_listing.specs.Summaries.{summary_text};
+ghost use Rattle.ot_text.specs.Pages.{Appended};
 ghost use Rattle.ot_verify.specs.Held.{of_step};
 ghost use Rattle.ot_rules.specs.Definitions.{definition_at, HasDefinition};
 
@@ -19,6 +21,7 @@ use crate::finding::{
     are_names, constant_pairs_at, each_at, term_pairs_at, type_pairs_at, variable_at,
 };
 use crate::operand::{ConstantPair, NamedType, TermPair};
+use ot_listing::{PrintFault, summary_text};
 use ot_nodes::{DEPTH_LIMIT, NameId, Nodes, TermId, TypeId, Typings};
 use ot_plain::{Memory, Name};
 use ot_rules::{
@@ -130,6 +133,31 @@ impl Log {
         ensures { IsProved names self.now.state }
     {
         let _nodes = &self.nodes;
+    }
+
+    /// Appends the text of the assumptions, definitions and results. `TooLarge` exactly where it
+    /// has more than `max` bytes. After a refusal `out` is as it was.
+    pub(crate) fn text(
+        &self,
+        alloc: Global,
+        max: usize,
+        out: &mut Vec<u8>,
+    ) -> Result<(), PrintFault>
+        ensures ok { OnOk result (Appended (summary_text self.now.state.assumptions
+            self.now.state.definitions self.now.state.results) max out.old.items out.new.items) }
+        ensures too_large { result ≡ Err PrintFault.TooLarge → max < length (summary_text
+            self.now.state.assumptions self.now.state.definitions self.now.state.results) }
+        ensures err { OnErr result (out.new.items ≡ out.old.items) }
+    {
+        summary_text(
+            alloc,
+            &self.nodes,
+            self.assumptions.statements(),
+            &self.definitions,
+            self.results.statements(),
+            max,
+            out,
+        )
     }
 
     /// How many types were made.

@@ -2,7 +2,7 @@
 use super::tables::{FIRST, NONE, ONE};
 use super::theories::{Entry, IMPORTS, PACKAGE_CYCLE, SELF};
 use super::{FINE, OTHER_WORDS, Outside, answered, answered_over, files_of, one_file, says};
-use crate::status::Status;
+use ot_program::Status;
 use std::alloc::Global;
 use std::test::Fail;
 

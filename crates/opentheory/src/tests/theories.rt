@@ -11,6 +11,9 @@ const PROVES_IT: &[u8] = b"7\nref\nrefl\nnil\n8\nref\nthm\n";
 
 const TAKES_IT: &[u8] = b"nil\n8\nref\naxiom\nnil\n8\nref\nthm\n";
 
+const DEFINES_IT: &[u8] =
+    b"\"Data.Bool.T\"\n8\nref\ndefineConst\nnil\n4\nref\n3\nref\nconstTerm\n\"Data.Bool.T\"\nconst\n1\nref\nconstTerm\nappTerm\n8\nref\nappTerm\nthm\n";
+
 /// The same under a hypothesis that it doesn't need.
 const TAKES_IT_UNDER_Q: &[u8] =
     b"\"q\"\n1\nref\nvar\nvarTerm\n9\ndef\npop\n9\nref\nnil\ncons\n8\nref\naxiom\n9\nref\nnil\ncons\n8\nref\nthm\n";
@@ -134,6 +137,21 @@ pub const FAR: [Entry; 3] = [
 ];
 
 pub const NOT_EQUATION_FAR: &[u8] = b"opentheory: packages/far-2/d/eq.art:85: not an equation\n";
+
+/// The constant T, defined as the equation, in a namespace that the theory file shows.
+pub const SHOWS: [Entry; 2] = [
+    (
+        "t.thy",
+        b"show: \"Data.Bool\"\nmain {\n  article: \"truth.art\"\n}\n",
+        b"",
+    ),
+    ("truth.art", EQUATION, DEFINES_IT),
+];
+
+pub const SHOWN: &[u8] =
+    b"assumptions: 0\ntheorems: 1\n  |- ({T : bool} = ((\\x0 : bool . x0) = (\\x0 : bool . x0)))\n";
+
+pub const NO_THEORY: &[u8] = b"opentheory: gone.thy: no such file\n";
 
 pub const CYCLE: [Entry; 1] = [(
     "t.thy",

@@ -1,6 +1,5 @@
 use Rattle.std.proofs.Common.{take}
 use Rattle.ot_verify.specs.Asking.{IsAt, AreEach}
-use Rattle.ot_verify.specs.Finding.{IsFoundTypePair, IsFoundTermPair, IsFoundConstantPair}
 use Rattle.ot_verify.proofs.finding.each_at.Given as goal
 
 abbrev pub invariant-loop-place : goal.invariant-loop-place

@@ -1,18 +1,13 @@
-use Rattle.std.specs.Prelude.{Ok, Err, Vec, slice_get}
-use Rattle.std.proofs.Common.{◌≡◌, ◌∙◌, ℕ, suc, ◌+◌, ◌-◌, List, [], sym, ap, subst, arith, refl, Global}
+use Rattle.std.specs.Prelude.{Ok, Err, Vec}
+use Rattle.std.proofs.Common.{◌≡◌, ◌∙◌, suc, ◌+◌, ◌-◌, List, [], sym, subst, arith, Global}
 use Rattle.ot_plain.specs.Names.{Name}
-use Rattle.ot_plain.specs.Table.{Extends}
-use Rattle.ot_plain.specs.Trees.{Ty, Tm, Variable}
-use Rattle.ot_plain.proofs.TableLemmas.{Extends-refl, Extends-trans}
 use Rattle.ot_records.specs.State.{LogState}
-use Rattle.ot_records.specs.Records.{AskName, AskType, AskTerm, ask_list, ask_variable, ask_type_pair, ask_term_pair, ask_constant_pair}
-use Rattle.ot_verify.specs.Asking.{IsAt, AreEach, AnsweredFrom, CollectsFrom}
-use Rattle.ot_verify.specs.Logged.{LogView, IsNamed, IsVariable, IsTypePair, IsTermPair, IsConstantPair, MeetsNames}
-use Rattle.ot_verify.specs.declared.operand.NamedType.{NamedType}
-use Rattle.ot_verify.specs.declared.operand.TermPair.{TermPair}
+use Rattle.ot_records.specs.Records.{ask_constant_pair}
+use Rattle.ot_verify.specs.Asking.{AreEach, AnsweredFrom, CollectsFrom}
+use Rattle.ot_verify.specs.Logged.{IsConstantPair}
 use Rattle.ot_verify.specs.declared.operand.ConstantPair.{ConstantPair}
 use Rattle.ot_verify.proofs.Collecting.{collects-start, collects-next, collects-end, collects-stop, collects-none, advances-then}
-use Rattle.ot_verify.proofs.Meeting.{meets-nothing, meets-then, named-later, type_pair-later, term_pair-later, constant_pair-later}
+use Rattle.ot_verify.proofs.Meeting.{meets-nothing, meets-then, constant_pair-later}
 use Rattle.ot_verify.proofs.operands.constant_pairs.Goals as goal
 
 pub each-init : goal.each-init

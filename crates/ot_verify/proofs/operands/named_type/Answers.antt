@@ -1,16 +1,12 @@
 use Rattle.std.specs.Prelude.{Ok, Err, slice_get}
-use Rattle.std.proofs.Common.{◌≡◌, ◌∙◌, ℕ, ap, subst}
+use Rattle.std.proofs.Common.{◌∙◌, ℕ, ap, subst}
 use Rattle.ot_plain.specs.Names.{Name}
-use Rattle.ot_plain.specs.Trees.{Ty, Tm, Variable}
 use Rattle.ot_records.specs.State.{LogState}
-use Rattle.ot_records.specs.Records.{AskName, AskType, AskTerm, ask_variable, ask_type_pair}
+use Rattle.ot_records.specs.Records.{AskName, AskType}
 use Rattle.ot_verify.specs.Asking.{AnsweredFrom, IsAt}
-use Rattle.ot_verify.specs.Logged.{IsNamed, IsVariable, IsTypePair, IsTermPair, IsConstantPair}
+use Rattle.ot_verify.specs.Logged.{IsNamed, IsVariable, IsTypePair}
 use Rattle.ot_verify.specs.declared.operand.NamedType.{NamedType}
-use Rattle.ot_verify.specs.declared.operand.TermPair.{TermPair}
-use Rattle.ot_verify.specs.declared.operand.ConstantPair.{ConstantPair}
 use Rattle.ot_verify.proofs.Collecting.{both-read, second-stop}
-use Rattle.ot_verify.proofs.Meeting.{meets-then, named-later}
 use Rattle.ot_verify.proofs.operands.named_type.Goals as goal
 
 pub returns-clause-pair : goal.returns-clause-pair

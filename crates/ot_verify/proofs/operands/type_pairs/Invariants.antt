@@ -1,7 +1,7 @@
 use Rattle.std.proofs.Common.{◌≡◌, ◌≤◌, ◌-◌}
-use Rattle.ot_records.specs.Records.{AskName, AskType, AskTerm, ask_type_pair, ask_term_pair, ask_constant_pair}
-use Rattle.ot_verify.specs.Asking.{IsAt, CollectsFrom}
-use Rattle.ot_verify.specs.Logged.{IsNamed, IsTypePair, IsTermPair, IsConstantPair, MeetsNames}
+use Rattle.ot_records.specs.Records.{ask_type_pair}
+use Rattle.ot_verify.specs.Asking.{CollectsFrom}
+use Rattle.ot_verify.specs.Logged.{IsTypePair, MeetsNames}
 use Rattle.ot_verify.specs.Going.{Advances}
 use Rattle.ot_verify.proofs.operands.type_pairs.Given as goal
 

@@ -1,7 +1,6 @@
 use Rattle.std.proofs.Common.{◌≡◌, ◌≤◌, ◌-◌}
-use Rattle.ot_records.specs.Records.{AskName, AskType, AskTerm, ask_type_pair, ask_term_pair, ask_constant_pair}
+use Rattle.ot_records.specs.Records.{AskType}
 use Rattle.ot_verify.specs.Asking.{IsAt, CollectsFrom}
-use Rattle.ot_verify.specs.Logged.{IsNamed, IsTypePair, IsTermPair, IsConstantPair, MeetsNames}
 use Rattle.ot_verify.specs.Going.{Advances}
 use Rattle.ot_verify.proofs.operands.types.Given as goal
 

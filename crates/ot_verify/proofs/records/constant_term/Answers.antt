@@ -1,18 +1,12 @@
-use Rattle.std.specs.Prelude.{Ok, Err, Vec, slice_get}
-use Rattle.std.proofs.Common.{◌≡◌, ◌∙◌, ℕ, List, refl, sym, ap, subst, Global}
+use Rattle.std.specs.Prelude.{Ok}
+use Rattle.std.proofs.Common.{sym, subst}
 use Rattle.ot_plain.specs.Names.{Name}
 use Rattle.ot_plain.specs.Naming.{names}
-use Rattle.ot_plain.specs.Trees.{Ty, TyVar, TyOp, Variable, Tm, Free, Con, Bound, App, Abs, Sequent}
-use Rattle.ot_records.specs.Steps.{refl_step, assume_step, eq_mp_step, abs_thm_step, app_thm_step, deduct_antisym_step, beta_step, subst_step, assumption_step, constant_step, constants_step, type_operator_step}
-use Rattle.ot_records.specs.State.{LogState, Change, makes_type, makes_term, makes_sequent, makes_assumption, makes_definition, makes_result}
-use Rattle.ot_records.specs.Records.{Makes, AskName, AskCount, AskType, AskTerm, AskSequent, ask_list, ask_variable, ask_type_pair, ask_term_pair, ask_constant_pair, arguments}
-use Rattle.ot_verify.specs.Asking.{AnsweredFrom, IsAt, IsValue, AreEach}
-use Rattle.ot_verify.specs.Logged.{LogView, IsNamed, IsVariable, IsTypePair, IsTermPair, IsConstantPair, MeetsNames, MadeBy, settled_at}
-use Rattle.ot_verify.specs.declared.operand.NamedType.{NamedType}
-use Rattle.ot_verify.specs.declared.operand.TermPair.{TermPair}
-use Rattle.ot_verify.specs.declared.operand.ConstantPair.{ConstantPair}
-use Rattle.ot_verify.proofs.Collecting.{each-more}
-use Rattle.ot_verify.proofs.Meeting.{meets-nothing, meets-then, named-later, variable-later, type_pair-later, term_pair-later, constant_pair-later}
+use Rattle.ot_plain.specs.Trees.{Con}
+use Rattle.ot_records.specs.State.{LogState, makes_term}
+use Rattle.ot_records.specs.Records.{Makes, AskName, AskType}
+use Rattle.ot_verify.specs.Asking.{AnsweredFrom, IsAt}
+use Rattle.ot_verify.specs.Logged.{IsNamed, MadeBy, settled_at}
 use Rattle.ot_verify.proofs.Recording.{answered-then, made-settled}
 use Rattle.ot_verify.proofs.records.constant_term.Goals as goal
 

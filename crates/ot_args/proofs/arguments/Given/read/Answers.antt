@@ -1,15 +1,16 @@
 use Rattle.std.proofs.Common.{sym, ◌∙◌}
-use Rattle.std.specs.Prelude.{Some}
-use Rattle.ot_args.specs.Reading.{option_value, settings_value}
-use Rattle.ot_args.proofs.Steps.{flag_loop, folder_loop}
+use Rattle.std.specs.Prelude.{None, Some}
+use Rattle.ot_args.specs.Reading.{settings_value}
+use Rattle.ot_args.proofs.Steps.{folder_loop, refused}
 use Rattle.ot_args.proofs.arguments.Given.read.Goals as goal
 
-pub loop-rest-preserved-in-Some : goal.loop-rest-preserved-in-Some
-loop-rest-preserved-in-Some c =
-    c.loop-rest.invariant
-    ∙ flag_loop c.args.word.now c.loop-rest.rest.now c.first-item.result c.next-item.result _ (settings_value c.loop-rest.settings) (option_value c.in-Some.flag) (Some (settings_value c.in_ok-settings.settings)) c.in-len2-up.len_at_least c.first-item.is c.next-item.is c.as_str-name.ensures.value c.in-Some.ensures c.in_ok-settings.ensures
+pub returns-in_err-settings : goal.returns-in_err-settings
+returns-in_err-settings c =
+    refused c.from_residual.result c.from_residual.ensures.0
+    ∙ sym (c.loop-rest.invariant
+    ∙ folder_loop c.args.verb c.loop-rest.rest.now c.first-item.result c.folder-item.result _ _ (settings_value c.loop-rest.settings) None c.in-len1-up.len_at_least c.first-item.is c.as_str-name.ensures.value (sym c.eq.ensures ∙ c.if-eq.true) c.in-len1-up-behind.len_at_least c.folder-item.is c.as_str.ensures.value c.in_err-settings.ensures)
 
-pub loop-rest-preserved : goal.loop-rest-preserved
-loop-rest-preserved c =
+pub loop-rest-preserved-then-eq : goal.loop-rest-preserved-then-eq
+loop-rest-preserved-then-eq c =
     c.loop-rest.invariant
-    ∙ folder_loop c.args.word.now c.loop-rest.rest.now c.first-item.result c.next-item.result _ _ (settings_value c.loop-rest.settings) (Some (settings_value c.in_ok-settings-2.settings)) c.in-len2-up.len_at_least c.first-item.is c.next-item.is c.as_str-name.ensures.value c.as_str-value.ensures.value (sym c.eq.ensures ∙ c.if-eq.true) c.in_ok-settings-2.ensures
+    ∙ folder_loop c.args.verb c.loop-rest.rest.now c.first-item.result c.folder-item.result _ _ (settings_value c.loop-rest.settings) (Some (settings_value c.in_ok-settings.settings)) c.in-len1-up.len_at_least c.first-item.is c.as_str-name.ensures.value (sym c.eq.ensures ∙ c.if-eq.true) c.in-len1-up-behind.len_at_least c.folder-item.is c.as_str.ensures.value c.in_ok-settings.ensures

@@ -1,6 +1,6 @@
 use Rattle.std.proofs.Common.{◌∙◌, [], ◌∷◌, ◌++◌, ap}
 use Rattle.ot_verify.proofs.Logging.{held_of, log-kept, with-typings}
-use Rattle.ot_verify.proofs.Keeping.{whole-same, assumed-has, assumed-typed, assumed-there, assumption-refused, assumption-kept, assumption-added}
+use Rattle.ot_verify.proofs.Keeping.{whole-same, assumed-typed, assumed-there, assumption-kept, assumption-added}
 use Rattle.ot_verify.proofs.log.Log.add_assumption.Goals as goal
 
 pub is_statement_within-requires-clause-typed : goal.is_statement_within-requires-clause-typed

@@ -1,4 +1,3 @@
-use Rattle.std.proofs.Common.{sym, ◌∙◌}
 use Rattle.ot_verify.proofs.Logging.{held_of, log-kept, with-typings}
 use Rattle.ot_verify.proofs.Keeping.{whole-same, statement-typed, statement-kept, statement-added}
 use Rattle.ot_verify.proofs.log.Log.add_statement.Goals as goal

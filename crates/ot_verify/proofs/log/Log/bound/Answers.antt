@@ -1,6 +1,3 @@
-use Rattle.std.specs.Prelude.{slice_get}
-use Rattle.std.proofs.Common.{◌≡◌, ◌∙◌, ap, subst}
-use Rattle.ot_plain.specs.Naming.{names}
 use Rattle.ot_plain.specs.Trees.{Bound}
 use Rattle.ot_nodes.proofs.ItemLemmas.{has-term, term-is}
 use Rattle.ot_verify.proofs.Logging.{held_of, log-kept, state-then, made-term}

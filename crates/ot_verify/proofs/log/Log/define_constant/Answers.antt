@@ -1,7 +1,5 @@
-use Rattle.std.proofs.Common.{◌≡◌, ◌∙◌, ℕ, List, true≢false, sym, ap, subst}
-use Rattle.ot_plain.specs.Names.{Name}
+use Rattle.std.proofs.Common.{◌∙◌, true≢false, sym, subst}
 use Rattle.ot_plain.specs.Naming.{names}
-use Rattle.ot_plain.specs.Trees.{Definition}
 use Rattle.ot_laws.proofs.Tests.{tells_names}
 use Rattle.ot_records.specs.State.{makes_definition}
 use Rattle.ot_records.specs.Steps.{constant_step}

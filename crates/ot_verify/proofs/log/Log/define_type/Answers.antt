@@ -1,6 +1,5 @@
-use Rattle.std.specs.Prelude.{Err}
 use Rattle.std.specs.List.{All}
-use Rattle.std.proofs.Common.{◌≡◌, ◌∙◌, ℕ, List, true≢false, sym, ap, subst}
+use Rattle.std.proofs.Common.{◌∙◌, true≢false, sym, ap, subst}
 use Rattle.ot_plain.specs.Naming.{names}
 use Rattle.ot_plain.specs.Trees.{TyDef}
 use Rattle.ot_laws.specs.Theorem.{IsTheorem}

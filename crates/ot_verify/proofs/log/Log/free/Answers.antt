@@ -1,6 +1,4 @@
-use Rattle.std.specs.Prelude.{slice_get}
-use Rattle.std.proofs.Common.{◌≡◌, ◌∙◌, ap, subst}
-use Rattle.ot_plain.specs.Naming.{names}
+use Rattle.std.proofs.Common.{◌∙◌, ap, subst}
 use Rattle.std.proofs.Common.{ℕ, List, sym}
 use Rattle.ot_plain.specs.Trees.{Free}
 use Rattle.ot_nodes.proofs.ItemLemmas.{has-term, term-is}

@@ -1,6 +1,4 @@
-use Rattle.std.specs.Prelude.{slice_get}
-use Rattle.std.proofs.Common.{◌≡◌, ◌∙◌, ap, subst}
-use Rattle.ot_plain.specs.Naming.{names}
+use Rattle.std.proofs.Common.{◌∙◌}
 use Rattle.ot_plain.specs.Trees.{Abs}
 use Rattle.ot_nodes.proofs.ItemLemmas.{has-term, term-is}
 use Rattle.ot_verify.proofs.Logging.{at-same, held_of, log-kept, state-then, type-here, typed-here, no-type, term-here, held-here, no-term, made-term}

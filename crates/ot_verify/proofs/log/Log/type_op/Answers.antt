@@ -1,5 +1,4 @@
-use Rattle.std.specs.Prelude.{slice_get}
-use Rattle.std.proofs.Common.{◌≡◌, ◌∙◌, ap, subst}
+use Rattle.std.proofs.Common.{◌∙◌, ap, subst}
 use Rattle.ot_plain.specs.Naming.{names}
 use Rattle.std.specs.List.{All}
 use Rattle.std.proofs.Common.{ℕ, List}

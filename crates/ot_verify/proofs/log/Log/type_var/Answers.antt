@@ -1,6 +1,4 @@
-use Rattle.std.specs.Prelude.{slice_get}
-use Rattle.std.proofs.Common.{◌≡◌, ◌∙◌, ap, subst}
-use Rattle.ot_plain.specs.Naming.{names}
+use Rattle.std.proofs.Common.{◌∙◌, ap}
 use Rattle.std.proofs.Common.{true≢false, sym}
 use Rattle.ot_plain.specs.Trees.{TyVar}
 use Rattle.ot_nodes.proofs.ItemLemmas.{has-name, name-is, has-type, type-is}

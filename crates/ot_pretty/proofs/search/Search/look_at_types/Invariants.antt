@@ -1,0 +1,11 @@
+use Rattle.std.proofs.Common.{◌≡◌, []}
+use Rattle.ot_type.proofs.SubtypeLemmas.{above}
+use Rattle.ot_pretty.specs.Found.{Reaches}
+use Rattle.ot_pretty.proofs.search.Search.look_at_types.Given as goal
+
+abbrev pub invariant-loop-id : goal.invariant-loop-id
+invariant-loop-id l = Reaches l.kernel l.initial.self l.self × (l.self.terms.keys ≡ [])
+
+-- each number that is taken is the greatest, and those that come in are lower
+abbrev pub decreases-loop-id : goal.decreases-loop-id
+decreases-loop-id l = above l.self.types.keys

@@ -1,0 +1,153 @@
+//! The readable summary of a run.
+ghost use Rattle.std.specs.Prelude.{◌≡◌, ◌<◌, ◌++◌, codes, ◌∷◌, [], true, length, map, IfOk, OnOk, OnErr, Err};
+ghost use Rattle.std.specs.List.{All};
+ghost use Rattle.ot_kernel.specs.State.{theorem_at};
+ghost use Rattle.ot_text.specs.Texts.{number_text, ascending};
+ghost use Rattle.ot_text.specs.Sections.{section_text};
+ghost use Rattle.ot_text.specs.Gathered.{texts_of};
+ghost use Rattle.ot_text.specs.Pages.{IsPut, printed, Appended};
+ghost use Rattle.ot_forms.specs.Printing.{readable_text as text_of};
+ghost use Rattle.ot_pretty.specs.Summary.{ReadBack, hidden_at, summary_at, IsHiddenAt};
+
+use crate::gather::gathered;
+use crate::laws::each_reads_back;
+use crate::sequents::put_sequent;
+use crate::symbols::run_symbols;
+use ot_kernel::{Kernel, ThmId};
+use ot_parse::Notation;
+use ot_plain::{Memory, Name};
+use ot_text::{Page, PrintFault};
+use std::alloc::Global;
+use std::collections::BTreeSet;
+
+/// Appends the readable summary of a run that exports these theorems, where these namespaces are shown: the assumptions, in the
+/// order of the bytes of their texts, and the theorems, in the order given. The notation is that of the run's symbols.
+/// `TooLarge` exactly where the summary has more than `max` bytes. After a refusal `out` is as it was. Each text reads back as
+/// the sequent that it was printed for.
+pub fn readable_summary(
+    alloc: Global,
+    kernel: &Kernel,
+    shown: &[Name],
+    theorems: &[ThmId],
+    max: usize,
+    out: &mut Vec<u8>,
+) -> Result<(), PrintFault>
+    requires { All (λ th. th < length kernel.now.theorems) theorems.now }
+    ensures ok { OnOk result (Appended (summary_at kernel.now (hidden_at kernel.now shown.now theorems.now) theorems.now) max out.old.items out.new.items) }
+    ensures too_large { result ≡ Err PrintFault.TooLarge
+        → max < length (summary_at kernel.now (hidden_at kernel.now shown.now theorems.now) theorems.now) }
+    ensures err { OnErr result (out.new.items ≡ out.old.items) }
+    ensures reads_back { OnOk result (ReadBack (hidden_at kernel.now shown.now theorems.now) kernel.now.assumptions (map (theorem_at kernel.now) theorems.now)) }
+{
+    match run_notation(alloc, kernel, shown, theorems) {
+        Ok(notation) => {
+            notation.sound();
+            each_reads_back(kernel, kernel.assumptions());
+            each_reads_back(kernel, theorems);
+            summary_text(alloc, kernel, &notation, theorems, max, out)
+        }
+        Err(Memory) => Err(PrintFault::Memory),
+    }
+}
+
+// The notation of a run that exports these theorems, where these namespaces are shown.
+fn run_notation(
+    alloc: Global,
+    kernel: &Kernel,
+    shown: &[Name],
+    theorems: &[ThmId],
+) -> Result<Notation, Memory>
+    requires { All (λ th. th < length kernel.now.theorems) theorems.now }
+    ensures { IfOk result (IsHiddenAt kernel.now shown.now theorems.now) }
+{
+    let symbols = run_symbols(alloc, kernel, theorems)?;
+    Notation::new(alloc, shown, symbols.as_slice())
+}
+
+// Appends the summary under a notation.
+fn summary_text(
+    alloc: Global,
+    kernel: &Kernel,
+    notation: &Notation,
+    theorems: &[ThmId],
+    max: usize,
+    out: &mut Vec<u8>,
+) -> Result<(), PrintFault>
+    requires { All (λ th. th < length kernel.now.theorems) theorems.now }
+    ensures ok { OnOk result (Appended (summary_at kernel.now notation.now theorems.now) max out.old.items out.new.items) }
+    ensures too_large { result ≡ Err PrintFault.TooLarge → max < length (summary_at kernel.now notation.now theorems.now) }
+    ensures err { OnErr result (out.new.items ≡ out.old.items) }
+{
+    let mut page = Page::new(alloc, max);
+    put_summary(&mut page, alloc, kernel, notation, theorems);
+    page.finish(out)
+}
+
+// Both sections.
+fn put_summary(
+    page: &mut Page,
+    alloc: Global,
+    kernel: &Kernel,
+    notation: &Notation,
+    theorems: &[ThmId],
+)
+    requires { All (λ th. th < length kernel.now.theorems) theorems.now }
+    ensures { IsPut (summary_at kernel.now notation.now theorems.now) (printed page.old) (printed page.new) }
+{
+    put_assumptions(page, alloc, kernel, notation);
+    put_theorems(page, alloc, kernel, notation, theorems);
+}
+
+// The assumptions. Their texts together cost no more than the limit.
+fn put_assumptions(page: &mut Page, alloc: Global, kernel: &Kernel, notation: &Notation)
+    ensures { IsPut (section_text true (codes "assumptions") (ascending (map (text_of notation.now) kernel.now.assumptions))) (printed page.old) (printed page.new) }
+{
+    if page.is_stopped() {
+        return;
+    }
+    match gathered(alloc, kernel, notation, kernel.assumptions(), page.room()) {
+        Ok(texts) => put_texts(page, b"assumptions", &texts),
+        Err(fault) => page.stop(fault),
+    }
+}
+
+// A section of texts.
+fn put_texts(page: &mut Page, title: &[u8], texts: &BTreeSet<Vec<u8>>)
+    ensures { IsPut (section_text true title.now (texts_of texts.now)) (printed page.old) (printed page.new) }
+{
+    put_title(page, title, texts.len());
+    for text in texts {
+        page.put(b"  ");
+        page.put(text.as_slice());
+        page.put(b"\n");
+    }
+}
+
+// The theorems, in order.
+fn put_theorems(
+    page: &mut Page,
+    alloc: Global,
+    kernel: &Kernel,
+    notation: &Notation,
+    theorems: &[ThmId],
+)
+    requires { All (λ th. th < length kernel.now.theorems) theorems.now }
+    ensures { IsPut (section_text true (codes "theorems") (map (text_of notation.now) (map (theorem_at kernel.now) theorems.now))) (printed page.old) (printed page.new) }
+{
+    put_title(page, b"theorems", theorems.len());
+    for th in theorems {
+        page.put(b"  ");
+        put_sequent(page, alloc, kernel, notation, *th);
+        page.put(b"\n");
+    }
+}
+
+// The first line of a section: its title, and how many items it has.
+fn put_title(page: &mut Page, title: &[u8], count: usize)
+    ensures { IsPut (title.now ++ codes ": " ++ number_text count ++ 10 ∷ []) (printed page.old) (printed page.new) }
+{
+    page.put(title);
+    page.put(b": ");
+    page.put_number(count);
+    page.put(b"\n");
+}

@@ -1,0 +1,10 @@
+-- The program: lines of text, runs, logs, verdicts, and replies.
+pub mod TextLemmas
+pub mod InputLemmas
+pub mod LimitLemmas
+pub mod RunLemmas
+pub mod SampleLemmas
+pub mod LogLemmas
+pub mod NotedLemmas
+pub mod VerdictLemmas
+pub mod ReplyLemmas

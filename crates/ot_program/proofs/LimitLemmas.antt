@@ -1,0 +1,30 @@
+-- A text that was printed within the limit, or is too large for it.
+use Rattle.std.proofs.Common.{◌≡◌, ℕ, ◌<◌, ◌≤◌, List, [], ◌++◌, length, ap, ◌∙◌, arith}
+use Rattle.std.specs.Prelude.{false, nat_le, MatchBool, Result, Ok, Err, IfOk}
+use Rattle.std.proofs.lemmas.Bool.{le-leb}
+use Rattle.std.proofs.lemmas.Bool.Decides.{nat_tests}
+use Rattle.ot_text.specs.Pages.{Appended}
+use Rattle.ot_program.specs.Reply.{summary_limit}
+use Rattle.ot_program.specs.Verdicts.{IsSaid}
+use Rattle.ot_program.specs.declared.report.Verdict.{Verdict}
+use Rattle.ot_program.specs.declared.status.Status.TheVariants.{Accepted, Refused}
+
+-- the text is said to be accepted where it is within the limit, and else the line says that it isn't
+abbrev pub IsLimited : (text line : List ℕ) → Verdict → Type 0
+IsLimited text line v = MatchBool (nat_le (length text) summary_limit) (IsSaid v Accepted text) (IsSaid v Refused line)
+
+pub text_printed : (text line : List ℕ) (max : ℕ) (old : List ℕ) (v : Verdict) → max ≡ summary_limit → old ≡ []
+    → v.status ≡ Accepted → Appended text max old v.text.items → IsLimited text line v
+text_printed text line max old v limit empty status printed =
+    let within : length text ≤ summary_limit = rw (← limit) printed.within in
+    rw (le-leb (length text) summary_limit within) (record { status_is = status; text_is = printed.bytes ∙ ap (λ xs. xs ++ text) empty })
+
+pub too_long : (n limit : ℕ) → limit < n → nat_le n limit ≡ false
+too_long n limit h = grind (arith, nat_tests)
+
+pub text_too_large : {E : Type 0} (text line : List ℕ) (max : ℕ) (r : Result Verdict E) → max ≡ summary_limit
+    → max < length text → IfOk r (λ v. IsSaid v Refused line) → IfOk r (IsLimited text line)
+text_too_large text line max (Err e) limit past said = tt
+text_too_large text line max (Ok v) limit past said =
+    let large : summary_limit < length text = omega arith in
+    rw (too_long (length text) summary_limit large) said

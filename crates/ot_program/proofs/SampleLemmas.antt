@@ -1,0 +1,63 @@
+-- The verdict on a sample.
+use Rattle.std.proofs.Common.{◌≡◌, ◌≤◌, ℕ, List, [], refl, subst, arith}
+use Rattle.std.specs.Global.{Global}
+use Rattle.std.specs.Prelude.{true, Vec, Option, Some, None, Result, Ok, Err, IfOk, IfSome, OnOk}
+use Rattle.std.proofs.lemmas.List.Elements.{All-nil}
+use Rattle.ot_io.specs.Causes.{Rose}
+use Rattle.ot_io.specs.Folder.{Folder}
+use Rattle.ot_plain.specs.Naming.{names}
+use Rattle.ot_plain.specs.Hol.{Accepted as AcceptedLists}
+use Rattle.ot_laws.specs.Theorem.{IsTheorem}
+use Rattle.ot_link.specs.Stops.{Stop}
+use Rattle.ot_link.specs.Blocks.{Ran, article_end}
+use Rattle.ot_sample.specs.Sample.{sample}
+use Rattle.ot_text.specs.Laws.{OneSequent, OneSequentInFront}
+use Rattle.ot_program.specs.Reply.{RunSample, MakeSample, sample_path, outcome, run_lists, article_fits, article_text, sample_line, stop_status}
+use Rattle.ot_program.specs.Answer.{IsProved, IsRewritten, Says}
+use Rattle.ot_program.specs.Verdicts.{End, Finished, Stopped, Failed, IsAnswer, IsEnd, IsPlace, IsOwnEnd, HasCause, IsSaid, EndsAs, IsVerdictOf}
+use Rattle.ot_program.specs.declared.report.Verdict.{Verdict}
+use Rattle.ot_program.specs.declared.status.Status.TheVariants.{Accepted}
+
+-- a sample whose run ended
+pub sample_ended : {E : Type 0} (n : ℕ) (r : Ran) (a : Result Verdict E) → IfOk a (EndsAs (RunSample n) r) → OnOk a (article_fits r ≡ true → IsRewritten r)
+    → IsProved (run_lists r) → OneSequent → OneSequentInFront → IfOk a (IsVerdictOf (RunSample n) (Some (Finished r)))
+sample_ended n r (Err e) ends rewritten proved one front = tt
+sample_ended n r (Ok v) ends rewritten proved one front = record { ends = ends; proved = proved; promised = rewritten; one_text = one; one_in_front = front }
+
+-- its written article, as a text that is within the limit
+pub written_text : (r : Ran) (o : Option (Vec ℕ Global)) (text : Vec ℕ Global) → o ≡ Some text
+    → IfSome o (λ t. (article_fits r ≡ true) × (t.items ≡ article_text r)) → (article_fits r ≡ true) × (text.items ≡ article_text r)
+written_text r o text is some = subst (λ (x : Option (Vec ℕ Global)). IfSome x (λ t. (article_fits r ≡ true) × (t.items ≡ article_text r))) is some
+
+pub sample_within : (n : ℕ) (r : Ran) (v : Verdict) → article_fits r ≡ true → v.status ≡ Accepted → v.text.items ≡ sample_line n r → EndsAs (RunSample n) r v
+sample_within n r v fit status text = rw fit (record { status_is = status; text_is = text })
+
+-- the run of its article ends as its bytes say
+pub sample_end : (n : ℕ) (folder : Option Folder) (input : Option (List ℕ)) (o : Option (End Ran Stop))
+    → IfSome o (IsAnswer (article_end sample_path (outcome (sample n)))) → IfSome o (IsEnd (RunSample n) folder input)
+sample_end n folder input None ends = tt
+sample_end n folder input (Some e) ends = ends
+
+-- it doesn't fail, since its source doesn't
+no_rise : ¬ Rose 0 0
+no_rise h = let e : 1 ≤ 0 = h in absurd (omega arith)
+
+never : {X : Type 0} → Rose 0 0 → X
+never h = absurd (no_rise h)
+
+pub sample_place : (n : ℕ) (folder : Option Folder) (at : Option (List ℕ)) (o : Option (End Ran Stop))
+    → IfSome o (IsOwnEnd sample_path) → IfSome o (HasCause stop_status (Rose 0 0) ⊥) → IfSome o (IsPlace (RunSample n) folder at)
+sample_place n folder at None own cause = tt
+sample_place n folder at (Some (Finished r)) own cause = tt
+sample_place n folder at (Some (Stopped s)) own cause = own
+sample_place n folder at (Some (Failed path)) own cause = never cause
+
+pub not_failed : {E : Type 0} (a : Result Verdict E) (Q : Verdict → Type 0) → IfOk a (λ v. Q v → Rose 0 0) → IfOk a (λ v. ¬ Q v)
+not_failed (Ok v) Q h = λ q. never (h q)
+not_failed (Err e) Q h = tt
+
+-- a sample that is made alone
+pub sample_made : (n : ℕ) (folder : Option Folder) (input at : Option (List ℕ)) (v : Verdict) → IsSaid v Accepted (sample n) → OneSequent → OneSequentInFront → AcceptedLists names [] []
+    → Says v.status (MakeSample n) folder input at v.text.items
+sample_made n folder input at v said one front none =
+    rw said.status_is (record { made = tt; ended = refl; proved = record { accepted = none; theorems = All-nil (IsTheorem names [] []) }; promised = tt; one_text = one; one_in_front = front; fits_is = refl; text_is = said.text_is })

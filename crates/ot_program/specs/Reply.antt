@@ -1,0 +1,418 @@
+-- What the stated machine answers to words, files and input.
+use Rattle.std.specs.Prelude.{ℕ, List, [], ◌∷◌, ◌++◌, Bool, true, ◌==◌, count_by, length, map, codes, nat_le, Option, Some, None, Result, Ok, Err, if◌then◌else◌}
+use Rattle.std.specs.List.{concat}
+use Rattle.std.specs.Option.{option_map, option_and_then}
+use Rattle.std.specs.Fmt.{decimal}
+use Rattle.std.specs.Str.{bytes_eq}
+use Rattle.ot_plain.specs.Names.{Name}
+use Rattle.ot_plain.specs.Trees.{Sequent, Definition, Symbol}
+use Rattle.ot_plain.specs.Answers.{◌>>=◌, some_or}
+use Rattle.ot_plain.specs.declared.limits.Limits.{Limits}
+use Rattle.ot_io.specs.Folder.{Folder, bytes_at}
+use Rattle.ot_args.specs.Grammar.{CommandValue, Check, Info, Uses as InfoUses, Readable as InfoReadable, Link, Minimise, Sample, SampleArticle, Verify, command_of, is_theory}
+use Rattle.ot_args.specs.declared.sections.Sections.{Sections}
+use Rattle.ot_scan.specs.Lines.{lines_of}
+use Rattle.ot_machine.specs.States.{State, no_context, fresh_article, fresh_run}
+use Rattle.ot_machine.specs.Run.{Outcome, run}
+use Rattle.ot_link.specs.Stops.{Stop, InArticle, InTheory, InStructure, TooLarge, Missing, Linked, answered}
+use Rattle.ot_link.specs.Blocks.{Ran, article_end}
+use Rattle.ot_link.specs.Link.{link}
+use Rattle.ot_link.specs.Shown.{shown}
+use Rattle.ot_minimise.specs.Minimised.{minimised}
+use Rattle.ot_sample.specs.Sample.{sample}
+use Rattle.ot_print.specs.Texts.{summary_text}
+use Rattle.ot_uses.specs.Texts.{uses_text}
+use Rattle.ot_pretty.specs.Summary.{hidden_in_run, readable_summary}
+use Rattle.ot_records.specs.Tokens.{LogFault}
+use Rattle.ot_records.specs.Check.{Outcome as LogOutcome, Ends, Stops}
+use Rattle.ot_verify.specs.Reading.{log_check}
+use Rattle.ot_verify.specs.Verifying.{Proved, proved_by, proved_text}
+use Rattle.ot_program.specs.Texts.{stop_line, log_line, missing_line, large_line, large_article_line, usage_line}
+use Rattle.ot_program.specs.declared.status.Status.{Status}
+use Rattle.ot_program.specs.declared.status.Status.TheVariants.{Accepted, Refused, Usage, NoFile}
+use Rattle.ot_program.specs.declared.task.View.{View}
+use Rattle.ot_program.specs.declared.task.View.TheVariants.{Counts, Summary, Uses, Article}
+
+-- a text on standard output, one on standard error, and how the program ends
+pub record Reply : Type 0 where
+  pub output : List ℕ
+  pub error : List ℕ
+  pub status : Status
+
+-- ---- limits
+
+-- the most bytes of an article
+abbrev pub article_limit : ℕ
+article_limit = 4294967296
+
+-- the most bytes of a summary
+abbrev pub summary_limit : ℕ
+summary_limit = 67108864
+
+-- the most bytes of a written article
+abbrev pub written_limit : ℕ
+written_limit = 4294967296
+
+-- the limits of the program
+unfoldable pub limits : Limits
+limits = record { article_bytes = article_limit; theory_bytes = 1048576; package_depth = 16; summary_bytes = summary_limit; written_bytes = written_limit }
+
+-- ---- what a command does
+
+-- it runs an input, with packages from a folder, and prints what the run came to in one view; it makes the sample article of
+-- a size, and runs it, or makes it alone; it checks the log of a path; or it runs an input and prints what the run came to in
+-- readable form
+pub data TaskValue : Type 0 where
+  RunInput : List ℕ → List ℕ → View → TaskValue
+  RunSample : ℕ → TaskValue
+  MakeSample : ℕ → TaskValue
+  CheckLog : List ℕ → TaskValue
+  ShowReadable : List ℕ → List ℕ → TaskValue
+
+abbrev pub task : CommandValue → TaskValue
+task (Check packages path) = RunInput packages path Counts
+task (Info packages path sections) = RunInput packages path (Summary sections)
+task (InfoUses packages path) = RunInput packages path Uses
+task (Link packages path) = RunInput packages path Article
+task (Minimise packages path) = RunInput packages path Article
+task (Sample n) = RunSample n
+task (SampleArticle n) = MakeSample n
+task (Verify path) = CheckLog path
+task (InfoReadable packages path) = ShowReadable packages path
+
+-- what words ask for, none where they are no command
+abbrev pub task_of : List (List ℕ) → Option TaskValue
+task_of words = option_map task (command_of words)
+
+-- what stands for the path of a sample
+abbrev pub sample_path : List ℕ
+sample_path = codes "sample"
+
+-- the path of the input, or of the log
+abbrev pub input_of : TaskValue → List ℕ
+input_of (RunInput packages path view) = path
+input_of (RunSample n) = sample_path
+input_of (MakeSample n) = sample_path
+input_of (CheckLog path) = path
+input_of (ShowReadable packages path) = path
+
+-- and none where the words are no command
+abbrev pub path_of : Option TaskValue → List ℕ
+path_of None = []
+path_of (Some t) = input_of t
+
+-- `-` is standard input; any other name is a file's
+abbrev pub is_standard : List ℕ → Bool
+is_standard path = bytes_eq path (codes "-")
+
+-- ---- the run of an input
+
+-- before the first line of an article, with no assumption and no definition
+abbrev pub start : State
+start = record { article = fresh_article; run = fresh_run }
+
+-- how an article of these bytes ends on its own
+abbrev pub outcome : List ℕ → Outcome
+outcome bytes = run no_context (lines_of article_limit bytes) start
+
+-- the run of an article on standard input, for which no file is needed
+abbrev pub standard_run : List ℕ → List ℕ → Linked Ran
+standard_run path bytes = answered (article_end path (outcome bytes))
+
+-- the run of an article file
+abbrev pub article_run : List ℕ → Folder → Linked Ran
+article_run path folder = record { paths = path ∷ []; answer = some_or (Missing path) (bytes_at folder path) >>= λ bytes. article_end path (outcome bytes) }
+
+-- the run of a theory file, with packages from the folder of this name
+unfoldable pub theory_run : List ℕ → List ℕ → Folder → Linked Ran
+theory_run packages path folder = link (record { folder = folder; packages = packages; limits = limits }) path
+
+-- the run of an input, over the files and the bytes of standard input that are told
+abbrev pub run_at : List ℕ → List ℕ → Option Folder → Option (List ℕ) → Option (Linked Ran)
+run_at packages path folder input =
+    if is_standard path then option_map (standard_run path) input
+    else if is_theory path then option_map (theory_run packages path) folder
+    else option_map (article_run path) folder
+
+-- the paths of the files that the run of an input needs, in order, as far as they are told
+abbrev pub opened_at : List ℕ → List ℕ → Option Folder → Option (List (List ℕ))
+opened_at packages path folder =
+    if is_standard path then Some []
+    else if is_theory path then option_map (λ files. (theory_run packages path files).paths) folder
+    else Some (path ∷ [])
+
+-- ---- a run with its notation
+
+-- a run, with the namespaces that its input shows
+pub record Noted : Type 0 where
+  pub shown : List Name
+  pub ran : Ran
+
+-- the namespaces that the tags of a theory file show
+unfoldable pub theory_shown : List ℕ → Folder → Linked (List Name)
+theory_shown path folder = shown (record { folder = folder; packages = []; limits = limits }) path
+
+-- those that an input shows, over the files that are told; an article shows none
+abbrev pub shown_at : List ℕ → Option Folder → Option (Linked (List Name))
+shown_at path folder = if is_theory path then option_map (theory_shown path) folder else Some (answered (Ok []))
+
+-- what is shown comes before the run, and stops it first
+abbrev pub noted : Result (List Name) Stop → Result Ran Stop → Result Noted Stop
+noted names ran = names >>= λ ns. ran >>= λ r. Ok (record { shown = ns; ran = r })
+
+-- both, as far as they are told
+abbrev pub noted_told : Option (Linked (List Name)) → Option (Linked Ran) → Option (Result Noted Stop)
+noted_told names ran = option_and_then (λ ns. option_map (λ r. noted ns.answer r.answer) ran) names
+
+-- the run of an input with its notation, over the files and the bytes of standard input that are told
+abbrev pub noted_at : List ℕ → List ℕ → Option Folder → Option (List ℕ) → Option (Result Noted Stop)
+noted_at packages path folder input = noted_told (shown_at path folder) (run_at packages path folder input)
+
+-- the paths of the files that both need
+abbrev pub opened_first : Option (Linked (List Name)) → Option (List (List ℕ)) → Option (List (List ℕ))
+opened_first names opened = option_and_then (λ ns. option_map (λ paths. ns.paths ++ paths) opened) names
+
+-- ---- the check of a log
+
+-- why a log isn't accepted: its first fault with the line, or that it isn't there
+pub data LogStop : Type 0 where
+  InLog : ℕ → LogFault → LogStop
+  NoLog : LogStop
+
+-- how the check of a log ends: with what it proves, or at a fault
+abbrev pub log_end : LogOutcome Name → Result Proved LogStop
+log_end (Ends made) = Ok (proved_by made)
+log_end (Stops line fault) = Err (InLog line fault)
+
+-- the check of a log of these bytes
+abbrev pub check_bytes : List ℕ → Result Proved LogStop
+check_bytes bytes = log_end (log_check article_limit bytes)
+
+-- the check of a log file
+abbrev pub check_file : List ℕ → Folder → Result Proved LogStop
+check_file path folder = some_or NoLog (bytes_at folder path) >>= check_bytes
+
+-- the check of a log, over the files and the bytes of standard input that are told
+abbrev pub check_at : List ℕ → Option Folder → Option (List ℕ) → Option (Result Proved LogStop)
+check_at path folder input = if is_standard path then option_map check_bytes input else option_map (check_file path) folder
+
+-- ---- how a task ends
+
+-- what it comes to: the end of a run, what a log proves, a run with its notation, or nothing but the text that is made
+abbrev pub Product : TaskValue → Type 0
+Product (RunInput packages path view) = Ran
+Product (RunSample n) = Ran
+Product (MakeSample n) = Unit {0}
+Product (CheckLog path) = Proved
+Product (ShowReadable packages path) = Noted
+
+-- what stops it: a fault of the run, or of the log
+abbrev pub Halt : TaskValue → Type 0
+Halt (RunInput packages path view) = Stop
+Halt (RunSample n) = Stop
+Halt (MakeSample n) = ⊥
+Halt (CheckLog path) = LogStop
+Halt (ShowReadable packages path) = Stop
+
+-- how it ends, as far as that is told
+abbrev pub Told : TaskValue → Type 0
+Told t = Option (Result (Product t) (Halt t))
+
+abbrev pub result_of : (t : TaskValue) → Option Folder → Option (List ℕ) → Told t
+result_of (RunInput packages path view) folder input = option_map (λ l. l.answer) (run_at packages path folder input)
+result_of (RunSample n) folder input = Some (article_end sample_path (outcome (sample n)))
+result_of (MakeSample n) folder input = Some (Ok tt)
+result_of (CheckLog path) folder input = check_at path folder input
+result_of (ShowReadable packages path) folder input = noted_at packages path folder input
+
+-- the paths of the files that it needs, in order, as far as they are told
+abbrev pub opened : TaskValue → Option Folder → Option (List (List ℕ))
+opened (RunInput packages path view) folder = opened_at packages path folder
+opened (RunSample n) folder = Some []
+opened (MakeSample n) folder = Some []
+opened (CheckLog path) folder = Some (if is_standard path then [] else path ∷ [])
+opened (ShowReadable packages path) folder = opened_first (shown_at path folder) (opened_at packages path folder)
+
+-- ---- what is printed of a run
+
+abbrev pub assumptions_of : Ran → List (Sequent Name)
+assumptions_of r = map (λ a. a.sequent) r.run.assumptions
+
+abbrev pub definitions_of : Ran → List (Definition Name)
+definitions_of r = map (λ d. d.definition) r.run.definitions
+
+abbrev pub exports_of : Ran → List (Sequent Name)
+exports_of r = map (λ e. e.sequent) r.exports
+
+-- how many theorems, assumptions and definitions there are
+abbrev pub line_of_counts : ℕ → ℕ → ℕ → List ℕ
+line_of_counts theorems assumptions definitions =
+    concat (codes "accepted: " ∷ decimal theorems ∷ codes " theorems, " ∷ decimal assumptions ∷ codes " assumptions, " ∷ decimal definitions ∷ codes " definitions\n" ∷ [])
+
+-- the counts of a run's exports, assumptions and definitions
+abbrev pub count_line : Ran → List ℕ
+count_line r = line_of_counts (length r.exports) (length r.run.assumptions) (length r.run.definitions)
+
+-- the sections of a run's summary
+abbrev pub summary : Sections → Ran → List ℕ
+summary sections r = summary_text sections (assumptions_of r) (definitions_of r) (exports_of r)
+
+-- what each of its theorems rests on
+abbrev pub uses : Ran → List ℕ
+uses r = uses_text r.run r.exports
+
+-- the symbols that a run writes by their base names: symbols of its assumptions, its exports and its definitions' premises and
+-- theorems, in a namespace that is shown
+abbrev pub notation : Noted → List (Symbol Name)
+notation n = hidden_in_run n.shown (assumptions_of n.ran) (exports_of n.ran) (definitions_of n.ran)
+
+-- its assumptions and theorems in readable form
+abbrev pub readable : Noted → List ℕ
+readable n = readable_summary (notation n) (assumptions_of n.ran) (exports_of n.ran)
+
+-- the written article of its exports
+abbrev pub article_text : Ran → List ℕ
+article_text r = minimised r.run r.exports
+
+abbrev pub article_fits : Ran → Bool
+article_fits r = nat_le (length (article_text r)) written_limit
+
+-- the part that is printed of a run
+abbrev pub run_text : View → Ran → List ℕ
+run_text Counts r = count_line r
+run_text (Summary sections) r = summary sections r
+run_text Uses r = uses r
+run_text Article r = article_text r
+
+-- whether it is within the limit, which all but the counts have
+abbrev pub run_fits : View → Ran → Bool
+run_fits Counts r = true
+run_fits (Summary sections) r = nat_le (length (summary sections r)) summary_limit
+run_fits Uses r = nat_le (length (uses r)) summary_limit
+run_fits Article r = article_fits r
+
+-- the line that says that it is past the limit
+abbrev pub view_large : View → List ℕ → List ℕ
+view_large Counts path = large_line path
+view_large (Summary sections) path = large_line path
+view_large Uses path = large_line path
+view_large Article path = large_article_line path
+
+-- how many lines a text has, each with its newline
+abbrev pub line_count : List ℕ → ℕ
+line_count = count_by (λ b. b == 10)
+
+-- what a sample's run came to: its size, the lines of its article, and its theorems; then its assumptions, its definitions and
+-- the lines of its written article
+abbrev pub sample_front : (size lines theorems : ℕ) → List ℕ
+sample_front size lines theorems =
+    concat (codes "sample " ∷ decimal size ∷ codes ": " ∷ decimal lines ∷ codes " lines, " ∷ decimal theorems ∷ codes " theorems, " ∷ [])
+
+abbrev pub sample_back : (assumptions definitions minimised : ℕ) → List ℕ
+sample_back assumptions definitions minimised =
+    concat (decimal assumptions ∷ codes " assumptions, " ∷ decimal definitions ∷ codes " definitions; minimised " ∷ decimal minimised ∷ codes " lines\n" ∷ [])
+
+abbrev pub sample_line : ℕ → Ran → List ℕ
+sample_line n r = sample_front n (line_count (sample n)) (length r.exports) ++ sample_back (length r.run.assumptions) (length r.run.definitions) (line_count (article_text r))
+
+-- ---- what a task prints
+
+-- what is printed of its end
+abbrev pub text_of : (t : TaskValue) → Product t → List ℕ
+text_of (RunInput packages path view) r = run_text view r
+text_of (RunSample n) r = sample_line n r
+text_of (MakeSample n) x = sample n
+text_of (CheckLog path) p = proved_text p
+text_of (ShowReadable packages path) n = readable n
+
+-- whether it is within the limit
+abbrev pub fits : (t : TaskValue) → Product t → Bool
+fits (RunInput packages path view) r = run_fits view r
+fits (RunSample n) r = article_fits r
+fits (MakeSample n) x = true
+fits (CheckLog path) p = nat_le (length (proved_text p)) summary_limit
+fits (ShowReadable packages path) n = nat_le (length (readable n)) summary_limit
+
+-- the assumptions, the definitions and the theorems of which it prints
+pub record Lists : Type 0 where
+  pub assumptions : List (Sequent Name)
+  pub definitions : List (Definition Name)
+  pub theorems : List (Sequent Name)
+
+abbrev pub run_lists : Ran → Lists
+run_lists r = record { assumptions = assumptions_of r; definitions = definitions_of r; theorems = exports_of r }
+
+abbrev pub log_lists : Proved → Lists
+log_lists p = record { assumptions = p.assumptions; definitions = p.definitions; theorems = p.results }
+
+abbrev pub lists_of : (t : TaskValue) → Product t → Lists
+lists_of (RunInput packages path view) r = run_lists r
+lists_of (RunSample n) r = run_lists r
+lists_of (MakeSample n) x = record { assumptions = []; definitions = []; theorems = [] }
+lists_of (CheckLog path) p = log_lists p
+lists_of (ShowReadable packages path) n = run_lists n.ran
+
+-- ---- the reply
+
+-- a text for standard output where the input is accepted, and else a line for standard error
+abbrev pub accepted : List ℕ → Reply
+accepted text = record { output = text; error = []; status = Accepted }
+
+abbrev pub fails : Status → List ℕ → Reply
+fails status line = record { output = []; error = line; status = status }
+
+-- a file that isn't there has a status of its own; every other stop is refused
+abbrev pub stop_status : Stop → Status
+stop_status (InArticle path number fault) = Refused
+stop_status (InTheory path number fault) = Refused
+stop_status (InStructure path number fault) = Refused
+stop_status (TooLarge path) = Refused
+stop_status (Missing path) = NoFile
+
+abbrev pub log_status : LogStop → Status
+log_status (InLog line fault) = Refused
+log_status NoLog = NoFile
+
+abbrev pub halt_status : (t : TaskValue) → Halt t → Status
+halt_status (RunInput packages path view) stop = stop_status stop
+halt_status (RunSample n) stop = stop_status stop
+halt_status (MakeSample n) stop = Refused
+halt_status (CheckLog path) stop = log_status stop
+halt_status (ShowReadable packages path) stop = stop_status stop
+
+-- the line for what stops a log's check
+abbrev pub log_stop_line : List ℕ → LogStop → List ℕ
+log_stop_line path (InLog line fault) = log_line path line fault
+log_stop_line path NoLog = missing_line path
+
+abbrev pub halt_line : (t : TaskValue) → Halt t → List ℕ
+halt_line (RunInput packages path view) stop = stop_line stop
+halt_line (RunSample n) stop = stop_line stop
+halt_line (MakeSample n) stop = []
+halt_line (CheckLog path) stop = log_stop_line path stop
+halt_line (ShowReadable packages path) stop = stop_line stop
+
+-- the line that says that the text of a task is past its limit
+abbrev pub over_line : TaskValue → List ℕ
+over_line (RunInput packages path view) = view_large view path
+over_line (RunSample n) = large_article_line sample_path
+over_line (MakeSample n) = large_article_line sample_path
+over_line (CheckLog path) = large_line path
+over_line (ShowReadable packages path) = large_line path
+
+-- a task that ended is accepted, with what it prints; a text past the limit is refused
+abbrev pub reply_to_end : (t : TaskValue) → Product t → Reply
+reply_to_end t x = if fits t x then accepted (text_of t x) else fails Refused (over_line t)
+
+-- the reply to a task, by how it ends
+abbrev pub reply_to : (t : TaskValue) → Result (Product t) (Halt t) → Reply
+reply_to t (Ok x) = reply_to_end t x
+reply_to t (Err stop) = fails (halt_status t stop) (halt_line t stop)
+
+abbrev pub reply_to_task : Option TaskValue → Option Folder → Option (List ℕ) → Option Reply
+reply_to_task None folder input = Some (fails Usage usage_line)
+reply_to_task (Some t) folder input = option_map (reply_to t) (result_of t folder input)
+
+-- the answer to these words, over the files and the bytes of standard input that are told
+abbrev pub answer : List (List ℕ) → Option Folder → Option (List ℕ) → Option Reply
+answer words folder input = reply_to_task (task_of words) folder input

@@ -1,0 +1,230 @@
+-- What the parts of the program come to. Only contracts of private functions speak of it.
+use Rattle.std.specs.Prelude.{◌≡◌, ◌⊎◌, ◌≤◌, ℕ, true, List, map, length, nat_le, Option, Some, None, Result, Ok, Err, Vec, MatchBool, IfSome, IsSomeAnd, string_bytes}
+use Rattle.std.specs.Global.{Global}
+use Rattle.std.specs.Option.{option_map}
+use Rattle.ot_plain.specs.Lists.{IsMember}
+use Rattle.ot_plain.specs.Names.{Name}
+use Rattle.ot_args.specs.declared.sections.Sections.{Sections}
+use Rattle.ot_args.specs.declared.command.Usage as words
+use Rattle.ot_io.specs.Folder.{Folder}
+use Rattle.ot_kernel.specs.State as kernel
+use Rattle.ot_machine.specs.Faults.{fault_of}
+use Rattle.ot_machine.specs.declared.machine.Export.{Export}
+use Rattle.ot_link.specs.Stops.{Stop, InArticle, InTheory, InStructure, TooLarge, Missing}
+use Rattle.ot_link.specs.Blocks.{Ran}
+use Rattle.ot_minimise.specs.Minimised.{AreLawful}
+use Rattle.ot_machine.specs.Meaning.{export_of, run_of}
+use Rattle.ot_machine.specs.declared.session.Session.{Session}
+use Rattle.ot_link.specs.declared.fault.LinkFault.{LinkFault}
+use Rattle.ot_link.specs.declared.fault.LinkFault.TheVariants as faults
+use Rattle.ot_text.specs.Laws.{OneSequent, OneSequentInFront}
+use Rattle.ot_verify.specs.Taking.{fault_of as log_fault_of}
+use Rattle.ot_verify.specs.Verifying.{Proved}
+use Rattle.ot_program.specs.Texts.{stop_line, large_line, large_article_line, read_fault_line, write_fault_line}
+use Rattle.ot_program.specs.Reply.{Reply, accepted, fails, TaskValue, RunInput, RunSample, MakeSample, CheckLog, ShowReadable, LogStop, InLog, NoLog, input_of, Noted, readable, Product, Halt, result_of, opened, text_of, fits, article_text, article_fits, lists_of, summary, uses, summary_limit, over_line, stop_status, halt_status, halt_line}
+use Rattle.ot_program.specs.Answer.{IsProved, IsPromisedBy, IsOwnStop, IsOwnHalt, IsReadPath}
+use Rattle.ot_program.specs.declared.status.Status.{Status}
+use Rattle.ot_program.specs.declared.status.Status.TheVariants.{Accepted, Refused, Usage, NoFile, ReadFault, WriteFault, Memory}
+use Rattle.ot_program.specs.declared.report.Counts.{Counts}
+use Rattle.ot_program.specs.declared.report.Verdict.{Verdict}
+use Rattle.ot_program.specs.declared.task.Job.{Job}
+use Rattle.ot_program.specs.declared.task.Task.{Task}
+use Rattle.ot_program.specs.declared.task.Task.TheVariants as code
+use Rattle.ot_program.specs.declared.log.LogRefusal.{LogRefusal}
+use Rattle.ot_program.specs.declared.log.LogRefusal.TheVariants as refusals
+
+-- ---- what a command does
+
+-- the run that a job asks for
+abbrev pub job_task : Job → TaskValue
+job_task j = RunInput j.packages.now j.path.now j.view
+
+-- a task without where it lies in memory
+abbrev pub task_value : Task → TaskValue
+task_value (code.RunInput job) = job_task job
+task_value (code.RunSample count) = RunSample count
+task_value (code.MakeSample count) = MakeSample count
+task_value (code.CheckLog path) = CheckLog path.now
+task_value (code.ShowReadable packages path) = ShowReadable packages.now path.now
+
+-- a sample is of a size that is made
+abbrev pub IsSized : TaskValue → Type 0
+IsSized (RunInput packages path view) = Unit {0}
+IsSized (RunSample n) = n ≤ 1000
+IsSized (MakeSample n) = n ≤ 1000
+IsSized (CheckLog path) = Unit {0}
+IsSized (ShowReadable packages path) = Unit {0}
+
+-- what the code answers
+abbrev pub task_answer : Result Task words.Usage → Option TaskValue
+task_answer (Ok t) = Some (task_value t)
+task_answer (Err _) = None
+
+-- ---- how a task ends
+
+-- with what it comes to, at a stop, or with an input that failed
+pub data End (X S : Type 0) : Type 0 where
+  Finished : X → End X S
+  Stopped : S → End X S
+  Failed : List ℕ → End X S
+
+-- the exports and the run that numbers stand for
+abbrev pub ran_from : Session → List Export → Ran
+ran_from s exports = record { exports = map (export_of s) exports; run = run_of s }
+
+-- the same of an input that shows these namespaces
+abbrev pub noted_from : List Name → Session → List Export → Noted
+noted_from names s exports = record { shown = names; ran = ran_from s exports }
+
+-- the counts of a run
+pub record AreCounts (r : Ran) (counts : Counts) : Type 0 where
+  pub theorems : counts.theorems ≡ length r.exports
+  pub assumptions : counts.assumptions ≡ length r.run.assumptions
+  pub definitions : counts.definitions ≡ length r.run.definitions
+
+-- the end that a fault tells, by the kernel's names; none where memory ran out
+abbrev pub end_at : kernel.State → LinkFault → Option (End Ran Stop)
+end_at k (faults.Article path line fault) = option_map (λ f. Stopped (InArticle (string_bytes path) line f)) (fault_of (kernel.name_at k) fault)
+end_at k (faults.Theory path line fault) = Some (Stopped (InTheory (string_bytes path) line fault))
+end_at k (faults.Structure path line fault) = Some (Stopped (InStructure (string_bytes path) line fault))
+end_at k (faults.TheoryTooLarge path) = Some (Stopped (TooLarge (string_bytes path)))
+end_at k (faults.NoFile path) = Some (Stopped (Missing (string_bytes path)))
+end_at k (faults.ReadFault path) = Some (Failed (string_bytes path))
+end_at k faults.Memory = None
+
+-- the end that an answer tells
+abbrev pub end_of : Session → Result (Vec Export Global) LinkFault → Option (End Ran Stop)
+end_of s (Ok exports) = Some (Finished (ran_from s exports.items))
+end_of s (Err fault) = end_at s.kernel fault
+
+-- the end of a run whose input shows these namespaces
+abbrev pub noted_end : List Name → End Ran Stop → End Noted Stop
+noted_end names (Finished r) = Finished (record { shown = names; ran = r })
+noted_end names (Stopped s) = Stopped s
+noted_end names (Failed path) = Failed path
+
+-- the end that the check of the log of a path tells; none where memory ran out
+abbrev pub log_end_of : List ℕ → Result Proved LogRefusal → Option (End Proved LogStop)
+log_end_of path (Ok proved) = Some (Finished proved)
+log_end_of path (Err (refusals.At line fault)) = Some (Stopped (InLog line (log_fault_of fault)))
+log_end_of path (Err refusals.NoFile) = Some (Stopped NoLog)
+log_end_of path (Err refusals.ReadFault) = Some (Failed path)
+log_end_of path (Err refusals.Memory) = None
+
+-- the end says what is answered
+abbrev pub IsAnswer : {X S : Type 0} → Result X S → End X S → Type 0
+IsAnswer answer (Finished x) = answer ≡ Ok x
+IsAnswer answer (Stopped s) = answer ≡ Err s
+IsAnswer answer (Failed path) = Unit {0}
+
+-- it is the end of the task, as far as that is told
+abbrev pub IsEnd : (t : TaskValue) → Option Folder → Option (List ℕ) → End (Product t) (Halt t) → Type 0
+IsEnd t folder input e = IfSome (result_of t folder input) (λ answer. IsAnswer answer e)
+
+-- a stop, or a failure, is at a path that the task reads
+abbrev pub IsPlace : (t : TaskValue) → Option Folder → Option (List ℕ) → End (Product t) (Halt t) → Type 0
+IsPlace t folder at (Finished x) = Unit {0}
+IsPlace t folder at (Stopped s) = IsOwnHalt t s
+IsPlace t folder at (Failed failed) = IsReadPath (input_of t) (opened t folder) at failed
+
+-- a stop, or a failure, is at this path of an article
+abbrev pub IsOwnEnd : List ℕ → End Ran Stop → Type 0
+IsOwnEnd path (Finished r) = Unit {0}
+IsOwnEnd path (Stopped s) = IsOwnStop path s
+IsOwnEnd path (Failed failed) = failed ≡ path
+
+-- a failure is at one of these paths, which was the last to be asked for, as far as they are told
+abbrev pub IsNeeded : Option (List (List ℕ)) → Option (List ℕ) → End Ran Stop → Type 0
+IsNeeded files at (Finished r) = Unit {0}
+IsNeeded files at (Stopped s) = Unit {0}
+IsNeeded files at (Failed failed) = IfSome files (IsMember failed) × IfSome at (λ asked. failed ≡ asked)
+
+-- a missing file, which a stop has by its status, and a failure were counted
+abbrev pub HasCause : {X S : Type 0} → (S → Status) → (FailureRose MissRose : Type 0) → End X S → Type 0
+HasCause status FailureRose MissRose (Finished x) = Unit {0}
+HasCause status FailureRose MissRose (Stopped s) = status s ≡ NoFile → MissRose
+HasCause status FailureRose MissRose (Failed path) = FailureRose
+
+-- ---- verdicts
+
+-- a verdict has this status and this text
+pub record IsSaid (v : Verdict) (status : Status) (text : List ℕ) : Type 0 where
+  pub status_is : v.status ≡ status
+  pub text_is : v.text.items ≡ text
+
+-- a task that ended is accepted with what it prints, or refused where that is too large
+abbrev pub EndsAs : (t : TaskValue) → Product t → Verdict → Type 0
+EndsAs t x v = MatchBool (fits t x) (IsSaid v Accepted (text_of t x)) (IsSaid v Refused (over_line t))
+
+-- the sections of a run's summary, where the input has this path
+abbrev pub SummaryEndsAs : List ℕ → Sections → Ran → Verdict → Type 0
+SummaryEndsAs path sections r v = MatchBool (nat_le (length (summary sections r)) summary_limit) (IsSaid v Accepted (summary sections r)) (IsSaid v Refused (large_line path))
+
+-- what each of its theorems rests on
+abbrev pub UsesEndsAs : List ℕ → Ran → Verdict → Type 0
+UsesEndsAs path r v = MatchBool (nat_le (length (uses r)) summary_limit) (IsSaid v Accepted (uses r)) (IsSaid v Refused (large_line path))
+
+-- its assumptions and theorems in readable form
+abbrev pub ReadableEndsAs : List ℕ → Noted → Verdict → Type 0
+ReadableEndsAs path n v = MatchBool (nat_le (length (readable n)) summary_limit) (IsSaid v Accepted (readable n)) (IsSaid v Refused (large_line path))
+
+-- the written article of its exports
+abbrev pub ArticleEndsAs : List ℕ → Ran → Verdict → Type 0
+ArticleEndsAs path r v = MatchBool (article_fits r) (IsSaid v Accepted (article_text r)) (IsSaid v Refused (large_article_line path))
+
+-- the run of a session, and its exports, are lawful
+abbrev pub IsLawfulEnds : Session → List Export → Type 0
+IsLawfulEnds s exports = AreLawful (run_of s) (map (export_of s) exports)
+
+abbrev pub IsLawfulEnd : Session → Vec Export Global → Type 0
+IsLawfulEnd s exports = IsLawfulEnds s exports.items
+
+-- and its theorems are proved
+pub record IsFinal (t : TaskValue) (x : Product t) (v : Verdict) : Type 0 where
+  pub ends : EndsAs t x v
+  pub proved : IsProved (lists_of t x)
+  pub promised : fits t x ≡ true → IsPromisedBy t x
+  pub one_text : OneSequent
+  pub one_in_front : OneSequentInFront
+
+-- the verdict on a run that stopped or failed
+abbrev pub IsStopVerdict : Verdict → End Ran Stop → Type 0
+IsStopVerdict v (Finished r) = ⊥
+IsStopVerdict v (Stopped s) = IsSaid v (stop_status s) (stop_line s)
+IsStopVerdict v (Failed path) = IsSaid v ReadFault (read_fault_line path)
+
+-- the verdict on a task that ended so
+abbrev pub IsVerdictOn : (t : TaskValue) → Verdict → End (Product t) (Halt t) → Type 0
+IsVerdictOn t v (Finished x) = IsFinal t x v
+IsVerdictOn t v (Stopped s) = IsSaid v (halt_status t s) (halt_line t s)
+IsVerdictOn t v (Failed path) = IsSaid v ReadFault (read_fault_line path)
+
+-- there is such an end, and the verdict is on it
+abbrev pub IsVerdictOf : (t : TaskValue) → Option (End (Product t) (Halt t)) → Verdict → Type 0
+IsVerdictOf t told v = IsSomeAnd told (IsVerdictOn t v)
+
+-- the reply that a status and a text make; an input that failed has none
+abbrev pub IsReplyOf : Status → List ℕ → Reply → Type 0
+IsReplyOf Accepted text reply = reply ≡ accepted text
+IsReplyOf Refused line reply = reply ≡ fails Refused line
+IsReplyOf NoFile line reply = reply ≡ fails NoFile line
+IsReplyOf ReadFault line reply = Unit {0}
+IsReplyOf Usage line reply = ⊥
+IsReplyOf WriteFault line reply = ⊥
+IsReplyOf Memory line reply = ⊥
+
+-- ---- how the program ends
+
+-- with the status of a verdict, or with a write fault where that is to be printed
+abbrev pub Ends : Status → Status → Type 0
+Ends verdict status = (status ≡ verdict) ⊎ ((verdict ≡ Accepted) × (status ≡ WriteFault))
+
+-- the line on standard error
+abbrev pub error_line : List ℕ → Status → Option (List ℕ)
+error_line text Accepted = None
+error_line text WriteFault = Some write_fault_line
+error_line text Refused = Some text
+error_line text NoFile = Some text
+error_line text ReadFault = Some text
+error_line text Usage = Some text
+error_line text Memory = Some text

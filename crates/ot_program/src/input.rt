@@ -1,0 +1,162 @@
+ghost use Rattle.std.specs.Prelude.{◌≡◌, ◌⊎◌, [], Some, IfOk, IfErr, IfSome, string_bytes};
+ghost use Rattle.std.specs.Option.{option_map};
+ghost use Rattle.ot_io.specs.Causes.{Rose};
+ghost use Rattle.ot_io.specs.Folder.{path_asked};
+ghost use Rattle.ot_link.specs.Blocks.{article_end};
+ghost use Rattle.ot_link.specs.Answers.{AreExportsIn, NamesSymbolIn};
+ghost use Rattle.ot_machine.specs.States.{fresh_run};
+ghost use Rattle.ot_machine.specs.Meaning.{run_of, IsRun};
+ghost use Rattle.ot_program.specs.Reply.{outcome, article_run, theory_run, stop_status};
+ghost use Rattle.ot_program.specs.Answer.{FailedAt, LeavesOther, LastPath, KeepsFiles, KeepsSource};
+ghost use Rattle.ot_program.specs.Verdicts.{job_task, end_of, IsAnswer, IsEnd, IsPlace, IsOwnEnd, IsNeeded, HasCause, IsLawfulEnd};
+
+use crate::task::Job;
+use ot_args::is_theory;
+use ot_io::{Files, OpenFault, Source};
+use ot_link::{LinkFault, link, run_alone};
+use ot_machine::{Export, Session};
+use ot_plain::Limits;
+use std::alloc::Global;
+
+/// The name of standard input.
+pub const STANDARD: &str = "-";
+
+/// Runs the input of a job, up to its first fault, and gives its exports: `-` is an article on `input`, a name that ends
+/// in `.thy` a theory file over packages in a folder, and any other name an article file. The session is fresh.
+pub fn run_input<F: Files, S: Source>(
+    alloc: Global,
+    session: &mut Session,
+    job: Job<'_>,
+    files: &mut F,
+    input: &mut S,
+) -> Result<Vec<Export>, LinkFault>
+    requires session { IsRun session.old }
+    requires fresh { run_of session.old ≡ fresh_run }
+    ensures end { IfSome (end_of session.new result) (IsEnd (job_task job.entry) (F.folder files.old) (S.left input.old)) }
+    ensures place { IfSome (end_of session.new result) (IsPlace (job_task job.entry) (F.folder files.old) (F.at files.new)) }
+    ensures session { IsRun session.new }
+    ensures exports { IfOk result (AreExportsIn session.new) }
+    ensures lawful { IfOk result (IsLawfulEnd session.new) }
+    ensures symbols { IfErr result (NamesSymbolIn session.new.kernel) }
+    ensures cause { IfSome (end_of session.new result)
+        (HasCause stop_status (FailedAt job.entry.path.now (S.faults input.old) (S.faults input.new) (F.faults files.old) (F.faults files.new))
+        (Rose (F.misses files.old) (F.misses files.new))) }
+    ensures files { KeepsFiles F.folder F.faults F.misses files.old files.new }
+    ensures source { KeepsSource S.folder S.faults S.misses S.at input.old input.new }
+    ensures other { LeavesOther job.entry.path.now files.old files.new input.old input.new }
+    ensures closed { (files.new ≡ files.old) ⊎ (F.left files.new ≡ Some []) }
+    ensures at { IfSome (end_of session.new result) (λ _. LastPath (job_task job.entry) (F.folder files.old) (F.at files.new)) }
+{
+    let path = job.path;
+    if path == STANDARD {
+        run_standard(alloc, session, path, input)
+    } else if is_theory(path) {
+        run_theory(alloc, session, job.packages, path, files)
+    } else {
+        run_file(alloc, session, path, files)
+    }
+}
+
+/// Runs the article on standard input.
+fn run_standard<S: Source>(
+    alloc: Global,
+    session: &mut Session,
+    path: &str,
+    input: &mut S,
+) -> Result<Vec<Export>, LinkFault>
+    requires session { IsRun session.old }
+    requires fresh { run_of session.old ≡ fresh_run }
+    ensures end { IfSome (S.left input.old) (λ bytes. IfSome (end_of session.new result) (IsAnswer (article_end path.now (outcome bytes)))) }
+    ensures own { IfSome (end_of session.new result) (IsOwnEnd path.now) }
+    ensures session { IsRun session.new }
+    ensures exports { IfOk result (AreExportsIn session.new) }
+    ensures lawful { IfOk result (IsLawfulEnd session.new) }
+    ensures symbols { IfErr result (NamesSymbolIn session.new.kernel) }
+    ensures cause { IfSome (end_of session.new result) (HasCause stop_status (Rose (S.faults input.old) (S.faults input.new)) ⊥) }
+    ensures source { KeepsSource S.folder S.faults S.misses S.at input.old input.new }
+{
+    let path = String::from_str(alloc, path)?;
+    run_article(alloc, session, path, input)
+}
+
+/// Runs a theory file over packages in a folder, with the limits of the program.
+fn run_theory<F: Files>(
+    alloc: Global,
+    session: &mut Session,
+    packages: &str,
+    path: &str,
+    files: &mut F,
+) -> Result<Vec<Export>, LinkFault>
+    requires session { IsRun session.old }
+    requires fresh { run_of session.old ≡ fresh_run }
+    ensures end { IfSome (F.folder files.old) (λ folder. IfSome (end_of session.new result) (IsAnswer (theory_run packages.now path.now folder).answer)) }
+    ensures needed { IfSome (end_of session.new result)
+        (IsNeeded (option_map (λ folder. (theory_run packages.now path.now folder).paths) (F.folder files.old)) (F.at files.new)) }
+    ensures session { IsRun session.new }
+    ensures exports { IfOk result (AreExportsIn session.new) }
+    ensures lawful { IfOk result (IsLawfulEnd session.new) }
+    ensures symbols { IfErr result (NamesSymbolIn session.new.kernel) }
+    ensures cause { IfSome (end_of session.new result)
+        (HasCause stop_status (Rose (F.faults files.old) (F.faults files.new)) (Rose (F.misses files.old) (F.misses files.new))) }
+    ensures files { KeepsFiles F.folder F.faults F.misses files.old files.new }
+    ensures closed { F.left files.new ≡ Some [] }
+{
+    let limits = Limits::standard();
+    link(alloc, session, files, path, packages, &limits)
+}
+
+/// Opens the file of a path, runs its article and closes it.
+fn run_file<F: Files>(
+    alloc: Global,
+    session: &mut Session,
+    path: &str,
+    files: &mut F,
+) -> Result<Vec<Export>, LinkFault>
+    requires session { IsRun session.old }
+    requires fresh { run_of session.old ≡ fresh_run }
+    ensures end { IfSome (F.folder files.old) (λ folder. IfSome (end_of session.new result) (IsAnswer (article_run path.now folder).answer)) }
+    ensures own { IfSome (end_of session.new result) (IsOwnEnd path.now) }
+    ensures session { IsRun session.new }
+    ensures exports { IfOk result (AreExportsIn session.new) }
+    ensures lawful { IfOk result (IsLawfulEnd session.new) }
+    ensures symbols { IfErr result (NamesSymbolIn session.new.kernel) }
+    ensures cause { IfSome (end_of session.new result)
+        (HasCause stop_status (Rose (F.faults files.old) (F.faults files.new)) (Rose (F.misses files.old) (F.misses files.new))) }
+    ensures files { KeepsFiles F.folder F.faults F.misses files.old files.new }
+    ensures closed { (files.new ≡ files.old) ⊎ (F.left files.new ≡ Some []) }
+    ensures at { IfSome (end_of session.new result) (λ _. F.at files.new ≡ path_asked (F.folder files.old) path.now) }
+{
+    let name = String::from_str(alloc, path)?;
+    match files.open_file(path) {
+        Ok(()) => {
+            let ran = run_article(alloc, session, name, files);
+            files.close();
+            ran
+        }
+        Err(OpenFault::Missing) => Err(LinkFault::NoFile { path: name }),
+        Err(OpenFault::Failed) => Err(LinkFault::ReadFault { path: name }),
+    }
+}
+
+/// Runs the article of a path that a source has left, in the empty context: its symbols have the names that it gives
+/// them, and no theorem comes from elsewhere.
+pub fn run_article<S: Source>(
+    alloc: Global,
+    session: &mut Session,
+    path: String,
+    source: &mut S,
+) -> Result<Vec<Export>, LinkFault>
+    requires session { IsRun session.old }
+    requires fresh { run_of session.old ≡ fresh_run }
+    ensures end { IfSome (S.left source.old) (λ bytes. IfSome (end_of session.new result) (IsAnswer (article_end (string_bytes path) (outcome bytes)))) }
+    ensures own { IfSome (end_of session.new result) (IsOwnEnd (string_bytes path)) }
+    ensures session { IsRun session.new }
+    ensures exports { IfOk result (AreExportsIn session.new) }
+    ensures lawful { IfOk result (IsLawfulEnd session.new) }
+    ensures symbols { IfErr result (NamesSymbolIn session.new.kernel) }
+    ensures cause { IfSome (end_of session.new result) (HasCause stop_status (Rose (S.faults source.old) (S.faults source.new)) ⊥) }
+    ensures source { KeepsSource S.folder S.faults S.misses S.at source.old source.new }
+{
+    let limits = Limits::standard();
+    run_alone(alloc, session, source, path, &limits)
+}

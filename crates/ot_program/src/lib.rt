@@ -1,0 +1,16 @@
+//! The program: what it does with its words, over any files, source and sinks.
+#![tactic(auto)]
+
+mod input;
+mod log;
+mod program;
+mod readable;
+mod report;
+mod sample;
+mod status;
+mod task;
+mod texts;
+
+pub use program::run;
+pub use status::Status;
+pub use texts::OUT_OF_MEMORY;

@@ -1,0 +1,90 @@
+//! The check of the log of a path.
+ghost use Rattle.std.specs.Prelude.{◌≡◌, ◌⊎◌, ℕ, List, [], Some, IfOk, IfSome};
+ghost use Rattle.ot_io.specs.Causes.{Rose};
+ghost use Rattle.ot_io.specs.Folder.{path_asked};
+ghost use Rattle.ot_verify.specs.Verifying.{AreProved};
+ghost use Rattle.ot_program.specs.Reply.{CheckLog, check_bytes, check_file, log_status};
+ghost use Rattle.ot_program.specs.Answer.{FailedAt, LeavesOther, LastPath, KeepsFiles, KeepsSource};
+ghost use Rattle.ot_program.specs.Verdicts.{log_end_of, IsAnswer, IsEnd, IsPlace, HasCause};
+
+use crate::input::STANDARD;
+use ot_io::{Files, OpenFault, Source};
+use ot_plain::Limits;
+use ot_verify::{LogFault, Verified, VerifyFault, verify};
+use std::alloc::Global;
+
+/// Why the log of a path isn't accepted.
+#[derive(Clone, Copy, Debug, PartialEq, Eq)]
+pub enum LogRefusal {
+    /// It is refused at this line.
+    At { line: u64, fault: LogFault },
+    /// There is no such file.
+    NoFile,
+    /// The input failed.
+    ReadFault,
+    /// There was too little memory.
+    Memory,
+}
+
+/// Checks the log of a path, up to its first fault: `-` is a log on `input`, any other name a log file's.
+pub fn check_log<F: Files, S: Source>(
+    alloc: Global,
+    path: &str,
+    files: &mut F,
+    input: &mut S,
+) -> Result<Verified, LogRefusal>
+    ensures end { IfSome (log_end_of path.now result) (IsEnd (CheckLog path.now) (F.folder files.old) (S.left input.old)) }
+    ensures place { IfSome (log_end_of path.now result) (IsPlace (CheckLog path.now) (F.folder files.old) (F.at files.new)) }
+    ensures proved { IfOk result AreProved }
+    ensures cause { IfSome (log_end_of path.now result) (HasCause log_status
+        (FailedAt path.now (S.faults input.old) (S.faults input.new) (F.faults files.old) (F.faults files.new))
+        (Rose (F.misses files.old) (F.misses files.new))) }
+    ensures files { KeepsFiles F.folder F.faults F.misses files.old files.new }
+    ensures source { KeepsSource S.folder S.faults S.misses S.at input.old input.new }
+    ensures other { LeavesOther path.now files.old files.new input.old input.new }
+    ensures closed { (files.new ≡ files.old) ⊎ (F.left files.new ≡ Some []) }
+    ensures at { IfSome (log_end_of path.now result) (λ _. LastPath (CheckLog path.now) (F.folder files.old) (F.at files.new)) }
+{
+    if path == STANDARD {
+        check_source(alloc, input)
+    } else {
+        check_file(alloc, path, files)
+    }
+}
+
+/// Opens the file of a path, checks its log and closes it.
+fn check_file<F: Files>(alloc: Global, path: &str, files: &mut F) -> Result<Verified, LogRefusal>
+    ensures end { IfSome (F.folder files.old) (λ folder. IfSome (log_end_of path.now result) (IsAnswer (check_file path.now folder))) }
+    ensures proved { IfOk result AreProved }
+    ensures cause { IfSome (log_end_of path.now result)
+        (HasCause log_status (Rose (F.faults files.old) (F.faults files.new)) (Rose (F.misses files.old) (F.misses files.new))) }
+    ensures files { KeepsFiles F.folder F.faults F.misses files.old files.new }
+    ensures closed { (files.new ≡ files.old) ⊎ (F.left files.new ≡ Some []) }
+    ensures at { F.at files.new ≡ path_asked (F.folder files.old) path.now }
+{
+    match files.open_file(path) {
+        Ok(()) => {
+            let checked = check_source(alloc, files);
+            files.close();
+            checked
+        }
+        Err(OpenFault::Missing) => Err(LogRefusal::NoFile),
+        Err(OpenFault::Failed) => Err(LogRefusal::ReadFault),
+    }
+}
+
+/// Checks the log that a source has left, whatever its path.
+fn check_source<S: Source>(alloc: Global, source: &mut S) -> Result<Verified, LogRefusal>
+    ensures end { (path : List ℕ) → IfSome (S.left source.old) (λ bytes. IfSome (log_end_of path result) (IsAnswer (check_bytes bytes))) }
+    ensures proved { IfOk result AreProved }
+    ensures cause { (path : List ℕ) → IfSome (log_end_of path result) (HasCause log_status (Rose (S.faults source.old) (S.faults source.new)) ⊥) }
+    ensures source { KeepsSource S.folder S.faults S.misses S.at source.old source.new }
+{
+    let limit = Limits::standard().article_bytes;
+    match verify(alloc, source, limit) {
+        Ok(verified) => Ok(verified),
+        Err(VerifyFault::At { line, fault }) => Err(LogRefusal::At { line, fault }),
+        Err(VerifyFault::ReadFault) => Err(LogRefusal::ReadFault),
+        Err(VerifyFault::Memory) => Err(LogRefusal::Memory),
+    }
+}

@@ -1,0 +1,190 @@
+ghost use Rattle.std.specs.Prelude.{◌≡◌, ◌≢◌, ◌↔◌, ◌⊎◌, ◌≤◌, [], None, Some, Err, IfOk, IfSome, IsSomeAnd, OnOk, OnErr};
+ghost use Rattle.std.specs.Io.KnownBytes.{Appends};
+ghost use Rattle.ot_io.specs.Causes.{Rose, HasCause};
+ghost use Rattle.ot_io.specs.Sinks.{FlushesAll, AppendsFront};
+ghost use Rattle.ot_args.specs.Grammar.{texts_of, command_of};
+ghost use Rattle.ot_program.specs.Reply.{task_of, input_of, path_of, result_of, answer};
+ghost use Rattle.ot_program.specs.Answer.{MatchesReply, IsSilent, IsVerdict, IsLine, Says, Prints, Writes, WritesLine, WritesSome, FailedAt, LeavesAlone, LastPath, KeepsFiles, KeepsSource};
+ghost use Rattle.ot_program.specs.Verdicts.{task_value, IsSized, Ends, error_line};
+
+use crate::input::run_input;
+use crate::log::check_log;
+use crate::readable::run_readable;
+use crate::report::{Verdict, log_verdict, verdict_on};
+use crate::sample::{make_sample, run_sample};
+use crate::status::Status;
+use crate::task::{Task, read_task};
+use crate::texts::{OUT_OF_MEMORY, USAGE, WRITE_FAULT};
+use ot_args::Usage;
+use ot_io::{Files, Sink, Source, WriteFault, write_whole};
+use ot_machine::Session;
+use ot_plain::Memory;
+use std::alloc::Global;
+
+/// All that the program does with the command's words, without the program's name. `check` runs an input and reports how
+/// many theorems, assumptions and definitions it has; `info` reports which, and with `--readable` in a form that reads back. `-`
+/// is an article on `input`, a name that ends in `.thy` a theory file over packages in a folder, and any other name an article
+/// file. `link` and `minimise` run an input and write an article of its exports that has what they need and nothing else;
+/// `sample` makes an article of a size, runs it and rewrites it. `verify` checks a proof log, on `input` for `-` and else in a
+/// file, and reports what it proves. The text is made whole, then written to `out` and flushed; each status but `Accepted` has
+/// its line on `err`. Whether `err` takes it changes no status.
+///
+/// - `Accepted`: the run or the log ended, and all of the text was written and flushed.
+/// - `Refused`: the run stopped, at the first fault and its line by the article format or the theory file format, in the file
+///   that the line names; or the log has a fault, the first at that line; or the summary has more than 67,108,864 bytes, or the
+///   written article more than 4,294,967,296.
+/// - `Usage`: exactly for words that are no command. It takes no memory and reads nothing.
+/// - `NoFile`: only where a file was missing in this call.
+/// - `ReadFault`: only where what the command reads failed in this call: `input` for `-`, else `files`, at a file that the
+///   command needs.
+/// - `WriteFault`: only where the input is accepted and `out` failed in this call; a front of the text was written.
+/// - `Memory`: may come at any point before the text is made; then no more memory is taken.
+pub fn run<F: Files, S: Source, O: Sink, E: Sink>(
+    alloc: Global,
+    words: &[String],
+    files: &mut F,
+    input: &mut S,
+    out: &mut O,
+    err: &mut E,
+) -> Status
+    // Status 2 comes exactly for words that are no command, and then nothing is read.
+    ensures usage { (result ≡ Status.Usage) ↔ (command_of (texts_of words.now) ≡ None) }
+    ensures unread { result ≡ Status.Usage → (files.new ≡ files.old) × (input.new ≡ input.old) }
+
+    // Where what the words name is told, the status and the texts on both sinks are the stated reply's.
+    ensures answer { IfSome (answer (texts_of words.now) (F.folder files.old) (S.left input.old))
+        (λ reply. MatchesReply result reply (O.written out.old) (O.written out.new)) }
+    ensures error { IsVerdict result → IfSome (answer (texts_of words.now) (F.folder files.old) (S.left input.old))
+        (λ reply. WritesLine E.written E.faults err.old err.new reply.error) }
+
+    // What is printed is a report on the run, or on the log: its theorems are derivable from its assumptions under its
+    // definitions, told or not, and readable text reads back; no other status prints.
+    ensures proved { ¬ IsSilent result → IsSomeAnd (task_of (texts_of words.now))
+        (λ t. Prints result t (result_of t (F.folder files.old) (S.left input.old)) (O.written out.old) (O.written out.new)) }
+    ensures silent { IsSilent result → out.new ≡ out.old }
+    ensures flushed { result ≡ Status.Accepted → FlushesAll (O.flushed out.old) (O.written out.new) (O.flushed out.new) }
+
+    // What stands on the error sink is the status's line, told or not: of status 1 some fault's, of 3 and 4 a path's.
+    ensures quiet { result ≡ Status.Accepted → err.new ≡ err.old }
+    ensures line { ¬ (result ≡ Status.Accepted) → WritesSome
+        (IsLine result (task_of (texts_of words.now)) (F.folder files.old) (S.left input.old) (F.at files.new))
+        E.written E.faults err.old err.new }
+
+    // Statuses 3, 4 and 5 come only where the device that they name counted it; all else is as stated, or memory ran out.
+    ensures missing { result ≡ Status.NoFile → Rose (F.misses files.old) (F.misses files.new) }
+    ensures read { result ≡ Status.ReadFault → FailedAt (path_of (task_of (texts_of words.now)))
+        (S.faults input.old) (S.faults input.new) (F.faults files.old) (F.faults files.new) }
+    ensures write { result ≡ Status.WriteFault → Rose (O.faults out.old) (O.faults out.new) }
+    ensures complete { IfSome (answer (texts_of words.now) (F.folder files.old) (S.left input.old)) (λ reply.
+        ¬ Rose (S.faults input.old) (S.faults input.new)
+        → ¬ Rose (F.faults files.old) (F.faults files.new)
+        → ¬ Rose (O.faults out.old) (O.faults out.new)
+        → (result ≡ Status.Memory) ⊎ (result ≡ reply.status)) }
+
+    // What becomes of the devices: counts never fall, the input that isn't asked for is left alone, no file stays open.
+    ensures files { KeepsFiles F.folder F.faults F.misses files.old files.new }
+    ensures source { KeepsSource S.folder S.faults S.misses S.at input.old input.new }
+    ensures sinks { (O.faults out.old ≤ O.faults out.new) × (E.faults err.old ≤ E.faults err.new) }
+    ensures other { IfSome (task_of (texts_of words.now)) (λ t. LeavesAlone t files.old files.new input.old input.new) }
+    ensures closed { (files.new ≡ files.old) ⊎ (F.left files.new ≡ Some []) }
+    ensures at { (result ≡ Status.NoFile) ⊎ (result ≡ Status.ReadFault)
+        → IfSome (task_of (texts_of words.now)) (λ t. LastPath t (F.folder files.old) (F.at files.new)) }
+{
+    match read_task(words) {
+        Ok(task) => match run_task(alloc, task, files, input) {
+            Ok(verdict) => finish(out, err, &verdict),
+            Err(Memory) => {
+                say(err, OUT_OF_MEMORY);
+                Status::Memory
+            }
+        },
+        Err(Usage) => {
+            say(err, USAGE);
+            Status::Usage
+        }
+    }
+}
+
+/// Runs an input or a sample in a fresh session, makes a sample, or checks a log, and makes the text for what that came to.
+fn run_task<F: Files, S: Source>(
+    alloc: Global,
+    task: Task<'_>,
+    files: &mut F,
+    input: &mut S,
+) -> Result<Verdict, Memory>
+    requires { IsSized (task_value task) }
+    ensures says { IfOk result (λ v. Says v.status (task_value task.entry) (F.folder files.old) (S.left input.old) (F.at files.new) v.text.items) }
+    ensures missing { IfOk result (λ v. v.status ≡ Status.NoFile → Rose (F.misses files.old) (F.misses files.new)) }
+    ensures read { IfOk result (λ v. v.status ≡ Status.ReadFault → FailedAt (input_of (task_value task.entry))
+        (S.faults input.old) (S.faults input.new) (F.faults files.old) (F.faults files.new)) }
+    ensures files { KeepsFiles F.folder F.faults F.misses files.old files.new }
+    ensures source { KeepsSource S.folder S.faults S.misses S.at input.old input.new }
+    ensures other { LeavesAlone (task_value task.entry) files.old files.new input.old input.new }
+    ensures closed { (files.new ≡ files.old) ⊎ (F.left files.new ≡ Some []) }
+    ensures at { IfOk result (λ v. LastPath (task_value task.entry) (F.folder files.old) (F.at files.new)) }
+{
+    match task {
+        Task::RunInput(job) => {
+            let mut session = Session::new(alloc)?;
+            let ran = run_input(alloc, &mut session, job, files, input);
+            verdict_on(alloc, job, &session, ran)
+        }
+        Task::RunSample(size) => run_sample(alloc, size),
+        Task::MakeSample(size) => make_sample(alloc, size),
+        Task::CheckLog(path) => {
+            let checked = check_log(alloc, path, files, input);
+            log_verdict(alloc, path, checked)
+        }
+        Task::ShowReadable { packages, path } => run_readable(alloc, packages, path, files, input),
+    }
+}
+
+/// Writes a verdict, and says how the program ends.
+fn finish<O: Sink, E: Sink>(out: &mut O, err: &mut E, verdict: &Verdict) -> Status
+    requires { verdict.now.status ≢ Status.WriteFault }
+    ensures ends { Ends verdict.now.status result }
+    ensures writes { Writes result (O.written out.old) (O.written out.new) verdict.now.text.items }
+    ensures silent { IsSilent result → out.new ≡ out.old }
+    ensures flushed { result ≡ Status.Accepted → FlushesAll (O.flushed out.old) (O.written out.new) (O.flushed out.new) }
+    ensures quiet { result ≡ Status.Accepted → err.new ≡ err.old }
+    ensures line { IfSome (error_line verdict.now.text.items result) (WritesLine E.written E.faults err.old err.new) }
+    ensures write { result ≡ Status.WriteFault → Rose (O.faults out.old) (O.faults out.new) }
+    ensures sinks { (O.faults out.old ≤ O.faults out.new) × (E.faults err.old ≤ E.faults err.new) }
+{
+    match verdict.status {
+        Status::Accepted => match print(out, &verdict.text) {
+            Ok(()) => Status::Accepted,
+            Err(WriteFault) => {
+                say(err, WRITE_FAULT);
+                Status::WriteFault
+            }
+        },
+        status => {
+            say(err, &verdict.text);
+            status
+        }
+    }
+}
+
+/// Writes and flushes a text.
+fn print<O: Sink>(out: &mut O, text: &[u8]) -> Result<(), WriteFault>
+    ensures all { OnOk result (Appends (O.written out.old) (O.written out.new) text.now) }
+    ensures flushed { OnOk result
+        (FlushesAll (O.flushed out.old) (O.written out.new) (O.flushed out.new)) }
+    ensures front { OnErr result (AppendsFront (O.written out.old) (O.written out.new) text.now) }
+    ensures cause { HasCause (O.faults out.old) (O.faults out.new) result }
+{
+    write_whole(out, text)?;
+    match out.flush() {
+        Ok(()) => Ok(()),
+        Err(_) => Err(WriteFault),
+    }
+}
+
+/// Writes a line to the error sink. Whether that works changes nothing else.
+fn say<E: Sink>(err: &mut E, line: &[u8])
+    ensures line { WritesLine E.written E.faults err.old err.new line.now }
+    ensures later { E.faults err.old ≤ E.faults err.new }
+{
+    let _ = write_whole(err, line);
+}

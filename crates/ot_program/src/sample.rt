@@ -1,0 +1,43 @@
+//! The sample: an article of a size that is made, run and rewritten.
+ghost use Rattle.std.specs.Prelude.{◌≡◌, ◌≢◌, ◌≤◌, ℕ, List, Option, IfOk};
+ghost use Rattle.ot_io.specs.Folder.{Folder};
+ghost use Rattle.ot_program.specs.Reply.{RunSample, MakeSample};
+ghost use Rattle.ot_program.specs.Answer.{Says};
+
+use crate::input::run_article;
+use crate::report::{Verdict, made_verdict, sample_verdict};
+use crate::status::Status;
+use ot_io::Bytes;
+use ot_machine::Session;
+use ot_plain::Memory;
+use ot_sample::sample_article;
+use std::alloc::Global;
+
+/// What stands for the path of a sample.
+pub const SAMPLE: &str = "sample";
+
+/// Makes the sample article of a size, 1 to 1,000, runs it and rewrites it. It reads nothing.
+pub fn run_sample(alloc: Global, size: u64) -> Result<Verdict, Memory>
+    requires { size ≤ 1000 }
+    ensures says { (folder : Option Folder) (input at : Option (List ℕ)) → IfOk result (λ v. Says v.status (RunSample size) folder input at v.text.items) }
+    ensures missing { IfOk result (λ v. v.status ≢ Status.NoFile) }
+    ensures read { IfOk result (λ v. v.status ≢ Status.ReadFault) }
+{
+    let mut made = Vec::new(alloc);
+    sample_article(size, &mut made)?;
+    let mut session = Session::new(alloc)?;
+    let path = String::from_str(alloc, SAMPLE)?;
+    let ran = run_article(alloc, &mut session, path, &mut Bytes::new(&made));
+    sample_verdict(alloc, size, &made, &session, ran)
+}
+
+/// Makes the sample article of a size, 1 to 1,000.
+pub fn make_sample(alloc: Global, size: u64) -> Result<Verdict, Memory>
+    requires { size ≤ 1000 }
+    ensures says { (folder : Option Folder) (input at : Option (List ℕ)) → IfOk result (λ v. Says v.status (MakeSample size) folder input at v.text.items) }
+    ensures accepted { IfOk result (λ v. v.status ≡ Status.Accepted) }
+{
+    let mut made = Vec::new(alloc);
+    sample_article(size, &mut made)?;
+    Ok(made_verdict(made))
+}

@@ -1,0 +1,242 @@
+ghost use Rattle.std.specs.Prelude.{◌≡◌, ◌≢◌, ◌<◌, ◌++◌, length, IfOk, IsSomeAnd, OnOk, codes};
+ghost use Rattle.std.specs.Fmt.{signed_decimal};
+ghost use Rattle.ot_plain.specs.Renamed.{map_symbol};
+ghost use Rattle.ot_kernel.specs.State.{name_at};
+ghost use Rattle.ot_term.specs.Symbols.{symbol_of};
+ghost use Rattle.ot_machine.specs.Faults.{fault_of};
+ghost use Rattle.ot_machine.specs.Answers.{IsSymbolIn};
+ghost use Rattle.ot_verify.specs.Taking.{fault_of as log_fault_of};
+ghost use Rattle.ot_program.specs.Texts.{kind_text, symbol_text, fault_text, theory_text, structure_text, log_text, line_of, line_at, fault_line};
+ghost use Rattle.ot_program.specs.Wording.{kind_word, line_start};
+
+use ot_blocks::StructureFault;
+use ot_kernel::Kernel;
+use ot_machine::Fault;
+use ot_plain::{Kind, Memory};
+use ot_term::{Symbol, SymbolKind};
+use ot_theory::TheoryFault;
+use ot_verify::LogFault;
+use std::alloc::Global;
+
+/// The line for words that are no command.
+pub const USAGE: &[u8] =
+    b"usage: opentheory check|info|link|minimise [--packages DIR] INPUT; info also takes --assumptions --definitions --theorems; opentheory sample [--article] N; opentheory info --uses INPUT; opentheory info --readable INPUT; opentheory verify LOG\n";
+
+/// The line for an output that failed.
+pub const WRITE_FAULT: &[u8] = b"opentheory: write fault\n";
+
+/// The line for want of memory.
+pub const OUT_OF_MEMORY: &[u8] = b"opentheory: out of memory\n";
+
+/// The line for a text about a path.
+pub fn line_of(alloc: Global, path: &str, text: &str) -> Result<Vec<u8>, Memory>
+    ensures { IfOk result (λ line. line.items ≡ line_of path.now text.now) }
+{
+    let line = format!(in alloc; "opentheory: {path}: {text}\n")?;
+    Ok(line.into_bytes())
+}
+
+/// The line for a text about a line of the file of a path.
+pub fn line_at(alloc: Global, path: &str, number: u64, text: &str) -> Result<Vec<u8>, Memory>
+    ensures { IfOk result (λ line. line.items ≡ line_at path.now number text.now) }
+{
+    let line = format!(in alloc; "opentheory: {path}:{number}: {text}\n")?;
+    Ok(line.into_bytes())
+}
+
+/// The text of a fault in the grammar of a theory file.
+pub fn theory_text(fault: TheoryFault) -> &'static str
+    ensures { result.now ≡ theory_text fault }
+{
+    match fault {
+        TheoryFault::BadLine => "bad line",
+        TheoryFault::BadBlock => "bad block",
+        TheoryFault::DuplicateBlock => "duplicate block",
+        TheoryFault::TwoSources => "second article or package",
+        TheoryFault::NoMain => "no block main",
+        TheoryFault::BadInterpret => "bad interpretation",
+        TheoryFault::DuplicateInterpret => "duplicate interpretation",
+    }
+}
+
+/// The text of a fault in what the blocks of a theory file ask for.
+pub fn structure_text(fault: StructureFault) -> &'static str
+    ensures { result.now ≡ structure_text fault }
+{
+    match fault {
+        StructureFault::UnknownImport => "unknown import",
+        StructureFault::BadPackageName => "bad package name",
+        StructureFault::ImportCycle => "import cycle",
+        StructureFault::PackageCycle => "package cycle",
+        StructureFault::PackageDepth => "packages nested deeper than 16",
+    }
+}
+
+/// The text of a fault in a proof log.
+pub fn log_text(fault: LogFault) -> &'static str
+    ensures { result.now ≡ log_text (log_fault_of fault) }
+{
+    match fault {
+        LogFault::LineTooLong => "line longer than 65535 bytes",
+        LogFault::LogTooLong => "log longer than 4294967296 bytes",
+        LogFault::BadToken => "bad token",
+        LogFault::BadHeader => "bad log header",
+        LogFault::UnknownRecord => "unknown record",
+        LogFault::BadReference => "no such number",
+        LogFault::BadStep => "step does not follow",
+        LogFault::LogNesting => "nested deeper than 4128",
+        LogFault::LogEnds => "log ends early",
+    }
+}
+
+/// The line for a fault at a line of the article of a path. The kernel has the name of its symbol.
+pub fn fault_line(
+    alloc: Global,
+    kernel: &Kernel,
+    path: &str,
+    number: u64,
+    fault: Fault,
+) -> Result<Vec<u8>, Memory>
+    requires symbol { IsSymbolIn kernel.now fault }
+    requires apart { fault ≢ Fault.Memory }
+    ensures { IfOk result (λ line. IsSomeAnd (fault_of (name_at kernel.now) fault) (λ f. line.items ≡ fault_line path.now number f)) }
+{
+    let mut line = line_start(alloc, path, number)?;
+    add_fault(alloc, kernel, fault, &mut line)?;
+    add(&mut line, "\n")?;
+    Ok(line)
+}
+
+/// What stands before the text of a fault at a line.
+fn line_start(alloc: Global, path: &str, number: u64) -> Result<Vec<u8>, Memory>
+    ensures { IfOk result (λ start. start.items ≡ line_start path.now number) }
+{
+    let start = format!(in alloc; "opentheory: {path}:{number}: ")?;
+    Ok(start.into_bytes())
+}
+
+/// How a kind of object is called.
+fn kind_text(kind: Kind) -> &'static str
+    ensures { result.now ≡ kind_text kind }
+{
+    match kind {
+        Kind::Num => "number",
+        Kind::Name => "name",
+        Kind::List => "list",
+        Kind::TyOp => "type operator",
+        Kind::Ty => "type",
+        Kind::Con => "constant",
+        Kind::Var => "variable",
+        Kind::Tm => "term",
+        Kind::Thm => "theorem",
+    }
+}
+
+/// Appends the text of a fault. Want of memory is none of an article's.
+fn add_fault(alloc: Global, kernel: &Kernel, fault: Fault, out: &mut Vec<u8>) -> Result<(), Memory>
+    requires symbol { IsSymbolIn kernel.now fault }
+    requires apart { fault ≢ Fault.Memory }
+    ensures { OnOk result (IsSomeAnd (fault_of (name_at kernel.now) fault) (λ f. out.new.items ≡ out.old.items ++ fault_text f)) }
+{
+    match fault {
+        Fault::LineTooLong => add(out, "line longer than 65535 bytes"),
+        Fault::ArticleTooLong => add(out, "article longer than 4294967296 bytes"),
+        Fault::UnknownCommand => add(out, "unknown command"),
+        Fault::BadName => add(out, "bad name"),
+        Fault::BadNumber => add(out, "bad number"),
+        Fault::NumberRange => add(out, "number out of range"),
+        Fault::VersionUnsupported(k) => add_number(alloc, "version ", k, " unsupported", out),
+        Fault::VersionLate => add(out, "version command in a wrong place"),
+        Fault::StackEmpty => add(out, "stack empty"),
+        Fault::WrongKind(wanted, found) => add_kinds(wanted, found, out),
+        Fault::NoEntry(k) => add_number(alloc, "no entry ", k, "", out),
+        Fault::EmptyList => add(out, "empty list"),
+        Fault::NotFunction => add(out, "not a function"),
+        Fault::ArgumentType => add(out, "argument of another type"),
+        Fault::NotBool => add(out, "not of type bool"),
+        Fault::NotEquation => add(out, "not an equation"),
+        Fault::NotAlphaEqual => add(out, "terms differ"),
+        Fault::VarFreeInHyps => add(out, "variable free in a hypothesis"),
+        Fault::NotRedex => add(out, "not a beta redex"),
+        Fault::BadSubst => add(out, "bad substitution list"),
+        Fault::ExportMismatch => add(out, "theorem differs from the stated sequent"),
+        Fault::Primitive(symbol) => add_about(kernel, "primitive symbol ", symbol, "", out),
+        Fault::AlreadyDefined(symbol) => add_about(kernel, "", symbol, " is defined already", out),
+        Fault::SymbolInUse(symbol) => add_about(kernel, "", symbol, " is in use", out),
+        Fault::NotClosed => add(out, "free variable in a definition"),
+        Fault::TypeVarEscapes => add(out, "type variable not in the type of the constant"),
+        Fault::BadDefinitionList => add(out, "definition list and hypotheses disagree"),
+        Fault::HypothesesPresent => add(out, "theorem has hypotheses"),
+        Fault::NotApplication => add(out, "conclusion is not an application"),
+        Fault::BadTypeVars => add(out, "bad type variable list"),
+        Fault::Nesting => add(out, "nested deeper than 4096"),
+        Fault::Memory => unreachable!(),
+    }
+}
+
+/// Appends a number between two texts.
+fn add_number(
+    alloc: Global,
+    before: &str,
+    number: i64,
+    after: &str,
+    out: &mut Vec<u8>,
+) -> Result<(), Memory>
+    ensures { OnOk result (out.new.items ≡ out.old.items ++ (before.now ++ signed_decimal number ++ after.now)) }
+{
+    let text = format!(in alloc; "{before}{number}{after}")?;
+    add(out, text.as_str())
+}
+
+/// Appends a symbol between two texts.
+fn add_about(
+    kernel: &Kernel,
+    before: &str,
+    symbol: Symbol,
+    after: &str,
+    out: &mut Vec<u8>,
+) -> Result<(), Memory>
+    requires { symbol.name < length kernel.now.names }
+    ensures { OnOk result (out.new.items ≡ out.old.items ++ (before.now ++ symbol_text (map_symbol (name_at kernel.now) (symbol_of symbol)) ++ after.now)) }
+{
+    add(out, before)?;
+    add_symbol(kernel, symbol, out)?;
+    add(out, after)
+}
+
+/// Appends that another kind is wanted than was found.
+fn add_kinds(wanted: Kind, found: Kind, out: &mut Vec<u8>) -> Result<(), Memory>
+    ensures { OnOk result (out.new.items ≡ out.old.items ++ (codes "wanted " ++ kind_text wanted ++ codes ", found " ++ kind_text found)) }
+{
+    add(out, "wanted ")?;
+    add(out, kind_text(wanted))?;
+    add(out, ", found ")?;
+    add(out, kind_text(found))
+}
+
+/// Appends a symbol: which of the two it is, and how its name is spelled.
+fn add_symbol(kernel: &Kernel, symbol: Symbol, out: &mut Vec<u8>) -> Result<(), Memory>
+    requires { symbol.name < length kernel.now.names }
+    ensures { OnOk result (out.new.items ≡ out.old.items ++ symbol_text (map_symbol (name_at kernel.now) (symbol_of symbol))) }
+{
+    add(out, kind_word(symbol.kind))?;
+    kernel.names().get(symbol.name).spell(out)
+}
+
+/// The word for constants or for type operators, and a space.
+fn kind_word(kind: SymbolKind) -> &'static str
+    ensures { result.now ≡ kind_word kind }
+{
+    match kind {
+        SymbolKind::Con => "const ",
+        SymbolKind::TyOp => "type ",
+    }
+}
+
+/// Appends a text.
+fn add(out: &mut Vec<u8>, text: &str) -> Result<(), Memory>
+    ensures { OnOk result (out.new.items ≡ out.old.items ++ text.now) }
+{
+    out.extend_from_slice(text.as_bytes())?;
+    Ok(())
+}
