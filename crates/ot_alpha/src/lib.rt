@@ -17,6 +17,3 @@ pub fn alpha_eq(terms: &Terms, a: TermId, b: TermId) -> bool
 {
     terms.class(a) == terms.class(b)
 }
-
-#[cfg(test)]
-mod tests;

@@ -12,6 +12,3 @@ pub use fault::{PlanFault, StructureFault};
 pub use laws::{one_full_name, order_law, plan_law};
 pub use paths::{article_path, is_package, name_part, package_path};
 pub use structure::{Plan, plan_blocks};
-
-#[cfg(test)]
-mod tests;

@@ -7,6 +7,3 @@ mod pairs;
 
 pub use interp::Interp;
 pub use laws::after_law;
-
-#[cfg(test)]
-mod tests;

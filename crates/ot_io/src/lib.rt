@@ -25,6 +25,3 @@ pub use mem_sink::MemSink;
 pub use mem_source::MemSource;
 pub use sink::{Sink, WriteFault, write_whole};
 pub use source::{Failed, Source};
-
-#[cfg(test)]
-mod tests;

@@ -10,6 +10,3 @@ mod types;
 
 pub use find::{Match, find_match};
 pub use laws::match_law;
-
-#[cfg(test)]
-mod tests;

@@ -6,6 +6,3 @@ mod table;
 
 pub use node::{NameId, TermId, TermNode, TypeId, TypeNode, VariableNode};
 pub use table::{Change, DEPTH_LIMIT, Done, Nodes, Typed, Typings};
-
-#[cfg(test)]
-mod tests;

@@ -14,6 +14,3 @@ mod walk;
 pub use fault::RepoFault;
 pub use laws::required_law;
 pub use packages::required;
-
-#[cfg(test)]
-mod tests;

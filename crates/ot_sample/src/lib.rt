@@ -3,8 +3,6 @@
 
 mod laws;
 mod sample;
-#[cfg(test)]
-mod tests;
 
 pub use laws::sample_lines;
 pub use sample::sample_article;

@@ -128,6 +128,3 @@ pub fn beta<N: Nodes<L>, L>(
     s.insert(v, x)?;
     Ok(put_in(alloc, terms, names, &s, body, steps)?)
 }
-
-#[cfg(test)]
-mod tests;

@@ -192,6 +192,3 @@ fn class_beside(nodes: &IndexMap<TermNode, Beside>, id: TermId) -> ClassId
         None => unreachable!(),
     }
 }
-
-#[cfg(test)]
-mod tests;

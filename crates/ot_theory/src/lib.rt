@@ -20,6 +20,3 @@ pub use keys::{Key, key_of};
 pub use laws::{one_interpretation, one_path, places};
 pub use lines::{Line, next_line};
 pub use theory::{Block, Tag, Theory, parse};
-
-#[cfg(test)]
-mod tests;

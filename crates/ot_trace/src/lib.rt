@@ -5,8 +5,6 @@
 mod counting;
 mod reaching;
 mod step;
-#[cfg(test)]
-mod tests;
 mod trace;
 
 pub use counting::uses;

@@ -213,6 +213,3 @@ fn two_of_arrow(name: NameId, args: &[TypeId]) -> Option<(TypeId, TypeId)>
         _ => None,
     }
 }
-
-#[cfg(test)]
-mod tests;

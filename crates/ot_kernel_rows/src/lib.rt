@@ -1,0 +1,28 @@
+//! Worked rows of the tables, of the kernel, and of what stands on it or on files: their public calls, tried against values from
+//! outside. These are the formats' own examples, or worked by hand. The crate is tests alone: it has no code of its own.
+#![tactic(auto)]
+
+#[cfg(test)]
+mod alpha;
+#[cfg(test)]
+mod building;
+#[cfg(test)]
+mod folder;
+#[cfg(test)]
+mod io;
+#[cfg(test)]
+mod link;
+#[cfg(test)]
+mod matching;
+#[cfg(test)]
+mod pretty;
+#[cfg(test)]
+mod print;
+#[cfg(test)]
+mod repo;
+#[cfg(test)]
+mod subst;
+#[cfg(test)]
+mod terms;
+#[cfg(test)]
+mod types;

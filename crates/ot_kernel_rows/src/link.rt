@@ -1,0 +1,144 @@
+//! Theory files over files in memory.
+ghost use Rattle.std.specs.Prelude.{◌++◌, map, IsTrue};
+ghost use Rattle.ot_io.specs.Folder.{has_distinct_paths};
+ghost use Rattle.ot_link.specs.Answers.{AreWithin};
+
+mod tables;
+
+use crate::folder::{Entry, files_of};
+use ot_blocks::StructureFault;
+use ot_io::MemFiles;
+use ot_link::{LinkFault, link};
+use ot_machine::{Export, Fault, Session};
+use ot_plain::Limits;
+use ot_theory::TheoryFault;
+use std::alloc::Global;
+use std::test::Fail;
+use tables::{
+    ASSUMES, CHAIN, CYCLE, GONE, IMPORTS, IMPORTS_LATE, IMPORTS_NONE, NOT_RENAMED, RENAMES,
+};
+
+/// How a link ends: the numbers of theorems, assumptions and definitions, or its fault without the
+/// path.
+#[derive(Clone, Copy, PartialEq, Eq)]
+enum End {
+    Ended(usize, usize, usize),
+    Article(u64, Fault),
+    Theory(u64, TheoryFault),
+    Structure(u64, StructureFault),
+    TooLarge,
+    NoFile,
+    ReadFault,
+    Memory,
+}
+
+fn end_of(answer: &Result<Vec<Export>, LinkFault>, session: &Session) -> End {
+    match answer {
+        Ok(exports) => End::Ended(
+            exports.len(),
+            session.kernel().assumptions().len(),
+            session.kernel().definitions().len(),
+        ),
+        Err(LinkFault::Article { line, fault, .. }) => End::Article(*line, *fault),
+        Err(LinkFault::Theory { line, fault, .. }) => End::Theory(*line, *fault),
+        Err(LinkFault::Structure { line, fault, .. }) => End::Structure(*line, *fault),
+        Err(LinkFault::TheoryTooLarge { .. }) => End::TooLarge,
+        Err(LinkFault::NoFile { .. }) => End::NoFile,
+        Err(LinkFault::ReadFault { .. }) => End::ReadFault,
+        Err(LinkFault::Memory) => End::Memory,
+    }
+}
+
+/// The path of a fault.
+fn path_of(answer: &Result<Vec<Export>, LinkFault>) -> &str {
+    match answer {
+        Err(
+            LinkFault::Article { path, .. }
+            | LinkFault::Theory { path, .. }
+            | LinkFault::Structure { path, .. }
+            | LinkFault::TheoryTooLarge { path }
+            | LinkFault::NoFile { path }
+            | LinkFault::ReadFault { path },
+        ) => path.as_str(),
+        Ok(_) | Err(LinkFault::Memory) => "",
+    }
+}
+
+/// Links the first of these files, and compares how that ends, and the path of its fault.
+fn ends(
+    alloc: Global,
+    entries: &[Entry],
+    limits: &Limits,
+    fail: &[u64],
+    end: End,
+    path: &str,
+) -> Result<bool, Fail>
+    requires distinct { IsTrue (has_distinct_paths (map (λ e. (e.0.now, e.1.now ++ e.2.now)) entries.now)) }
+    requires limits { AreWithin limits.now }
+{
+    let Some(first) = entries.first() else {
+        return Ok(false);
+    };
+    let fail = Vec::from_slice(alloc, fail)?;
+    let files = files_of(alloc, entries)?;
+    let mut files = MemFiles::new(files, 9, fail);
+    ends_over(alloc, &mut files, first.0, limits, end, path)
+}
+
+/// The same, over files. They and the session have owners of their own, so that no refusal has to
+/// drop both.
+fn ends_over(
+    alloc: Global,
+    files: &mut MemFiles,
+    input: &str,
+    limits: &Limits,
+    end: End,
+    path: &str,
+) -> Result<bool, Fail>
+    requires limits { AreWithin limits.now }
+{
+    let mut session = Session::new(alloc)?;
+    let result = link(alloc, &mut session, files, input, "packages", limits);
+    Ok(end_of(&result, &session) == end && path_of(&result) == path)
+}
+
+#[test]
+fn theories(rt: HostRuntime) -> Result<(), Fail> {
+    let alloc = rt.alloc();
+    let limits = Limits::standard();
+    let one = End::Ended(1, 0, 0);
+    let assumed = End::Ended(1, 1, 0);
+    assert!(rt; ends(alloc, &IMPORTS, &limits, &[], one, "")?);
+    assert!(rt; ends(alloc, &IMPORTS_NONE, &limits, &[], assumed, "")?);
+    assert!(rt; ends(alloc, &IMPORTS_LATE, &limits, &[], assumed, "")?);
+    assert!(rt; ends(alloc, &ASSUMES, &limits, &[], assumed, "")?);
+    assert!(rt; ends(alloc, &RENAMES, &limits, &[], assumed, "")?);
+    Ok(())
+}
+
+#[test]
+fn stops(rt: HostRuntime) -> Result<(), Fail> {
+    let alloc = rt.alloc();
+    let limits = Limits::standard();
+    let end = End::Article(85, Fault::NotEquation);
+    assert!(rt; ends(alloc, &NOT_RENAMED, &limits, &[], end, "d/eq.art")?);
+    let end = End::Structure(5, StructureFault::ImportCycle);
+    assert!(rt; ends(alloc, &CYCLE, &limits, &[], end, "v.thy")?);
+    assert!(rt; ends(alloc, &GONE, &limits, &[], End::NoFile, "gone.art")?);
+    // The second call opens or reads the theory file.
+    assert!(rt; ends(alloc, &GONE, &limits, &[2], End::ReadFault, "w.thy")?);
+    Ok(())
+}
+
+/// A chain of three packages, where three may be opened inside each other, or two.
+#[test]
+fn packages(rt: HostRuntime) -> Result<(), Fail> {
+    let alloc = rt.alloc();
+    let mut limits = Limits::standard();
+    limits.package_depth = 3;
+    assert!(rt; ends(alloc, &CHAIN, &limits, &[], End::Ended(0, 0, 0), "")?);
+    limits.package_depth = 2;
+    let end = End::Structure(2, StructureFault::PackageDepth);
+    assert!(rt; ends(alloc, &CHAIN, &limits, &[], end, "packages/b-1/b.thy")?);
+    Ok(())
+}

@@ -1,0 +1,196 @@
+//! Patterns against the terms of a kernel.
+ghost use Rattle.std.specs.Prelude.{◌≡◌, ◌<◌, ◌≤◌, length, IfOk};
+
+use ot_kernel::Kernel;
+use ot_match::{Match, find_match};
+use ot_plain::{Memory, Name, NameId, Tm, Ty};
+use ot_term::{TermFault, TermId, VarKey};
+use ot_type::TypeId;
+use std::alloc::{AllocError, Global};
+use std::process::Abort;
+use std::test::Fail;
+
+fn boolean(alloc: Global) -> Result<Ty, AllocError> {
+    Ok(Ty::Op(Name::of_text(alloc, b"bool")?, Vec::new(alloc)))
+}
+
+fn type_variable(alloc: Global, name: &[u8]) -> Result<Ty, AllocError> {
+    Ok(Ty::Var(Name::of_text(alloc, name)?))
+}
+
+fn arrow(alloc: Global, from: Ty, to: Ty) -> Result<Ty, AllocError> {
+    let mut ends = Vec::new(alloc);
+    ends.push(from)?;
+    ends.push(to)?;
+    Ok(Ty::Op(Name::of_text(alloc, b"->")?, ends))
+}
+
+fn variable(alloc: Global, name: &[u8], ty: Ty) -> Result<Tm, AllocError> {
+    Ok(Tm::Free(Name::of_text(alloc, name)?, ty))
+}
+
+fn abstraction(alloc: Global, ty: Ty, body: Tm) -> Result<Tm, AllocError> {
+    Ok(Tm::Abs(ty, Box::new(alloc, body)?))
+}
+
+fn application(alloc: Global, function: Tm, argument: Tm) -> Result<Tm, AllocError> {
+    Ok(Tm::App(Box::new(alloc, function)?, Box::new(alloc, argument)?))
+}
+
+/// A free variable of type A -> A -> A of two others of type A.
+fn of_two(alloc: Global, left: &[u8], right: &[u8]) -> Result<Tm, AllocError> {
+    let one = type_variable(alloc, b"A")?;
+    let unary = arrow(alloc, type_variable(alloc, b"A")?, one)?;
+    let binary = arrow(alloc, type_variable(alloc, b"A")?, unary)?;
+    let function = variable(alloc, b"g", binary)?;
+    let left = variable(alloc, left, type_variable(alloc, b"A")?)?;
+    let right = variable(alloc, right, type_variable(alloc, b"A")?)?;
+    let part = application(alloc, function, left)?;
+    application(alloc, part, right)
+}
+
+/// How many types and terms the match has, if there is one.
+fn counts(found: &Option<Match>) -> Option<(usize, usize)> {
+    match found {
+        Some(found) => Some((found.types.len(), found.vars.len())),
+        None => None,
+    }
+}
+
+fn matches(
+    alloc: Global,
+    kernel: &Kernel,
+    pattern: &Tm,
+    target: TermId,
+) -> Result<Option<(usize, usize)>, Memory>
+    requires { target < length kernel.now.terms }
+{
+    let found = find_match(alloc, kernel, pattern, target)?;
+    Ok(counts(&found))
+}
+
+#[test]
+fn variables_and_binders(rt: HostRuntime) -> Result<(), Fail> {
+    let mut kernel = Kernel::new(rt.alloc())?;
+    check_places(&rt, rt.alloc(), &mut kernel)
+}
+
+#[tactic(auto, using(std::proofs::lemmas::Option::slice_get_within))]
+fn check_places(rt: &impl Abort, alloc: Global, kernel: &mut Kernel) -> Result<(), Fail>
+    requires { length kernel.old.names ≡ 5 }
+{
+    let ty = kernel.type_op(NameId::BOOL, &[])?;
+    let v = VarKey {
+        name: NameId::A,
+        ty,
+    };
+    let a = kernel.var(v)?;
+    let identity = kernel.abs(v, a)?;
+    let any = variable(alloc, b"x", type_variable(alloc, b"A")?)?;
+    let inner = abstraction(
+        alloc,
+        boolean(alloc)?,
+        variable(alloc, b"x", boolean(alloc)?)?,
+    )?;
+    let same = abstraction(alloc, type_variable(alloc, b"A")?, Tm::Bound(0))?;
+    assert_eq!(rt; matches(alloc, kernel, &any, a)?, Some((1, 1)));
+    assert_eq!(rt; matches(alloc, kernel, &any, identity)?, Some((1, 1)));
+    // A variable takes no bound place.
+    assert_eq!(rt; matches(alloc, kernel, &inner, identity)?, None);
+    assert_eq!(rt; matches(alloc, kernel, &same, identity)?, Some((1, 0)));
+    assert_eq!(rt; matches(alloc, kernel, &same, a)?, None);
+    Ok(())
+}
+
+/// The identity of a type, its bound variable of this name.
+#[tactic(auto, using(std::proofs::lemmas::Option::slice_get_within))]
+fn identity(kernel: &mut Kernel, name: NameId, ty: TypeId) -> Result<TermId, Fail>
+    requires name { name < length kernel.old.names }
+    requires ty { ty < length kernel.old.types }
+    ensures id { IfOk result (λ id. id < length kernel.new.terms) }
+    ensures names { length kernel.old.names ≤ length kernel.new.names }
+    ensures types { length kernel.old.types ≤ length kernel.new.types }
+    ensures terms { length kernel.old.terms ≤ length kernel.new.terms }
+{
+    let body = kernel.var(VarKey { name, ty })?;
+    Ok(kernel.abs(VarKey { name, ty }, body)?)
+}
+
+/// f D D for D a hundred times, from this term on.
+#[tactic(auto, using(std::proofs::lemmas::Option::slice_get_within))]
+fn doubled(kernel: &mut Kernel, f: TermId, start: TermId) -> Result<TermId, TermFault>
+    requires f { f < length kernel.old.terms }
+    requires start { start < length kernel.old.terms }
+    ensures id { IfOk result (λ id. id < length kernel.new.terms) }
+    ensures names { length kernel.old.names ≤ length kernel.new.names }
+    ensures types { length kernel.old.types ≤ length kernel.new.types }
+    ensures terms { length kernel.old.terms ≤ length kernel.new.terms }
+{
+    let mut last = start;
+    for _ in 0..100 {
+        let left = kernel.app(f, last)?;
+        last = kernel.app(left, last)?;
+    }
+    Ok(last)
+}
+
+/// A variable of two arguments of a type.
+#[tactic(auto, using(std::proofs::lemmas::Option::slice_get_within))]
+fn function_key(kernel: &mut Kernel, ty: TypeId) -> Result<VarKey, Fail>
+    requires names { 5 ≤ length kernel.old.names }
+    requires ty { ty < length kernel.old.types }
+    ensures key { IfOk result (λ v. v.name < 5 × v.ty < length kernel.new.types) }
+    ensures names { length kernel.old.names ≤ length kernel.new.names }
+    ensures types { length kernel.old.types ≤ length kernel.new.types }
+    ensures terms { length kernel.old.terms ≤ length kernel.new.terms }
+{
+    let unary = kernel.type_op(NameId::ARROW, &[ty, ty])?;
+    let ty = kernel.type_op(NameId::ARROW, &[ty, unary])?;
+    Ok(VarKey {
+        name: NameId::EQUALS,
+        ty,
+    })
+}
+
+#[test]
+fn shared_parts(rt: HostRuntime) -> Result<(), Fail> {
+    let mut kernel = Kernel::new(rt.alloc())?;
+    check_shared(&rt, rt.alloc(), &mut kernel)
+}
+
+/// Terms of more than 2^100 nodes, each part of which stands there twice.
+#[tactic(auto, using(std::proofs::lemmas::Option::slice_get_within))]
+fn check_shared(rt: &impl Abort, alloc: Global, kernel: &mut Kernel) -> Result<(), Fail>
+    requires { length kernel.old.names ≡ 5 }
+{
+    let truth = kernel.type_op(NameId::BOOL, &[])?;
+    let ty = kernel.type_op(NameId::ARROW, &[truth, truth])?;
+    let v = function_key(kernel, ty)?;
+    let f = kernel.var(v)?;
+    let start = identity(kernel, NameId::A, truth)?;
+    let left = doubled(kernel, f, start)?;
+    let renamed = identity(kernel, NameId::R, truth)?;
+    let right = doubled(kernel, f, renamed)?;
+    let part = kernel.app(f, left)?;
+    let alike = kernel.app(part, right)?;
+    let apart = kernel.app(part, start)?;
+    let one = of_two(alloc, b"y", b"y")?;
+    let two = of_two(alloc, b"y", b"z")?;
+    assert_eq!(rt; matches(alloc, kernel, &one, alike)?, Some((1, 2)));
+    assert_eq!(rt; matches(alloc, kernel, &two, alike)?, Some((1, 3)));
+    assert_eq!(rt; matches(alloc, kernel, &one, apart)?, None);
+    assert_eq!(rt; matches(alloc, kernel, &two, apart)?, Some((1, 3)));
+    let bound = kernel.abs(v, alike)?;
+    let kept = kernel.abs(
+        VarKey {
+            name: NameId::A,
+            ty,
+        },
+        alike,
+    )?;
+    let body = variable(alloc, b"y", type_variable(alloc, b"A")?)?;
+    let around = abstraction(alloc, type_variable(alloc, b"B")?, body)?;
+    assert_eq!(rt; matches(alloc, kernel, &around, bound)?, None);
+    assert_eq!(rt; matches(alloc, kernel, &around, kept)?, Some((2, 1)));
+    Ok(())
+}

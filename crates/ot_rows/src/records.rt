@@ -1,0 +1,23 @@
+//! The words of the log's records, as the format lists them.
+use ot_records::{RecordWord, soundness_law};
+use std::test::Fail;
+
+const LISTED: [(&[u8], RecordWord); 6] = [
+    (b"tyvar", RecordWord::TyVar),
+    (b"lam", RecordWord::Lam),
+    (b"deductAntisym", RecordWord::DeductAntisym),
+    (b"constants", RecordWord::Constants),
+    (b"typeOperator", RecordWord::TypeOperator),
+    (b"result", RecordWord::Result),
+];
+
+#[test]
+fn words(rt: HostRuntime) -> Result<(), Fail> {
+    for (text, word) in LISTED {
+        assert_eq!(rt; RecordWord::find(text), Some(word));
+        assert_eq!(rt; word.text(), text);
+    }
+    assert_eq!(rt; RecordWord::find(b"axiom"), None);
+    soundness_law();
+    Ok(())
+}
