@@ -5,6 +5,7 @@ ghost use Rattle.ot_io.specs.FileList.{folder_of};
 
 mod hostile;
 mod logs;
+mod reading;
 mod repetitions;
 mod tables;
 mod theories;

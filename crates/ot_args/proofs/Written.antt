@@ -10,7 +10,7 @@ use Rattle.ot_args.specs.declared.command.Command.{Command}
 use Rattle.ot_args.specs.declared.command.Usage.{Usage}
 use Rattle.ot_args.specs.declared.verb.Verb.{Verb}
 use Rattle.ot_args.specs.declared.verb.Verb.TheVariants as verb
-use Rattle.ot_args.specs.Grammar.{OptionValue, Packages, Assumptions, Definitions, Theorems, UsesFlag, ReadableFlag, Article, Arguments, SettingsValue, CommandValue, Check, Info, Uses, Readable, Link, Minimise, Sample, SampleArticle, Verify, packages_name, option_name, option_words, flag_named, flag_or_operand, with_option, operands_alone, are_options, settings_of, packages_of, names_any, shown, is_input, is_theory, count_of, arguments, argument_words, sample, command, command_on, command_with, command_of, verb_word, verb_named, verb_of, operands_of, FitsOperands, FitsSettings, Writes, IsRead, command_value, answer}
+use Rattle.ot_args.specs.Grammar.{OptionValue, Packages, Assumptions, Definitions, Theorems, UsesFlag, ReadableFlag, Article, Arguments, SettingsValue, CommandValue, Check, Info, Uses, Readable, Link, Minimise, Sample, SampleArticle, Verify, Read, packages_name, option_name, option_words, flag_named, flag_or_operand, with_option, operands_alone, are_options, settings_of, packages_of, names_any, shown, is_input, is_text, is_theory, count_of, arguments, argument_words, sample, command, command_on, command_on_two, command_with, command_of, verb_word, verb_named, verb_of, operands_of, FitsOperands, FitsSettings, Writes, IsRead, command_value, answer}
 use Rattle.ot_args.proofs.Counts.{found, finds}
 use Rattle.ot_args.proofs.Steps.{flag_first, operand_first}
 
@@ -106,6 +106,7 @@ begins_plain (Minimise packages input) h = h
 begins_plain (Sample n) h = sample_plain n h.0 h.1
 begins_plain (SampleArticle n) h = sample_plain n h.0 h.1
 begins_plain (Verify log) h = h
+begins_plain (Read packages input text) h = h.0
 
 -- a command whose operand passes its test
 passed : (b : Bool) (c d : CommandValue) (r : Option CommandValue) → b ≡ true → c ≡ d → cond b (Some c) r ≡ Some d
@@ -134,6 +135,8 @@ fits_read (Minimise packages input) s e h = passed (is_input input) _ _ _ h (ap 
 fits_read (Sample n) s e h = sample_read s.article n _ h.0 h.1 (ap (λ (b : Bool). sample b n) e)
 fits_read (SampleArticle n) s e h = sample_read s.article n _ h.0 h.1 (ap (λ (b : Bool). sample b n) e)
 fits_read (Verify log) s e h = passed (is_input log) _ _ _ h refl
+fits_read (Read packages input text) s e h =
+    passed (is_input input && is_text text) _ _ _ (both (is_input input) (is_text text) h.0 h.1) (ap (λ (p : List ℕ). Read p input text) e)
 
 -- a command's word names it
 verb_read : (v : Verb) → verb_named (verb_word v) ≡ Some v
@@ -143,6 +146,7 @@ verb_read verb.Link = refl
 verb_read verb.Minimise = refl
 verb_read verb.Sample = refl
 verb_read verb.Verify = refl
+verb_read verb.Read = refl
 
 -- the command of a word that names it, of arguments that are read, whose options it takes
 command_is : (v : Verb) (a : Arguments) (words : List (List ℕ)) → arguments words ≡ Some a → are_options v a.options ≡ true → command_of (verb_word v ∷ words) ≡ command_with v (settings_of a.options) a.operands
@@ -268,11 +272,23 @@ on_one verb.Minimise s input c =
 on_one verb.Sample s operand c = sample_fits s operand c s.article _ refl refl
 on_one verb.Verify s log c =
     chosen verb.Verify s (log ∷ []) (is_input log) c (Verify log) (λ h. record { same_verb = refl; same_operands = refl; settings = tt; fits = h })
+on_one verb.Read s operand c = λ h. cc
+
+on_two : (v : Verb) (s : SettingsValue) (one two : List ℕ) (c : CommandValue) → command_on_two v s one two ≡ Some c → Fits v s (one ∷ two ∷ []) c
+on_two verb.Check s one two c = λ h. cc
+on_two verb.Info s one two c = λ h. cc
+on_two verb.Link s one two c = λ h. cc
+on_two verb.Minimise s one two c = λ h. cc
+on_two verb.Sample s one two c = λ h. cc
+on_two verb.Verify s one two c = λ h. cc
+on_two verb.Read s input text c =
+    chosen verb.Read s (input ∷ text ∷ []) (is_input input && is_text text) c (Read (packages_of s) input text) (λ h. record { same_verb = refl; same_operands = refl; settings = refl; fits = (first (is_input input) _ h, second (is_input input) _ h) })
 
 command_fits : (v : Verb) (s : SettingsValue) (operands : List (List ℕ)) (c : CommandValue) → command_with v s operands ≡ Some c → Fits v s operands c
 command_fits v s [] c h = cc
 command_fits v s (operand ∷ []) c h = on_one v s operand c h
-command_fits v s (operand ∷ next ∷ operands) c h = cc
+command_fits v s (one ∷ two ∷ []) c h = on_two v s one two c h
+command_fits v s (one ∷ two ∷ next ∷ operands) c h = cc
 
 -- ---- commands
 
@@ -291,7 +307,8 @@ named word =
     (names_first word verb.Link _ _ (bytes_eq-Decides word (codes "link")).0
     (names_first word verb.Minimise _ _ (bytes_eq-Decides word (codes "minimise")).0
     (names_first word verb.Sample _ _ (bytes_eq-Decides word (codes "sample")).0
-    (names_first word verb.Verify _ _ (bytes_eq-Decides word (codes "verify")).0 (λ v h. cc))))))
+    (names_first word verb.Verify _ _ (bytes_eq-Decides word (codes "verify")).0
+    (names_first word verb.Read _ _ (bytes_eq-Decides word (codes "read")).0 (λ v h. cc)))))))
 
 -- words that are a command's word and arguments
 writes_given : (v : Verb) (words : List (List ℕ)) (c : CommandValue) (a : Arguments) (b : Bool) → arguments words ≡ Some a → are_options v a.options ≡ b → cond b (command_with v (settings_of a.options) a.operands) None ≡ Some c → Writes (verb_word v ∷ words) c

@@ -1,7 +1,7 @@
 ghost use Rattle.std.specs.Prelude.{◌≡◌, ℕ, List, IfOk};
 ghost use Rattle.std.specs.Option.{option_map, option_and_then};
 ghost use Rattle.ot_args.specs.Grammar.{CommandValue, FitsOperands, IsRead, answer, arguments, command, command_of, command_on};
-ghost use Rattle.ot_args.specs.Grammar.{command_value, command_with, count_of, info, is_input, is_theory, sample, texts_of};
+ghost use Rattle.ot_args.specs.Grammar.{command_on_two, command_value, command_with, count_of, info, is_input, is_text, is_theory, packages_of, sample, texts_of};
 ghost use Rattle.ot_args.specs.Reading.{settings_value};
 
 use crate::arguments::Given;
@@ -57,6 +57,12 @@ pub enum Command<'a> {
     Verify {
         log: &'a str,
     },
+    /// Runs the input and reads the lines of a readable text under its notation.
+    Read {
+        packages: &'a str,
+        input: &'a str,
+        text: &'a str,
+    },
 }
 
 /// The words are no command.
@@ -75,12 +81,13 @@ impl<'a> Command<'a> {
     /// minimise [--packages DIR] INPUT
     /// sample [--article] N
     /// verify LOG
+    /// read [--packages DIR] INPUT TEXT
     /// ```
     ///
     /// Options stand before the operands, in any order, each at most once. DIR isn't empty, and is `packages` where the words
     /// name no folder. `info` asks for all three sections where they name none; `--uses` and `--readable` stand beside none of
     /// them, nor beside each other. INPUT and LOG are `-`, or a name that isn't empty and doesn't begin with `-`; FILE is an
-    /// INPUT that ends in `.thy`. N is a number from 1 to 1,000 in decimal, without sign or leading zero.
+    /// INPUT that ends in `.thy`. TEXT isn't empty and doesn't begin with `-`. N is a number from 1 to 1,000 in decimal, without sign or leading zero.
     /// `Usage` comes exactly for words outside this grammar, which is the program's own. No memory is taken.
     pub fn read(words: &'a [String]) -> Result<Command<'a>, Usage>
         ensures value { answer result ≡ command_of (texts_of words.now) }
@@ -122,6 +129,7 @@ fn command_with<'a>(
 {
     match operands {
         [operand] => command_on(verb, settings, operand.as_str()),
+        [first, second] => command_on_two(verb, settings, first.as_str(), second.as_str()),
         _ => Err(Usage),
     }
 }
@@ -134,7 +142,7 @@ fn command_on<'a>(
 ) -> Result<Command<'a>, Usage>
     ensures { answer result ≡ command_on verb (settings_value settings.entry) operand.now }
 {
-    let packages = settings.packages.unwrap_or("packages");
+    let packages = folder_of(settings);
     let input = operand;
     match verb {
         Verb::Check if is_input(input) => Ok(Command::Check { packages, input }),
@@ -148,6 +156,33 @@ fn command_on<'a>(
         Verb::Verify if is_input(operand) => Ok(Command::Verify { log: operand }),
         _ => Err(Usage),
     }
+}
+
+/// The command of what its options ask for and its two operands.
+fn command_on_two<'a>(
+    verb: Verb,
+    settings: Settings<'a>,
+    first: &'a str,
+    second: &'a str,
+) -> Result<Command<'a>, Usage>
+    ensures { answer result ≡ command_on_two verb (settings_value settings.entry) first.now second.now }
+{
+    let packages = folder_of(settings);
+    match verb {
+        Verb::Read if is_input(first) && is_text(second) => Ok(Command::Read {
+            packages,
+            input: first,
+            text: second,
+        }),
+        _ => Err(Usage),
+    }
+}
+
+/// The folder of the packages: the one that is named, else `packages`.
+fn folder_of<'a>(settings: Settings<'a>) -> &'a str
+    ensures { result.now ≡ packages_of (settings_value settings.entry) }
+{
+    settings.packages.unwrap_or("packages")
 }
 
 /// What `info` shows of the run of an input: sections of its summary, what its theorems rest on, or readable text.
@@ -190,6 +225,13 @@ fn is_input(word: &str) -> bool
         [b'-', ..] => bytes.len() == 1,
         _ => true,
     }
+}
+
+/// Whether the word names a text: it isn't empty, and doesn't begin with `-`.
+fn is_text(word: &str) -> bool
+    ensures { result ≡ is_text word.now }
+{
+    !matches!(word.as_bytes(), [] | [b'-', ..])
 }
 
 /// Whether an input is a theory file: its name ends in `.thy`.

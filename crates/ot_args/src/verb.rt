@@ -14,6 +14,7 @@ pub enum Verb {
     Minimise,
     Sample,
     Verify,
+    Read,
 }
 
 impl Verb {
@@ -37,6 +38,8 @@ impl Verb {
             Some(Verb::Sample)
         } else if word == "verify" {
             Some(Verb::Verify)
+        } else if word == "read" {
+            Some(Verb::Read)
         } else {
             None
         }
@@ -47,22 +50,13 @@ impl Verb {
         ensures { result ≡ takes self (option_value option.entry) }
     {
         match option {
-            CommandOption::Packages(_) => match self {
-                Verb::Check | Verb::Info | Verb::Link | Verb::Minimise => true,
-                Verb::Sample | Verb::Verify => false,
-            },
+            CommandOption::Packages(_) => !matches!(self, Verb::Sample | Verb::Verify),
             CommandOption::Assumptions
             | CommandOption::Definitions
             | CommandOption::Theorems
             | CommandOption::Uses
-            | CommandOption::Readable => match self {
-                Verb::Info => true,
-                Verb::Check | Verb::Link | Verb::Minimise | Verb::Sample | Verb::Verify => false,
-            },
-            CommandOption::Article => match self {
-                Verb::Sample => true,
-                Verb::Check | Verb::Info | Verb::Link | Verb::Minimise | Verb::Verify => false,
-            },
+            | CommandOption::Readable => matches!(self, Verb::Info),
+            CommandOption::Article => matches!(self, Verb::Sample),
         }
     }
 }

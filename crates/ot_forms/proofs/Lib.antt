@@ -20,6 +20,8 @@ pub mod ConstantWords
 pub mod Halting
 pub mod TermLaw
 pub mod ReadBack
+pub mod SameSymbols
+pub mod SameReading
 pub mod Notations
 pub mod Lines
 pub mod LineLaw

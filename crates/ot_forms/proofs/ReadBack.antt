@@ -18,7 +18,7 @@ or-right : (p : Bool) → (p || true) ≡ true
 or-right true = refl
 or-right false = refl
 
-constant_of-some : (h : List (Symbol Name)) (o : List ℕ) (m : Name) → constant_of h o ≡ Some m → (is_hidden h (ConSymbol m) ≡ true) × (base m ≡ o)
+pub constant_of-some : (h : List (Symbol Name)) (o : List ℕ) (m : Name) → constant_of h o ≡ Some m → (is_hidden h (ConSymbol m) ≡ true) × (base m ≡ o)
 constant_of-some [] o m e = cc
 constant_of-some (OpSymbol n ∷ h) o m e = constant_of-some h o m e
 constant_of-some (ConSymbol n ∷ h) o m e = go (constant_of-some h o m) (same_text (base n) o) refl e where
@@ -26,7 +26,7 @@ constant_of-some (ConSymbol n ∷ h) o m e = go (constant_of-some h o m) (same_t
   go ih true q e = let v : n ≡ m = cc in ((λ i. (same_name-Decides m n).1 (sym v) i || is_hidden h (ConSymbol m)), ap base (sym v) ∙ (bytes_eq-Decides (base n) o).0 q)
   go ih false q e = let w = ih e in (ap (λ t. same_name m n || t) w.0 ∙ or-right (same_name m n), w.1)
 
-constant_of-has : (h : List (Symbol Name)) (n : Name) → is_hidden h (ConSymbol n) ≡ true → (m : Name) × (constant_of h (base n) ≡ Some m)
+pub constant_of-has : (h : List (Symbol Name)) (n : Name) → is_hidden h (ConSymbol n) ≡ true → (m : Name) × (constant_of h (base n) ≡ Some m)
 constant_of-has [] n e = cc
 constant_of-has (OpSymbol k ∷ h) n e = constant_of-has h n e
 constant_of-has (ConSymbol k ∷ h) n e = go (constant_of-has h n) (same_text (base k) (base n)) refl e where

@@ -16,5 +16,5 @@ mod words;
 pub use laws::reads_back;
 pub use ot_text::PrintFault;
 pub use sequents::readable_text;
-pub use summary::readable_summary;
+pub use summary::{readable_summary, run_notation};
 pub use symbols::run_symbols;

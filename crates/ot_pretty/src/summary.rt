@@ -50,8 +50,9 @@ pub fn readable_summary(
     }
 }
 
-// The notation of a run that exports these theorems, where these namespaces are shown.
-fn run_notation(
+/// The notation of a run that exports these theorems, where these namespaces are shown: it hides those of the run's symbols that may
+/// be written short.
+pub fn run_notation(
     alloc: Global,
     kernel: &Kernel,
     shown: &[Name],

@@ -6,5 +6,6 @@ pub mod RunLemmas
 pub mod SampleLemmas
 pub mod LogLemmas
 pub mod NotedLemmas
+pub mod ReadingLemmas
 pub mod VerdictLemmas
 pub mod ReplyLemmas

@@ -1,8 +1,8 @@
 -- The run of an input with its notation.
-use Rattle.std.proofs.Common.{◌≡◌, ℕ, suc, ◌<◌, ◌≤◌, List, [], ◌∷◌, ◌++◌, length, map, refl, sym, ap, subst, ◌∙◌, inl, inr, ◌⊎◌, arith}
-use Rattle.std.specs.Prelude.{min, ◌+◌, Bool, true, false, ◌||◌, codes, nat_le, MatchBool, Option, Some, None, IfSome, IsSomeAnd, Result, Ok, Err, IfOk, OnOk, Vec, String}
+use Rattle.std.proofs.Common.{◌≡◌, ℕ, ◌<◌, ◌≤◌, List, [], length, map, refl, sym, ap, subst, ◌∙◌, inl, inr, ◌⊎◌, arith}
+use Rattle.std.specs.Prelude.{min, ◌+◌, Bool, true, false, codes, nat_le, MatchBool, Option, Some, None, IfSome, IsSomeAnd, Result, Ok, Err, IfOk, OnOk, Vec, String}
 use Rattle.std.specs.Global.{Global}
-use Rattle.std.specs.Option.{option_map, option_and_then}
+use Rattle.std.specs.Option.{option_map}
 use Rattle.std.specs.Prelude.{string_bytes}
 use Rattle.std.proofs.lemmas.Slice.Eq.{bytes_eq-Decides}
 use Rattle.std.proofs.lemmas.Simd.{map-map}
@@ -23,20 +23,20 @@ use Rattle.ot_machine.specs.declared.session.Session.{Session}
 use Rattle.ot_link.specs.Stops.{Stop, InArticle, InTheory, InStructure, TooLarge, Missing, Linked}
 use Rattle.ot_link.specs.Blocks.{Ran}
 use Rattle.ot_link.specs.Shown.{shown}
-use Rattle.ot_link.specs.Answers.{Comes, Stops, HasCause as HasLinkCause}
+use Rattle.ot_link.specs.Answers.{Comes, HasCause as HasLinkCause}
 use Rattle.ot_link.specs.declared.fault.LinkFault.{LinkFault}
 use Rattle.ot_link.specs.declared.fault.LinkFault.TheVariants as faults
 use Rattle.ot_text.specs.Pages.{Appended}
 use Rattle.ot_text.specs.Laws.{OneSequent, OneSequentInFront}
 use Rattle.ot_pretty.specs.Summary.{ReadBack, hidden_in_run, readable_summary, hidden_at, summary_at}
 use Rattle.ot_program.specs.Texts.{large_line}
-use Rattle.ot_program.specs.Reply.{RunInput, ShowReadable, Noted, limits, theory_shown, shown_at, noted, noted_told, noted_at, opened_first, opened_at, run_at, is_standard, readable, notation, assumptions_of, definitions_of, exports_of, run_lists, summary_limit, stop_status}
+use Rattle.ot_program.specs.Reply.{RunInput, ShowReadable, Noted, limits, theory_shown, shown_at, noted_told, opened_first, opened_at, is_standard, readable, notation, assumptions_of, definitions_of, exports_of, run_lists, summary_limit, stop_status}
 use Rattle.ot_program.specs.Answer.{IsProved, IsInputStop, FailedAt, LastInput, LeavesOther, KeepsFiles, AreReadBack}
-use Rattle.ot_program.specs.Verdicts.{End, Finished, Stopped, Failed, ran_from, noted_from, noted_end, end_at, IsAnswer, IsEnd, IsPlace, HasCause, IsSaid, IsStopVerdict, IsVerdictOf, ReadableEndsAs}
+use Rattle.ot_program.specs.Verdicts.{End, Finished, Stopped, Failed, ran_from, noted_from, noted_end, end_at, IsAnswer, IsPlace, HasCause, IsSaid, IsStopVerdict, IsVerdictOf, ReadableEndsAs}
 use Rattle.ot_program.specs.declared.report.Verdict.{Verdict}
 use Rattle.ot_program.specs.declared.status.Status.TheVariants.{Accepted, Refused}
 use Rattle.ot_program.specs.declared.task.View.{View}
-use Rattle.ot_program.proofs.InputLemmas.{limits_are, theory_cause}
+use Rattle.ot_program.proofs.InputLemmas.{theory_cause}
 use Rattle.ot_program.proofs.RunLemmas.{assumptions_are, definitions_are, exports_are}
 use Rattle.ot_program.proofs.LimitLemmas.{text_printed, text_too_large, too_long}
 
@@ -114,6 +114,21 @@ stops k (faults.TheoryTooLarge path) (Some x) ran comes = stop_told (Some x) ran
 stops k (faults.NoFile path) (Some x) ran comes = stop_told (Some x) ran _ (comes k)
 stops k (faults.ReadFault path) (Some x) ran comes = unsaid (noted_told (Some x) ran)
 stops k faults.Memory (Some x) ran comes = tt
+
+-- a stop comes to the same whatever is shown
+same_article : (ns : List Name) (path : List ℕ) (line : ℕ) (o : Option (Fault Name)) → let ended : Option (End Ran Stop) = option_map (λ f. Stopped (InArticle path line f)) o in
+    option_map (noted_end ns) ended ≡ option_map (noted_end []) ended
+same_article ns path line None = refl
+same_article ns path line (Some f) = refl
+
+pub same_stop : (ns : List Name) (k : State) (e : LinkFault) → option_map (noted_end ns) (end_at k e) ≡ option_map (noted_end []) (end_at k e)
+same_stop ns k (faults.Article path line fault) = same_article ns (string_bytes path) line _
+same_stop ns k (faults.Theory path line fault) = refl
+same_stop ns k (faults.Structure path line fault) = refl
+same_stop ns k (faults.TheoryTooLarge path) = refl
+same_stop ns k (faults.NoFile path) = refl
+same_stop ns k (faults.ReadFault path) = refl
+same_stop ns k faults.Memory = refl
 
 -- ---- its place
 
@@ -194,9 +209,9 @@ pub lasts : (P : Type 0) (names : List Name) (o : Option (End Ran Stop)) → IfS
 lasts P names None last = tt
 lasts P names (Some e) last = last
 
-pub stop_last : {E : Type 0} (path : List ℕ) (folder : Option Folder) (at : Option (List ℕ)) (a : Result Verdict E) → is_theory path ≡ true → IfOk a (λ _. LastInput path folder at)
-stop_last path folder at (Err e) theory = tt
-stop_last path folder at (Ok v) theory = rw (no_standard path theory, theory) tt
+pub stop_last : {X : Type 0} (path : List ℕ) (folder : Option Folder) (at : Option (List ℕ)) (o : Option X) → is_theory path ≡ true → IfSome o (λ _. LastInput path folder at)
+stop_last path folder at None theory = tt
+stop_last path folder at (Some x) theory = rw (no_standard path theory, theory) tt
 
 -- a device that failed later failed since
 pub rose_later : (a b c : ℕ) → a ≤ b → Rose b c → Rose a c
@@ -244,6 +259,10 @@ module _ (names : List Name) (s : Session) (seen : State) (es : List Export) (th
 
   definitions : seen.definitions ≡ definitions_of (ran_from s es)
   definitions = ap (λ k. k.definitions) same ∙ sym (definitions_are s es r)
+
+  -- its notation is the stated one
+  pub notation_is : hidden_at seen names ths ≡ notation (noted_from names s es)
+  notation_is = λ i. hidden_in_run names (assumptions i) (exports i) (definitions i)
 
   text_is : summary_at seen (hidden_at seen names ths) ths ≡ readable (noted_from names s es)
   text_is = λ i. readable_summary (hidden_in_run names (assumptions i) (exports i) (definitions i)) (assumptions i) (exports i)

@@ -7,8 +7,8 @@ use Rattle.ot_io.specs.Causes.{Rose}
 use Rattle.ot_io.specs.Folder.{Folder}
 use Rattle.ot_io.specs.Sinks.{AppendsFront}
 use Rattle.ot_program.specs.Texts.{write_fault_line}
-use Rattle.ot_program.specs.Reply.{Reply, accepted, fails, TaskValue, task_of, input_of, is_standard, Told, result_of, reply_to, answer}
-use Rattle.ot_program.specs.Answer.{MatchesReply, IsVerdict, IsReport, IsStopLine, IsLargeLine, Says, Writes, WritesLine, WritesSome, IsLine, FailedAt}
+use Rattle.ot_program.specs.Reply.{Reply, accepted, fails, TaskValue, RunInput, RunSample, MakeSample, CheckLog, ShowReadable, ReadLines, task_of, sample_path, is_standard, Told, result_of, reply_to, answer}
+use Rattle.ot_program.specs.Answer.{MatchesReply, IsVerdict, IsReport, IsStopLine, IsLargeLine, Says, Writes, WritesLine, WritesSome, IsLine, FailedIn}
 use Rattle.ot_program.specs.Verdicts.{IsReplyOf, Ends, error_line}
 use Rattle.ot_program.specs.declared.status.Status.{Status}
 use Rattle.ot_program.specs.declared.status.Status.TheVariants.{Accepted, Refused, Usage, NoFile, ReadFault, WriteFault, Memory}
@@ -145,10 +145,19 @@ neither : (b : Bool) (P Q : Type 0) → ¬ P → ¬ Q → ¬ MatchBool b P Q
 neither true P Q p q held = p held
 neither false P Q p q held = q held
 
-pub complete : (words : List (List ℕ)) (t : TaskValue) (folder : Option Folder) (input at : Option (List ℕ)) (verdict status : Status) (text : List ℕ) (i j f g o p : ℕ) → task_of words ≡ Some t → Says verdict t folder input at text → Ends verdict status → (verdict ≡ ReadFault → FailedAt (input_of t) i j f g) → (status ≡ WriteFault → Rose o p) → IfSome (answer words folder input) (λ reply. ¬ Rose i j → ¬ Rose f g → ¬ Rose o p → IsTold status reply.status)
+no_failure : (t : TaskValue) (i j f g : ℕ) → ¬ Rose i j → ¬ Rose f g → ¬ FailedIn t i j f g
+no_failure (RunInput packages path view) i j f g input files failed = neither (is_standard path) (Rose i j) (Rose f g) input files failed
+no_failure (RunSample n) i j f g input files failed = neither (is_standard sample_path) (Rose i j) (Rose f g) input files failed
+no_failure (MakeSample n) i j f g input files failed = neither (is_standard sample_path) (Rose i j) (Rose f g) input files failed
+no_failure (CheckLog path) i j f g input files failed = neither (is_standard path) (Rose i j) (Rose f g) input files failed
+no_failure (ShowReadable packages path) i j f g input files failed = neither (is_standard path) (Rose i j) (Rose f g) input files failed
+no_failure (ReadLines packages path text) i j f g input files (inl failed) = neither (is_standard path) (Rose i j) (Rose f g) input files failed
+no_failure (ReadLines packages path text) i j f g input files (inr failed) = files failed
+
+pub complete : (words : List (List ℕ)) (t : TaskValue) (folder : Option Folder) (input at : Option (List ℕ)) (verdict status : Status) (text : List ℕ) (i j f g o p : ℕ) → task_of words ≡ Some t → Says verdict t folder input at text → Ends verdict status → (verdict ≡ ReadFault → FailedIn t i j f g) → (status ≡ WriteFault → Rose o p) → IfSome (answer words folder input) (λ reply. ¬ Rose i j → ¬ Rose f g → ¬ Rose o p → IsTold status reply.status)
 complete words t folder input at verdict status text i j f g o p read says ends failed unwritten =
     replied words t folder input at verdict text (λ reply. ¬ Rose i j → ¬ Rose f g → ¬ Rose o p → IsTold status reply.status) read says
-    (λ reply is input files out. completes verdict status text ends (λ w. out (unwritten w)) (λ r. neither (is_standard (input_of t)) (Rose i j) (Rose f g) input files (failed r)) reply is)
+    (λ reply is input files out. completes verdict status text ends (λ w. out (unwritten w)) (λ r. no_failure t i j f g input files (failed r)) reply is)
 
 -- ---- other statuses
 

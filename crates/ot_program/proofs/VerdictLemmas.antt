@@ -3,7 +3,7 @@ use Rattle.std.proofs.Common.{◌≡◌, ℕ, List, refl, sym, subst, ◌∙◌,
 use Rattle.std.specs.Prelude.{Bool, true, false, MatchBool, Option, Some, None, IfSome, Result, Ok, Err, IfOk}
 use Rattle.ot_io.specs.Folder.{Folder}
 use Rattle.ot_link.specs.Stops.{Stop, InArticle, InTheory, InStructure, TooLarge, Missing}
-use Rattle.ot_program.specs.Reply.{TaskValue, RunInput, RunSample, MakeSample, CheckLog, ShowReadable, LogStop, InLog, NoLog, over_line, Product, Halt, result_of, text_of, fits, stop_status, log_status, halt_status, halt_line}
+use Rattle.ot_program.specs.Reply.{TaskValue, RunInput, RunSample, MakeSample, CheckLog, ShowReadable, ReadLines, LogStop, InLog, NoLog, ReadStop, InInput, NoText, TextTooLarge, InLine, over_line, Product, Halt, result_of, text_of, fits, stop_status, log_status, read_status, halt_status, halt_line}
 use Rattle.ot_program.specs.Answer.{IsOwnHalt, LastPath, Says}
 use Rattle.ot_program.specs.Verdicts.{End, Finished, Stopped, Failed, IsEnd, IsPlace, HasCause, IsSaid, IsFinal, IsVerdictOn, IsVerdictOf}
 use Rattle.ot_program.specs.declared.report.Verdict.{Verdict}
@@ -27,12 +27,19 @@ log_refusal : (s : LogStop) → IsRefusal (log_status s)
 log_refusal (InLog line fault) = inl refl
 log_refusal NoLog = inr refl
 
+read_refusal : (s : ReadStop) → IsRefusal (read_status s)
+read_refusal (InInput s) = run_refusal s
+read_refusal NoText = inr refl
+read_refusal TextTooLarge = inl refl
+read_refusal (InLine refused) = inl refl
+
 refusal : (t : TaskValue) (s : Halt t) → IsRefusal (halt_status t s)
 refusal (RunInput packages path view) s = run_refusal s
 refusal (RunSample n) s = run_refusal s
 refusal (MakeSample n) s = inl refl
 refusal (CheckLog path) s = log_refusal s
 refusal (ShowReadable packages path) s = run_refusal s
+refusal (ReadLines packages path text) s = read_refusal s
 
 -- ---- what the text of a verdict says
 

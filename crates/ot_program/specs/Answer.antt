@@ -17,10 +17,11 @@ use Rattle.ot_minimise.specs.Minimised.{IsMinimised}
 use Rattle.ot_uses.specs.Used.{support_of}
 use Rattle.ot_uses.specs.Suffices.{IsSupported}
 use Rattle.ot_pretty.specs.Summary.{ReadBack}
+use Rattle.ot_read.specs.Laws.{StandFor}
 use Rattle.ot_program.specs.declared.task.View.{View}
 use Rattle.ot_program.specs.declared.task.View.TheVariants.{Counts, Summary, Uses, Article}
 use Rattle.ot_program.specs.Texts.{usage_line, read_fault_line, write_fault_line, memory_line}
-use Rattle.ot_program.specs.Reply.{Reply, TaskValue, RunInput, RunSample, MakeSample, CheckLog, ShowReadable, input_of, sample_path, is_standard, Noted, notation, assumptions_of, exports_of, Product, Halt, Told, result_of, opened, text_of, fits, Lists, lists_of, halt_status, halt_line, over_line, written_limit, article_text}
+use Rattle.ot_program.specs.Reply.{Reply, TaskValue, RunInput, RunSample, MakeSample, CheckLog, ShowReadable, ReadLines, ReadStop, InInput, sample_path, is_standard, Noted, notation, assumptions_of, exports_of, Product, Halt, Told, result_of, opened, text_of, fits, Lists, lists_of, halt_status, halt_line, over_line, written_limit, article_text}
 use Rattle.ot_program.specs.declared.status.Status.{Status}
 use Rattle.ot_program.specs.declared.status.Status.TheVariants.{Accepted, Refused, Usage, NoFile, ReadFault, WriteFault, Memory}
 
@@ -87,10 +88,11 @@ IsPromisedBy (RunSample n) r = IsRewritten r
 IsPromisedBy (MakeSample n) x = Unit {0}
 IsPromisedBy (CheckLog path) p = Unit {0}
 IsPromisedBy (ShowReadable packages path) n = AreReadBack n
+IsPromisedBy (ReadLines packages path text) r = StandFor (notation r.noted) r.lines r.sequents
 
 -- it is what the task prints of its end, whose theorems are proved; a theorem's own assumptions and definitions suffice for it
--- where they are printed, readable text reads back, and an article that is written does what it is written for; and a text is that
--- of one sequent, whatever stands behind it
+-- where they are printed, readable text reads back, lines stand for the sequents that are printed of them, and an article that is
+-- written does what it is written for; and a text is that of one sequent, whatever stands behind it
 pub record IsReport (t : TaskValue) (told : Told t) (text : List ℕ) : Type 0 where
   pub made : Product t
   pub ended : IfSome told (λ answer. answer ≡ Ok made)
@@ -113,6 +115,11 @@ IsOwnStop path (TooLarge p) = ⊥
 abbrev pub IsInputStop : List ℕ → Stop → Type 0
 IsInputStop path stop = MatchBool (is_theory path) (Unit {0}) (IsOwnStop path stop)
 
+-- the lines of a text have stops of their own
+abbrev pub IsReadStop : List ℕ → ReadStop → Type 0
+IsReadStop path (InInput stop) = IsInputStop path stop
+IsReadStop path _ = Unit {0}
+
 -- a log's is in that log
 abbrev pub IsOwnHalt : (t : TaskValue) → Halt t → Type 0
 IsOwnHalt (RunInput packages path view) stop = IsInputStop path stop
@@ -120,6 +127,7 @@ IsOwnHalt (RunSample n) stop = IsOwnStop sample_path stop
 IsOwnHalt (MakeSample n) stop = Unit {0}
 IsOwnHalt (CheckLog path) stop = Unit {0}
 IsOwnHalt (ShowReadable packages path) stop = IsInputStop path stop
+IsOwnHalt (ReadLines packages path text) stop = IsReadStop path stop
 
 -- it is the line of what stopped the task
 pub record IsStopLine (status : Status) (t : TaskValue) (told : Told t) (line : List ℕ) : Type 0 where
@@ -140,10 +148,20 @@ pub record IsLargeLine (t : TaskValue) (told : Told t) (line : List ℕ) : Type 
 abbrev pub IsReadPath : List ℕ → Option (List (List ℕ)) → Option (List ℕ) → List ℕ → Type 0
 IsReadPath path files at failed = MatchBool (is_standard path) (failed ≡ path) (IfSome files (IsMember failed) × IfSome at (λ asked. failed ≡ asked))
 
+-- and a text is a file, whatever the input is
+abbrev pub IsFailedPath : TaskValue → Option Folder → Option (List ℕ) → List ℕ → Type 0
+IsFailedPath (RunInput packages path view) folder at failed = IsReadPath path (opened (RunInput packages path view) folder) at failed
+IsFailedPath (RunSample n) folder at failed = IsReadPath sample_path (opened (RunSample n) folder) at failed
+IsFailedPath (MakeSample n) folder at failed = IsReadPath sample_path (opened (MakeSample n) folder) at failed
+IsFailedPath (CheckLog path) folder at failed = IsReadPath path (opened (CheckLog path) folder) at failed
+IsFailedPath (ShowReadable packages path) folder at failed = IsReadPath path (opened (ShowReadable packages path) folder) at failed
+IsFailedPath (ReadLines packages path text) folder at failed =
+    IsReadPath path (opened (ReadLines packages path text) folder) at failed ⊎ ((failed ≡ text) × IfSome at (λ asked. failed ≡ asked))
+
 -- it is the line for an input that failed
 pub record IsFailureLine (t : TaskValue) (folder : Option Folder) (at : Option (List ℕ)) (line : List ℕ) : Type 0 where
   pub failed : List ℕ
-  pub path : IsReadPath (input_of t) (opened t folder) at failed
+  pub path : IsFailedPath t folder at failed
   pub line_is : line ≡ read_fault_line failed
 
 -- what a text says with which a task has this status
@@ -200,6 +218,15 @@ pub record WritesSome {E : Type 0} (IsOne : List ℕ → Type 0) (written : E �
 abbrev pub FailedAt : List ℕ → (before now : ℕ) → (files_before files_now : ℕ) → Type 0
 FailedAt path before now files_before files_now = MatchBool (is_standard path) (Rose before now) (Rose files_before files_now)
 
+-- and so does that of a text, which is a file
+abbrev pub FailedIn : TaskValue → (before now : ℕ) → (files_before files_now : ℕ) → Type 0
+FailedIn (RunInput packages path view) before now files_before files_now = FailedAt path before now files_before files_now
+FailedIn (RunSample n) before now files_before files_now = FailedAt sample_path before now files_before files_now
+FailedIn (MakeSample n) before now files_before files_now = FailedAt sample_path before now files_before files_now
+FailedIn (CheckLog path) before now files_before files_now = FailedAt path before now files_before files_now
+FailedIn (ShowReadable packages path) before now files_before files_now = FailedAt path before now files_before files_now
+FailedIn (ReadLines packages path text) before now files_before files_now = FailedAt path before now files_before files_now ⊎ Rose files_before files_now
+
 -- the files are left alone where the input is standard input, and standard input where it is a file
 abbrev pub LeavesOther : {F S : Type 0} → List ℕ → F → F → S → S → Type 0
 LeavesOther path files files_now input input_now = MatchBool (is_standard path) (files_now ≡ files) (input_now ≡ input)
@@ -214,10 +241,15 @@ LeavesAlone (RunSample n) files files_now input input_now = LeavesBoth files fil
 LeavesAlone (MakeSample n) files files_now input input_now = LeavesBoth files files_now input input_now
 LeavesAlone (CheckLog path) files files_now input input_now = LeavesOther path files files_now input input_now
 LeavesAlone (ShowReadable packages path) files files_now input input_now = LeavesOther path files files_now input input_now
+LeavesAlone (ReadLines packages path text) files files_now input input_now = MatchBool (is_standard path) (Unit {0}) (input_now ≡ input)
 
 -- the path that was asked for last is the article's, where it is a file and the folder is told and has it
 abbrev pub LastInput : List ℕ → Option Folder → Option (List ℕ) → Type 0
 LastInput path folder at = MatchBool (is_standard path || is_theory path) (Unit {0}) (at ≡ path_asked folder path)
+
+-- or that of a text
+abbrev pub LastOf : (path text : List ℕ) → Option Folder → Option (List ℕ) → Type 0
+LastOf path text folder at = MatchBool (is_standard path || is_theory path) (Unit {0}) ((at ≡ path_asked folder path) ⊎ (at ≡ path_asked folder text))
 
 -- or the log's
 abbrev pub LastPath : TaskValue → Option Folder → Option (List ℕ) → Type 0
@@ -226,6 +258,7 @@ LastPath (RunSample n) folder at = Unit {0}
 LastPath (MakeSample n) folder at = Unit {0}
 LastPath (CheckLog path) folder at = MatchBool (is_standard path) (Unit {0}) (at ≡ path_asked folder path)
 LastPath (ShowReadable packages path) folder at = LastInput path folder at
+LastPath (ReadLines packages path text) folder at = LastOf path text folder at
 
 -- the files stay what they are, and their counts never fall
 pub record KeepsFiles {F : Type 0} (folder : F → Option Folder) (faults misses : F → ℕ) (old new : F) : Type 0 where

@@ -6,12 +6,13 @@ use Rattle.std.specs.Fmt.{decimal}
 use Rattle.std.specs.Str.{bytes_eq}
 use Rattle.ot_plain.specs.Names.{Name}
 use Rattle.ot_plain.specs.Trees.{Sequent, Definition, Symbol}
-use Rattle.ot_plain.specs.Answers.{◌>>=◌, some_or}
+use Rattle.ot_plain.specs.Answers.{◌>>=◌, some_or, unless}
 use Rattle.ot_plain.specs.declared.limits.Limits.{Limits}
 use Rattle.ot_io.specs.Folder.{Folder, bytes_at}
-use Rattle.ot_args.specs.Grammar.{CommandValue, Check, Info, Uses as InfoUses, Readable as InfoReadable, Link, Minimise, Sample, SampleArticle, Verify, command_of, is_theory}
+use Rattle.ot_args.specs.Grammar.{CommandValue, Check, Info, Uses as InfoUses, Readable as InfoReadable, Link, Minimise, Sample, SampleArticle, Verify, Read, command_of, is_theory}
 use Rattle.ot_args.specs.declared.sections.Sections.{Sections}
 use Rattle.ot_scan.specs.Lines.{lines_of}
+use Rattle.ot_theory.specs.Lines.{LineText, lines_of as text_lines}
 use Rattle.ot_machine.specs.States.{State, no_context, fresh_article, fresh_run}
 use Rattle.ot_machine.specs.Run.{Outcome, run}
 use Rattle.ot_link.specs.Stops.{Stop, InArticle, InTheory, InStructure, TooLarge, Missing, Linked, answered}
@@ -23,11 +24,12 @@ use Rattle.ot_sample.specs.Sample.{sample}
 use Rattle.ot_print.specs.Texts.{summary_text}
 use Rattle.ot_uses.specs.Texts.{uses_text}
 use Rattle.ot_pretty.specs.Summary.{hidden_in_run, readable_summary}
+use Rattle.ot_read.specs.Lines.{RefusedLine, lines_read, sequent_lines}
 use Rattle.ot_records.specs.Tokens.{LogFault}
 use Rattle.ot_records.specs.Check.{Outcome as LogOutcome, Ends, Stops}
 use Rattle.ot_verify.specs.Reading.{log_check}
 use Rattle.ot_verify.specs.Verifying.{Proved, proved_by, proved_text}
-use Rattle.ot_program.specs.Texts.{stop_line, log_line, missing_line, large_line, large_article_line, usage_line}
+use Rattle.ot_program.specs.Texts.{stop_line, log_line, column_line, missing_line, large_line, large_article_line, large_text_line, usage_line}
 use Rattle.ot_program.specs.declared.status.Status.{Status}
 use Rattle.ot_program.specs.declared.status.Status.TheVariants.{Accepted, Refused, Usage, NoFile}
 use Rattle.ot_program.specs.declared.task.View.{View}
@@ -49,6 +51,10 @@ article_limit = 4294967296
 abbrev pub summary_limit : ℕ
 summary_limit = 67108864
 
+-- the most bytes of a readable text
+abbrev pub text_limit : ℕ
+text_limit = 1048576
+
 -- the most bytes of a written article
 abbrev pub written_limit : ℕ
 written_limit = 4294967296
@@ -68,6 +74,7 @@ pub data TaskValue : Type 0 where
   MakeSample : ℕ → TaskValue
   CheckLog : List ℕ → TaskValue
   ShowReadable : List ℕ → List ℕ → TaskValue
+  ReadLines : (packages path text : List ℕ) → TaskValue
 
 abbrev pub task : CommandValue → TaskValue
 task (Check packages path) = RunInput packages path Counts
@@ -79,6 +86,7 @@ task (Sample n) = RunSample n
 task (SampleArticle n) = MakeSample n
 task (Verify path) = CheckLog path
 task (InfoReadable packages path) = ShowReadable packages path
+task (Read packages path text) = ReadLines packages path text
 
 -- what words ask for, none where they are no command
 abbrev pub task_of : List (List ℕ) → Option TaskValue
@@ -95,11 +103,7 @@ input_of (RunSample n) = sample_path
 input_of (MakeSample n) = sample_path
 input_of (CheckLog path) = path
 input_of (ShowReadable packages path) = path
-
--- and none where the words are no command
-abbrev pub path_of : Option TaskValue → List ℕ
-path_of None = []
-path_of (Some t) = input_of t
+input_of (ReadLines packages path text) = path
 
 -- `-` is standard input; any other name is a file's
 abbrev pub is_standard : List ℕ → Bool
@@ -141,6 +145,16 @@ opened_at packages path folder =
     else if is_theory path then option_map (λ files. (theory_run packages path files).paths) folder
     else Some (path ∷ [])
 
+-- what it came to
+abbrev pub assumptions_of : Ran → List (Sequent Name)
+assumptions_of r = map (λ a. a.sequent) r.run.assumptions
+
+abbrev pub definitions_of : Ran → List (Definition Name)
+definitions_of r = map (λ d. d.definition) r.run.definitions
+
+abbrev pub exports_of : Ran → List (Sequent Name)
+exports_of r = map (λ e. e.sequent) r.exports
+
 -- ---- a run with its notation
 
 -- a run, with the namespaces that its input shows
@@ -171,6 +185,53 @@ noted_at packages path folder input = noted_told (shown_at path folder) (run_at 
 -- the paths of the files that both need
 abbrev pub opened_first : Option (Linked (List Name)) → Option (List (List ℕ)) → Option (List (List ℕ))
 opened_first names opened = option_and_then (λ ns. option_map (λ paths. ns.paths ++ paths) opened) names
+
+-- the symbols that a run writes by their base names: symbols of its assumptions, its exports and its definitions' premises and
+-- theorems, in a namespace that is shown
+abbrev pub notation : Noted → List (Symbol Name)
+notation n = hidden_in_run n.shown (assumptions_of n.ran) (exports_of n.ran) (definitions_of n.ran)
+
+-- ---- the lines of a readable text
+
+-- lines that were read under the notation of a run, and the sequents that they stand for
+pub record Readings : Type 0 where
+  pub noted : Noted
+  pub lines : List LineText
+  pub sequents : List (Sequent Name)
+
+-- why they aren't: the run of the input stops; the text isn't there, or is too large; or a line is refused
+pub data ReadStop : Type 0 where
+  InInput : Stop → ReadStop
+  NoText : ReadStop
+  TextTooLarge : ReadStop
+  InLine : RefusedLine → ReadStop
+
+-- the bytes of the text of a path
+abbrev pub text_in : List ℕ → Folder → Result (List ℕ) ReadStop
+text_in text folder = do
+  bytes ← some_or NoText (bytes_at folder text)
+  _ ← unless TextTooLarge (nat_le (length bytes) text_limit)
+  Ok bytes
+
+-- what lines stand for under the notation of a run, by how they are read
+abbrev pub readings : Noted → List LineText → Result (List (Sequent Name)) RefusedLine → Result Readings ReadStop
+readings n ls (Ok qs) = Ok (record { noted = n; lines = ls; sequents = qs })
+readings n ls (Err refused) = Err (InLine refused)
+
+abbrev pub read_under : Noted → List LineText → Result Readings ReadStop
+read_under n ls = readings n ls (lines_read (notation n) ls)
+
+-- the text of a path under it
+abbrev pub read_in : Noted → List ℕ → Folder → Result Readings ReadStop
+read_in n text folder = text_in text folder >>= λ bytes. read_under n (text_lines bytes)
+
+-- the run comes first, then the text, as far as they are told
+abbrev pub read_behind : List ℕ → Option Folder → Result Noted Stop → Option (Result Readings ReadStop)
+read_behind text folder (Ok n) = option_map (read_in n text) folder
+read_behind text folder (Err stop) = Some (Err (InInput stop))
+
+abbrev pub read_at : (packages path text : List ℕ) → Option Folder → Option (List ℕ) → Option (Result Readings ReadStop)
+read_at packages path text folder input = option_and_then (read_behind text folder) (noted_at packages path folder input)
 
 -- ---- the check of a log
 
@@ -205,6 +266,7 @@ Product (RunSample n) = Ran
 Product (MakeSample n) = Unit {0}
 Product (CheckLog path) = Proved
 Product (ShowReadable packages path) = Noted
+Product (ReadLines packages path text) = Readings
 
 -- what stops it: a fault of the run, or of the log
 abbrev pub Halt : TaskValue → Type 0
@@ -213,6 +275,7 @@ Halt (RunSample n) = Stop
 Halt (MakeSample n) = ⊥
 Halt (CheckLog path) = LogStop
 Halt (ShowReadable packages path) = Stop
+Halt (ReadLines packages path text) = ReadStop
 
 -- how it ends, as far as that is told
 abbrev pub Told : TaskValue → Type 0
@@ -224,6 +287,7 @@ result_of (RunSample n) folder input = Some (article_end sample_path (outcome (s
 result_of (MakeSample n) folder input = Some (Ok tt)
 result_of (CheckLog path) folder input = check_at path folder input
 result_of (ShowReadable packages path) folder input = noted_at packages path folder input
+result_of (ReadLines packages path text) folder input = read_at packages path text folder input
 
 -- the paths of the files that it needs, in order, as far as they are told
 abbrev pub opened : TaskValue → Option Folder → Option (List (List ℕ))
@@ -232,17 +296,9 @@ opened (RunSample n) folder = Some []
 opened (MakeSample n) folder = Some []
 opened (CheckLog path) folder = Some (if is_standard path then [] else path ∷ [])
 opened (ShowReadable packages path) folder = opened_first (shown_at path folder) (opened_at packages path folder)
+opened (ReadLines packages path text) folder = opened_first (shown_at path folder) (opened_at packages path folder)
 
 -- ---- what is printed of a run
-
-abbrev pub assumptions_of : Ran → List (Sequent Name)
-assumptions_of r = map (λ a. a.sequent) r.run.assumptions
-
-abbrev pub definitions_of : Ran → List (Definition Name)
-definitions_of r = map (λ d. d.definition) r.run.definitions
-
-abbrev pub exports_of : Ran → List (Sequent Name)
-exports_of r = map (λ e. e.sequent) r.exports
 
 -- how many theorems, assumptions and definitions there are
 abbrev pub line_of_counts : ℕ → ℕ → ℕ → List ℕ
@@ -260,11 +316,6 @@ summary sections r = summary_text sections (assumptions_of r) (definitions_of r)
 -- what each of its theorems rests on
 abbrev pub uses : Ran → List ℕ
 uses r = uses_text r.run r.exports
-
--- the symbols that a run writes by their base names: symbols of its assumptions, its exports and its definitions' premises and
--- theorems, in a namespace that is shown
-abbrev pub notation : Noted → List (Symbol Name)
-notation n = hidden_in_run n.shown (assumptions_of n.ran) (exports_of n.ran) (definitions_of n.ran)
 
 -- its assumptions and theorems in readable form
 abbrev pub readable : Noted → List ℕ
@@ -324,6 +375,7 @@ text_of (RunSample n) r = sample_line n r
 text_of (MakeSample n) x = sample n
 text_of (CheckLog path) p = proved_text p
 text_of (ShowReadable packages path) n = readable n
+text_of (ReadLines packages path text) r = sequent_lines r.sequents
 
 -- whether it is within the limit
 abbrev pub fits : (t : TaskValue) → Product t → Bool
@@ -332,6 +384,7 @@ fits (RunSample n) r = article_fits r
 fits (MakeSample n) x = true
 fits (CheckLog path) p = nat_le (length (proved_text p)) summary_limit
 fits (ShowReadable packages path) n = nat_le (length (readable n)) summary_limit
+fits (ReadLines packages path text) r = nat_le (length (sequent_lines r.sequents)) summary_limit
 
 -- the assumptions, the definitions and the theorems of which it prints
 pub record Lists : Type 0 where
@@ -351,6 +404,7 @@ lists_of (RunSample n) r = run_lists r
 lists_of (MakeSample n) x = record { assumptions = []; definitions = []; theorems = [] }
 lists_of (CheckLog path) p = log_lists p
 lists_of (ShowReadable packages path) n = run_lists n.ran
+lists_of (ReadLines packages path text) r = run_lists r.noted.ran
 
 -- ---- the reply
 
@@ -373,17 +427,32 @@ abbrev pub log_status : LogStop → Status
 log_status (InLog line fault) = Refused
 log_status NoLog = NoFile
 
+-- of lines that aren't read
+abbrev pub read_status : ReadStop → Status
+read_status (InInput stop) = stop_status stop
+read_status NoText = NoFile
+read_status TextTooLarge = Refused
+read_status (InLine refused) = Refused
+
 abbrev pub halt_status : (t : TaskValue) → Halt t → Status
 halt_status (RunInput packages path view) stop = stop_status stop
 halt_status (RunSample n) stop = stop_status stop
 halt_status (MakeSample n) stop = Refused
 halt_status (CheckLog path) stop = log_status stop
 halt_status (ShowReadable packages path) stop = stop_status stop
+halt_status (ReadLines packages path text) stop = read_status stop
 
 -- the line for what stops a log's check
 abbrev pub log_stop_line : List ℕ → LogStop → List ℕ
 log_stop_line path (InLog line fault) = log_line path line fault
 log_stop_line path NoLog = missing_line path
+
+-- the line for what stops the reading of a text
+abbrev pub read_stop_line : List ℕ → ReadStop → List ℕ
+read_stop_line text (InInput stop) = stop_line stop
+read_stop_line text NoText = missing_line text
+read_stop_line text TextTooLarge = large_text_line text
+read_stop_line text (InLine refused) = column_line text refused.line refused.column refused.fault
 
 abbrev pub halt_line : (t : TaskValue) → Halt t → List ℕ
 halt_line (RunInput packages path view) stop = stop_line stop
@@ -391,6 +460,7 @@ halt_line (RunSample n) stop = stop_line stop
 halt_line (MakeSample n) stop = []
 halt_line (CheckLog path) stop = log_stop_line path stop
 halt_line (ShowReadable packages path) stop = stop_line stop
+halt_line (ReadLines packages path text) stop = read_stop_line text stop
 
 -- the line that says that the text of a task is past its limit
 abbrev pub over_line : TaskValue → List ℕ
@@ -399,6 +469,7 @@ over_line (RunSample n) = large_article_line sample_path
 over_line (MakeSample n) = large_article_line sample_path
 over_line (CheckLog path) = large_line path
 over_line (ShowReadable packages path) = large_line path
+over_line (ReadLines packages path text) = large_line path
 
 -- a task that ended is accepted, with what it prints; a text past the limit is refused
 abbrev pub reply_to_end : (t : TaskValue) → Product t → Reply

@@ -10,6 +10,8 @@ use Rattle.ot_theory.specs.declared.fault.TheoryFault.{TheoryFault}
 use Rattle.ot_theory.specs.declared.fault.TheoryFault.TheVariants as theory
 use Rattle.ot_blocks.specs.declared.fault.StructureFault.{StructureFault}
 use Rattle.ot_blocks.specs.declared.fault.StructureFault.TheVariants as structure
+use Rattle.ot_forms.specs.declared.fault.TextFault.{TextFault}
+use Rattle.ot_forms.specs.declared.fault.TextFault.TheVariants as readable
 use Rattle.ot_link.specs.Stops.{Stop, InArticle, InTheory, InStructure, TooLarge, Missing}
 use Rattle.ot_records.specs.Tokens.{LogFault}
 use Rattle.ot_records.specs.Tokens as log
@@ -112,6 +114,24 @@ log_text log.LogEnds = codes "log ends early"
 abbrev pub log_line : List ℕ → ℕ → LogFault → List ℕ
 log_line path number fault = line_at path number (log_text fault)
 
+-- the text of a fault in a line of readable text
+abbrev pub readable_text : TextFault → List ℕ
+readable_text readable.Syntax = codes "cannot be read"
+readable_text readable.TooManyOpen = codes "too many open"
+readable_text readable.Unbound = codes "unbound name"
+readable_text readable.UnknownOperator = codes "unknown operator"
+readable_text readable.BadTypes = codes "types do not fit"
+readable_text readable.TooDeep = codes "nested deeper than 4096"
+
+-- the line for such a fault at a column of a line of the text of a path
+abbrev pub column_line : List ℕ → (number column : ℕ) → TextFault → List ℕ
+column_line path number column fault =
+    concat (codes "opentheory: " ∷ path ∷ codes ":" ∷ decimal number ∷ codes ":" ∷ decimal column ∷ codes ": " ∷ readable_text fault ∷ codes "\n" ∷ [])
+
+-- the line for a readable text that is too large
+abbrev pub large_text_line : List ℕ → List ℕ
+large_text_line path = line_of path (codes "text longer than 1048576 bytes")
+
 -- the line for a summary that is too large
 abbrev pub large_line : List ℕ → List ℕ
 large_line path = line_of path (codes "summary larger than 67108864 bytes")
@@ -138,7 +158,7 @@ read_fault_line path = line_of path (codes "read fault")
 
 -- the line for words that are no command
 abbrev pub usage_line : List ℕ
-usage_line = codes "usage: opentheory check|info|link|minimise [--packages DIR] INPUT; info also takes --assumptions --definitions --theorems; opentheory sample [--article] N; opentheory info --uses INPUT; opentheory info --readable INPUT; opentheory verify LOG\n"
+usage_line = codes "usage: opentheory check|info|link|minimise [--packages DIR] INPUT; info also takes --assumptions --definitions --theorems; opentheory sample [--article] N; opentheory info --uses INPUT; opentheory info --readable INPUT; opentheory read INPUT TEXT; opentheory verify LOG\n"
 
 abbrev pub write_fault_line : List ℕ
 write_fault_line = codes "opentheory: write fault\n"

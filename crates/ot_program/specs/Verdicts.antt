@@ -1,9 +1,10 @@
 -- What the parts of the program come to. Only contracts of private functions speak of it.
-use Rattle.std.specs.Prelude.{◌≡◌, ◌⊎◌, ◌≤◌, ℕ, true, List, map, length, nat_le, Option, Some, None, Result, Ok, Err, Vec, MatchBool, IfSome, IsSomeAnd, string_bytes}
+use Rattle.std.specs.Prelude.{◌≡◌, ◌⊎◌, ◌≤◌, ℕ, true, List, [], map, length, nat_le, Option, Some, None, Result, Ok, Err, Vec, MatchBool, IfSome, IsSomeAnd, string_bytes}
 use Rattle.std.specs.Global.{Global}
 use Rattle.std.specs.Option.{option_map}
 use Rattle.ot_plain.specs.Lists.{IsMember}
 use Rattle.ot_plain.specs.Names.{Name}
+use Rattle.ot_plain.specs.Trees.{Sequent}
 use Rattle.ot_args.specs.declared.sections.Sections.{Sections}
 use Rattle.ot_args.specs.declared.command.Usage as words
 use Rattle.ot_io.specs.Folder.{Folder}
@@ -18,11 +19,12 @@ use Rattle.ot_machine.specs.declared.session.Session.{Session}
 use Rattle.ot_link.specs.declared.fault.LinkFault.{LinkFault}
 use Rattle.ot_link.specs.declared.fault.LinkFault.TheVariants as faults
 use Rattle.ot_text.specs.Laws.{OneSequent, OneSequentInFront}
+use Rattle.ot_read.specs.Lines.{sequent_lines}
 use Rattle.ot_verify.specs.Taking.{fault_of as log_fault_of}
 use Rattle.ot_verify.specs.Verifying.{Proved}
 use Rattle.ot_program.specs.Texts.{stop_line, large_line, large_article_line, read_fault_line, write_fault_line}
-use Rattle.ot_program.specs.Reply.{Reply, accepted, fails, TaskValue, RunInput, RunSample, MakeSample, CheckLog, ShowReadable, LogStop, InLog, NoLog, input_of, Noted, readable, Product, Halt, result_of, opened, text_of, fits, article_text, article_fits, lists_of, summary, uses, summary_limit, over_line, stop_status, halt_status, halt_line}
-use Rattle.ot_program.specs.Answer.{IsProved, IsPromisedBy, IsOwnStop, IsOwnHalt, IsReadPath}
+use Rattle.ot_program.specs.Reply.{Reply, accepted, fails, TaskValue, RunInput, RunSample, MakeSample, CheckLog, ShowReadable, ReadLines, LogStop, InLog, NoLog, ReadStop, InInput, NoText, TextTooLarge, InLine, Readings, Noted, readable, Product, Halt, result_of, text_of, fits, article_text, article_fits, lists_of, summary, uses, summary_limit, over_line, stop_status, halt_status, halt_line}
+use Rattle.ot_program.specs.Answer.{IsProved, IsPromisedBy, IsOwnStop, IsOwnHalt, IsFailedPath}
 use Rattle.ot_program.specs.declared.status.Status.{Status}
 use Rattle.ot_program.specs.declared.status.Status.TheVariants.{Accepted, Refused, Usage, NoFile, ReadFault, WriteFault, Memory}
 use Rattle.ot_program.specs.declared.report.Counts.{Counts}
@@ -30,6 +32,12 @@ use Rattle.ot_program.specs.declared.report.Verdict.{Verdict}
 use Rattle.ot_program.specs.declared.task.Job.{Job}
 use Rattle.ot_program.specs.declared.task.Task.{Task}
 use Rattle.ot_program.specs.declared.task.Task.TheVariants as code
+use Rattle.ot_theory.specs.Lines.{lines_of}
+use Rattle.ot_parse.specs.Plain.{sequent_of}
+use Rattle.ot_program.specs.declared.noted.NotedRun.{NotedRun}
+use Rattle.ot_program.specs.declared.reading.LinesRead.{LinesRead}
+use Rattle.ot_program.specs.declared.reading.ReadingRefusal.{ReadingRefusal}
+use Rattle.ot_program.specs.declared.reading.ReadingRefusal.TheVariants as readings
 use Rattle.ot_program.specs.declared.log.LogRefusal.{LogRefusal}
 use Rattle.ot_program.specs.declared.log.LogRefusal.TheVariants as refusals
 
@@ -46,6 +54,7 @@ task_value (code.RunSample count) = RunSample count
 task_value (code.MakeSample count) = MakeSample count
 task_value (code.CheckLog path) = CheckLog path.now
 task_value (code.ShowReadable packages path) = ShowReadable packages.now path.now
+task_value (code.ReadLines packages path text) = ReadLines packages.now path.now text.now
 
 -- a sample is of a size that is made
 abbrev pub IsSized : TaskValue → Type 0
@@ -54,6 +63,7 @@ IsSized (RunSample n) = n ≤ 1000
 IsSized (MakeSample n) = n ≤ 1000
 IsSized (CheckLog path) = Unit {0}
 IsSized (ShowReadable packages path) = Unit {0}
+IsSized (ReadLines packages path text) = Unit {0}
 
 -- what the code answers
 abbrev pub task_answer : Result Task words.Usage → Option TaskValue
@@ -103,6 +113,46 @@ noted_end names (Finished r) = Finished (record { shown = names; ran = r })
 noted_end names (Stopped s) = Stopped s
 noted_end names (Failed path) = Failed path
 
+-- a run with what its input shows
+abbrev pub noted_of : Session → NotedRun → Noted
+noted_of s r = noted_from r.names.items s r.exports.items
+
+-- its end
+abbrev pub noted_end_of : Session → Result NotedRun LinkFault → Option (End Noted Stop)
+noted_end_of s (Ok r) = Some (Finished (noted_of s r))
+noted_end_of s (Err fault) = option_map (noted_end []) (end_at s.kernel fault)
+
+-- the end of a task that reads lines, where its input stops or fails
+abbrev pub stop_end : End Ran Stop → Option (End Readings ReadStop)
+stop_end (Finished r) = None
+stop_end (Stopped s) = Some (Stopped (InInput s))
+stop_end (Failed path) = Some (Failed path)
+
+-- the bytes of a text aren't read for this
+abbrev pub IsTextRefusal : Result (List ℕ) ReadStop → ReadingRefusal → Type 0
+IsTextRefusal text (readings.At line column fault) = ⊥
+IsTextRefusal text readings.TooLarge = text ≡ Err TextTooLarge
+IsTextRefusal text readings.NoFile = text ≡ Err NoText
+IsTextRefusal text readings.ReadFault = Unit {0}
+IsTextRefusal text readings.Memory = Unit {0}
+
+-- and it comes only where the files counted it
+abbrev pub IsTextCause : ReadingRefusal → (FailureRose MissRose : Type 0) → Type 0
+IsTextCause (readings.At line column fault) FailureRose MissRose = ⊥
+IsTextCause readings.TooLarge FailureRose MissRose = Unit {0}
+IsTextCause readings.NoFile FailureRose MissRose = MissRose
+IsTextCause readings.ReadFault FailureRose MissRose = FailureRose
+IsTextCause readings.Memory FailureRose MissRose = Unit {0}
+
+-- the end that the reading of the text of a path tells; none where memory ran out
+abbrev pub read_end_of : List ℕ → Noted → Result LinesRead ReadingRefusal → Option (End Readings ReadStop)
+read_end_of text n (Ok r) = Some (Finished (record { noted = n; lines = lines_of r.bytes.items; sequents = map sequent_of r.sequents.items }))
+read_end_of text n (Err (readings.At line column fault)) = Some (Stopped (InLine (record { line = line; column = column; fault = fault })))
+read_end_of text n (Err readings.TooLarge) = Some (Stopped TextTooLarge)
+read_end_of text n (Err readings.NoFile) = Some (Stopped NoText)
+read_end_of text n (Err readings.ReadFault) = Some (Failed text)
+read_end_of text n (Err readings.Memory) = None
+
 -- the end that the check of the log of a path tells; none where memory ran out
 abbrev pub log_end_of : List ℕ → Result Proved LogRefusal → Option (End Proved LogStop)
 log_end_of path (Ok proved) = Some (Finished proved)
@@ -125,7 +175,7 @@ IsEnd t folder input e = IfSome (result_of t folder input) (λ answer. IsAnswer 
 abbrev pub IsPlace : (t : TaskValue) → Option Folder → Option (List ℕ) → End (Product t) (Halt t) → Type 0
 IsPlace t folder at (Finished x) = Unit {0}
 IsPlace t folder at (Stopped s) = IsOwnHalt t s
-IsPlace t folder at (Failed failed) = IsReadPath (input_of t) (opened t folder) at failed
+IsPlace t folder at (Failed failed) = IsFailedPath t folder at failed
 
 -- a stop, or a failure, is at this path of an article
 abbrev pub IsOwnEnd : List ℕ → End Ran Stop → Type 0
@@ -167,6 +217,10 @@ UsesEndsAs path r v = MatchBool (nat_le (length (uses r)) summary_limit) (IsSaid
 -- its assumptions and theorems in readable form
 abbrev pub ReadableEndsAs : List ℕ → Noted → Verdict → Type 0
 ReadableEndsAs path n v = MatchBool (nat_le (length (readable n)) summary_limit) (IsSaid v Accepted (readable n)) (IsSaid v Refused (large_line path))
+
+-- the sequents that lines stand for
+abbrev pub IsPrintedAs : List ℕ → List (Sequent Name) → Verdict → Type 0
+IsPrintedAs path qs v = MatchBool (nat_le (length (sequent_lines qs)) summary_limit) (IsSaid v Accepted (sequent_lines qs)) (IsSaid v Refused (large_line path))
 
 -- the written article of its exports
 abbrev pub ArticleEndsAs : List ℕ → Ran → Verdict → Type 0

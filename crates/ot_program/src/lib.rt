@@ -3,8 +3,10 @@
 
 mod input;
 mod log;
+mod noted;
 mod program;
 mod readable;
+mod reading;
 mod report;
 mod sample;
 mod status;

@@ -3,13 +3,15 @@ ghost use Rattle.std.specs.Io.KnownBytes.{Appends};
 ghost use Rattle.ot_io.specs.Causes.{Rose, HasCause};
 ghost use Rattle.ot_io.specs.Sinks.{FlushesAll, AppendsFront};
 ghost use Rattle.ot_args.specs.Grammar.{texts_of, command_of};
-ghost use Rattle.ot_program.specs.Reply.{task_of, input_of, path_of, result_of, answer};
-ghost use Rattle.ot_program.specs.Answer.{MatchesReply, IsSilent, IsVerdict, IsLine, Says, Prints, Writes, WritesLine, WritesSome, FailedAt, LeavesAlone, LastPath, KeepsFiles, KeepsSource};
+ghost use Rattle.ot_program.specs.Reply.{task_of, result_of, answer};
+ghost use Rattle.ot_program.specs.Answer.{MatchesReply, IsSilent, IsVerdict, IsLine, Says, Prints, Writes, WritesLine, WritesSome, FailedIn, LeavesAlone, LastPath, KeepsFiles, KeepsSource};
 ghost use Rattle.ot_program.specs.Verdicts.{task_value, IsSized, Ends, error_line};
 
 use crate::input::run_input;
 use crate::log::check_log;
-use crate::readable::run_readable;
+use crate::noted::run_noted;
+use crate::readable::readable_verdict;
+use crate::reading::run_reading;
 use crate::report::{Verdict, log_verdict, verdict_on};
 use crate::sample::{make_sample, run_sample};
 use crate::status::Status;
@@ -24,19 +26,21 @@ use std::alloc::Global;
 /// All that the program does with the command's words, without the program's name. `check` runs an input and reports how
 /// many theorems, assumptions and definitions it has; `info` reports which, and with `--readable` in a form that reads back. `-`
 /// is an article on `input`, a name that ends in `.thy` a theory file over packages in a folder, and any other name an article
-/// file. `link` and `minimise` run an input and write an article of its exports that has what they need and nothing else;
-/// `sample` makes an article of a size, runs it and rewrites it. `verify` checks a proof log, on `input` for `-` and else in a
-/// file, and reports what it proves. The text is made whole, then written to `out` and flushed; each status but `Accepted` has
-/// its line on `err`. Whether `err` takes it changes no status.
+/// file. `read` runs an input, and prints the sequents that the lines of a readable text stand for. `link` and `minimise` run an
+/// input and write an article of its exports that has what they need and nothing else; `sample` makes an article of a size, runs
+/// it and rewrites it. `verify` checks a proof log, on `input` for `-` and else in a file, and reports what it proves. The text is
+/// made whole, then written to `out` and flushed; each status but `Accepted` has its line on `err`. Whether `err` takes it changes
+/// no status.
 ///
 /// - `Accepted`: the run or the log ended, and all of the text was written and flushed.
 /// - `Refused`: the run stopped, at the first fault and its line by the article format or the theory file format, in the file
-///   that the line names; or the log has a fault, the first at that line; or the summary has more than 67,108,864 bytes, or the
-///   written article more than 4,294,967,296.
+///   that the line names; or the log has a fault, the first at that line; or a line of the readable text is refused, the first at
+///   that line and column, or the text has more than 1,048,576 bytes; or what would be printed has more than 67,108,864 bytes, or
+///   the written article more than 4,294,967,296.
 /// - `Usage`: exactly for words that are no command. It takes no memory and reads nothing.
 /// - `NoFile`: only where a file was missing in this call.
 /// - `ReadFault`: only where what the command reads failed in this call: `input` for `-`, else `files`, at a file that the
-///   command needs.
+///   command needs; the readable text is always a file.
 /// - `WriteFault`: only where the input is accepted and `out` failed in this call; a front of the text was written.
 /// - `Memory`: may come at any point before the text is made; then no more memory is taken.
 pub fn run<F: Files, S: Source, O: Sink, E: Sink>(
@@ -72,8 +76,8 @@ pub fn run<F: Files, S: Source, O: Sink, E: Sink>(
 
     // Statuses 3, 4 and 5 come only where the device that they name counted it; all else is as stated, or memory ran out.
     ensures missing { result ≡ Status.NoFile → Rose (F.misses files.old) (F.misses files.new) }
-    ensures read { result ≡ Status.ReadFault → FailedAt (path_of (task_of (texts_of words.now)))
-        (S.faults input.old) (S.faults input.new) (F.faults files.old) (F.faults files.new) }
+    ensures read { result ≡ Status.ReadFault → IfSome (task_of (texts_of words.now))
+        (λ t. FailedIn t (S.faults input.old) (S.faults input.new) (F.faults files.old) (F.faults files.new)) }
     ensures write { result ≡ Status.WriteFault → Rose (O.faults out.old) (O.faults out.new) }
     ensures complete { IfSome (answer (texts_of words.now) (F.folder files.old) (S.left input.old)) (λ reply.
         ¬ Rose (S.faults input.old) (S.faults input.new)
@@ -115,7 +119,7 @@ fn run_task<F: Files, S: Source>(
     requires { IsSized (task_value task) }
     ensures says { IfOk result (λ v. Says v.status (task_value task.entry) (F.folder files.old) (S.left input.old) (F.at files.new) v.text.items) }
     ensures missing { IfOk result (λ v. v.status ≡ Status.NoFile → Rose (F.misses files.old) (F.misses files.new)) }
-    ensures read { IfOk result (λ v. v.status ≡ Status.ReadFault → FailedAt (input_of (task_value task.entry))
+    ensures read { IfOk result (λ v. v.status ≡ Status.ReadFault → FailedIn (task_value task.entry)
         (S.faults input.old) (S.faults input.new) (F.faults files.old) (F.faults files.new)) }
     ensures files { KeepsFiles F.folder F.faults F.misses files.old files.new }
     ensures source { KeepsSource S.folder S.faults S.misses S.at input.old input.new }
@@ -135,7 +139,16 @@ fn run_task<F: Files, S: Source>(
             let checked = check_log(alloc, path, files, input);
             log_verdict(alloc, path, checked)
         }
-        Task::ShowReadable { packages, path } => run_readable(alloc, packages, path, files, input),
+        Task::ShowReadable { packages, path } => {
+            let mut session = Session::new(alloc)?;
+            let ran = run_noted(alloc, &mut session, packages, path, files, input);
+            readable_verdict(alloc, path, &session, ran)
+        }
+        Task::ReadLines {
+            packages,
+            path,
+            text,
+        } => run_reading(alloc, packages, path, text, files, input),
     }
 }
 

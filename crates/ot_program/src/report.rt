@@ -130,7 +130,7 @@ pub fn accepted(text: Vec<u8>) -> Verdict
 }
 
 /// That the rules refuse the input, with this line.
-fn refused(line: Vec<u8>) -> Verdict
+pub fn refused(line: Vec<u8>) -> Verdict
     ensures { IsSaid result Status.Refused line.items }
 {
     Verdict {
@@ -140,7 +140,7 @@ fn refused(line: Vec<u8>) -> Verdict
 }
 
 /// That the file of a path isn't there.
-fn missing(alloc: Global, path: &str) -> Result<Verdict, Memory>
+pub fn missing(alloc: Global, path: &str) -> Result<Verdict, Memory>
     ensures { IfOk result (λ v. IsSaid v Status.NoFile (missing_line path.now)) }
 {
     Ok(Verdict {
@@ -150,7 +150,7 @@ fn missing(alloc: Global, path: &str) -> Result<Verdict, Memory>
 }
 
 /// That the input of a path failed.
-fn failed(alloc: Global, path: &str) -> Result<Verdict, Memory>
+pub fn failed(alloc: Global, path: &str) -> Result<Verdict, Memory>
     ensures { IfOk result (λ v. IsSaid v Status.ReadFault (read_fault_line path.now)) }
 {
     Ok(Verdict {

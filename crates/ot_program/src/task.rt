@@ -39,7 +39,16 @@ pub enum Task<'a> {
     /// Checks the proof log of a path.
     CheckLog(&'a str),
     /// Runs the input of a path, with packages from a folder, and shows it in readable form.
-    ShowReadable { packages: &'a str, path: &'a str },
+    ShowReadable {
+        packages: &'a str,
+        path: &'a str,
+    },
+    /// Runs the input of a path, with packages from a folder, and reads the lines of a text under its notation.
+    ReadLines {
+        packages: &'a str,
+        path: &'a str,
+        text: &'a str,
+    },
 }
 
 impl<'a> Task<'a> {
@@ -88,6 +97,15 @@ impl<'a> Task<'a> {
             Command::Readable { packages, input } => Task::ShowReadable {
                 packages,
                 path: input,
+            },
+            Command::Read {
+                packages,
+                input,
+                text,
+            } => Task::ReadLines {
+                packages,
+                path: input,
+                text,
             },
         }
     }

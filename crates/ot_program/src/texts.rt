@@ -6,12 +6,13 @@ ghost use Rattle.ot_term.specs.Symbols.{symbol_of};
 ghost use Rattle.ot_machine.specs.Faults.{fault_of};
 ghost use Rattle.ot_machine.specs.Answers.{IsSymbolIn};
 ghost use Rattle.ot_verify.specs.Taking.{fault_of as log_fault_of};
-ghost use Rattle.ot_program.specs.Texts.{kind_text, symbol_text, fault_text, theory_text, structure_text, log_text, line_of, line_at, fault_line};
+ghost use Rattle.ot_program.specs.Texts.{kind_text, symbol_text, fault_text, theory_text, structure_text, log_text, readable_text, column_line, line_of, line_at, fault_line};
 ghost use Rattle.ot_program.specs.Wording.{kind_word, line_start};
 
 use ot_blocks::StructureFault;
 use ot_kernel::Kernel;
 use ot_machine::Fault;
+use ot_parse::TextFault;
 use ot_plain::{Kind, Memory};
 use ot_term::{Symbol, SymbolKind};
 use ot_theory::TheoryFault;
@@ -20,7 +21,7 @@ use std::alloc::Global;
 
 /// The line for words that are no command.
 pub const USAGE: &[u8] =
-    b"usage: opentheory check|info|link|minimise [--packages DIR] INPUT; info also takes --assumptions --definitions --theorems; opentheory sample [--article] N; opentheory info --uses INPUT; opentheory info --readable INPUT; opentheory verify LOG\n";
+    b"usage: opentheory check|info|link|minimise [--packages DIR] INPUT; info also takes --assumptions --definitions --theorems; opentheory sample [--article] N; opentheory info --uses INPUT; opentheory info --readable INPUT; opentheory read INPUT TEXT; opentheory verify LOG\n";
 
 /// The line for an output that failed.
 pub const WRITE_FAULT: &[u8] = b"opentheory: write fault\n";
@@ -87,6 +88,35 @@ pub fn log_text(fault: LogFault) -> &'static str
         LogFault::LogNesting => "nested deeper than 4128",
         LogFault::LogEnds => "log ends early",
     }
+}
+
+/// The text of a fault in a line of readable text.
+fn readable_text(fault: TextFault) -> &'static str
+    ensures { result.now ≡ readable_text fault }
+{
+    match fault {
+        TextFault::Syntax => "cannot be read",
+        TextFault::TooManyOpen => "too many open",
+        TextFault::Unbound => "unbound name",
+        TextFault::UnknownOperator => "unknown operator",
+        TextFault::BadTypes => "types do not fit",
+        TextFault::TooDeep => "nested deeper than 4096",
+    }
+}
+
+/// The line for such a fault at a column of a line of the text of a path.
+pub fn column_line(
+    alloc: Global,
+    path: &str,
+    number: u64,
+    column: u64,
+    fault: TextFault,
+) -> Result<Vec<u8>, Memory>
+    ensures { IfOk result (λ line. line.items ≡ column_line path.now number column fault) }
+{
+    let text = readable_text(fault);
+    let line = format!(in alloc; "opentheory: {path}:{number}:{column}: {text}\n")?;
+    Ok(line.into_bytes())
 }
 
 /// The line for a fault at a line of the article of a path. The kernel has the name of its symbol.

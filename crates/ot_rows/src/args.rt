@@ -258,6 +258,22 @@ const COMMANDS: &[(&[&str], Command<'static>)] = &[
     (&["verify", "a.log"], Command::Verify { log: "a.log" }),
     (&["verify", "a.thy"], Command::Verify { log: "a.thy" }),
     (&["verify", "verify"], Command::Verify { log: "verify" }),
+    (
+        &["read", "a.art", "t.txt"],
+        Command::Read {
+            packages: "packages",
+            input: "a.art",
+            text: "t.txt",
+        },
+    ),
+    (
+        &["read", "--packages", "p", "-", "t.thy"],
+        Command::Read {
+            packages: "p",
+            input: "-",
+            text: "t.thy",
+        },
+    ),
 ];
 
 /// Lines that are no command.
@@ -363,6 +379,14 @@ const REFUSED: &[&[&str]] = &[
     &["verify", "--article", "a"],
     &["Verify", "a"],
     &["prove", "a"],
+    &["read"],
+    &["read", "a"],
+    &["read", "a", ""],
+    &["read", "a", "-"],
+    &["read", "a", "-t"],
+    &["read", "-a", "t"],
+    &["read", "a", "t", "u"],
+    &["read", "--uses", "a", "t"],
     &["--help"],
     &["--version"],
 ];

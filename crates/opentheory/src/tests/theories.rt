@@ -4,14 +4,14 @@
 pub type Entry = (&'static str, &'static [u8], &'static [u8]);
 
 /// The term (\x. x) = (\x. x) at bool, stored as 8, and \x. x as 7.
-const EQUATION: &[u8] =
+pub const EQUATION: &[u8] =
     b"6\nversion\n\"->\"\ntypeOp\n0\ndef\npop\n\"bool\"\ntypeOp\nnil\nopType\n1\ndef\npop\n0\nref\n1\nref\n1\nref\nnil\ncons\ncons\nopType\n2\ndef\npop\n0\nref\n1\nref\n2\nref\nnil\ncons\ncons\nopType\n3\ndef\npop\n\"=\"\nconst\n4\ndef\npop\n\"A\"\nvarType\n5\ndef\npop\n4\nref\n0\nref\n2\nref\n0\nref\n2\nref\n1\nref\nnil\ncons\ncons\nopType\nnil\ncons\ncons\nopType\nconstTerm\n\"x\"\n1\nref\nvar\n6\ndef\n6\nref\nvarTerm\nabsTerm\n7\ndef\nappTerm\n7\nref\nappTerm\n8\ndef\npop\n";
 
 const PROVES_IT: &[u8] = b"7\nref\nrefl\nnil\n8\nref\nthm\n";
 
 const TAKES_IT: &[u8] = b"nil\n8\nref\naxiom\nnil\n8\nref\nthm\n";
 
-const DEFINES_IT: &[u8] =
+pub const DEFINES_IT: &[u8] =
     b"\"Data.Bool.T\"\n8\nref\ndefineConst\nnil\n4\nref\n3\nref\nconstTerm\n\"Data.Bool.T\"\nconst\n1\nref\nconstTerm\nappTerm\n8\nref\nappTerm\nthm\n";
 
 /// The same under a hypothesis that it doesn't need.

@@ -1,7 +1,7 @@
 use Rattle.ot_io.specs.Causes.{Rose}
-use Rattle.ot_program.specs.Reply.{CheckLog}
+use Rattle.ot_program.specs.Reply.{CheckLog, ShowReadable}
 use Rattle.ot_program.specs.Answer.{FailedAt}
-use Rattle.ot_program.specs.Verdicts.{job_task, end_of, log_end_of}
+use Rattle.ot_program.specs.Verdicts.{job_task, end_of, noted_end_of, log_end_of}
 use Rattle.ot_program.proofs.VerdictLemmas.{says, missing, failed, asked}
 use Rattle.ot_program.proofs.program.run_task.Goals as goal
 
@@ -55,14 +55,24 @@ returns-in_ok-session-in-RunInput-clause-other g c = rw c.in-RunInput.is c.run_i
 pub returns-in-CheckLog-clause-other : goal.returns-in-CheckLog-clause-other
 returns-in-CheckLog-clause-other g c = rw c.in-CheckLog.is c.check_log-checked.ensures.other
 
-pub returns-in-ShowReadable-clause-says : goal.returns-in-ShowReadable-clause-says
-returns-in-ShowReadable-clause-says g c = rw c.in-ShowReadable.is c.run_readable.ensures.says
+pub returns-in_ok-session-in-ShowReadable-clause-says : goal.returns-in_ok-session-in-ShowReadable-clause-says
+returns-in_ok-session-in-ShowReadable-clause-says g c =
+    rw c.in-ShowReadable.is (says (ShowReadable c.in-ShowReadable.packages.now c.in-ShowReadable.path.now) (g.F.Source.folder c.args.files.now) (g.S.Source.left c.args.input.now) (g.F.Source.at c.run_noted-ran.new.files) (noted_end_of c.run_noted-ran.new.session c.run_noted-ran.result) c.readable_verdict.result
+    (c.readable_verdict.ensures c.in-ShowReadable.packages.now) c.run_noted-ran.ensures.end c.run_noted-ran.ensures.place)
 
-pub returns-in-ShowReadable-clause-read : goal.returns-in-ShowReadable-clause-read
-returns-in-ShowReadable-clause-read g c = rw c.in-ShowReadable.is c.run_readable.ensures.read
+pub returns-in_ok-session-in-ShowReadable-clause-missing : goal.returns-in_ok-session-in-ShowReadable-clause-missing
+returns-in_ok-session-in-ShowReadable-clause-missing g c =
+    missing (FailedAt c.in-ShowReadable.path.now (g.S.Source.faults c.args.input.now) (g.S.Source.faults c.run_noted-ran.new.input) (g.F.Source.faults c.args.files.now) (g.F.Source.faults c.run_noted-ran.new.files))
+    (Rose (g.F.Source.misses c.args.files.now) (g.F.Source.misses c.run_noted-ran.new.files)) (ShowReadable c.in-ShowReadable.packages.now c.in-ShowReadable.path.now) (noted_end_of c.run_noted-ran.new.session c.run_noted-ran.result) c.readable_verdict.result
+    (c.readable_verdict.ensures c.in-ShowReadable.packages.now) c.run_noted-ran.ensures.cause
 
-pub returns-in-ShowReadable-clause-other : goal.returns-in-ShowReadable-clause-other
-returns-in-ShowReadable-clause-other g c = rw c.in-ShowReadable.is c.run_readable.ensures.other
+pub returns-in_ok-session-in-ShowReadable-clause-read : goal.returns-in_ok-session-in-ShowReadable-clause-read
+returns-in_ok-session-in-ShowReadable-clause-read g c =
+    rw c.in-ShowReadable.is (failed (FailedAt c.in-ShowReadable.path.now (g.S.Source.faults c.args.input.now) (g.S.Source.faults c.run_noted-ran.new.input) (g.F.Source.faults c.args.files.now) (g.F.Source.faults c.run_noted-ran.new.files))
+    (Rose (g.F.Source.misses c.args.files.now) (g.F.Source.misses c.run_noted-ran.new.files)) (ShowReadable c.in-ShowReadable.packages.now c.in-ShowReadable.path.now) (noted_end_of c.run_noted-ran.new.session c.run_noted-ran.result) c.readable_verdict.result
+    (c.readable_verdict.ensures c.in-ShowReadable.packages.now) c.run_noted-ran.ensures.cause)
 
-pub returns-in-ShowReadable-clause-at : goal.returns-in-ShowReadable-clause-at
-returns-in-ShowReadable-clause-at g c = rw c.in-ShowReadable.is c.run_readable.ensures.at
+pub returns-in_ok-session-in-ShowReadable-clause-at : goal.returns-in_ok-session-in-ShowReadable-clause-at
+returns-in_ok-session-in-ShowReadable-clause-at g c =
+    rw c.in-ShowReadable.is (asked (ShowReadable c.in-ShowReadable.packages.now c.in-ShowReadable.path.now) (g.F.Source.folder c.args.files.now) (g.F.Source.at c.run_noted-ran.new.files) (noted_end_of c.run_noted-ran.new.session c.run_noted-ran.result) c.readable_verdict.result
+    (c.readable_verdict.ensures c.in-ShowReadable.packages.now) c.run_noted-ran.ensures.at)

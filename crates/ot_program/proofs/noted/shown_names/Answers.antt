@@ -1,6 +1,6 @@
 use Rattle.ot_program.proofs.InputLemmas.{limits_are}
 use Rattle.ot_program.proofs.NotedLemmas.{shown_comes}
-use Rattle.ot_program.proofs.readable.shown_names.Goals as goal
+use Rattle.ot_program.proofs.noted.shown_names.Goals as goal
 
 pub returns-then-is_theory-clause-comes : goal.returns-then-is_theory-clause-comes
 returns-then-is_theory-clause-comes g c =

@@ -1,0 +1,225 @@
+//! The lines of a readable text, read under the notation of a run.
+ghost use Rattle.std.specs.Prelude.{◌≡◌, ◌⊎◌, ℕ, List, [], Some, Ok, map, IfOk, IfErr, IfSome};
+ghost use Rattle.std.specs.List.{All};
+ghost use Rattle.ot_io.specs.Causes.{Rose};
+ghost use Rattle.ot_io.specs.Folder.{path_asked};
+ghost use Rattle.ot_machine.specs.Meaning.{IsRun, IsExportIn};
+ghost use Rattle.ot_parse.specs.Plain.{sequent_of};
+ghost use Rattle.ot_theory.specs.Lines.{lines_of};
+ghost use Rattle.ot_read.specs.Laws.{StandFor};
+ghost use Rattle.ot_read.specs.Lines.{lines_read, IsLineRefusal};
+ghost use Rattle.ot_program.specs.Reply.{ReadLines, notation, read_in, read_status, text_in};
+ghost use Rattle.ot_program.specs.Answer.{Says, FailedIn, LeavesAlone, LastOf, KeepsFiles, KeepsSource};
+ghost use Rattle.ot_program.specs.Verdicts.{noted_of, read_end_of, IsAnswer, HasCause, IsVerdictOf, IsTextRefusal, IsTextCause, IsPrintedAs};
+
+use crate::noted::{NotedRun, run_noted};
+use crate::report::{
+    Verdict, accepted, failed, missing, proved, refused, stopped, theorems_of, too_large,
+};
+use crate::status::Status;
+use crate::texts::{column_line, line_of};
+use ot_io::{Files, OpenFault, ReadFault, Source, read_front};
+use ot_machine::Session;
+use ot_parse::{PlainFault, Readable, TextFault};
+use ot_plain::{Limits, Memory};
+use ot_pretty::run_notation;
+use ot_read::{LineRefusal, as_the_forms_say, read_lines, sequents_text};
+use std::alloc::Global;
+
+/// The most bytes of a readable text.
+const TEXT_LIMIT: usize = 1_048_576;
+
+/// The bytes of a text, with the sequents that its lines stand for.
+#[derive(Drop)]
+pub struct LinesRead {
+    pub bytes: Vec<u8>,
+    pub sequents: Vec<Readable>,
+}
+
+/// Why the lines of a text aren't read.
+#[derive(Clone, Copy, Debug, PartialEq, Eq)]
+pub enum ReadingRefusal {
+    /// The first line that is refused, and its column, both from 1.
+    At {
+        line: u64,
+        column: u64,
+        fault: TextFault,
+    },
+    /// The text has more than 1,048,576 bytes.
+    TooLarge,
+    /// There is no such file.
+    NoFile,
+    /// The file failed.
+    ReadFault,
+    /// There was too little memory.
+    Memory,
+}
+
+/// Runs an input in a fresh session, reads the lines of the text of a path under the notation of the run, and makes the printed
+/// texts of the sequents that they stand for.
+pub fn run_reading<F: Files, S: Source>(
+    alloc: Global,
+    packages: &str,
+    path: &str,
+    text: &str,
+    files: &mut F,
+    input: &mut S,
+) -> Result<Verdict, Memory>
+    ensures says { IfOk result (λ v. Says v.status (ReadLines packages.now path.now text.now) (F.folder files.old) (S.left input.old) (F.at files.new) v.text.items) }
+    ensures missing { IfOk result (λ v. v.status ≡ Status.NoFile → Rose (F.misses files.old) (F.misses files.new)) }
+    ensures read { IfOk result (λ v. v.status ≡ Status.ReadFault → FailedIn (ReadLines packages.now path.now text.now)
+        (S.faults input.old) (S.faults input.new) (F.faults files.old) (F.faults files.new)) }
+    ensures files { KeepsFiles F.folder F.faults F.misses files.old files.new }
+    ensures source { KeepsSource S.folder S.faults S.misses S.at input.old input.new }
+    ensures other { LeavesAlone (ReadLines packages.now path.now text.now) files.old files.new input.old input.new }
+    ensures closed { (files.new ≡ files.old) ⊎ (F.left files.new ≡ Some []) }
+    ensures at { IfOk result (λ v. LastOf path.now text.now (F.folder files.old) (F.at files.new)) }
+{
+    let mut session = Session::new(alloc)?;
+    match run_noted(alloc, &mut session, packages, path, files, input) {
+        Ok(noted) => {
+            let read = read_text(alloc, &session, &noted, text, files);
+            reading_verdict(alloc, path, text, &session, &noted, read)
+        }
+        Err(stop) => stopped(alloc, session.kernel(), stop),
+    }
+}
+
+/// Reads the lines of the text of a path under the notation of a run, up to the first that is refused.
+fn read_text<F: Files>(
+    alloc: Global,
+    session: &Session,
+    run: &NotedRun,
+    text: &str,
+    files: &mut F,
+) -> Result<LinesRead, ReadingRefusal>
+    requires session { IsRun session.now }
+    requires exports { All (IsExportIn session.now) run.now.exports.items }
+    ensures end { IfSome (F.folder files.old) (λ folder.
+        IfSome (read_end_of text.now (noted_of session.now run.now) result) (IsAnswer (read_in (noted_of session.now run.now) text.now folder))) }
+    ensures stand { IfOk result (λ r. StandFor (notation (noted_of session.now run.now)) (lines_of r.bytes.items) (map sequent_of r.sequents.items)) }
+    ensures cause { IfSome (read_end_of text.now (noted_of session.now run.now) result)
+        (HasCause read_status (Rose (F.faults files.old) (F.faults files.new)) (Rose (F.misses files.old) (F.misses files.new))) }
+    ensures files { KeepsFiles F.folder F.faults F.misses files.old files.new }
+    ensures closed { (files.new ≡ files.old) ⊎ (F.left files.new ≡ Some []) }
+    ensures at { F.at files.new ≡ path_asked (F.folder files.old) text.now }
+{
+    match bytes_of(alloc, text, files) {
+        Ok(bytes) => match read_bytes(alloc, session, run, &bytes) {
+            Ok(sequents) => Ok(LinesRead { bytes, sequents }),
+            Err(
+                LineRefusal::At {
+                    line,
+                    column,
+                    fault,
+                },
+            ) => Err(ReadingRefusal::At {
+                line,
+                column,
+                fault,
+            }),
+            Err(LineRefusal::Memory) => Err(ReadingRefusal::Memory),
+        },
+        Err(refusal) => Err(refusal),
+    }
+}
+
+/// The bytes of the text of a path, which are within the limit. No more than one byte past it is read.
+fn bytes_of<F: Files>(alloc: Global, text: &str, files: &mut F) -> Result<Vec<u8>, ReadingRefusal>
+    ensures ok { IfSome (F.folder files.old) (λ folder. IfOk result (λ bytes. text_in text.now folder ≡ Ok bytes.items)) }
+    ensures refused { IfSome (F.folder files.old) (λ folder. IfErr result (IsTextRefusal (text_in text.now folder))) }
+    ensures cause { IfErr result (λ e. IsTextCause e (Rose (F.faults files.old) (F.faults files.new)) (Rose (F.misses files.old) (F.misses files.new))) }
+    ensures files { KeepsFiles F.folder F.faults F.misses files.old files.new }
+    ensures closed { (files.new ≡ files.old) ⊎ (F.left files.new ≡ Some []) }
+    ensures at { F.at files.new ≡ path_asked (F.folder files.old) text.now }
+{
+    match files.open_file(text) {
+        Ok(()) => {
+            let read = read_front(alloc, files, TEXT_LIMIT);
+            files.close();
+            match read {
+                Ok(bytes) => {
+                    if bytes.len() <= TEXT_LIMIT {
+                        Ok(bytes)
+                    } else {
+                        Err(ReadingRefusal::TooLarge)
+                    }
+                }
+                Err(ReadFault::Failed) => Err(ReadingRefusal::ReadFault),
+                Err(ReadFault::Memory) => Err(ReadingRefusal::Memory),
+            }
+        }
+        Err(OpenFault::Missing) => Err(ReadingRefusal::NoFile),
+        Err(OpenFault::Failed) => Err(ReadingRefusal::ReadFault),
+    }
+}
+
+/// The sequents that the lines of a text stand for under the notation of a run.
+fn read_bytes(
+    alloc: Global,
+    session: &Session,
+    run: &NotedRun,
+    text: &[u8],
+) -> Result<Vec<Readable>, LineRefusal>
+    requires session { IsRun session.now }
+    requires exports { All (IsExportIn session.now) run.now.exports.items }
+    ensures ok { IfOk result (λ read. lines_read (notation (noted_of session.now run.now)) (lines_of text.now) ≡ Ok (map sequent_of read.items)) }
+    ensures stand { IfOk result (λ read. StandFor (notation (noted_of session.now run.now)) (lines_of text.now) (map sequent_of read.items)) }
+    ensures refused { IfErr result (IsLineRefusal (lines_read (notation (noted_of session.now run.now)) (lines_of text.now))) }
+{
+    let Ok(theorems) = theorems_of(alloc, &run.exports) else {
+        return Err(LineRefusal::Memory);
+    };
+    let Ok(notation) = run_notation(alloc, session.kernel(), &run.names, &theorems) else {
+        return Err(LineRefusal::Memory);
+    };
+    notation.sound();
+    as_the_forms_say();
+    read_lines(alloc, &notation, text)
+}
+
+/// The verdict on the text of a path that was read so, under the notation of the run of an input.
+fn reading_verdict(
+    alloc: Global,
+    path: &str,
+    text: &str,
+    session: &Session,
+    run: &NotedRun,
+    read: Result<LinesRead, ReadingRefusal>,
+) -> Result<Verdict, Memory>
+    requires session { IsRun session.now }
+    requires exports { All (IsExportIn session.now) run.now.exports.items }
+    requires stand { IfOk read (λ r. StandFor (notation (noted_of session.now run.now)) (lines_of r.bytes.items) (map sequent_of r.sequents.items)) }
+    ensures { (packages : List ℕ) → IfOk result (IsVerdictOf (ReadLines packages path.now text.now) (read_end_of text.now (noted_of session.now run.now) read)) }
+{
+    match read {
+        Ok(lines) => {
+            proved(session, &run.exports);
+            printed(alloc, path, &lines.sequents)
+        }
+        Err(
+            ReadingRefusal::At {
+                line,
+                column,
+                fault,
+            },
+        ) => Ok(refused(column_line(alloc, text, line, column, fault)?)),
+        Err(ReadingRefusal::TooLarge) => {
+            Ok(refused(line_of(alloc, text, "text longer than 1048576 bytes")?))
+        }
+        Err(ReadingRefusal::NoFile) => missing(alloc, text),
+        Err(ReadingRefusal::ReadFault) => failed(alloc, text),
+        Err(ReadingRefusal::Memory) => Err(Memory),
+    }
+}
+
+/// The printed texts of sequents that were read, or the line for a text that is too large.
+fn printed(alloc: Global, path: &str, sequents: &[Readable]) -> Result<Verdict, Memory>
+    ensures { IfOk result (IsPrintedAs path.now (map sequent_of sequents.now)) }
+{
+    match sequents_text(alloc, sequents, Limits::standard().summary_bytes) {
+        Ok(text) => Ok(accepted(text)),
+        Err(PlainFault::TooLarge) => too_large(alloc, path),
+        Err(PlainFault::Memory) => Err(Memory),
+    }
+}

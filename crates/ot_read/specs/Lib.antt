@@ -1,0 +1,3 @@
+-- What the lines of a readable text stand for.
+pub mod Lines
+pub mod Laws
