@@ -1,5 +1,5 @@
 -- Lemmas on the table of nameless terms.
-use Rattle.std.proofs.Common.{◌≡◌, ℕ, ◌<◌, ◌≤◌, cond, inl, inr, Ordering, Less, Equal, Greater, nat_cmp, is_lt, Bool, true, false, ◌&&◌, nat_eq, eqb-true, eq-eqb, true≢false, List, length, slice_get, Some, refl, sym, ap, subst, ◌∙◌, arith}
+use Rattle.std.proofs.Common.{◌≡◌, ℕ, ◌<◌, ◌≤◌, cond, ◌⊎◌, inl, inr, Ordering, Less, Equal, Greater, nat_cmp, is_lt, Bool, true, false, ◌&&◌, Decides, nat_eq, eqb-true, eq-eqb, true≢false, List, length, slice_get, Some, refl, sym, ap, subst, ◌∙◌, arith}
 use Rattle.std.proofs.lemmas.Option.{get_or_from_slice_get}
 use Rattle.std.proofs.lemmas.Map.Keys.{ge_from_not_lt}
 use Rattle.std.proofs.Math.Bool.{and-false}
@@ -7,14 +7,15 @@ use Rattle.std.specs.Cmp.Derive.{both_true}
 use Rattle.std.specs.Ordering.{ord_max}
 use Rattle.ot_type.proofs.SubtypeLemmas.{less_is}
 use Rattle.ot_plain.specs.Trees.{Ty, Variable, Tm, Free, Con, Bound, App, Abs}
-use Rattle.ot_plain.specs.Hol.{IsFree}
+use Rattle.ot_plain.specs.Hol.{IsFree, IsClosed}
 use Rattle.ot_plain.specs.Naming.{numbers as alphabet}
 use Rattle.ot_plain.specs.Table.{Extends, IsInjective}
 use Rattle.ot_plain.specs.Interned.{NodeLaws}
 use Rattle.ot_plain.proofs.TableLemmas.{get_or-Extends, get_or-IsInjective}
-use Rattle.ot_class.specs.Class.{numbered, variable_by, class_at}
+use Rattle.ot_class.specs.Class.{numbered, variable_by, variable_of, class_at}
 use Rattle.ot_class.specs.Table.{tree_of, AreBelow, Describes, IsBeside, AreClassNodes}
 use Rattle.ot_class.specs.declared.node.ClassNode.{ClassNode}
+use Rattle.ot_class.specs.declared.node.Key.{Key}
 use Rattle.ot_class.specs.declared.node.ClassNode.TheVariants as node
 use Rattle.ot_class.specs.declared.table.Beside.{Beside}
 use Rattle.ot_class.specs.contracts.node.ClassNodePartialEq.TheImpl as derived
@@ -161,9 +162,20 @@ described_at es cs nodes i n b p =
     let e = nodes.entries i n b p in
     subst (λ t. Describes t b) (sym (get_or_from_slice_get cs i _ (Bound 0) e.tree)) e.fits
 
+pub described-variable : (v : Key) (b : Beside) → b.newest ≡ v.name → b.closed ≡ false → Describes (Free (variable_of v)) b
+described-variable v b newest closed = record {
+  most = λ w e. let same : v.name ≡ w.name = ap (λ (x : Variable ℕ). x.name) e in omega (arith, same, newest);
+  closed = λ w e. closed;
+  unclosed = λ p. (variable_of v, refl);
+}
+
+one_open : (f x : Bool) → (f && x) ≡ false → (f ≡ false) ⊎ (x ≡ false)
+one_open true x p = inr p
+one_open false x p = inl refl
+
 -- what stands beside an application and an abstraction, by their parts
 pub described-application : (f x : Tm ℕ) (b c d : Beside) → d.newest ≡ ord_max nat_cmp b.newest c.newest → d.closed ≡ (b.closed && c.closed) → Describes f b → Describes x c → Describes (App f x) d
-described-application f x b c d e s g h = record { most = most; closed = closed }
+described-application f x b c d e s g h = record { most = most; closed = closed; unclosed = unclosed }
   where
     bounds : (b.newest ≤ d.newest) × (c.newest ≤ d.newest)
     bounds = subst (λ m. (b.newest ≤ m) × (c.newest ≤ m)) (sym e) (max_bounds b.newest c.newest)
@@ -176,5 +188,20 @@ described-application f x b c d e s g h = record { most = most; closed = closed 
     closed w (inl i) = s ∙ ap (λ l. l && c.closed) (g.closed w i)
     closed w (inr i) = s ∙ ap (λ l. b.closed && l) (h.closed w i) ∙ and-false b.closed
 
+    unclosed : d.closed ≡ false → (w : Variable ℕ) × IsFree alphabet w (App f x)
+    unclosed p = elim (one_open b.closed c.closed (sym s ∙ p)) [
+      | inl q ↦ let (w, i) = g.unclosed q in (w, inl i)
+      | inr q ↦ let (w, i) = h.unclosed q in (w, inr i)
+    ]
+
 pub described-abstraction : (t : Ty ℕ) (f : Tm ℕ) (b d : Beside) → d.newest ≡ b.newest → d.closed ≡ b.closed → Describes f b → Describes (Abs t f) d
-described-abstraction t f b d e s g = record { most = λ w i. let le = g.most w i in omega (arith, le, e); closed = λ w i. s ∙ g.closed w i }
+described-abstraction t f b d e s g = record {
+  most = λ w i. let le = g.most w i in omega (arith, le, e);
+  closed = λ w i. s ∙ g.closed w i;
+  unclosed = λ p. g.unclosed (sym s ∙ p);
+}
+
+-- the test of a tree that is described
+pub closed_tells : (t : Tm ℕ) (b : Beside) (closed : Bool) → b.closed ≡ closed → Describes t b → Decides closed (IsClosed alphabet t)
+closed_tells t b true p h = (λ e w i. true≢false (sym p ∙ h.closed w i), λ none. refl)
+closed_tells t b false p h = (λ e. absurd (true≢false (sym e)), λ none. let (w, i) = h.unclosed p in absurd (none w i))

@@ -25,10 +25,11 @@ AreBelow k (node.Bound j) = Unit {0}
 AreBelow k (node.App f x) = (f < k) × (x < k)
 AreBelow k (node.Abs t b) = b < k
 
--- no free variable of the tree has a newer name, and a closed tree has none
+-- no free variable of the tree has a newer name; a closed tree has none, and any other has one
 pub record Describes (t : Tm ℕ) (b : Beside) : Type 0 where
   pub most : (w : Variable ℕ) → IsFree alphabet w t → w.name ≤ b.newest
   pub closed : (w : Variable ℕ) → IsFree alphabet w t → b.closed ≡ false
+  pub unclosed : b.closed ≡ false → (w : Variable ℕ) × IsFree alphabet w t
 
 abbrev pub IsBeside : List (Tm ℕ) → ClassNode → Beside → Type 0
 IsBeside cs n b = Describes (tree_of cs n) b

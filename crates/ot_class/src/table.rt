@@ -1,7 +1,7 @@
 //! The table: its nodes, what stands beside them, and how they are made.
-ghost use Rattle.std.specs.Prelude.{◌≡◌, ◌<◌, ℕ, [], Some, slice_get, length, IfOk};
+ghost use Rattle.std.specs.Prelude.{◌≡◌, ◌<◌, ℕ, [], Some, slice_get, length, IfOk, Decides};
 ghost use Rattle.ot_plain.specs.Table.{Extends, IsInjective};
-ghost use Rattle.ot_plain.specs.Hol.{close};
+ghost use Rattle.ot_plain.specs.Hol.{close, IsClosed};
 ghost use Rattle.ot_plain.specs.Naming.{numbers};
 ghost use Rattle.ot_plain.specs.Trees.{Free, Con, App, Abs};
 
@@ -15,9 +15,9 @@ use ot_type::TypeId;
 use std::alloc::Global;
 use std::marker::Model;
 
-/// What stands beside a node. No free variable has a name with a greater number than `newest`, and where the tree is
-/// `closed` none is free. `size` is how many nodes the tree has, as far as a `u32` goes; how long a call takes depends on
-/// it, and no answer does.
+/// What stands beside a node. No free variable has a name with a greater number than `newest`, and the tree is `closed`
+/// exactly where none is free. `size` is how many nodes the tree has, as far as a `u32` goes; how long a call takes depends
+/// on it, and no answer does.
 #[derive(Clone, Copy, Debug)]
 struct Beside {
     newest: NameId,
@@ -101,6 +101,14 @@ impl Classes {
         let mut done = IndexMap::new(*self.nodes.allocator());
         let body = self.close_at(Key { name, ty }, 0, body, &mut done)?;
         self.intern(ClassNode::Abs(ty, body))
+    }
+
+    /// Whether no variable is free in a nameless term.
+    pub fn is_closed(&self, id: ClassId) -> bool
+        requires { id < length self.now }
+        ensures { Decides result (IsClosed numbers (class_at self.now id)) }
+    {
+        self.beside(id).closed
     }
 
     // The node of a number. Its parts have lower numbers.

@@ -21,10 +21,10 @@ use Rattle.ot_term.proofs.NamesIn.{bound_named-term_at}
 use Rattle.ot_subst.specs.Substitution.{Substitution, type_part, named_part, variable_part}
 use Rattle.ot_subst.specs.Renamed.{renaming_of}
 use Rattle.ot_subst.specs.Walk.{carried, becomes, IsRenamed, AreReady, NamesBelow, IsSetUp, bound_of}
-use Rattle.ot_subst.specs.Clash.{AreFrees, MayStay, IsUnclashing}
+use Rattle.ot_subst.specs.Clash.{MayStay, IsUnclashing}
 use Rattle.ot_subst.specs.Memory.{IsMemory}
 use Rattle.ot_subst.proofs.Becoming.{AreTyped, deep-abs_type, deep-abs_body}
-use Rattle.ot_subst.proofs.Growing.{Grows-trans, term_at-Grows, variable_of-Grows, type_part-Grows, named_part-Grows, renaming_of-Grows, becomes_at-Grows, AreReady-Grows, AreFrees-Grows, IsSetUp-Grows}
+use Rattle.ot_subst.proofs.Growing.{Grows-trans, term_at-Grows, variable_of-Grows, type_part-Grows, named_part-Grows, renaming_of-Grows, becomes_at-Grows, AreReady-Grows, IsSetUp-Grows}
 use Rattle.ot_subst.proofs.Walked.{IsMemory-Grows}
 
 -- the new binders have their types
@@ -44,13 +44,10 @@ kept-agree s m r v w b k = bind-agree numbers (type_for numbers s) (image number
     ]
 
 -- the type was instantiated, and t became u; ty is the number of the instance
-module _ (k : ℕ) (t u : TermTable) (s : Substitution) (frees : List VarKey) (r : List (VarKey × VarKey)) (v : VarKey) (ty body : ℕ) (set : IsSetUp k t s frees r) (vin : v.ty < length t.types) (bin : body < length t.terms) (tu : Grows t u) (utable : IsTermTable u)
+module _ (k : ℕ) (t u : TermTable) (s : Substitution) (r : List (VarKey × VarKey)) (v : VarKey) (ty body : ℕ) (set : IsSetUp k t s r) (vin : v.ty < length t.types) (bin : body < length t.terms) (tu : Grows t u) (utable : IsTermTable u)
     (instance : slice_get u.types ty ≡ Some (inst numbers (type_part t s) (type_at t.types v.ty))) where
   pub ready-then : AreReady u s r
   ready-then = AreReady-Grows t u tu s set.ready.subst r set.ready utable
-
-  pub free-then : AreFrees u s frees
-  free-then = AreFrees-Grows t u tu s set.ready.subst frees set.free
 
   pub instance-in : ty < length u.types
   instance-in = slice_get_within u.types ty _ instance
@@ -106,8 +103,8 @@ module _ (k : ℕ) (t u : TermTable) (s : Substitution) (frees : List VarKey) (r
     tw : Grows t w
     tw = Grows-trans tu uw
 
-    pub set_up-then : IsSetUp k w s frees r
-    set_up-then = IsSetUp-Grows t w tw s set.ready.subst k k frees r set (omega arith) wtable low
+    pub set_up-then : IsSetUp k w s r
+    set_up-then = IsSetUp-Grows t w tw s set.ready.subst k k r set (omega arith) wtable low
 
     pub memory-then : (es : List (ℕ × ℕ)) → IsMemory t s r es → IsMemory w s r es
     memory-then es h = IsMemory-Grows t w tw s set.ready.subst r set.ready.binders es h
@@ -153,7 +150,7 @@ module _ (k : ℕ) (t u : TermTable) (s : Substitution) (frees : List VarKey) (r
         typed = typed-new ∙ (λ i. inst numbers (sym (type_part-Grows t w tw s set.ready.subst) i) (sym (type_at-Extends t.types w.types tw.types v.ty vin) i));
       }
 
-      pub set_up-new : (j : ℕ) → k ≤ j → name < j → IsSetUp j w s frees ((v, record { name = name; ty = ty }) ∷ r)
+      pub set_up-new : (j : ℕ) → k ≤ j → name < j → IsSetUp j w s ((v, record { name = name; ty = ty }) ∷ r)
       set_up-new j le within =
           let before = set_up-then in
           record {
@@ -162,7 +159,6 @@ module _ (k : ℕ) (t u : TermTable) (s : Substitution) (frees : List VarKey) (r
               subst = before.ready.subst;
               binders = λ p i. elim i [ inl e ↦ subst (IsRenamed w s) e new-binder | inr m ↦ before.ready.binders p m ];
             };
-            free = before.free;
             names = record { types = omega (arith, low.types); terms = omega (arith, low.terms) };
             bound = let b = set.bound in omega arith;
           }
@@ -178,6 +174,6 @@ pub IsMemory-nil : (t : TermTable) (s : Substitution) (r : List (VarKey × VarKe
 IsMemory-nil t s r es e = subst (IsMemory t s r) (sym e) (record { right = λ x i. absurd i; distinct = tt })
 
 -- a type that could not be instantiated
-pub deep-type : (k : ℕ) (t : TermTable) (s : Substitution) (frees : List VarKey) (r : List (VarKey × VarKey)) (v : VarKey) (body : ℕ) → IsSetUp k t s frees r → (b : Ty ℕ) → named_type numbers (NAbs (variable_of t.types v) (term_at t.terms body)) ≡ Some b → depth_limit < depth_ty numbers (inst numbers (type_part t s) (type_at t.types v.ty)) → is_shallow numbers (becomes t s r (nameless numbers (NAbs (variable_of t.types v) (term_at t.terms body)))) ≡ false
-deep-type k t s frees r v body set b typed deep =
+pub deep-type : (k : ℕ) (t : TermTable) (s : Substitution) (r : List (VarKey × VarKey)) (v : VarKey) (body : ℕ) → IsSetUp k t s r → (b : Ty ℕ) → named_type numbers (NAbs (variable_of t.types v) (term_at t.terms body)) ≡ Some b → depth_limit < depth_ty numbers (inst numbers (type_part t s) (type_at t.types v.ty)) → is_shallow numbers (becomes t s r (nameless numbers (NAbs (variable_of t.types v) (term_at t.terms body)))) ≡ false
+deep-type k t s r v body set b typed deep =
     deep-abs_type (type_part t s) (named_part t s) set.ready.subst.typed (renaming_of t.types r) (typed-renaming t s r set.ready.binders) (variable_of t.types v) (term_at t.terms body) b typed deep

@@ -1,6 +1,6 @@
 -- When a binder may stay as it is.
 use Rattle.std.specs.Prelude.{◌≢◌, ◌||◌, take, IfOk, MatchBool}
-use Rattle.std.proofs.Common.{◌≡◌, ℕ, zero, suc, ◌+◌, ◌<◌, Bool, true, false, cond, List, [], ◌∷◌, ◌++◌, map, length, get_or, Some, None, is_some, Result, Ok, Err, true≢false, refl, sym, ap, subst, ◌∙◌, ◌⊎◌, inl, inr, arith}
+use Rattle.std.proofs.Common.{◌≡◌, ℕ, zero, suc, ◌+◌, ◌<◌, Bool, Decides, true, false, cond, List, [], ◌∷◌, ◌++◌, map, length, get_or, Some, None, is_some, Result, Ok, Err, true≢false, refl, sym, ap, subst, ◌∙◌, ◌⊎◌, inl, inr, arith}
 use Rattle.std.specs.List.{All, list_any}
 use Rattle.std.specs.Map.{lookup}
 use Rattle.std.proofs.lemmas.List.{take_more}
@@ -17,12 +17,12 @@ use Rattle.ot_type.proofs.TypeTableLemmas.{type_at-Extends}
 use Rattle.ot_type.proofs.InstLemmas.{images-Extends, inst-nothing}
 use Rattle.ot_type.proofs.SubtypeLemmas.{All-member}
 use Rattle.ot_term.specs.Term.{TermTable}
-use Rattle.ot_term.specs.TermTable.{term_at, variable_of, Grows}
+use Rattle.ot_term.specs.TermTable.{term_at, variable_of, Grows, IsTermTable}
 use Rattle.ot_term.specs.declared.term.VarKey.{VarKey}
 use Rattle.ot_subst.specs.Substitution.{Substitution, same_key, type_part, named_part, variable_part, term_for}
 use Rattle.ot_subst.specs.Renamed.{Meets, renaming_of}
 use Rattle.ot_subst.specs.Walk.{AreReady}
-use Rattle.ot_subst.specs.Clash.{AreFrees, Coincides, MayStay, IsUnclashing}
+use Rattle.ot_subst.specs.Clash.{AreFrees, Coincides, MayStay, IsUnclashing, IsPutIn}
 use Rattle.ot_subst.proofs.Keys.{same_key-is, variable-injective}
 use Rattle.ot_subst.proofs.Growing.{variable_of-Grows}
 use Rattle.ot_subst.proofs.Variables.{image-other, put-none}
@@ -101,22 +101,33 @@ image-cases (p ∷ r) s m x = elim (var_cases numbers tells_numbers x p.0) [
   ]
 ]
 
+-- the variables that were gathered tell which are put in
+pub put_in_tells : (t : TermTable) (s : Substitution) (frees : List VarKey) → AreFrees t s frees → IsTermTable t → (w : VarKey) → w.ty < length t.types
+    → (b : Bool) → b ≡ list_any (λ y. same_key y w) frees → Decides b (IsPutIn t s w)
+put_in_tells t s frees free table w within b is = (
+  λ e. let (p, i, f) = free.to w (any-member w frees (sym is ∙ e)) in (p, i, f),
+  λ (p, i, f).
+      let (y, n, c) = IsMember-map_back (variable_of t.types) (variable_of t.types w) frees (free.back p i (variable_of t.types w) f) in
+      let same : y ≡ w = variable-injective t.types table.types y w (All-member (λ (z : VarKey). z.ty < length t.types) frees free.inside y n) within c in
+      is ∙ member-any w frees (subst (λ z. IsMember z frees) same n),
+)
+
 -- ---- the answer
-module _ (t : TermTable) (s : Substitution) (r : List (VarKey × VarKey)) (frees : List VarKey) (v w : VarKey) (body : ℕ) (ready : AreReady t s r) (free : AreFrees t s frees) (binder : v.ty < length t.types) (new : w.ty < length t.types) (instance : variable_of t.types w ≡ inst_var numbers (type_part t s) (variable_of t.types v)) where
+module _ (t : TermTable) (s : Substitution) (r : List (VarKey × VarKey)) (v w : VarKey) (body : ℕ) (ready : AreReady t s r) (binder : v.ty < length t.types) (new : w.ty < length t.types) (instance : variable_of t.types w ≡ inst_var numbers (type_part t s) (variable_of t.types v)) where
   pub clash-put : is_some (term_for s w) ≡ true → ¬ (IsUnclashing t s v body)
   clash-put h apart =
       let (p, m, e) = pair-found w s.terms h in
       let q = IsMember-map (λ (z : Variable ℕ × Named ℕ). (z.0, nameless numbers z.1)) _ (named_part t s) (IsMember-map (λ (z : VarKey × ℕ). (variable_of t.types z.0, term_at t.terms z.1)) p s.terms m) in
       apart.not_put _ q (ap (variable_of t.types) e ∙ instance)
 
-  pub clash-free : IsMember w frees → ¬ (IsUnclashing t s v body)
-  clash-free m apart = let (p, i, f) = free.to w m in apart.not_in p i (subst (λ z. IsFree numbers z p.1) instance f)
+  pub clash-free : IsPutIn t s w → ¬ (IsUnclashing t s v body)
+  clash-free (p, i, f) apart = apart.not_in p i (subst (λ z. IsFree numbers z p.1) instance f)
 
   -- no other variable of the body becomes the binder
   abbrev IsAlone : Type 0
   IsAlone = (x : Variable ℕ) → IsFreeIn numbers x (term_at t.terms body) → inst_var numbers (type_part t s) x ≡ inst_var numbers (type_part t s) (variable_of t.types v) → x ≡ variable_of t.types v
 
-  module _ (unmet : ¬ (Meets r v w)) (no_term : is_some (term_for s w) ≡ false) (not_free : ¬ (IsMember w frees)) (alone : IsAlone) where
+  module _ (unmet : ¬ (Meets r v w)) (no_term : is_some (term_for s w) ≡ false) (not_free : ¬ (IsPutIn t s w)) (alone : IsAlone) where
     stays-itself : image numbers (renaming_of t.types r) (type_part t s) (variable_part t s) (variable_of t.types v) ≡ Free (inst_var numbers (type_part t s) (variable_of t.types v))
     stays-itself =
         image-other t s ready.table.types (variable_part t s) v binder r ready.binders (not-renamed r v w unmet)
@@ -130,10 +141,7 @@ module _ (t : TermTable) (s : Substitution) (r : List (VarKey × VarKey)) (frees
           not-new r v w unmet q m (variable-injective t.types ready.table.types q.1 w (ready.binders q m).to new (ap (λ (z : Variable ℕ × Variable ℕ). z.1) c ∙ same ∙ sym instance))
       | inr e ↦ elim (term_at-cases numbers tells_numbers (variable_part t s) (inst_var numbers (type_part t s) x)) [
         | inl (p, j, k) ↦
-            let m = free.back p j (inst_var numbers (type_part t s) (variable_of t.types v)) (subst (IsFree numbers (inst_var numbers (type_part t s) (variable_of t.types v))) (e ∙ k) f) in
-            let (y, n, c) = IsMember-map_back (variable_of t.types) (inst_var numbers (type_part t s) (variable_of t.types v)) frees m in
-            let same : y ≡ w = variable-injective t.types ready.table.types y w (All-member (λ (z : VarKey). z.ty < length t.types) frees free.inside y n) new (c ∙ sym instance) in
-            not_free (subst (λ z. IsMember z frees) same n)
+            not_free (p, j, subst (λ z. IsFree numbers z p.1) (sym instance) (subst (IsFree numbers (inst_var numbers (type_part t s) (variable_of t.types v))) (e ∙ k) f))
         | inr k ↦ d (alone x i (subst (IsFree numbers (inst_var numbers (type_part t s) (variable_of t.types v))) (e ∙ k) f))
       ]
     ]
@@ -165,7 +173,7 @@ module _ (t : TermTable) (s : Substitution) (r : List (VarKey × VarKey)) (frees
           | inr p ↦ absurd (missed y n (p.1, ap (inst_var numbers (type_part t s)) c ∙ same ∙ sym instance))
         ]
 
-    pub clash_answer : {E : Type 0} (res : Result Bool E) → ¬ (Meets r v w) → is_some (term_for s w) ≡ false → ¬ (IsMember w frees) → IfOk res (λ b. MatchBool b ((x : VarKey) × IsMember x xs × Coincides t s v w x) ((x : VarKey) → IsMember x xs → ¬ (Coincides t s v w x))) → IfOk res (λ b. MatchBool b (r ≡ [] → ¬ (IsUnclashing t s v body)) (MayStay t s r v body))
+    pub clash_answer : {E : Type 0} (res : Result Bool E) → ¬ (Meets r v w) → is_some (term_for s w) ≡ false → ¬ (IsPutIn t s w) → IfOk res (λ b. MatchBool b ((x : VarKey) × IsMember x xs × Coincides t s v w x) ((x : VarKey) → IsMember x xs → ¬ (Coincides t s v w x))) → IfOk res (λ b. MatchBool b (r ≡ [] → ¬ (IsUnclashing t s v body)) (MayStay t s r v body))
     clash_answer (Ok true) unmet no_term not_free h = λ _. clash-alone h.0 h.1 h.2
     clash_answer (Ok false) unmet no_term not_free h = may_stay unmet no_term not_free (alone_from h)
     clash_answer (Err e) unmet no_term not_free h = tt

@@ -1,4 +1,6 @@
 -- What stays when a table grows.
+use Rattle.std.specs.Prelude.{Option, Some, None, Vec}
+use Rattle.std.specs.Global.{Global}
 use Rattle.std.proofs.Common.{◌≡◌, ℕ, ◌<◌, ◌≤◌, inl, inr, List, [], ◌∷◌, map, length, refl, sym, ap, subst, ◌∙◌, arith}
 use Rattle.std.specs.List.{All}
 use Rattle.std.proofs.lemmas.List.Elements.{All-head, All-tail}
@@ -17,7 +19,7 @@ use Rattle.ot_term.specs.TermTable.{term_at, variable_of, Grows, NamesUpTo, IsTe
 use Rattle.ot_term.specs.declared.term.VarKey.{VarKey}
 use Rattle.ot_subst.specs.Substitution.{Substitution, type_part, named_part, IsSubstOf}
 use Rattle.ot_subst.specs.Renamed.{renaming_of}
-use Rattle.ot_subst.specs.Clash.{AreFrees}
+use Rattle.ot_subst.specs.Clash.{AreFrees, AreKnown}
 use Rattle.ot_subst.specs.Walk.{carried, becomes, HasForm, IsRenamed, AreReady, NamesBelow, IsSetUp, IsLater}
 
 pub Grows-refl : (t : TermTable) → Grows t t
@@ -98,10 +100,13 @@ module _ (t u : TermTable) (g : Grows t u) where
       back = λ p i x f. subst (IsMember x) (sym (same_keys frees h.inside)) (h.back p (subst (λ n. IsMember p (nameless_map numbers n)) named_part-Grows i) x f);
     }
 
-    pub IsSetUp-Grows : (j k : ℕ) (frees : List VarKey) (r : List (VarKey × VarKey)) → IsSetUp j t s frees r → j ≤ k → IsTermTable u → NamesBelow k u → IsSetUp k u s frees r
-    IsSetUp-Grows j k frees r set le table names = record {
+    pub AreKnown-Grows : (known : Option (Vec VarKey Global)) → AreKnown t s known → AreKnown u s known
+    AreKnown-Grows (Some frees) h = AreFrees-Grows frees.items h
+    AreKnown-Grows None h = tt
+
+    pub IsSetUp-Grows : (j k : ℕ) (r : List (VarKey × VarKey)) → IsSetUp j t s r → j ≤ k → IsTermTable u → NamesBelow k u → IsSetUp k u s r
+    IsSetUp-Grows j k r set le table names = record {
       ready = AreReady-Grows r set.ready table;
-      free = AreFrees-Grows frees set.free;
       names = names;
       bound = omega (arith, set.bound, le);
     }
@@ -130,3 +135,10 @@ IsLater-trans ns ms ls t u v a b = record {
 -- a call that leaves the names as they are
 pub IsLater-table : (j : ℕ) (ns : List Name) (t u : TermTable) → NamesBelow (length ns) t → Grows t u → IsTermTable u → NamesUpTo j t u → j ≤ length ns → IsLater ns ns t u
 IsLater-table j ns t u h g table up le = record { extends = Extends-refl ns; name_table = λ h. h; grows = g; table = table; names = below-UpTo j (length ns) t u h up le }
+
+-- what was found in u holds in v too
+pub known-later : (t u v : TermTable) → Grows t u → Grows u v → (s : Substitution) (r : List (VarKey × VarKey)) → AreReady t s r → IsTermTable u
+    → (known : Option (Vec VarKey Global)) → AreKnown u s known → AreKnown v s known
+known-later t u v tu uv s r ready table known h =
+    let later = AreReady-Grows t u tu s ready.subst r ready table in
+    AreKnown-Grows u v uv s later.subst known h

@@ -8,6 +8,7 @@ pub mod Variables
 pub mod Faults
 pub mod Binders
 pub mod Frees
+pub mod Unchanged
 pub mod Walked
 pub mod Abstraction
 pub mod Taken

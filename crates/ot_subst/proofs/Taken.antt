@@ -1,5 +1,5 @@
 -- What a node that was taken up tells of its parts, and what the memory tells of a term.
-use Rattle.std.specs.Prelude.{IfOk, OnErr, nat_eq}
+use Rattle.std.specs.Prelude.{IfOk, OnOk, OnErr, nat_eq}
 use Rattle.std.proofs.Common.{◌≡◌, ℕ, ◌<◌, ◌≤◌, Bool, true, false, cond, List, [], ◌∷◌, length, slice_get, Some, None, Result, Ok, Err, refl, sym, ap, ◌∙◌, inl, inr, eqb-true, eq-eqb, arith}
 use Rattle.std.specs.Map.{lookup}
 use Rattle.std.proofs.lemmas.Option.{get_or_from_slice_get, none-some, same_Some}
@@ -101,6 +101,10 @@ later-name ns ms t more table terms low = record {
   table = terms;
   names = record { types = omega (arith, low.types, more.longer); terms = omega (arith, low.terms, more.longer) };
 }
+
+pub on_ok : {A E : Type 0} (r : Result A E) (P : Type 0) → P → OnOk r P
+on_ok (Ok a) P p = p
+on_ok (Err e) P p = tt
 
 pub on_err : {X E : Type 0} (res : Result X E) (P : Type 0) → P → OnErr res P
 on_err (Ok x) P p = tt

@@ -1,6 +1,7 @@
 -- When a binder may stay as it is under a substitution.
-use Rattle.std.specs.Prelude.{◌≡◌, ◌≢◌, ℕ, ◌<◌, List, map, length}
+use Rattle.std.specs.Prelude.{◌≡◌, ◌≢◌, ℕ, ◌<◌, List, Option, Vec, IfSome, map, length}
 use Rattle.std.specs.List.{All}
+use Rattle.std.specs.Global.{Global}
 use Rattle.ot_plain.specs.Lists.{IsMember}
 use Rattle.ot_plain.specs.Trees.{Variable, Tm, Free}
 use Rattle.ot_plain.specs.Hol.{inst_var, image, IsFree, IsFreeIn, IsApart}
@@ -16,6 +17,14 @@ pub record AreFrees (t : TermTable) (s : Substitution) (frees : List VarKey) : T
   pub inside : All (λ y. y.ty < length t.types) frees
   pub to : (y : VarKey) → IsMember y frees → (p : Variable ℕ × Tm ℕ) × IsMember p (variable_part t s) × IsFree numbers (variable_of t.types y) p.1
   pub back : (p : Variable ℕ × Tm ℕ) → IsMember p (variable_part t s) → (x : Variable ℕ) → IsFree numbers x p.1 → IsMember x (map (variable_of t.types) frees)
+
+-- what was found out of them
+abbrev pub AreKnown : TermTable → Substitution → Option (Vec VarKey Global) → Type 0
+AreKnown t s known = IfSome known (λ frees. AreFrees t s frees.items)
+
+-- the variable is one of them
+abbrev pub IsPutIn : TermTable → Substitution → VarKey → Type 0
+IsPutIn t s w = (p : Variable ℕ × Tm ℕ) × IsMember p (variable_part t s) × IsFree numbers (variable_of t.types w) p.1
 
 -- x is another variable than the binder v, and by the type part it becomes the variable w
 abbrev pub Coincides : TermTable → Substitution → VarKey → VarKey → VarKey → Type 0

@@ -14,7 +14,6 @@ use Rattle.ot_term.specs.TermTable.{term_at, Grows, IsTermTable}
 use Rattle.ot_term.specs.declared.term.VarKey.{VarKey}
 use Rattle.ot_subst.specs.Substitution.{Substitution, type_part, named_part, IsSubstOf}
 use Rattle.ot_subst.specs.Renamed.{renaming_of}
-use Rattle.ot_subst.specs.Clash.{AreFrees}
 
 -- what a nameless term becomes: types by s, and of its free variables those that are renamed by r, the others by m
 abbrev pub carried : TypeMap numbers → NamedMap numbers → Renaming numbers → Tm ℕ → Tm ℕ
@@ -52,9 +51,8 @@ pub record AreReady (t : TermTable) (s : Substitution) (r : List (VarKey × VarK
   pub binders : (p : VarKey × VarKey) → IsMember p r → IsRenamed t s p
 
 -- what a walk is given: the names of the table, and of the binders that were renamed, are below k
-pub record IsSetUp (k : ℕ) (t : TermTable) (s : Substitution) (frees : List VarKey) (r : List (VarKey × VarKey)) : Type 0 where
+pub record IsSetUp (k : ℕ) (t : TermTable) (s : Substitution) (r : List (VarKey × VarKey)) : Type 0 where
   pub ready : AreReady t s r
-  pub free : AreFrees t s frees
   pub names : NamesBelow k t
   pub bound : bound_of r ≤ k
 

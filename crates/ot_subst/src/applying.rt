@@ -10,7 +10,7 @@ ghost use Rattle.ot_subst.specs.Walk.{HasForm, NamesBelow, IsLater};
 ghost use Rattle.ot_subst.specs.Memory.{CountsParts};
 ghost use Rattle.ot_subst.specs.Beta.{contracted, HasNoBetaClash};
 
-use crate::clash::{Work, frees_of};
+use crate::clash::Work;
 use crate::fault::SubstFault;
 use crate::renamed::Renamed;
 use crate::subst::Subst;
@@ -43,15 +43,42 @@ fn put_in<N: Nodes<L>, L>(
     // What holds of each table of names, and of each table of terms.
     let _count = names.count();
     let _ty = terms.type_of(t);
-    let frees = frees_of(alloc, &*terms, s)?;
+    if s.types().is_empty() && terms.is_closed(t) {
+        return Ok(t);
+    }
+    put_in_open(alloc, terms, names, s, t, steps)
+}
+
+// The same, node by node.
+fn put_in_open<N: Nodes<L>, L>(
+    alloc: Global,
+    terms: &mut N,
+    names: &mut Names,
+    s: &Subst,
+    t: TermId,
+    steps: &mut Steps<L>,
+) -> Result<TermId, TableFault>
+    requires inside { t < length (N.table terms.old).terms }
+    requires subst { IsSubstOf (N.table terms.old) s.now }
+    requires below { NamesBelow (length names.old) (N.table terms.old) }
+    ensures ok { IfOk result (λ id. HasForm (N.table terms.new) id (substituted (N.table terms.old) s.now (nameless numbers (term_at (N.table terms.old).terms t)))) }
+    ensures nesting { result ≡ Err TableFault.Nesting → is_shallow numbers (substituted (N.table terms.old) s.now (nameless numbers (term_at (N.table terms.old).terms t))) ≡ false }
+    ensures counted { HasNoClash numbers (type_part (N.table terms.old) s.now) (variable_part (N.table terms.old) s.now) (term_at (N.table terms.old).terms t)
+        → CountsParts (N.table terms.old) [] steps.old steps.new (term_at (N.table terms.old).terms t) (suc t) }
+    ensures later { IsLater names.old names.new (N.table terms.old) (N.table terms.new) }
+    ensures name_table { IsNameTable names.new }
+{
+    // What holds of each table of names, and of each table of terms.
+    let _count = names.count();
+    let _ty = terms.type_of(t);
     let renamed = Renamed::Outermost;
     let work = Work {
         subst: s,
-        frees: &frees,
         renamed: &renamed,
     };
     let mut memory = IndexMap::new(alloc);
-    walk(&work, terms, names, &mut memory, t, steps)
+    let mut frees = None;
+    walk(&work, terms, names, &mut memory, &mut frees, t, steps)
 }
 
 /// The term with the substitution put in: its nameless form is the substitution on the nameless form of `t`.

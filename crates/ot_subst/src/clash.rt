@@ -1,5 +1,5 @@
 //! When a binder has to be renamed.
-ghost use Rattle.std.specs.Prelude.{◌≡◌, ◌<◌, ◌↔◌, [], length, IfOk, IsTrue, MatchBool};
+ghost use Rattle.std.specs.Prelude.{◌≡◌, ◌<◌, ◌↔◌, [], length, IfOk, OnOk, IsTrue, MatchBool, Decides};
 ghost use Rattle.std.specs.List.{All};
 ghost use Rattle.ot_plain.specs.Lists.{IsMember};
 ghost use Rattle.ot_plain.specs.Hol.{inst_var};
@@ -8,7 +8,7 @@ ghost use Rattle.ot_term.specs.TermTable.{variable_of, Grows, NamesUpTo, IsTermT
 ghost use Rattle.ot_subst.specs.Substitution.{type_part, IsSubstOf};
 ghost use Rattle.ot_subst.specs.Renamed.{pairs_of};
 ghost use Rattle.ot_subst.specs.Walk.{AreReady};
-ghost use Rattle.ot_subst.specs.Clash.{AreFrees, Coincides, MayStay, IsUnclashing};
+ghost use Rattle.ot_subst.specs.Clash.{AreFrees, AreKnown, IsPutIn, Coincides, MayStay, IsUnclashing};
 
 use crate::renamed::{Renamed, meets};
 use crate::subst::Subst;
@@ -17,11 +17,10 @@ use ot_term::{Nodes, TermId, VarKey};
 use ot_type::TableFault;
 use std::alloc::Global;
 
-/// A substitution at work: with the variables that are free in its terms, and the binders that were renamed so far.
+/// A substitution at work, with the binders that were renamed so far.
 #[derive(Clone, Copy)]
 pub(crate) struct Work<'a> {
     pub(crate) subst: &'a Subst,
-    pub(crate) frees: &'a [VarKey],
     pub(crate) renamed: &'a Renamed<'a>,
 }
 
@@ -84,23 +83,28 @@ pub(crate) fn clashes<N: Nodes<L>, L>(
     alloc: Global,
     terms: &mut N,
     work: &Work<'_>,
+    frees: &mut Option<Vec<VarKey>>,
     v: &VarKey,
     w: &VarKey,
     body: TermId,
 ) -> Result<bool, Memory>
     requires ready { AreReady (N.table terms.old) work.now.subst.now (pairs_of work.now.renamed.now) }
-    requires frees { AreFrees (N.table terms.old) work.now.subst.now work.now.frees.now }
+    requires frees { AreKnown (N.table terms.old) work.now.subst.now frees.old }
     requires binder { v.now.ty < length (N.table terms.old).types }
     requires new { w.now.ty < length (N.table terms.old).types }
     requires instance { variable_of (N.table terms.old).types w.now ≡ inst_var numbers (type_part (N.table terms.old) work.now.subst.now) (variable_of (N.table terms.old).types v.now) }
     requires body { body < length (N.table terms.old).terms }
     ensures ok { IfOk result (λ b. MatchBool b (pairs_of work.now.renamed.now ≡ [] → ¬ (IsUnclashing (N.table terms.old) work.now.subst.now v.now body))
         (MayStay (N.table terms.old) work.now.subst.now (pairs_of work.now.renamed.now) v.now body)) }
+    ensures frees { OnOk result (AreKnown (N.table terms.new) work.now.subst.now frees.new) }
     ensures grows { Grows (N.table terms.old) (N.table terms.new) }
     ensures names { NamesUpTo 0 (N.table terms.old) (N.table terms.new) }
     ensures table { IsTermTable (N.table terms.new) }
 {
-    if meets(work.renamed, v, w) || work.subst.get(w).is_some() || work.frees.contains(w) {
+    if meets(work.renamed, v, w) || work.subst.get(w).is_some() {
+        return Ok(true);
+    }
+    if is_put_in(alloc, &*terms, work.subst, frees, w)? {
         return Ok(true);
     }
     // Where no type changes, no other variable becomes the binder; where one does, only one of its name can.
@@ -111,12 +115,47 @@ pub(crate) fn clashes<N: Nodes<L>, L>(
     any_coincides(terms, work.subst, v, w, &xs)
 }
 
-// The variables that are free in the terms of a substitution.
-pub(crate) fn frees_of<N: Nodes<L>, L>(
+// Whether a variable is free in a term of the substitution. The first question gathers the variables that are, since most
+// walks meet no binder and ask none.
+fn is_put_in<N: Nodes<L>, L>(
     alloc: Global,
     terms: &N,
     subst: &Subst,
+    frees: &mut Option<Vec<VarKey>>,
+    w: &VarKey,
+) -> Result<bool, Memory>
+    requires table { IsTermTable (N.table terms.now) }
+    requires subst { IsSubstOf (N.table terms.now) subst.now }
+    requires frees { AreKnown (N.table terms.now) subst.now frees.old }
+    requires variable { w.now.ty < length (N.table terms.now).types }
+    ensures tells { IfOk result (λ b. Decides b (IsPutIn (N.table terms.now) subst.now w.now)) }
+    ensures frees { OnOk result (AreKnown (N.table terms.now) subst.now frees.new) }
+{
+    let known = known_frees(alloc, terms, subst, frees)?;
+    let is_free = known.contains(w);
+    *frees = Some(known);
+    Ok(is_free)
+}
+
+// What was gathered, taken out, or else is gathered now.
+fn known_frees<N: Nodes<L>, L>(
+    alloc: Global,
+    terms: &N,
+    subst: &Subst,
+    frees: &mut Option<Vec<VarKey>>,
 ) -> Result<Vec<VarKey>, Memory>
+    requires subst { IsSubstOf (N.table terms.now) subst.now }
+    requires frees { AreKnown (N.table terms.now) subst.now frees.old }
+    ensures { IfOk result (λ known. AreFrees (N.table terms.now) subst.now known.items) }
+{
+    match frees.take() {
+        Some(known) => Ok(known),
+        None => frees_of(alloc, terms, subst),
+    }
+}
+
+// The variables that are free in the terms of a substitution.
+fn frees_of<N: Nodes<L>, L>(alloc: Global, terms: &N, subst: &Subst) -> Result<Vec<VarKey>, Memory>
     requires { IsSubstOf (N.table terms.now) subst.now }
     ensures { IfOk result (λ frees. AreFrees (N.table terms.now) subst.now frees.items) }
 {

@@ -1,5 +1,5 @@
 //! The walk that puts a substitution into a term, node by node.
-ghost use Rattle.std.specs.Prelude.{◌≡◌, ℕ, ◌<◌, ◌≤◌, ◌+◌, ◌++◌, ◌∷◌, [], suc, max, None, Some, Err, IfOk, OnErr, length, slice_get, false, nat_eq};
+ghost use Rattle.std.specs.Prelude.{◌≡◌, ℕ, ◌<◌, ◌≤◌, ◌+◌, ◌++◌, ◌∷◌, [], suc, max, None, Some, Err, IfOk, OnOk, OnErr, length, slice_get, false, nat_eq};
 ghost use Rattle.std.specs.Map.{lookup};
 ghost use Rattle.ot_plain.specs.Trees.{Ty, NApp, NAbs};
 ghost use Rattle.ot_plain.specs.Hol.{is_shallow, nameless, named_type, fun_ty};
@@ -8,6 +8,7 @@ ghost use Rattle.ot_plain.specs.Bounds.{bound_named};
 ghost use Rattle.ot_term.specs.TermTable.{term_at, term_of, variable_of, is_within_limit, AreBelow, Grows, NamesUpTo, IsTermTable};
 ghost use Rattle.ot_subst.specs.Renamed.{pairs_of};
 ghost use Rattle.ot_subst.specs.Walk.{becomes, IsSetUp, IsLater};
+ghost use Rattle.ot_subst.specs.Clash.{AreKnown};
 ghost use Rattle.ot_subst.specs.Memory.{IsMemory, IsWalked, IsCounted, above};
 
 use crate::clash::{Work, clashes};
@@ -54,22 +55,25 @@ fn application<N: Nodes<L>, L>(
     terms: &mut N,
     names: &mut Names,
     memory: &mut IndexMap<TermId, TermId>,
+    frees: &mut Option<Vec<VarKey>>,
     f: TermId,
     x: TermId,
     steps: &mut Steps<L>,
 ) -> Result<TermId, TableFault>
-    requires set_up { IsSetUp (length names.old) (N.table terms.old) work.now.subst.now work.now.frees.now (pairs_of work.now.renamed.now) }
+    requires set_up { IsSetUp (length names.old) (N.table terms.old) work.now.subst.now (pairs_of work.now.renamed.now) }
     requires remembered { IsMemory (N.table terms.old) work.now.subst.now (pairs_of work.now.renamed.now) memory.old.entries }
+    requires frees { AreKnown (N.table terms.old) work.now.subst.now frees.old }
     requires f { f < length (N.table terms.old).terms }
     requires x { x < length (N.table terms.old).terms }
     requires typed { (ty : Ty ℕ) × (named_type numbers (NApp (term_at (N.table terms.old).terms f) (term_at (N.table terms.old).terms x)) ≡ Some ty) }
     ensures ok { IfOk result (IsWalked (N.table terms.old) (N.table terms.new) work.now.subst.now (pairs_of work.now.renamed.now) memory.old.entries memory.new.entries steps.old steps.new (NApp (term_at (N.table terms.old).terms f) (term_at (N.table terms.old).terms x)) (suc (max f x))) }
     ensures nesting { result ≡ Err TableFault.Nesting → is_shallow numbers (becomes (N.table terms.old) work.now.subst.now (pairs_of work.now.renamed.now) (nameless numbers (NApp (term_at (N.table terms.old).terms f) (term_at (N.table terms.old).terms x)))) ≡ false }
     ensures refused { OnErr result (IsCounted (N.table terms.old) work.now.subst.now (pairs_of work.now.renamed.now) memory.old.entries steps.old steps.new (NApp (term_at (N.table terms.old).terms f) (term_at (N.table terms.old).terms x)) (suc (max f x))) }
+    ensures frees { OnOk result (AreKnown (N.table terms.new) work.now.subst.now frees.new) }
     ensures later { IsLater names.old names.new (N.table terms.old) (N.table terms.new) }
 {
-    let f = walk(work, terms, names, memory, f, steps)?;
-    let x = walk(work, terms, names, memory, x, steps)?;
+    let f = walk(work, terms, names, memory, frees, f, steps)?;
+    let x = walk(work, terms, names, memory, frees, x, steps)?;
     join(terms, f, x)
 }
 
@@ -80,12 +84,14 @@ fn abstraction<N: Nodes<L>, L>(
     terms: &mut N,
     names: &mut Names,
     memory: &mut IndexMap<TermId, TermId>,
+    frees: &mut Option<Vec<VarKey>>,
     v: VarKey,
     body: TermId,
     steps: &mut Steps<L>,
 ) -> Result<TermId, TableFault>
-    requires set_up { IsSetUp (length names.old) (N.table terms.old) work.now.subst.now work.now.frees.now (pairs_of work.now.renamed.now) }
+    requires set_up { IsSetUp (length names.old) (N.table terms.old) work.now.subst.now (pairs_of work.now.renamed.now) }
     requires remembered { IsMemory (N.table terms.old) work.now.subst.now (pairs_of work.now.renamed.now) memory.old.entries }
+    requires frees { AreKnown (N.table terms.old) work.now.subst.now frees.old }
     requires v { v.ty < length (N.table terms.old).types }
     requires body { body < length (N.table terms.old).terms }
     requires typed { (ty : Ty ℕ) × (named_type numbers (NAbs (variable_of (N.table terms.old).types v) (term_at (N.table terms.old).terms body)) ≡ Some ty) }
@@ -93,14 +99,15 @@ fn abstraction<N: Nodes<L>, L>(
     ensures ok { IfOk result (IsWalked (N.table terms.old) (N.table terms.new) work.now.subst.now (pairs_of work.now.renamed.now) memory.old.entries memory.new.entries steps.old steps.new (NAbs (variable_of (N.table terms.old).types v) (term_at (N.table terms.old).terms body)) (suc body)) }
     ensures nesting { result ≡ Err TableFault.Nesting → is_shallow numbers (becomes (N.table terms.old) work.now.subst.now (pairs_of work.now.renamed.now) (nameless numbers (NAbs (variable_of (N.table terms.old).types v) (term_at (N.table terms.old).terms body)))) ≡ false }
     ensures refused { OnErr result (IsCounted (N.table terms.old) work.now.subst.now (pairs_of work.now.renamed.now) memory.old.entries steps.old steps.new (NAbs (variable_of (N.table terms.old).types v) (term_at (N.table terms.old).terms body)) (suc body)) }
+    ensures frees { OnOk result (AreKnown (N.table terms.new) work.now.subst.now frees.new) }
     ensures later { IsLater names.old names.new (N.table terms.old) (N.table terms.new) }
 {
     let alloc = *memory.allocator();
     let ty = terms.type_inst(work.subst.types(), v.ty)?;
     let name = v.name;
     let kept = VarKey { name, ty };
-    if !clashes(alloc, terms, work, &v, &kept, body)? {
-        let body = walk(work, terms, names, memory, body, steps)?;
+    if !clashes(alloc, terms, work, frees, &v, &kept, body)? {
+        let body = walk(work, terms, names, memory, frees, body, steps)?;
         return terms.abs(kept, body);
     }
     let name = names.add_new()?;
@@ -108,11 +115,10 @@ fn abstraction<N: Nodes<L>, L>(
     let renamed = Renamed::Binder(&v, &new, work.renamed);
     let inside = Work {
         subst: work.subst,
-        frees: work.frees,
         renamed: &renamed,
     };
     let mut results = IndexMap::new(alloc);
-    let body = walk(&inside, terms, names, &mut results, body, steps)?;
+    let body = walk(&inside, terms, names, &mut results, frees, body, steps)?;
     terms.abs(new, body)
 }
 
@@ -123,24 +129,27 @@ fn image_of_node<N: Nodes<L>, L>(
     terms: &mut N,
     names: &mut Names,
     memory: &mut IndexMap<TermId, TermId>,
+    frees: &mut Option<Vec<VarKey>>,
     node: TermNode,
     steps: &mut Steps<L>,
 ) -> Result<TermId, TableFault>
-    requires set_up { IsSetUp (length names.old) (N.table terms.old) work.now.subst.now work.now.frees.now (pairs_of work.now.renamed.now) }
+    requires set_up { IsSetUp (length names.old) (N.table terms.old) work.now.subst.now (pairs_of work.now.renamed.now) }
     requires remembered { IsMemory (N.table terms.old) work.now.subst.now (pairs_of work.now.renamed.now) memory.old.entries }
+    requires frees { AreKnown (N.table terms.old) work.now.subst.now frees.old }
     requires below { AreBelow (length (N.table terms.old).types) (length (N.table terms.old).terms) node }
     requires typed { (ty : Ty ℕ) × (named_type numbers (term_of (N.table terms.old).types (N.table terms.old).terms node) ≡ Some ty) }
     requires bound { bound_named (term_of (N.table terms.old).types (N.table terms.old).terms node) ≤ length names.old }
     ensures ok { IfOk result (IsWalked (N.table terms.old) (N.table terms.new) work.now.subst.now (pairs_of work.now.renamed.now) memory.old.entries memory.new.entries steps.old steps.new (term_of (N.table terms.old).types (N.table terms.old).terms node) (above node)) }
     ensures nesting { result ≡ Err TableFault.Nesting → is_shallow numbers (becomes (N.table terms.old) work.now.subst.now (pairs_of work.now.renamed.now) (nameless numbers (term_of (N.table terms.old).types (N.table terms.old).terms node))) ≡ false }
     ensures refused { OnErr result (IsCounted (N.table terms.old) work.now.subst.now (pairs_of work.now.renamed.now) memory.old.entries steps.old steps.new (term_of (N.table terms.old).types (N.table terms.old).terms node) (above node)) }
+    ensures frees { OnOk result (AreKnown (N.table terms.new) work.now.subst.now frees.new) }
     ensures later { IsLater names.old names.new (N.table terms.old) (N.table terms.new) }
 {
     match node {
         TermNode::Var(v) => image_of(terms, work.subst, work.renamed, v),
         TermNode::Const(name, ty) => constant_of(terms, work.subst, work.renamed, name, ty),
-        TermNode::App(f, x) => application(work, terms, names, memory, f, x, steps),
-        TermNode::Abs(v, body) => abstraction(work, terms, names, memory, v, body, steps),
+        TermNode::App(f, x) => application(work, terms, names, memory, frees, f, x, steps),
+        TermNode::Abs(v, body) => abstraction(work, terms, names, memory, frees, v, body, steps),
     }
 }
 
@@ -151,21 +160,28 @@ pub(crate) fn walk<N: Nodes<L>, L>(
     terms: &mut N,
     names: &mut Names,
     memory: &mut IndexMap<TermId, TermId>,
+    frees: &mut Option<Vec<VarKey>>,
     id: TermId,
     steps: &mut Steps<L>,
 ) -> Result<TermId, TableFault>
-    requires set_up { IsSetUp (length names.old) (N.table terms.old) work.now.subst.now work.now.frees.now (pairs_of work.now.renamed.now) }
+    requires set_up { IsSetUp (length names.old) (N.table terms.old) work.now.subst.now (pairs_of work.now.renamed.now) }
     requires remembered { IsMemory (N.table terms.old) work.now.subst.now (pairs_of work.now.renamed.now) memory.old.entries }
+    requires frees { AreKnown (N.table terms.old) work.now.subst.now frees.old }
     requires inside { id < length (N.table terms.old).terms }
     ensures ok { IfOk result (IsWalked (N.table terms.old) (N.table terms.new) work.now.subst.now (pairs_of work.now.renamed.now) memory.old.entries memory.new.entries steps.old steps.new (term_at (N.table terms.old).terms id) (suc id)) }
     ensures nesting { result ≡ Err TableFault.Nesting → is_shallow numbers (becomes (N.table terms.old) work.now.subst.now (pairs_of work.now.renamed.now) (nameless numbers (term_at (N.table terms.old).terms id))) ≡ false }
     ensures refused { OnErr result (IsCounted (N.table terms.old) work.now.subst.now (pairs_of work.now.renamed.now) memory.old.entries steps.old steps.new (term_at (N.table terms.old).terms id) (suc id)) }
+    ensures frees { OnOk result (AreKnown (N.table terms.new) work.now.subst.now frees.new) }
     ensures later { IsLater names.old names.new (N.table terms.old) (N.table terms.new) }
 {
+    // A closed term stays as it is where no type changes.
+    if work.subst.types().is_empty() && terms.is_closed(id) {
+        return Ok(id);
+    }
     if let Some(done) = memory.get(&id) {
         return Ok(*done);
     }
     let node = terms.take(id, steps);
-    let image = image_of_node(work, terms, names, memory, node, steps)?;
+    let image = image_of_node(work, terms, names, memory, frees, node, steps)?;
     Ok(keep(memory, id, image)?)
 }

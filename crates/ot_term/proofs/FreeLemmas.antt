@@ -1,9 +1,9 @@
 -- The free variables of a term, by those of its nameless form.
-use Rattle.std.proofs.Common.{◌≡◌, ◌↔◌, ℕ, ◌<◌, inl, inr, IfOk, Result, Ok, Err, List, [], ◌∷◌, length, map, sym, ap, subst, ◌∙◌, arith}
+use Rattle.std.proofs.Common.{◌≡◌, ◌↔◌, ℕ, ◌<◌, inl, inr, Bool, Decides, IfOk, Result, Ok, Err, List, [], ◌∷◌, length, map, sym, ap, subst, ◌∙◌, arith}
 use Rattle.indexmap.specs.IndexSet.{IndexSet}
 use Rattle.ot_plain.specs.Lists.{IsMember, AreDistinct}
 use Rattle.ot_plain.specs.Trees.{Ty, Variable, Tm, Free, Con, Bound, App, Abs, Named}
-use Rattle.ot_plain.specs.Hol.{IsFree, nameless}
+use Rattle.ot_plain.specs.Hol.{IsClosed, IsFree, nameless}
 use Rattle.ot_plain.specs.Naming.{numbers}
 use Rattle.ot_laws.proofs.Sets.{IsMember-map, IsMember-map_back}
 use Rattle.ot_type.specs.TypeTable.{type_at}
@@ -90,6 +90,16 @@ pub free_result : {S E : Type 0} (r : Result (IndexSet Key S) E) (tys : List (Ty
     → IfOk r (λ ks. (v : Key) → IsMember v ks.keys ↔ IsFree numbers (nameless_variable v) (class_at cs c)) → IfOk r (λ ks. AreDistinct ks.keys) → IfOk r (λ ks. AreFree tys t (map var_key ks.keys))
 free_result (Ok ks) tys cs t c class free once = free_of_class tys cs t c ks.keys class free once
 free_result (Err e) tys cs t c class free once = tt
+
+-- the test of a term's nameless form is one of the term
+pub closed_of_class : (tys : List (Ty ℕ)) (cs : List (Tm ℕ)) (t : Named ℕ) (c : ℕ) → IsClassOf tys cs t c
+    → (b : Bool) → Decides b (IsClosed numbers (class_at cs c)) → Decides b (IsClosed numbers (nameless numbers t))
+closed_of_class tys cs t c class b test = (
+  λ e w free.
+      let (k, found, typed) = free-spelled tys (length tys) (class_at cs c) class.over w (subst (IsFree numbers w) (sym class.form) free) in
+      test.0 e (variable_by w.name k) found,
+  λ none. test.1 (λ v free. none (spelled_var tys v) (subst (IsFree numbers (spelled_var tys v)) class.form (spelled-free tys (class_at cs c) v free))),
+)
 
 -- a number of the table is that of an entry
 pub entry_within : (tys : List (Ty ℕ)) (cs : List (Tm ℕ)) (es : List (TermNode × Beside)) → IsTermSound tys cs es (terms_of tys es) → (t : TermTable) → table_of tys es ≡ t → (i : ℕ) → i < length t.terms → i < length es

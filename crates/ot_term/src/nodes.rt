@@ -1,9 +1,9 @@
 //! The table of terms as substitution sees it.
-ghost use Rattle.std.specs.Prelude.{◌≡◌, ◌≢◌, ◌↔◌, ℕ, ◌<◌, ◌+◌, ◌-◌, ◌^◌, min, max, map, Some, Err, slice_get, length, IfOk, OnErr, false};
+ghost use Rattle.std.specs.Prelude.{◌≡◌, ◌≢◌, ◌↔◌, ℕ, ◌<◌, ◌+◌, ◌-◌, ◌^◌, min, max, map, Some, Err, slice_get, length, IfOk, OnErr, false, Decides};
 ghost use Rattle.std.specs.List.{All};
 ghost use Rattle.ot_plain.specs.Lists.{IsMember, AreDistinct};
 ghost use Rattle.ot_plain.specs.Trees.{Ty, Variable, NVar, NConst, NApp, NAbs};
-ghost use Rattle.ot_plain.specs.Hol.{fun_ty, named_type, nameless, IsFree, depth_ty, depth_limit, inst};
+ghost use Rattle.ot_plain.specs.Hol.{fun_ty, named_type, nameless, IsClosed, IsFree, depth_ty, depth_limit, inst};
 ghost use Rattle.ot_plain.specs.Naming.{numbers};
 ghost use Rattle.ot_type.specs.TypeTable.{type_at, images};
 ghost use Rattle.ot_term.specs.Term.{TermTable};
@@ -49,6 +49,11 @@ pub trait Nodes<L> {
         ensures within { IfOk result (λ vars. All (λ v. v.ty < length (table self.now).types) vars.items) }
         ensures free { IfOk result (λ vars. (w : Variable ℕ) → IsMember w (map (variable_of (table self.now).types) vars.items) ↔ ((w.name ≡ name) × IsFree numbers w (nameless numbers (term_at (table self.now).terms id)))) }
         ensures once { IfOk result (λ vars. AreDistinct vars.items) };
+
+    /// Whether no variable is free in a term.
+    fn is_closed(&self, id: TermId) -> bool
+        requires { id < length (table self.now).terms }
+        ensures { Decides result (IsClosed numbers (nameless numbers (term_at (table self.now).terms id))) };
 
     /// The instance of a type: each variable that the substitution holds gives way to its type, all at once.
     fn type_inst(&mut self, s: &TypeSubst, id: TypeId) -> Result<TypeId, TableFault>
@@ -128,6 +133,10 @@ impl<L> Nodes<L> for Terms {
 
     fn free_named(&self, alloc: Global, name: NameId, id: TermId) -> Result<Vec<VarKey>, Memory> {
         self.free_named(alloc, name, id)
+    }
+
+    fn is_closed(&self, id: TermId) -> bool {
+        self.is_closed(id)
     }
 
     fn type_inst(&mut self, s: &TypeSubst, id: TypeId) -> Result<TypeId, TableFault> {

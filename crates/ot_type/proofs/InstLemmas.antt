@@ -1,5 +1,5 @@
 -- Lemmas on substitution in the table of types.
-use Rattle.std.proofs.Common.{◌≡◌, ℕ, ◌<◌, ◌≤◌, Bool, true, false, cond, nat_eq, eq-eqb, eqb-true, ◌⊎◌, inl, inr, IsSome, List, [], ◌∷◌, ◌++◌, length, slice_get, Option, None, Some, Result, Ok, Err, IsErrAnd, is_some, unwrap_or, true≢false, refl, sym, ap, subst, ◌∙◌, arith}
+use Rattle.std.proofs.Common.{◌≡◌, ℕ, ◌<◌, ◌≤◌, Bool, true, false, ◌&&◌, cond, nat_eq, eq-eqb, eqb-true, ◌⊎◌, inl, inr, IsSome, List, [], ◌∷◌, ◌++◌, length, slice_get, Option, None, Some, Result, Ok, Err, IsErrAnd, is_some, unwrap_or, true≢false, refl, sym, ap, subst, ◌∙◌, arith}
 use Rattle.std.specs.List.{All}
 use Rattle.std.specs.Map.{lookup}
 use Rattle.std.proofs.lemmas.List.Elements.{All-head, All-tail, All-cons, All-nil}
@@ -9,12 +9,12 @@ use Rattle.indexmap.specs.IndexMap.{IndexMap, insert_entry}
 use Rattle.indexmap.proofs.CallerLemmas.{insert_entry-new}
 use Rattle.ot_plain.specs.Trees.{Ty, Tys, TyVar, TyOp, NoTys, MoreTys}
 use Rattle.ot_plain.specs.Lists.{IsMember}
-use Rattle.ot_plain.specs.Hol.{depth_ty, depth_all, depth_limit, inst, inst_all, type_at as image_of}
+use Rattle.ot_plain.specs.Hol.{depth_ty, depth_all, depth_limit, inst, inst_by, inst_all, type_at as image_of}
 use Rattle.ot_plain.specs.Naming.{numbers}
 use Rattle.ot_plain.specs.Bounds.{bound_ty, names_in}
 use Rattle.ot_plain.specs.Table.{Extends, IsInjective}
 use Rattle.ot_plain.proofs.TableLemmas.{Extends-trans, get_or-IsInjective}
-use Rattle.ot_type.specs.TypeTable.{type_at, types_at, tree_of, images, IsTypeTable}
+use Rattle.ot_type.specs.TypeTable.{type_at, types_at, tree_of, images, is_ground, are_ground, IsTypeTable}
 use Rattle.ot_type.specs.Instance.{IsMemo, AreResults, KnowsArgs}
 use Rattle.ot_type.specs.Subtypes.{IsSubtype, IsInside, IsFalling}
 use Rattle.ot_type.proofs.SubtypeLemmas.{member_left, member_last, member_push, All-member, All-from_member, inside_at, IsSubtype-refl, IsSubtype-trans}
@@ -46,6 +46,25 @@ mutual
 
 pub nothing_put : (ts : List (Ty ℕ)) (s : List (ℕ × ℕ)) (id : ℕ) → s ≡ [] → id < length ts → slice_get ts id ≡ Some (inst numbers (images ts s) (type_at ts id))
 nothing_put ts s id none h = slice_get-get_or ts id (TyVar 0) h ∙ ap Some (sym (ap (λ p. inst numbers (images ts p) (type_at ts id)) none ∙ inst-nothing (type_at ts id)))
+
+-- ---- a type in which no type variable stands
+both_ground : (a b : Bool) → (a && b) ≡ true → (a ≡ true) × (b ≡ true)
+both_ground true b p = (refl, p)
+both_ground false b p = absurd (true≢false (sym p))
+
+mutual
+  inst-ground : (g : ℕ → Ty ℕ) (t : Ty ℕ) → is_ground t ≡ true → inst_by numbers g t ≡ t
+  inst-ground g (TyVar n) p = absurd (true≢false (sym p))
+  inst-ground g (TyOp n ts) p = ap (TyOp n) (all-ground g ts p)
+
+  all-ground : (g : ℕ → Ty ℕ) (ts : Tys ℕ) → are_ground ts ≡ true → inst_all numbers g ts ≡ ts
+  all-ground g NoTys p = refl
+  all-ground g (MoreTys t ts) p =
+      let parts = both_ground (is_ground t) (are_ground ts) p in
+      λ i. MoreTys (inst-ground g t parts.0 i) (all-ground g ts parts.1 i)
+
+pub ground_put : (ts : List (Ty ℕ)) (s : List (ℕ × ℕ)) (id : ℕ) → is_ground (type_at ts id) ≡ true → id < length ts → slice_get ts id ≡ Some (inst numbers (images ts s) (type_at ts id))
+ground_put ts s id ground h = slice_get-get_or ts id (TyVar 0) h ∙ ap Some (sym (inst-ground (image_of numbers (images ts s)) (type_at ts id) ground))
 
 -- ---- what stays when the table grows
 pub images-Extends : (ts us : List (Ty ℕ)) → Extends ts us → (s : List (ℕ × ℕ)) → All (λ p. p.1 < length ts) s → images us s ≡ images ts s

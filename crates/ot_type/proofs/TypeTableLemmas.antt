@@ -11,9 +11,10 @@ use Rattle.ot_plain.specs.Hol.{depth_ty, fun_ty, depth_limit}
 use Rattle.ot_plain.specs.Naming.{numbers}
 use Rattle.ot_plain.specs.Table.{Extends, IsInjective}
 use Rattle.ot_plain.proofs.TableLemmas.{get_or-Extends, get_or-IsInjective}
-use Rattle.ot_type.specs.TypeTable.{types_at, tree_of, type_at, ArgsBelow, HasDepth, IsTypeSound}
+use Rattle.ot_type.specs.TypeTable.{types_at, tree_of, type_at, ArgsBelow, Describes, IsBeside, IsTypeSound}
 use Rattle.ot_plain.specs.Interned.{NodeLaws, IsSound}
 use Rattle.ot_plain.proofs.InternedLemmas.{entry_at}
+use Rattle.ot_type.specs.declared.table.Beside.{Beside}
 use Rattle.ot_type.specs.declared.node.TypeNode.{TypeNode}
 use Rattle.ot_type.specs.declared.node.TypeNode.TheVariants.{Var, Op}
 use Rattle.ot_type.specs.contracts.node.TypeNodePartialEq.TheImpl as derived
@@ -86,28 +87,34 @@ tree_of-node_eq ts (Op m xs) (Op n ys) p =
     λ j. TyOp (eqb-true m n parts.0 j) (types_at ts ((bytes_eq-Decides xs.items ys.items).0 parts.1 j))
 
 -- a table of types meets the laws
-pub laws : NodeLaws tree_of ArgsBelow HasDepth node_eq
+pub laws : NodeLaws tree_of ArgsBelow IsBeside node_eq
 laws = record {
   more_below = ArgsBelow-mono;
   tree_stays = tree_of-Extends;
-  fits_stays = λ ts us e n d below h. (h.0 ∙ ap (depth_ty numbers) (sym (tree_of-Extends ts us e n below)), h.1);
+  fits_stays = λ ts us e n b below h. subst (λ t. Describes t b) (sym (tree_of-Extends ts us e n below)) h;
   tree_same = tree_of-node_eq;
   same_tree = λ ts one m n d e below above fits also same. tree_of-injective ts one m n below above same;
 }
 
 -- the fields' facts, from those of the nodes
-pub type_sound : (es : List (TypeNode × ℕ)) (ts : List (Ty ℕ)) → IsSound tree_of ArgsBelow HasDepth es ts → IsTypeSound es ts
+pub type_sound : (es : List (TypeNode × Beside)) (ts : List (Ty ℕ)) → IsSound tree_of ArgsBelow IsBeside es ts → IsTypeSound es ts
 type_sound es ts sound = record {
   nodes = sound;
   table = record {
     injective = sound.injective;
     shallow = λ i t p.
-        let e = entry_at tree_of ArgsBelow HasDepth node_eq laws es ts sound i t p in
+        let e = entry_at tree_of ArgsBelow IsBeside node_eq laws es ts sound i t p in
         let entry = sound.entries i e.0 e.1 e.2 in
         let same : t ≡ tree_of ts e.0 = same_Some _ _ (sym p ∙ entry.tree) in
-        subst (λ t. depth_ty numbers t ≤ depth_limit) (sym same) (subst (λ k. k ≤ depth_limit) entry.fits.0 entry.fits.1);
+        subst (λ t. depth_ty numbers t ≤ depth_limit) (sym same) (subst (λ k. k ≤ depth_limit) entry.fits.depth entry.fits.shallow);
   };
 }
+
+-- what stands beside a number is of the tree at it
+pub described_at : (es : List (TypeNode × Beside)) (ts : List (Ty ℕ)) → IsTypeSound es ts → (i : ℕ) (n : TypeNode) (b : Beside) → slice_get es i ≡ Some (n, b) → Describes (type_at ts i) b
+described_at es ts sound i n b p =
+    let entry = sound.nodes.entries i n b p in
+    subst (λ t. Describes t b) (sym (get_or_from_slice_get ts i _ (TyVar 0) entry.tree)) entry.fits
 
 -- ---- the tree of a number, by its node
 pub node_op : (ts : List (Ty ℕ)) (id : ℕ) (node : TypeNode) (n : ℕ) (a : SmallVec ℕ) (xs : List ℕ) → slice_get ts id ≡ Some (tree_of ts node) → node ≡ Op n a → xs ≡ a.items → type_at ts id ≡ TyOp n (types_at ts xs)

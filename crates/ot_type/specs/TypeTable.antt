@@ -1,11 +1,12 @@
 -- The table of types: each number stands for a tree.
-use Rattle.std.specs.Prelude.{◌≡◌, ℕ, ◌<◌, ◌≤◌, List, [], ◌∷◌, slice_get, slice_index_or, Some, map}
+use Rattle.std.specs.Prelude.{◌≡◌, ◌&&◌, ℕ, ◌<◌, ◌≤◌, Bool, true, false, List, [], ◌∷◌, slice_get, slice_index_or, Some, map}
 use Rattle.std.specs.List.{All}
 use Rattle.ot_plain.specs.Trees.{Ty, Tys, TyVar, TyOp, NoTys, MoreTys}
 use Rattle.ot_plain.specs.Hol.{depth_ty, depth_limit}
 use Rattle.ot_plain.specs.Naming.{numbers}
 use Rattle.ot_plain.specs.Table.{IsInjective}
 use Rattle.ot_plain.specs.Interned.{trees_of, IsSound}
+use Rattle.ot_type.specs.declared.table.Beside.{Beside}
 use Rattle.ot_type.specs.declared.node.TypeNode.{TypeNode}
 use Rattle.ot_type.specs.declared.node.TypeNode.TheVariants.{Var, Op}
 
@@ -37,15 +38,30 @@ pub record IsTypeTable (ts : List (Ty ℕ)) : Type 0 where
   pub injective : IsInjective ts
   pub shallow : (i : ℕ) (t : Ty ℕ) → slice_get ts i ≡ Some t → depth_ty numbers t ≤ depth_limit
 
--- beside a node stands the depth of its tree
-abbrev pub HasDepth : List (Ty ℕ) → TypeNode → ℕ → Type 0
-HasDepth ts n d = (d ≡ depth_ty numbers (tree_of ts n)) × (d ≤ depth_limit)
+-- no type variable stands in the type
+abbrev mutual
+  pub is_ground : Ty ℕ → Bool
+  is_ground (TyVar n) = false
+  is_ground (TyOp n ts) = are_ground ts
+
+  pub are_ground : Tys ℕ → Bool
+  are_ground NoTys = true
+  are_ground (MoreTys t ts) = is_ground t && are_ground ts
+
+-- what stands beside a node is of its tree
+pub record Describes (t : Ty ℕ) (b : Beside) : Type 0 where
+  pub depth : b.depth ≡ depth_ty numbers t
+  pub shallow : b.depth ≤ depth_limit
+  pub ground : b.ground ≡ is_ground t
+
+abbrev pub IsBeside : List (Ty ℕ) → TypeNode → Beside → Type 0
+IsBeside ts n b = Describes (tree_of ts n) b
 
 -- the trees of the entries
-abbrev pub type_trees : List (TypeNode × ℕ) → List (Ty ℕ)
+abbrev pub type_trees : List (TypeNode × Beside) → List (Ty ℕ)
 type_trees es = trees_of tree_of es
 
 -- what the fields keep, with what callers may know of the trees
-pub record IsTypeSound (es : List (TypeNode × ℕ)) (ts : List (Ty ℕ)) : Type 0 where
-  pub nodes : IsSound tree_of ArgsBelow HasDepth es ts
+pub record IsTypeSound (es : List (TypeNode × Beside)) (ts : List (Ty ℕ)) : Type 0 where
+  pub nodes : IsSound tree_of ArgsBelow IsBeside es ts
   pub table : IsTypeTable ts

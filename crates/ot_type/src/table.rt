@@ -31,6 +31,13 @@ impl Model for TypeId {
     ghost inverse = { λ n. record { 0 = n } };
 }
 
+/// What stands beside a node: how deep its type is, and whether no type variable stands in it.
+#[derive(Clone, Copy, Debug)]
+struct Beside {
+    depth: u32,
+    ground: bool,
+}
+
 /// The types of higher-order logic, as the OpenTheory article format has them: a type is a type variable with a name, or
 /// a type operator with a name and a list of types.
 ///
@@ -39,8 +46,7 @@ impl Model for TypeId {
 /// variable and an operator without arguments have depth 1, another operator has 1 more than its deepest argument.
 #[derive(Drop)]
 pub struct Types {
-    // Beside each node stands the depth of its type.
-    nodes: IndexMap<TypeNode, u32>,
+    nodes: IndexMap<TypeNode, Beside>,
 }
 
 impl Model for Types {
@@ -61,7 +67,7 @@ impl Model for Types {
 }
 
 impl Types {
-    ghost use Rattle.ot_type.specs.TypeTable.{ArgsBelow, IsTypeTable, tree_of, type_at, types_at};
+    ghost use Rattle.ot_type.specs.TypeTable.{ArgsBelow, Describes, IsTypeTable, are_ground, is_ground, tree_of, type_at, types_at};
 
     /// The table with no types.
     pub fn new(alloc: Global) -> Types
@@ -80,7 +86,11 @@ impl Types {
         ensures err { OnErr result (self.new ≡ self.old) }
         ensures table { IsTypeTable self.new }
     {
-        self.intern(TypeNode::Var(name), 1)
+        let beside = Beside {
+            depth: 1,
+            ground: false,
+        };
+        self.intern(TypeNode::Var(name), beside)
     }
 
     /// The type of an operator and its arguments, of which there may be any number.
@@ -99,8 +109,12 @@ impl Types {
         if deepest >= DEPTH_LIMIT {
             return Err(TableFault::Nesting);
         }
+        let beside = Beside {
+            depth: deepest + 1,
+            ground: self.are_ground(args),
+        };
         let args = SmallVec::from_slice(*self.nodes.allocator(), args)?;
-        Ok(self.intern(TypeNode::Op(name, args), deepest + 1)?)
+        Ok(self.intern(TypeNode::Op(name, args), beside)?)
     }
 
     /// The type of functions from `a` to `b`, which is the operator `->` with these two arguments.
@@ -129,7 +143,11 @@ impl Types {
         ensures table { IsTypeTable self.new }
     {
         let no_args = SmallVec::new(*self.nodes.allocator());
-        self.intern(TypeNode::Op(NameId::BOOL, no_args), 1)
+        let beside = Beside {
+            depth: 1,
+            ground: true,
+        };
+        self.intern(TypeNode::Op(NameId::BOOL, no_args), beside)
     }
 
     /// The node of a type. Its arguments have lower numbers than the type.
@@ -158,10 +176,9 @@ impl Types {
     }
 
     // The number of a node, which is added where it is new.
-    fn intern(&mut self, node: TypeNode, height: u32) -> Result<TypeId, Memory>
+    fn intern(&mut self, node: TypeNode, beside: Beside) -> Result<TypeId, Memory>
         requires args { ArgsBelow (length self.old) node }
-        requires height { height ≡ depth_ty numbers (tree_of self.old node) }
-        requires shallow { height ≤ depth_limit }
+        requires beside { Describes (tree_of self.old node) beside }
         ensures ok { IfOk result (λ id. slice_get self.new id ≡ Some (tree_of self.old node)) }
         ensures names { names_in self.new ≤ max (names_in self.old) (bound_ty (tree_of self.old node)) }
         ensures extends { Extends self.old self.new }
@@ -172,7 +189,7 @@ impl Types {
             Some(index) => Ok(TypeId(index)),
             None => {
                 let index = self.nodes.len();
-                self.nodes.insert(node, height)?;
+                self.nodes.insert(node, beside)?;
                 Ok(TypeId(index))
             }
         }
@@ -197,8 +214,36 @@ impl Types {
         ensures depth { result ≡ depth_ty numbers (type_at self.now id) }
         ensures shallow { result ≤ depth_limit }
     {
+        self.beside(id).depth
+    }
+
+    // Whether no type variable stands in the type.
+    fn is_ground(&self, id: TypeId) -> bool
+        requires { id < length self.now }
+        ensures { result ≡ is_ground (type_at self.now id) }
+    {
+        self.beside(id).ground
+    }
+
+    // Whether none stands in any of the types.
+    fn are_ground(&self, ids: &[TypeId]) -> bool
+        requires { All (λ i. i < length self.now) ids.now }
+        ensures { result ≡ are_ground (types_at self.now ids.now) }
+    {
+        let mut all = true;
+        for id in ids {
+            all = all & self.is_ground(*id);
+        }
+        all
+    }
+
+    // What stands beside the node of a type.
+    fn beside(&self, id: TypeId) -> &Beside
+        requires { id < length self.now }
+        ensures { Describes (type_at self.now id) result.now }
+    {
         match self.nodes.get_index(id.0) {
-            Some((_, height)) => *height,
+            Some((_, beside)) => beside,
             None => unreachable!(),
         }
     }

@@ -1,7 +1,7 @@
 //! The free variables of a term.
-ghost use Rattle.std.specs.Prelude.{◌≡◌, ◌↔◌, ℕ, ◌<◌, length, map, IfOk};
+ghost use Rattle.std.specs.Prelude.{◌≡◌, ◌↔◌, ℕ, ◌<◌, length, map, IfOk, Decides};
 ghost use Rattle.std.specs.List.{All};
-ghost use Rattle.ot_plain.specs.Hol.{IsFree, is_free, nameless};
+ghost use Rattle.ot_plain.specs.Hol.{IsClosed, IsFree, is_free, nameless};
 ghost use Rattle.ot_plain.specs.Lists.{AreDistinct, IsMember};
 ghost use Rattle.ot_plain.specs.Naming.{numbers};
 ghost use Rattle.ot_plain.specs.Trees.{Variable};
@@ -50,6 +50,14 @@ impl Terms {
     {
         let types = self.types_of_name(alloc, v.name, id)?;
         Ok(types.contains(&v.ty))
+    }
+
+    /// Whether no variable is free in a term.
+    pub fn is_closed(&self, id: TermId) -> bool
+        requires { id < length self.now.terms }
+        ensures { Decides result (IsClosed numbers (nameless numbers (term_at self.now.terms id))) }
+    {
+        self.classes.is_closed(class_beside(&self.nodes, id))
     }
 
     // The types at which variables of a name are free in a term, each once.

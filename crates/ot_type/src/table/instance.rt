@@ -22,8 +22,8 @@ impl Types {
     /// The instance of a type: each variable that the substitution holds gives way to its type, all at once.
     ///
     /// The substitution's types are of this table. `Nesting` comes exactly where the instance is nested deeper than 4,096.
-    /// After a refusal the table may hold more types. A type variable is answered at once, and a type that is shared is
-    /// worked on once in a call.
+    /// After a refusal the table may hold more types. A type variable, and a type in which none stands, is answered at once,
+    /// and a type that is shared is worked on once in a call.
     pub fn inst(&mut self, s: &TypeSubst, id: TypeId) -> Result<TypeId, TableFault>
         requires id { id < length self.old }
         requires pairs { All (λ p. p.1 < length self.old) s.now }
@@ -35,6 +35,9 @@ impl Types {
     {
         let alloc = *self.nodes.allocator();
         if s.is_empty() {
+            return Ok(id);
+        }
+        if self.is_ground(id) {
             return Ok(id);
         }
         if let TypeNode::Var(name) = self.node(id) {

@@ -1,8 +1,13 @@
-use Rattle.std.proofs.Common.{◌&&◌, refl, sym, subst}
+use Rattle.std.proofs.Common.{false, ◌&&◌, refl, sym, subst}
 use Rattle.ot_class.specs.Table.{Describes, tree_of}
 use Rattle.ot_class.specs.declared.table.Beside.{Beside}
-use Rattle.ot_class.proofs.ClassLemmas.{described-application, described-abstraction}
+use Rattle.ot_class.proofs.ClassLemmas.{described-variable, described-application, described-abstraction}
 use Rattle.ot_class.proofs.table.Classes.beside_new.Goals as goal
+
+pub returns-in-Free : goal.returns-in-Free
+returns-in-Free c =
+    let new : Beside = record { newest = c.in-Free.v.name; closed = false; size = 1 } in
+    subst (λ n. Describes (tree_of c.args.self.now n) new) (sym c.in-Free.is) (described-variable c.in-Free.v new refl refl)
 
 pub returns-in-App : goal.returns-in-App
 returns-in-App c =

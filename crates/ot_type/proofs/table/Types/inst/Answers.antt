@@ -1,7 +1,7 @@
-use Rattle.std.proofs.Common.{Err, ap, subst, arith}
+use Rattle.std.proofs.Common.{Err, ap, sym, ◌∙◌, subst, arith}
 use Rattle.ot_plain.specs.Table.{IsInjective}
 use Rattle.ot_plain.proofs.TableLemmas.{Extends-refl}
-use Rattle.ot_type.proofs.InstLemmas.{nothing_put, instance_var, walk_memo, next_within, next_args, next_nesting, walk_step, walk_end, walk_result, same_error}
+use Rattle.ot_type.proofs.InstLemmas.{nothing_put, ground_put, instance_var, walk_memo, next_within, next_args, next_nesting, walk_step, walk_end, walk_result, same_error}
 use Rattle.ot_type.proofs.table.Types.inst.Goals as goal
 
 pub returns-then-is_empty-clause-ok : goal.returns-then-is_empty-clause-ok
@@ -9,6 +9,12 @@ returns-then-is_empty-clause-ok c = nothing_put c.args.self.now c.args.s.now c.a
 
 pub returns-then-is_empty-clause-extends : goal.returns-then-is_empty-clause-extends
 returns-then-is_empty-clause-extends c = Extends-refl c.args.self.now
+
+pub returns-then-is_ground-clause-ok : goal.returns-then-is_ground-clause-ok
+returns-then-is_ground-clause-ok c = ground_put c.args.self.now c.args.s.now c.args.id (sym c.is_ground.ensures ∙ c.if-is_ground.true) c.requires.id
+
+pub returns-then-is_ground-clause-extends : goal.returns-then-is_ground-clause-extends
+returns-then-is_ground-clause-extends c = Extends-refl c.args.self.now
 
 pub returns-in-Var-clause-ok : goal.returns-in-Var-clause-ok
 returns-in-Var-clause-ok c = instance_var c.args.self.now c.args.id c.node.result.now c.in-Var.name c.args.s.now c.unwrap_or.result c.node.ensures.tree c.in-Var.is c.requires.pairs (rw (← c.get-image.ensures) c.unwrap_or.ensures)

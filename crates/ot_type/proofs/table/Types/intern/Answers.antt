@@ -1,19 +1,19 @@
 use Rattle.std.proofs.Common.{sym, subst}
 use Rattle.ot_plain.specs.Interned.{IsSound}
 use Rattle.ot_plain.proofs.InternedLemmas.{found, pushed, Pushed}
-use Rattle.ot_type.specs.TypeTable.{tree_of, ArgsBelow, HasDepth}
+use Rattle.ot_type.specs.TypeTable.{tree_of, ArgsBelow, IsBeside}
 use Rattle.ot_type.proofs.NamesIn.{names_in-push}
 use Rattle.ot_type.proofs.TypeTableLemmas.{node_eq, laws, type_sound}
 use Rattle.ot_type.proofs.table.Types.intern.Goals as goal
 
 pub returns-in-Some-clause-ok : goal.returns-in-Some-clause-ok
 returns-in-Some-clause-ok c =
-    let sound = subst (IsSound tree_of ArgsBelow HasDepth c.self.inside.nodes.entries) c.self.view_is c.self.invariant.nodes in
-    found tree_of ArgsBelow HasDepth node_eq laws _ c.args.self.now sound c.args.node c.in-Some.index (sym c.in-Some.ensures.index)
+    let sound = subst (IsSound tree_of ArgsBelow IsBeside c.self.inside.nodes.entries) c.self.view_is c.self.invariant.nodes in
+    found tree_of ArgsBelow IsBeside node_eq laws _ c.args.self.now sound c.args.node c.in-Some.index (sym c.in-Some.ensures.index)
 
 -- what the insert leaves
-grown : (c : goal.In_ok-insert-in-None) → Pushed tree_of ArgsBelow HasDepth node_eq laws c.self.inside.nodes.entries c.args.self.now c.args.node c.insert.new.self.entries
-grown c = pushed tree_of ArgsBelow HasDepth node_eq laws c.self.inside.nodes c.args.self.now c.self.view_is c.self.invariant.nodes c.args.node c.args.height c.requires.args (c.requires.height, c.requires.shallow)
+grown : (c : goal.In_ok-insert-in-None) → Pushed tree_of ArgsBelow IsBeside node_eq laws c.self.inside.nodes.entries c.args.self.now c.args.node c.insert.new.self.entries
+grown c = pushed tree_of ArgsBelow IsBeside node_eq laws c.self.inside.nodes c.args.self.now c.self.view_is c.self.invariant.nodes c.args.node c.args.beside c.requires.args c.requires.beside
     (sym c.in-None.ensures.index) c.insert.new.self.entries c.in_ok-insert-in-None.ensures.entries
 
 pub invariant_of-self-in-None : goal.invariant_of-self-in-None

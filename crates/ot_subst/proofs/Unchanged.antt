@@ -1,0 +1,45 @@
+-- A term with no free variable becomes itself where no type changes.
+use Rattle.std.proofs.Common.{◌≡◌, ◌<◌, ℕ, suc, [], List, length, refl, sym, ap, ◌∙◌, inl, inr, arith}
+use Rattle.ot_plain.specs.Trees.{Ty, Variable, Tm, Free, Con, Bound, App, Abs}
+use Rattle.ot_plain.specs.Hol.{IsClosed, bind, inst, inst_by, image, nameless, type_at as type_for}
+use Rattle.ot_plain.specs.Naming.{numbers}
+use Rattle.ot_type.specs.TypeTable.{images}
+use Rattle.ot_type.proofs.InstLemmas.{inst-nothing}
+use Rattle.ot_term.specs.Term.{TermTable}
+use Rattle.ot_term.specs.TermTable.{term_at}
+use Rattle.ot_term.specs.declared.term.VarKey.{VarKey}
+use Rattle.ot_subst.specs.Substitution.{Substitution, type_part, substituted}
+use Rattle.ot_subst.specs.Walk.{HasForm}
+use Rattle.ot_subst.specs.Memory.{IsMemory, IsWalked}
+
+bind-closed : (g : ℕ → Ty ℕ) → ((ty : Ty ℕ) → inst_by numbers g ty ≡ ty) → (s : Variable ℕ → Tm ℕ) → (x : Tm ℕ) → IsClosed numbers x → bind numbers g s x ≡ x
+bind-closed g same s (Free v) closed = absurd (closed v refl)
+bind-closed g same s (Con n ty) closed = ap (Con n) (same ty)
+bind-closed g same s (Bound k) closed = refl
+bind-closed g same s (App f x) closed =
+    ap (λ y. App y (bind numbers g s x)) (bind-closed g same s f (λ v i. closed v (inl i)))
+    ∙ ap (App f) (bind-closed g same s x (λ v i. closed v (inr i)))
+bind-closed g same s (Abs ty b) closed =
+    ap (λ u. Abs u (bind numbers g s b)) (same ty) ∙ ap (Abs ty) (bind-closed g same s b closed)
+
+same_type : (t : TermTable) (s : Substitution) → s.types ≡ [] → (ty : Ty ℕ) → inst numbers (type_part t s) ty ≡ ty
+same_type t s untyped ty = ap (λ m. inst numbers (images t.types m) ty) untyped ∙ inst-nothing ty
+
+pub unchanged : (t : TermTable) (s : Substitution) (id : ℕ) → id < length t.terms → s.types ≡ [] → IsClosed numbers (nameless numbers (term_at t.terms id))
+    → HasForm t id (substituted t s (nameless numbers (term_at t.terms id)))
+unchanged t s id within untyped closed = record {
+  within = within;
+  form = sym (bind-closed (type_for numbers (type_part t s)) (same_type t s untyped) _ (nameless numbers (term_at t.terms id)) closed);
+}
+
+pub walked-unchanged : (t : TermTable) (s : Substitution) (r : List (VarKey × VarKey)) (es : List (ℕ × ℕ)) (n id : ℕ) → id < length t.terms → IsMemory t s r es → s.types ≡ [] → IsClosed numbers (nameless numbers (term_at t.terms id))
+    → IsWalked t t s r es es n n (term_at t.terms id) (suc id) id
+walked-unchanged t s r es n id within h untyped closed = record {
+  form = record {
+    within = within;
+    form = sym (bind-closed (type_for numbers (type_part t s)) (same_type t s untyped) _ (nameless numbers (term_at t.terms id)) closed);
+  };
+  memory = h;
+  known = λ e m. inl m;
+  counted = λ _ _. omega arith;
+}
