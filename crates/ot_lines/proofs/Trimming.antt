@@ -1,8 +1,8 @@
 -- Laws of trimming.
-use Rattle.std.proofs.Common.{◌≡◌, ◌≢◌, ◌<◌, ◌≤◌, ◌+◌, ◌-◌, inl, inr, ℕ, zero, suc, List, [], ◌∷◌, ◌++◌, length, take, get_or, reverse, true, false, sym, ap, ◌∙◌, refl, arith}
+use Rattle.std.proofs.Common.{◌≡◌, ◌≢◌, ◌<◌, ◌≤◌, ◌+◌, ◌-◌, inl, inr, ℕ, zero, suc, List, [], ◌∷◌, ◌++◌, length, take, get_or, reverse, Bool, true, false, ◌==◌, ◌||◌, if◌then◌else◌, sym, ap, ◌∙◌, refl, arith}
 use Rattle.std.proofs.lemmas.Bool.Decides.{eqb_tells}
 use Rattle.std.proofs.lemmas.List.{take_more, reverse-append, reverse-reverse}
-use Rattle.ot_lines.specs.Pieces.{without_last, is_blank, trim_front, trim_back}
+use Rattle.ot_lines.specs.Pieces.{without_last, is_blank, is_skipped, text_of, trim_front, trim_back}
 
 -- ---- the last byte is this one, or another one
 last_is : (x : ℕ) (xs : List ℕ) (n : ℕ) → length xs ≡ suc n → get_or xs n 0 ≡ x → without_last x xs ≡ take n xs
@@ -62,3 +62,38 @@ back_end xs (suc n) le h =
     let some : 0 < suc n = omega arith in
     let e = last_byte xs (suc n) some le in
     e ∙ sym (back_kept (take (suc n - 1) xs) (get_or xs (suc n - 1) 0) (sym (h some))) ∙ sym (ap trim_back e)
+
+-- ---- a byte at the front that is no blank and no end of a line stays there
+first-without_last : (x b : ℕ) (bs : List ℕ) → b ≢ x → (rest : List ℕ) × (without_last x (b ∷ bs) ≡ b ∷ rest)
+first-without_last x b [] other = elim (eqb_tells b x) [ inl q ↦ absurd (other q.1) | inr q ↦ ([], rw q.0 refl) ]
+first-without_last x b (c ∷ cs) other = (without_last x (c ∷ cs), refl)
+
+last-trim_front : (b : ℕ) → is_blank b ≡ false → (xs : List ℕ) → (rest : List ℕ) × (trim_front (xs ++ b ∷ []) ≡ rest ++ b ∷ [])
+last-trim_front b plain [] = ([], rw plain refl)
+last-trim_front b plain (x ∷ xs) = by (is_blank x) (last-trim_front b plain xs)
+  where
+    by : (blank : Bool) → ((rest : List ℕ) × (trim_front (xs ++ b ∷ []) ≡ rest ++ b ∷ [])) → (rest : List ℕ) × ((if blank then trim_front (xs ++ b ∷ []) else x ∷ (xs ++ b ∷ [])) ≡ rest ++ b ∷ [])
+    by true found = found
+    by false found = (x ∷ xs, refl)
+
+first-trim_back : (b : ℕ) (bs : List ℕ) → is_blank b ≡ false → (rest : List ℕ) × (trim_back (b ∷ bs) ≡ b ∷ rest)
+first-trim_back b bs plain =
+    let (rest, e) = last-trim_front b plain (reverse bs) in
+    (reverse rest, ap (λ z. reverse (trim_front z)) (reverse-append (b ∷ []) bs) ∙ ap reverse e ∙ reverse-append rest (b ∷ []))
+
+first-text : (b : ℕ) (bs : List ℕ) → b ≢ 10 → b ≢ 13 → is_blank b ≡ false → (rest : List ℕ) × (text_of (b ∷ bs) ≡ b ∷ rest)
+first-text b bs newline return plain =
+    let (line, e) = first-without_last 10 b bs newline in
+    let (front, f) = first-without_last 13 b line return in
+    let (rest, g) = first-trim_back b front plain in
+    (rest, ap (λ z. trim_back (trim_front (without_last 13 z))) e ∙ ap (λ z. trim_back (trim_front z)) f ∙ rw plain g)
+
+not_equal : (b x : ℕ) → x < b → (b == x) ≡ false
+not_equal b x above = elim (eqb_tells b x) [ inl q ↦ absurd (omega (arith, q.1, above)) | inr q ↦ q.0 ]
+
+pub above_passes : (piece : List ℕ) → 1 ≤ length piece → 35 < get_or piece 0 0 → false ≡ is_skipped (text_of piece)
+above_passes [] some above = absurd (omega (arith, some))
+above_passes (b ∷ bs) some above =
+    let plain : is_blank b ≡ false = ap (λ z. z || (b == 9)) (not_equal b 32 (omega arith)) ∙ not_equal b 9 (omega arith) in
+    let (rest, e) = first-text b bs (λ q. omega (arith, q)) (λ q. omega (arith, q)) plain in
+    sym (ap is_skipped e ∙ not_equal b 35 above)

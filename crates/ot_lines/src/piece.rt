@@ -51,6 +51,17 @@ pub fn is_skipped(text: &[u8]) -> bool
     matches!(text, [] | [b'#', ..])
 }
 
+/// Whether the line that a piece holds is passed over, by the article format. Where the piece begins with a byte above `#`,
+/// its text does too, and isn't cut out to be asked.
+pub fn is_passed_over(piece: &[u8]) -> bool
+    ensures { result ≡ is_skipped (text_of piece.now) }
+{
+    match piece {
+        [first, ..] if *first > b'#' => false,
+        _ => is_skipped(trimmed(piece)),
+    }
+}
+
 /// Whether a byte is a space or a tab.
 pub fn is_blank(byte: u8) -> bool
     ensures { result ≡ is_blank byte }

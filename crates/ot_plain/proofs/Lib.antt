@@ -1,5 +1,6 @@
 -- Lemmas on the definitions.
 pub mod Reading
+pub mod Shortlist
 pub mod Spelling
 pub mod TableLemmas
 pub mod NameLemmas

@@ -1,4 +1,5 @@
-ghost use Rattle.std.specs.Prelude.{◌≡◌};
+ghost use Rattle.std.specs.Prelude.{◌≡◌, find};
+ghost use Rattle.std.specs.Str.{bytes_eq};
 ghost use Rattle.ot_plain.specs.Commands.{spelling, command_of};
 
 /// A command word of an article.
@@ -40,7 +41,7 @@ pub enum Cmd {
     DefineTypeOp,
 }
 
-// A line's command is looked for from the front, so those that recorded proofs use most come first.
+// A command is looked for from the front among those of its length, so those that recorded proofs use most come first.
 const COMMANDS: [Cmd; 34] = [
     Cmd::Ref,
     Cmd::Cons,
@@ -127,6 +128,58 @@ impl Cmd {
     pub fn find(text: &[u8]) -> Option<Cmd>
         ensures { result ≡ command_of text.now }
     {
-        COMMANDS.iter().copied().find(|c| c.text() == text)
+        match text.len() {
+            3 => among(
+                &[
+                    Cmd::Ref,
+                    Cmd::Def,
+                    Cmd::Sym,
+                    Cmd::Var,
+                    Cmd::Thm,
+                    Cmd::Pop,
+                    Cmd::Nil,
+                ],
+                text,
+            ),
+            4 => among(&[Cmd::Cons, Cmd::EqMp, Cmd::Refl, Cmd::HdTl], text),
+            5 => among(&[Cmd::Subst, Cmd::Trans, Cmd::Const, Cmd::Axiom], text),
+            6 => among(
+                &[
+                    Cmd::AppThm,
+                    Cmd::Assume,
+                    Cmd::AbsThm,
+                    Cmd::OpType,
+                    Cmd::TypeOp,
+                    Cmd::Remove,
+                    Cmd::Pragma,
+                ],
+                text,
+            ),
+            7 => among(
+                &[
+                    Cmd::AppTerm,
+                    Cmd::AbsTerm,
+                    Cmd::VarTerm,
+                    Cmd::VarType,
+                    Cmd::Version,
+                ],
+                text,
+            ),
+            8 => among(&[Cmd::ProveHyp, Cmd::BetaConv], text),
+            9 => among(&[Cmd::ConstTerm], text),
+            11 => among(&[Cmd::DefineConst], text),
+            12 => among(&[Cmd::DefineTypeOp], text),
+            13 => among(&[Cmd::DeductAntisym], text),
+            15 => among(&[Cmd::DefineConstList], text),
+            _ => among(&COMMANDS, text),
+        }
     }
+}
+
+/// The first of these commands that is written so.
+#[inline(always)]
+fn among(commands: &[Cmd], text: &[u8]) -> Option<Cmd>
+    ensures { result ≡ find (λ c. bytes_eq (spelling c) text.now) commands.now }
+{
+    commands.iter().copied().find(|c| c.text() == text)
 }

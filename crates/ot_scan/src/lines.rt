@@ -10,7 +10,7 @@ ghost use Rattle.ot_scan.specs.contracts.lines.Lines.{the_row};
 use crate::fault::ScanFault;
 use crate::piece::check_limits;
 use ot_io::{Failed, Source};
-use ot_lines::{is_skipped, piece_len, trimmed};
+use ot_lines::{is_passed_over, piece_len, trimmed};
 use std::marker::Model;
 
 /// How many bytes are held at most: those of the longest line and its newline.
@@ -128,7 +128,7 @@ impl Lines {
             }
             let piece = &self.held()[..len];
             check_limits(self.max_bytes, self.before, self.number + 1, piece)?;
-            if !is_skipped(trimmed(piece)) {
+            if !is_passed_over(piece) {
                 return Ok(len);
             }
             self.take_piece(len);

@@ -24,12 +24,12 @@ returns-in_err-check_limits-clause-found g c =
     rw (p.1, p.2) (stop-found scan len _ fault c.in_ok-len.ensures.first (omega arith)
     (subst (λ (s : Scan). ChecksLimits (Err fault) (s.number + 1) (limit_fault s.max s.before (take len s.held))) (seen scan _ _ c.self.view_is c.held.ensures) c.in_err-check_limits.ensures.limits))
 
-pub returns-then-not-is_skipped-clause-found : goal.returns-then-not-is_skipped-clause-found
-returns-then-not-is_skipped-clause-found g c =
+pub returns-then-not-is_passed_over-clause-found : goal.returns-then-not-is_passed_over-clause-found
+returns-then-not-is_passed_over-clause-found g c =
     let scan = c.first_piece.new.self in
     let len = c.in_ok-len.len in
     let limits : limit_fault scan.max scan.before (take len scan.held) ≡ None = limits-kept scan _ _ len c.self.view_is c.held.ensures c.in_ok-check_limits.ensures.limits in
-    let holds : is_skipped (text_of (take len scan.held)) ≡ false = ap (λ bs. is_skipped (text_of (take len bs))) (sym c.held.ensures) ∙ ap is_skipped (sym c.trimmed.ensures) ∙ sym c.if-not-is_skipped.ensures in
+    let holds : is_skipped (text_of (take len scan.held)) ≡ false = ap (λ bs. is_skipped (text_of (take len bs))) (sym c.held.ensures) ∙ sym c.if-not-is_passed_over.ensures in
     let some : 0 < len = omega arith in
     record {
       line = λ _. record {
@@ -48,7 +48,7 @@ lines-preserved g c =
     let len = c.in_ok-len.len in
     let left = g.S.Source.left c.first_piece.new.source in
     let limits : limit_fault scan.max scan.before (take len scan.held) ≡ None = limits-kept scan _ _ len c.self.view_is c.held.ensures c.in_ok-check_limits.ensures.limits in
-    let skipped = ap (λ bs. is_skipped (text_of (take len bs))) (sym c.held.ensures) ∙ ap is_skipped (sym c.trimmed.ensures) ∙ sym c.if-not-is_skipped.ensures in
+    let skipped = ap (λ bs. is_skipped (text_of (take len bs))) (sym c.held.ensures) ∙ sym c.if-not-is_passed_over.ensures in
     record {
       kept = keeps-more c.args.self.now c.lines.self c.take_piece.follows.lender-at-none (g.S.Source.left c.args.source.now) (g.S.Source.left c.lines.source) left c.lines.invariant.kept
           (keeps-more c.lines.self scan c.take_piece.follows.lender-at-none (g.S.Source.left c.lines.source) left left (keeps-reads c.lines.self scan (g.S.Source.left c.lines.source) left c.in_ok-len.ensures.read)
