@@ -2,8 +2,7 @@
 use Rattle.std.specs.Prelude.{◌≡◌, ◌<◌, ◌≤◌, ◌⊎◌, ℕ, suc, ℤ, pos, List, [], ◌∷◌, ◌++◌, length, map, slice_get, slice_index_or, Option, Some, None, cond}
 use Rattle.std.specs.List.{All}
 use Rattle.std.specs.Map.{lookup}
-use Rattle.std.specs.BTreeMap.{is_at}
-use Rattle.std.specs.Ordering.{int_cmp, is_eq}
+use Rattle.std.specs.Ordering.{int_cmp, int_eq, is_eq}
 use Rattle.std.specs.Cmp.{int_cmp_total}
 use Rattle.std.specs.Option.{option_map}
 use Rattle.std.specs.FinMap.{find, get, get-from_entries, same_map, int_cmp-IsAntisymmetric}
@@ -191,22 +190,22 @@ module _ (s t : Session) (run : IsRun s) (grown : Grows s t) where
       λ i. record { definition = d; origin = a i } ∷ b i
 
 -- ---- dictionaries by what they give
-find-entry : (s : Session) (cs : List Objects) (es : List (ℤ × code_entry.Entry)) (q : ℤ) → find int_cmp q (map (λ e. (e.0, entry_of s cs e.1)) es) ≡ option_map (entry_of s cs) (lookup (is_at (int_cmp q)) es)
+find-entry : (s : Session) (cs : List Objects) (es : List (ℤ × code_entry.Entry)) (q : ℤ) → find int_cmp q (map (λ e. (e.0, entry_of s cs e.1)) es) ≡ option_map (entry_of s cs) (lookup (int_eq q) es)
 find-entry s cs [] q = refl
 find-entry s cs (e ∷ es) q =
-    elim (is_eq (int_cmp q e.0)) as (λ b. cond b (Some (entry_of s cs e.1)) (find int_cmp q (map (λ e. (e.0, entry_of s cs e.1)) es)) ≡ option_map (entry_of s cs) (cond b (Some e.1) (lookup (is_at (int_cmp q)) es))) [
+    elim (is_eq (int_cmp q e.0)) as (λ b. cond b (Some (entry_of s cs e.1)) (find int_cmp q (map (λ e. (e.0, entry_of s cs e.1)) es)) ≡ option_map (entry_of s cs) (cond b (Some e.1) (lookup (int_eq q) es))) [
       | true ↦ refl
       | false ↦ find-entry s cs es q
     ]
 
-pub get-dictionary : (s : Session) (cs : List Objects) (es : List (ℤ × code_entry.Entry)) (q : ℤ) → get (dictionary_of s cs es) q ≡ option_map (entry_of s cs) (lookup (is_at (int_cmp q)) es)
+pub get-dictionary : (s : Session) (cs : List Objects) (es : List (ℤ × code_entry.Entry)) (q : ℤ) → get (dictionary_of s cs es) q ≡ option_map (entry_of s cs) (lookup (int_eq q) es)
 get-dictionary s cs es q = get-from_entries int_cmp_total _ q ∙ find-entry s cs es q
 
 -- where each entry that is stored stands for the same, the dictionaries are one
-pub dictionary-same : (s t : Session) (cs ds : List Objects) (es : List (ℤ × code_entry.Entry)) → ((q : ℤ) (e : code_entry.Entry) → lookup (is_at (int_cmp q)) es ≡ Some e → entry_of t ds e ≡ entry_of s cs e) → dictionary_of t ds es ≡ dictionary_of s cs es
-dictionary-same s t cs ds es same = same_map int_cmp_total int_cmp-IsAntisymmetric _ _ (λ q. get-dictionary t ds es q ∙ at q (lookup (is_at (int_cmp q)) es) refl ∙ sym (get-dictionary s cs es q))
+pub dictionary-same : (s t : Session) (cs ds : List Objects) (es : List (ℤ × code_entry.Entry)) → ((q : ℤ) (e : code_entry.Entry) → lookup (int_eq q) es ≡ Some e → entry_of t ds e ≡ entry_of s cs e) → dictionary_of t ds es ≡ dictionary_of s cs es
+dictionary-same s t cs ds es same = same_map int_cmp_total int_cmp-IsAntisymmetric _ _ (λ q. get-dictionary t ds es q ∙ at q (lookup (int_eq q) es) refl ∙ sym (get-dictionary s cs es q))
   where
-    at : (q : ℤ) (r : Option code_entry.Entry) → lookup (is_at (int_cmp q)) es ≡ r → option_map (entry_of t ds) (lookup (is_at (int_cmp q)) es) ≡ option_map (entry_of s cs) (lookup (is_at (int_cmp q)) es)
+    at : (q : ℤ) (r : Option code_entry.Entry) → lookup (int_eq q) es ≡ r → option_map (entry_of t ds) (lookup (int_eq q) es) ≡ option_map (entry_of s cs) (lookup (int_eq q) es)
     at q None e = rw e refl
     at q (Some o) e = rw e (ap Some (same q o e))
 

@@ -55,3 +55,4 @@ pub mod RunLawful
 pub mod AxiomGives
 pub mod NamedAll
 pub mod WritableNames
+pub mod RuleRows

@@ -4,8 +4,7 @@ use Rattle.std.proofs.Common.{refl, sym, ap, subst, ◌∙◌, arith}
 use Rattle.std.proofs.lemmas.List.{length_push, take-append-le}
 use Rattle.ot_plain.specs.Names.{Name}
 use Rattle.ot_plain.specs.Trees.{TyOp, Variable, Tm, Sequent}
-use Rattle.ot_plain.specs.Hol.{TypeMap, TermMap, tys_of_vars}
-use Rattle.ot_plain.specs.Rules.{subst_rule}
+use Rattle.ot_plain.specs.Hol.{tys_of_vars}
 use Rattle.ot_plain.specs.Faults.{Fault}
 use Rattle.ot_plain.specs.Answers.{◌>>=◌}
 use Rattle.ot_plain.specs.Naming.{names}
@@ -28,9 +27,7 @@ use Rattle.ot_machine.specs.Objects.{Object, Objects, number, name, list, type_o
 use Rattle.ot_machine.specs.States.{Entry, Version, ArticleState, RunState, State, Context}
 use Rattle.ot_machine.specs.Places.{as_each, as_term, list_entry, list_on, name_on, names_on, term_on, theorem_on, top, pushed, dropped, replaced, exchanged, origins_of}
 use Rattle.ot_machine.specs.DefinitionLists.{pairs_of}
-use Rattle.ot_machine.specs.Makers.{Read}
-use Rattle.ot_machine.specs.Substitutions.{maps_of}
-use Rattle.ot_machine.specs.Rows.{Row, making, first_of, hd_tl_row, defined, with_defined, constant_entry, type_op_entry, constants_entry, type_defining, list_defining, define_const_list_row, define_type_op_row}
+use Rattle.ot_machine.specs.Rows.{Row, first_of, hd_tl_row, defined, with_defined, constant_entry, type_op_entry, constants_entry, type_defining, list_defining, define_const_list_row, define_type_op_row}
 use Rattle.ot_machine.specs.Discharge.{element_entries, discharged, axiom_row}
 use Rattle.ot_machine.specs.Version5.{open_theorems, define_type_op_5_row}
 use Rattle.ot_machine.specs.Assumptions.{term_entries, used}
@@ -50,7 +47,7 @@ pub stacked : (row : List Entry → Row) (s : State) (stack : List Entry) → ro
 stacked row s stack e = ap (λ r. (r >>= λ stack. Ok (record s.article { stack = stack })) >>= λ article. Ok (record s { article = article })) e
 
 -- a part that is read, and what the rest gives
-then-ok : {A B E : Type 0} (r : Result A E) (rest : A → Result B E) (x : A) (y : Result B E) → r ≡ Ok x → rest x ≡ y → (r >>= rest) ≡ y
+pub then-ok : {A B E : Type 0} (r : Result A E) (rest : A → Result B E) (x : A) (y : Result B E) → r ≡ Ok x → rest x ≡ y → (r >>= rest) ≡ y
 then-ok r rest x y e f = ap (λ r. r >>= rest) e ∙ f
 
 -- one command more, and the version behind it
@@ -150,21 +147,7 @@ const_list_after c s ns vs th = defined (λ ds. list_definition names ds ns vs t
 pub const_list-read : (c : Context) (s : State) (th : Sequent Name) (os : Objects) (pairs : List (Name × Variable Name)) (ns : List Name) (vs : List (Variable Name)) → theorem_on 0 s.article.stack ≡ Ok th → list_on 1 s.article.stack ≡ Ok os → pairs_of os ≡ Ok pairs → map (λ p. renamed names c.interpretation.constants p.0) pairs ≡ ns → map (λ p. p.1) pairs ≡ vs → define_const_list_row c s ≡ const_list_after c s ns vs th
 const_list-read c s th os pairs ns vs p q r x y = then-ok _ _ th _ p (then-ok _ _ os _ q (then-ok _ _ pairs _ r (λ i. const_list_after c s (x i) (y i) th)))
 
--- ---- the row of a substitution, after what it reads
-abbrev subst_entry : List Entry → Sequent Name → Entry
-subst_entry stack q = record { object = theorem q; origin = Make words.Subst (origins_of (top 2 stack)) }
-
-abbrev subst_after : List Entry → Read → Row
-subst_after stack r = (r >>= λ o. Ok (record { object = o; origin = Make words.Subst (origins_of (top 2 stack)) })) >>= λ e. Ok (replaced 2 e stack)
-
-through-subst : (stack : List Entry) (r : Result (Sequent Name) (Fault Name)) → subst_after stack (r >>= λ q. Ok (theorem q)) ≡ (r >>= λ q. Ok (replaced 2 (subst_entry stack q) stack))
-through-subst stack (Ok q) = refl
-through-subst stack (Err e) = refl
-
-pub subst-read : (stack : List Entry) (th : Sequent Name) (os : Objects) (types : TypeMap names) (terms : TermMap names) → theorem_on 0 stack ≡ Ok th → list_on 1 stack ≡ Ok os → maps_of os ≡ Ok (types, terms) → making words.Subst stack ≡ (subst_rule names types terms th >>= λ q. Ok (replaced 2 (subst_entry stack q) stack))
-subst-read stack th os types terms p q x =
-    ap (subst_after stack) (then-ok _ _ th (subst_rule names types terms th >>= λ q. Ok (theorem q)) p (then-ok _ _ os _ q (then-ok _ _ (types, terms) _ x refl))) ∙ through-subst stack (subst_rule names types terms th)
-
+-- ---- growth
 pub leaves-grow : (s t : Session) (m : Machine) → Leaves s t m → Grows s t
 leaves-grow s t m l = record { kernel = l.machine.grown; trace = trace-same s.trace t.trace l.machine.trace }
 

@@ -31,3 +31,4 @@ pub mod NamesIn
 pub mod Writable
 pub mod LawfulLaws
 pub mod Marks
+pub mod Concluding

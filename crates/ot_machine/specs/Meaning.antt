@@ -2,8 +2,7 @@
 use Rattle.std.specs.Prelude.{◌≡◌, ◌<◌, ◌≤◌, ℕ, suc, ℤ, pos, List, [], ◌∷◌, ◌++◌, length, map, slice_get, slice_index_or, Option, Some, None}
 use Rattle.std.specs.List.{All}
 use Rattle.std.specs.Map.{lookup}
-use Rattle.std.specs.BTreeMap.{is_at}
-use Rattle.std.specs.Ordering.{int_cmp}
+use Rattle.std.specs.Ordering.{int_cmp, int_eq}
 use Rattle.std.specs.FinMap.{FinMap, from_entries}
 use Rattle.ot_plain.specs.Table.{Extends}
 use Rattle.ot_plain.specs.Hol.{depth_limit}
@@ -217,7 +216,7 @@ concls_of k = map (λ th. (kernel.theorem_at k th).concl)
 pub record IsOf (s : Session) (m : Machine) : Type 0 where
   pub run : IsRun s
   pub stack : All (IsEntryIn s (length m.cells.items)) m.stack.items
-  pub dictionary : (q : ℤ) (e : code_entry.Entry) → lookup (is_at (int_cmp q)) m.dictionary.entries ≡ Some e → IsEntryIn s (length m.cells.items) e
+  pub dictionary : (q : ℤ) (e : code_entry.Entry) → lookup (int_eq q) m.dictionary.entries ≡ Some e → IsEntryIn s (length m.cells.items) e
   pub exports : All (IsExportIn s) m.exports.items
   pub placed : AreFirstPlaces s.kernel (concls_of s.kernel (map (λ e. e.th) m.exports.items)) m.places
   pub cells : AreCells s.kernel m.cells.items

@@ -17,13 +17,13 @@ use crate::fault::{ArticleFault, Fault, refusal};
 use crate::object::{Cell, Command, Entry, Object};
 use crate::rows;
 use crate::session::Session;
+use indexmap::IndexMap;
 use ot_io::Source;
 use ot_kernel::{Places, ThmId};
 use ot_plain::Cmd;
 use ot_scan::{Lines, Word, command as read_word};
 use ot_trace::StepId;
 use std::alloc::Global;
-use std::collections::BTreeMap;
 
 /// A theorem that an article exports, and the steps that made it, its list of hypotheses and its conclusion.
 #[derive(Clone, Copy, Debug, PartialEq, Eq)]
@@ -47,7 +47,7 @@ pub(crate) enum Version {
 pub struct Machine {
     pub(crate) alloc: Global,
     pub(crate) stack: Vec<Entry>,
-    pub(crate) dictionary: BTreeMap<i64, Entry>,
+    pub(crate) dictionary: IndexMap<i64, Entry>,
     pub(crate) exports: Vec<Export>,
     // The places of their conclusions among the exports.
     pub(crate) places: Places,
@@ -65,7 +65,7 @@ impl Machine {
         Machine {
             alloc,
             stack: Vec::new(alloc),
-            dictionary: BTreeMap::new(alloc),
+            dictionary: IndexMap::new(alloc),
             exports: Vec::new(alloc),
             places: Places::new(alloc),
             cells: Vec::new(alloc),

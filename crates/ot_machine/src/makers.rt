@@ -16,8 +16,6 @@ mod definitions;
 mod occurrences;
 mod open_types;
 mod renamed;
-mod terms;
-mod theorems;
 mod weakening;
 
 use crate::fault::Fault;

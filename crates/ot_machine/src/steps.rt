@@ -1,17 +1,25 @@
 // How what stands on the stack was made: its steps in the trace of this session, and what a word makes of them.
-ghost use Rattle.std.specs.Prelude.{◌≡◌, ◌<◌, ◌≤◌, length, map, IfOk, IfErr, OnOk, OnErr, vec_len};
+ghost use Rattle.std.specs.Prelude.{◌≡◌, ◌<◌, ◌≤◌, Result, length, map, IfOk, IfErr, OnOk, OnErr, vec_len};
 ghost use Rattle.std.specs.List.{All};
 ghost use Rattle.ot_plain.specs.Table.{Extends};
+ghost use Rattle.ot_plain.specs.Names.{Name};
+ghost use Rattle.ot_plain.specs.Trees.{Sequent};
+ghost use Rattle.ot_plain.specs.Faults.{Fault as StatedFault};
 ghost use Rattle.ot_kernel.specs.State.{name_at};
 ghost use Rattle.ot_trace.specs.Origins.{Number, Named, Make, Define, Outcome, MoreOrigins, NoOrigins, from_list, make_one, operand, symbols};
 ghost use Rattle.ot_trace.specs.Trace.{origin_at as number_origin, origins_at};
 ghost use Rattle.ot_machine.specs.Meaning.{object_of, origin_of, origin_or, lists_of, article_of, run_of, IsOf, IsIn, IsNumber, HasStep, Traces};
 ghost use Rattle.ot_machine.specs.Places.{replaced, top, origins_of};
 ghost use Rattle.ot_machine.specs.Rows.{origin_at};
+ghost use Rattle.ot_machine.specs.Step.{on_stack};
+ghost use Rattle.ot_machine.specs.Concluding.{Gives, concluding};
+ghost use Rattle.ot_machine.specs.Answers.{Turns};
 
+use crate::fault::Fault;
 use crate::machine::Machine;
 use crate::object::Object;
 use crate::session::Session;
+use ot_kernel::{RuleFault, ThmId};
 use ot_plain::{Cmd, Memory, NameId};
 use ot_trace::{Step, StepId};
 
@@ -211,6 +219,42 @@ impl Session {
         let step = self.made_of(machine, word, &[lower, upper])?;
         self.replace(machine, 2, object, Some(step));
         Ok(())
+    }
+
+    /// What a rule made of the top one, in its place.
+    pub(crate) fn conclude_one(
+        &mut self,
+        machine: &mut Machine,
+        word: Cmd,
+        answer: Result<ThmId, RuleFault>,
+    ) -> Result<(), Fault>
+        requires of { IsOf self.old machine.old }
+        requires inside { IfOk answer (λ th. th < length self.old.kernel.theorems) }
+        requires there { 1 ≤ vec_len machine.old.stack }
+        ensures { (stated : Result (Sequent Name) (StatedFault Name)) → Gives self.old.kernel answer stated → Turns result (on_stack (concluding 1 word stated)) self.old machine.old self.new machine.new }
+    {
+        match answer {
+            Ok(theorem) => Ok(self.make_one(machine, word, Object::Theorem(theorem))?),
+            Err(fault) => Err(Fault::from(fault)),
+        }
+    }
+
+    /// What a rule made of the top two, in their place.
+    pub(crate) fn conclude_two(
+        &mut self,
+        machine: &mut Machine,
+        word: Cmd,
+        answer: Result<ThmId, RuleFault>,
+    ) -> Result<(), Fault>
+        requires of { IsOf self.old machine.old }
+        requires inside { IfOk answer (λ th. th < length self.old.kernel.theorems) }
+        requires there { 2 ≤ vec_len machine.old.stack }
+        ensures { (stated : Result (Sequent Name) (StatedFault Name)) → Gives self.old.kernel answer stated → Turns result (on_stack (concluding 2 word stated)) self.old machine.old self.new machine.new }
+    {
+        match answer {
+            Ok(theorem) => Ok(self.make_two(machine, word, Object::Theorem(theorem))?),
+            Err(fault) => Err(Fault::from(fault)),
+        }
     }
 
     /// What a word makes of a symbol's name, in the place of the top one.

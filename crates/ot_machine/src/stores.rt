@@ -118,6 +118,6 @@ impl Session {
         ensures changed { article_of self.now machine.new ≡ (let s = article_of self.now machine.old in record s { dictionary = dictionaries.remove s.dictionary key }) }
         ensures of { IsOf self.now machine.new }
     {
-        machine.dictionary.remove(&key);
+        machine.dictionary.swap_remove(&key);
     }
 }

@@ -1,9 +1,13 @@
 // A theorem of the context in the place of an axiom: the first with its conclusion and with hypotheses among its own, derived with
 // the others. Kernel and trace grow; the machine and the run stand for what they stood for.
-ghost use Rattle.std.specs.Prelude.{◌≡◌, ◌<◌, length, map, IfOk, IfSome};
+ghost use Rattle.std.specs.Prelude.{◌≡◌, ◌<◌, Result, length, map, IfOk, IfSome};
 ghost use Rattle.std.specs.List.{All};
 ghost use Rattle.std.specs.Option.{option_map};
-ghost use Rattle.ot_kernel.specs.State.{term_at};
+ghost use Rattle.ot_plain.specs.Names.{Name};
+ghost use Rattle.ot_plain.specs.Trees.{Sequent};
+ghost use Rattle.ot_plain.specs.Faults.{Fault as StatedFault};
+ghost use Rattle.ot_kernel.specs.State.{State, term_at, theorem_at};
+ghost use Rattle.ot_kernel.specs.Answers.{Concludes};
 ghost use Rattle.ot_machine.specs.Objects.{term};
 ghost use Rattle.ot_machine.specs.Rows.{theorem_entry};
 ghost use Rattle.ot_machine.specs.Discharge.{given_for, adding, weakened};
@@ -17,6 +21,7 @@ use crate::context::{Context, Given};
 use crate::fault::Fault;
 use crate::machine::Machine;
 use crate::session::Session;
+use ot_kernel::{RuleFault, ThmId};
 use ot_plain::Cmd;
 use ot_term::TermId;
 use ot_trace::StepId;
@@ -130,12 +135,23 @@ impl Session {
         ensures given_step { IfOk result (λ g. g.step < length self.new.trace) }
         ensures stays { Stays self.old self.new machine.now }
     {
-        let assumed = self.assumption(machine, hyp)?;
+        let assumed = ruled(self.kernel.assume(hyp))?;
         let assumed_step = self.made_of(machine, Cmd::Assume, &[step])?;
-        let equation = self.antisymmetry(machine, assumed, given.th)?;
+        let equation = ruled(self.kernel.deduct_antisym(assumed, given.th))?;
         let equation_step = self.made_of(machine, Cmd::DeductAntisym, &[assumed_step, given.step])?;
-        let th = self.equality_rule(machine, equation, assumed)?;
+        let th = ruled(self.kernel.eq_mp(equation, assumed))?;
         let step = self.made_of(machine, Cmd::EqMp, &[equation_step, assumed_step])?;
         Ok(Given { th, step })
+    }
+}
+
+/// What a rule gave, with the machine's fault for its refusal.
+fn ruled(answer: Result<ThmId, RuleFault>) -> Result<ThmId, Fault>
+    ensures made { (k l : State) (stated : Result (Sequent Name) (StatedFault Name)) → Concludes answer stated k l → Makes l (theorem_at l) result stated }
+    ensures inside { (k l : State) (stated : Result (Sequent Name) (StatedFault Name)) → Concludes answer stated k l → IfOk result (λ th. th < length l.theorems) }
+{
+    match answer {
+        Ok(theorem) => Ok(theorem),
+        Err(fault) => Err(Fault::from(fault)),
     }
 }

@@ -34,7 +34,7 @@ pub fn op_type(alloc: Global, session: &mut Session, machine: &mut Machine) -> R
 {
     let args = session.types_on(alloc, machine, 0)?;
     let name = session.type_op_on(machine, 1)?;
-    let ty = session.type_operation(machine, name, &args)?;
+    let ty = session.kernel.type_op(name, &args)?;
     session.make_two(machine, Cmd::OpType, Object::Type(ty))?;
     Ok(())
 }
@@ -45,7 +45,7 @@ pub fn var_type(session: &mut Session, machine: &mut Machine) -> Result<(), Faul
     ensures { Turns result (on_stack (making words.VarType)) session.old machine.old session.new machine.new }
 {
     let name = session.name_on(machine, 0)?;
-    let ty = session.type_variable(machine, name)?;
+    let ty = session.kernel.type_var(name)?;
     session.make_one(machine, Cmd::VarType, Object::Type(ty))?;
     Ok(())
 }
@@ -67,7 +67,7 @@ pub fn var_term(session: &mut Session, machine: &mut Machine) -> Result<(), Faul
     ensures { Turns result (on_stack (making words.VarTerm)) session.old machine.old session.new machine.new }
 {
     let variable = session.variable_on(machine, 0)?;
-    let term = session.variable_term(machine, variable)?;
+    let term = session.kernel.var(variable)?;
     session.make_one(machine, Cmd::VarTerm, Object::Term(term))?;
     Ok(())
 }
@@ -95,7 +95,7 @@ pub fn const_term(session: &mut Session, machine: &mut Machine) -> Result<(), Fa
 {
     let ty = session.type_on(machine, 0)?;
     let name = session.constant_on(machine, 1)?;
-    let term = session.constant_term(machine, name, ty)?;
+    let term = session.kernel.constant(name, ty)?;
     session.make_two(machine, Cmd::ConstTerm, Object::Term(term))?;
     Ok(())
 }
@@ -107,7 +107,7 @@ pub fn app_term(session: &mut Session, machine: &mut Machine) -> Result<(), Faul
 {
     let argument = session.term_on(machine, 0)?;
     let function = session.term_on(machine, 1)?;
-    let term = session.application(machine, function, argument)?;
+    let term = session.kernel.app(function, argument)?;
     session.make_two(machine, Cmd::AppTerm, Object::Term(term))?;
     Ok(())
 }
@@ -119,7 +119,7 @@ pub fn abs_term(session: &mut Session, machine: &mut Machine) -> Result<(), Faul
 {
     let body = session.term_on(machine, 0)?;
     let variable = session.variable_on(machine, 1)?;
-    let term = session.abstraction(machine, variable, body)?;
+    let term = session.kernel.abs(variable, body)?;
     session.make_two(machine, Cmd::AbsTerm, Object::Term(term))?;
     Ok(())
 }

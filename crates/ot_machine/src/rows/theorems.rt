@@ -21,9 +21,8 @@ pub fn refl(session: &mut Session, machine: &mut Machine) -> Result<(), Fault>
     ensures { Turns result (on_stack (making words.Refl)) session.old machine.old session.new machine.new }
 {
     let term = session.term_on(machine, 0)?;
-    let theorem = session.reflexivity(machine, term)?;
-    session.make_one(machine, Cmd::Refl, Object::Theorem(theorem))?;
-    Ok(())
+    let answer = session.kernel.refl(term);
+    session.conclude_one(machine, Cmd::Refl, answer)
 }
 
 /// `assume` makes the theorem that a proposition follows from itself.
@@ -32,9 +31,8 @@ pub fn assume(session: &mut Session, machine: &mut Machine) -> Result<(), Fault>
     ensures { Turns result (on_stack (making words.Assume)) session.old machine.old session.new machine.new }
 {
     let term = session.term_on(machine, 0)?;
-    let theorem = session.assumption(machine, term)?;
-    session.make_one(machine, Cmd::Assume, Object::Theorem(theorem))?;
-    Ok(())
+    let answer = session.kernel.assume(term);
+    session.conclude_one(machine, Cmd::Assume, answer)
 }
 
 /// `eqMp` makes the right side of an equation from its left side.
@@ -44,9 +42,8 @@ pub fn eq_mp(session: &mut Session, machine: &mut Machine) -> Result<(), Fault>
 {
     let top = session.theorem_on(machine, 0)?;
     let lower = session.theorem_on(machine, 1)?;
-    let theorem = session.equality_rule(machine, lower, top)?;
-    session.make_two(machine, Cmd::EqMp, Object::Theorem(theorem))?;
-    Ok(())
+    let answer = session.kernel.eq_mp(lower, top);
+    session.conclude_two(machine, Cmd::EqMp, answer)
 }
 
 /// `absThm` makes the equation of the abstractions of a variable from both sides of an equation.
@@ -56,9 +53,8 @@ pub fn abs_thm(session: &mut Session, machine: &mut Machine) -> Result<(), Fault
 {
     let premise = session.theorem_on(machine, 0)?;
     let variable = session.variable_on(machine, 1)?;
-    let theorem = session.abstraction_rule(machine, variable, premise)?;
-    session.make_two(machine, Cmd::AbsThm, Object::Theorem(theorem))?;
-    Ok(())
+    let answer = session.kernel.abs_thm(variable, premise);
+    session.conclude_two(machine, Cmd::AbsThm, answer)
 }
 
 /// `appThm` applies an equation of functions to one of arguments.
@@ -68,9 +64,8 @@ pub fn app_thm(session: &mut Session, machine: &mut Machine) -> Result<(), Fault
 {
     let top = session.theorem_on(machine, 0)?;
     let lower = session.theorem_on(machine, 1)?;
-    let theorem = session.application_rule(machine, lower, top)?;
-    session.make_two(machine, Cmd::AppThm, Object::Theorem(theorem))?;
-    Ok(())
+    let answer = session.kernel.app_thm(lower, top);
+    session.conclude_two(machine, Cmd::AppThm, answer)
 }
 
 /// `deductAntisym` makes two propositions equal that follow from each other.
@@ -80,9 +75,8 @@ pub fn deduct_antisym(session: &mut Session, machine: &mut Machine) -> Result<()
 {
     let top = session.theorem_on(machine, 0)?;
     let lower = session.theorem_on(machine, 1)?;
-    let theorem = session.antisymmetry(machine, lower, top)?;
-    session.make_two(machine, Cmd::DeductAntisym, Object::Theorem(theorem))?;
-    Ok(())
+    let answer = session.kernel.deduct_antisym(lower, top);
+    session.conclude_two(machine, Cmd::DeductAntisym, answer)
 }
 
 /// `betaConv` makes the theorem that a beta redex equals what it reduces to.
@@ -91,9 +85,8 @@ pub fn beta_conv(session: &mut Session, machine: &mut Machine) -> Result<(), Fau
     ensures { Turns result (on_stack (making words.BetaConv)) session.old machine.old session.new machine.new }
 {
     let term = session.term_on(machine, 0)?;
-    let theorem = session.beta_conversion(machine, term)?;
-    session.make_one(machine, Cmd::BetaConv, Object::Theorem(theorem))?;
-    Ok(())
+    let answer = session.kernel.beta_conv(term);
+    session.conclude_one(machine, Cmd::BetaConv, answer)
 }
 
 /// `sym` turns an equation round.
@@ -102,9 +95,8 @@ pub fn sym(session: &mut Session, machine: &mut Machine) -> Result<(), Fault>
     ensures { Turns result (on_stack (making words.Sym)) session.old machine.old session.new machine.new }
 {
     let premise = session.theorem_on(machine, 0)?;
-    let theorem = session.symmetry(machine, premise)?;
-    session.make_one(machine, Cmd::Sym, Object::Theorem(theorem))?;
-    Ok(())
+    let answer = session.kernel.sym(premise);
+    session.conclude_one(machine, Cmd::Sym, answer)
 }
 
 /// `trans` joins two equations.
@@ -114,9 +106,8 @@ pub fn trans(session: &mut Session, machine: &mut Machine) -> Result<(), Fault>
 {
     let top = session.theorem_on(machine, 0)?;
     let lower = session.theorem_on(machine, 1)?;
-    let theorem = session.transitivity(machine, lower, top)?;
-    session.make_two(machine, Cmd::Trans, Object::Theorem(theorem))?;
-    Ok(())
+    let answer = session.kernel.trans(lower, top);
+    session.conclude_two(machine, Cmd::Trans, answer)
 }
 
 /// `proveHyp` takes what a theorem proves out of the hypotheses of another.
@@ -126,9 +117,8 @@ pub fn prove_hyp(session: &mut Session, machine: &mut Machine) -> Result<(), Fau
 {
     let top = session.theorem_on(machine, 0)?;
     let lower = session.theorem_on(machine, 1)?;
-    let theorem = session.proved_hypothesis(machine, lower, top)?;
-    session.make_two(machine, Cmd::ProveHyp, Object::Theorem(theorem))?;
-    Ok(())
+    let answer = session.kernel.prove_hyp(lower, top);
+    session.conclude_two(machine, Cmd::ProveHyp, answer)
 }
 
 /// `subst` puts the maps of a list into a theorem.
@@ -139,9 +129,8 @@ pub fn subst(alloc: Global, session: &mut Session, machine: &mut Machine) -> Res
     let premise = session.theorem_on(machine, 0)?;
     let list = session.list_on(machine, 1)?;
     let maps = session.maps_of(alloc, machine, list)?;
-    let theorem = session.instance(machine, &maps, premise)?;
-    session.make_two(machine, Cmd::Subst, Object::Theorem(theorem))?;
-    Ok(())
+    let answer = session.kernel.subst(&maps, premise);
+    session.conclude_two(machine, Cmd::Subst, answer)
 }
 
 /// `axiom` takes a sequent as a theorem of the context, else as an assumption of the run.

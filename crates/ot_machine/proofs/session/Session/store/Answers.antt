@@ -1,6 +1,5 @@
 use Rattle.std.specs.Map.{lookup}
-use Rattle.std.specs.BTreeMap.{is_at}
-use Rattle.std.specs.Ordering.{int_cmp}
+use Rattle.std.specs.Ordering.{int_eq}
 use Rattle.std.proofs.lemmas.Int.{to_z-of_z}
 use Rattle.std.proofs.Common.{sym, ap, subst, ◌∙◌, length}
 use Rattle.std.proofs.lemmas.Option.{same_Some}
@@ -12,7 +11,7 @@ pub returns-in_err-insert-clause-of : goal.returns-in_err-insert-clause-of
 returns-in_err-insert-clause-of c = record {
   run = c.requires.of.run;
   stack = c.requires.of.stack;
-  dictionary = λ q o p. c.requires.of.dictionary q o (ap (lookup (is_at (int_cmp q))) (sym c.in_err-insert.ensures.err) ∙ p);
+  dictionary = λ q o p. c.requires.of.dictionary q o (ap (lookup (int_eq q)) (sym c.in_err-insert.ensures.err) ∙ p);
   exports = c.requires.of.exports;
   placed = c.requires.of.placed;
   cells = c.requires.of.cells;
