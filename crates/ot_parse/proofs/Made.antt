@@ -63,6 +63,10 @@ at-second l n t a b f r e h = subst (λ g. IsRelated l (App g b) r) e h
 pub at-first : (l : Around) (c a : Tm Name) (n : Name) (t : Ty Name) (r : Result (Option Value) Memory) → c ≡ Con n t → IsRelated l (App c a) r → IsRelated l (App (Con n t) a) r
 at-first l c a n t r e h = subst (λ g. IsRelated l (App g a) r) e h
 
+-- a term that fits
+pub relation-made : (l : Around) (t : Tm Name) (v : Value) → IsRelated l t (Ok (Some v)) → Means l (Ok t) (parts.Value v)
+relation-made l t v h = record { means = ap Ok h.0; kept = h.1 }
+
 -- ---- equations
 module _ (l : Around) (k : ℕ) (n : Name) (t : Ty Name) (x y : Value) (hx : IsValue l x) (hy : IsValue l y) (en : n ≡ names.equals) (et : t ≡ type_of_tree x.ty) where
   alike : is_typed l (related_at n t (term_of_tree x.term) (term_of_tree y.term)) ≡ are_alike l (term_of_tree x.term) (term_of_tree y.term)
@@ -86,11 +90,12 @@ module _ (l : Around) (k : ℕ) (n : Name) (t : Ty Name) (x y : Value) (hx : IsV
 
 -- ---- operators
 module _ (hidden : List (Symbol Name)) (l : Around) (k : ℕ) (o : List ℕ) (a b : Tm Name) where
-  pub operator-made : (n : Name) (t : Ty Name) (v : Value) → constant_of hidden o ≡ Some n → t ≡ bool_ty names → IsRelated l (related_at n t a b) (Ok (Some v)) → Means l (infix_of hidden l k o (Ok a) (Ok b)) (parts.Value v)
-  operator-made n t v e d h = record {
-    means = ap Ok (h.0 ∙ ap (λ u. related_at n u a b) d) ∙ sym (ap (λ c. some_or (k, UnknownOperator) c >>= (λ n. Ok (App (App (Con n relation_ty) a) b))) e);
-    kept = h.1;
-  }
+  pub operator-made : (n : Name) (r : Result Part Memory) → constant_of hidden o ≡ Some n → IsMade l (Ok (related_at n (bool_ty names) a b)) r
+      → IsMade l (infix_of hidden l k o (Ok a) (Ok b)) r
+  operator-made n r e h =
+      let same : infix_of hidden l k o (Ok a) (Ok b) ≡ Ok (related_at n (bool_ty names) a b) =
+      ap (λ c. some_or (k, UnknownOperator) c >>= (λ n. Ok (App (App (Con n relation_ty) a) b))) e in
+      subst (λ m. IsMade l m r) (sym same) h
 
   pub no-operator : constant_of hidden o ≡ None → Means l (infix_of hidden l k o (Ok a) (Ok b)) (parts.Wrong k UnknownOperator)
   no-operator e = record { means = sym (ap (λ c. some_or (k, UnknownOperator) c >>= (λ n. Ok (App (App (Con n relation_ty) a) b))) e); kept = tt }

@@ -2,7 +2,8 @@
 ghost use Rattle.std.specs.Prelude.{◌≡◌, ◌≤◌, ℕ, suc, min, List, ◌∷◌, IfOk, Ok};
 ghost use Rattle.std.specs.Option.{option_map};
 ghost use Rattle.ot_plain.specs.Naming.{names};
-ghost use Rattle.ot_plain.specs.Trees.{Free as FreeTree, Con as ConTree, Bound as BoundTree, Abs as AbsTree};
+ghost use Rattle.ot_plain.specs.Names.{Name as NameValue};
+ghost use Rattle.ot_plain.specs.Trees.{Ty as TypeTree, Free as FreeTree, Con as ConTree, Bound as BoundTree, App as AppTree, Abs as AbsTree};
 ghost use Rattle.ot_plain.specs.Hol.{bool_ty, result_ty, depth_ty, depth_limit};
 ghost use Rattle.ot_forms.specs.Meaning.{Around, fits as fits_test};
 ghost use Rattle.ot_plain.specs.PlainTrees.{type_of_tree, term_of_tree};
@@ -203,8 +204,7 @@ fn applied(alloc: Global, function: Value, argument: Value) -> Result<Option<Val
     match result_type(function.ty, &argument.ty) {
         None => Ok(None),
         Some(ty) => {
-            let f = Box::new(alloc, function.term)?;
-            let term = Tm::App(f, Box::new(alloc, argument.term)?);
+            let term = applied_term(alloc, function.term, argument.term)?;
             let type_depth = type_depth(&ty, DEPTH_LIMIT as u64);
             Ok(Some(Value {
                 term,
@@ -215,6 +215,15 @@ fn applied(alloc: Global, function: Value, argument: Value) -> Result<Option<Val
             }))
         }
     }
+}
+
+// The first term applied to the second.
+fn applied_term(alloc: Global, function: Tm, argument: Tm) -> Result<Tm, Memory>
+    ensures { IfOk result (λ t. term_of_tree t ≡ AppTree (term_of_tree function) (term_of_tree argument)) }
+{
+    let function = Box::new(alloc, function)?;
+    let argument = Box::new(alloc, argument)?;
+    Ok(Tm::App(function, argument))
 }
 
 /// An application that begins at this place.
@@ -236,18 +245,27 @@ pub(crate) fn application(
     }
 }
 
-// A constant of this name for a relation between terms of this type, at two terms; where it fits.
+// A constant of this name for a relation between terms of this type.
+fn relation(alloc: Global, name: Name, ty: &Ty) -> Result<Value, AllocError>
+    ensures kept { IfOk result (λ v. (l : Around) → IsValue l v) }
+    ensures term { IfOk result (λ v. term_of_tree v.term ≡ ConTree name (relation_of (type_of_tree ty.now))) }
+{
+    let whole = relation_type(alloc, ty)?;
+    constant_value(alloc, name, whole)
+}
+
+// Such a constant at two terms, where it fits.
 fn related(
     alloc: Global,
-    name: Name,
-    ty: &Ty,
+    relation: Value,
     left: Value,
     right: Value,
 ) -> Result<Option<Value>, Memory>
-    ensures { (l : Around) → IsValue l left → IsValue l right → IsRelated l (related_at name (type_of_tree ty.now) (term_of_tree left.term) (term_of_tree right.term)) result }
+    ensures { (l : Around) (n : NameValue) (t : TypeTree NameValue)
+        → term_of_tree relation.term ≡ ConTree n (relation_of t) → IsValue l relation → IsValue l left → IsValue l right
+        → IsRelated l (related_at n t (term_of_tree left.term) (term_of_tree right.term)) result }
 {
-    let constant = constant_value(alloc, name, relation_type(alloc, ty)?)?;
-    match applied(alloc, constant, left)? {
+    match applied(alloc, relation, left)? {
         None => Ok(None),
         Some(half) => applied(alloc, half, right),
     }
@@ -267,11 +285,19 @@ pub(crate) fn equation(alloc: Global, at: u64, left: Meant, right: Meant) -> Res
 fn equated(alloc: Global, at: u64, left: Value, right: Value) -> Result<Meant, Memory>
     ensures { (l : Around) → IsValue l left → IsValue l right → IsMade l (equal_of l at (Ok (term_of_tree left.term)) (Ok (term_of_tree right.term))) result }
 {
-    let ty = copy_type(alloc, &left.ty)?;
-    match related(alloc, Name::of_text(alloc, b"=")?, &ty, left, right)? {
+    let equality = equality(alloc, &left.ty)?;
+    match related(alloc, equality, left, right)? {
         Some(value) => Ok(Meant::Value(value)),
         None => Ok(Meant::Wrong(at, TextFault::BadTypes)),
     }
+}
+
+// `=` between terms of this type.
+fn equality(alloc: Global, ty: &Ty) -> Result<Value, AllocError>
+    ensures kept { IfOk result (λ v. (l : Around) → IsValue l v) }
+    ensures term { IfOk result (λ v. term_of_tree v.term ≡ ConTree names.equals (relation_of (type_of_tree ty.now))) }
+{
+    relation(alloc, Name::of_text(alloc, b"=")?, ty)
 }
 
 /// Two terms at the sides of an operator word, in a part that begins at this place.
@@ -304,14 +330,28 @@ fn operated(
 {
     match notation.with_base(WordKind::Con, operator) {
         None => Ok(Meant::Wrong(at, TextFault::UnknownOperator)),
-        Some(name) => {
-            let ty = bool_type(alloc)?;
-            match related(alloc, copy_name(alloc, name)?, &ty, left, right)? {
-                Some(value) => Ok(Meant::Value(value)),
-                None => Err(Memory),
-            }
-        }
+        Some(name) => joined(alloc, name, left, right),
     }
+}
+
+// A constant of this name at two propositions.
+fn joined(alloc: Global, name: &Name, left: Value, right: Value) -> Result<Meant, Memory>
+    ensures { (l : Around) → IsValue l left → IsValue l right → IsMade l (Ok (related_at name.now (bool_ty names) (term_of_tree left.term) (term_of_tree right.term))) result }
+{
+    let connective = connective(alloc, name)?;
+    match related(alloc, connective, left, right)? {
+        Some(value) => Ok(Meant::Value(value)),
+        None => Err(Memory),
+    }
+}
+
+// A constant of this name for a relation between propositions.
+fn connective(alloc: Global, name: &Name) -> Result<Value, AllocError>
+    ensures kept { IfOk result (λ v. (l : Around) → IsValue l v) }
+    ensures term { IfOk result (λ v. term_of_tree v.term ≡ ConTree name.now (relation_of (bool_ty names))) }
+{
+    let ty = bool_type(alloc)?;
+    relation(alloc, copy_name(alloc, name)?, &ty)
 }
 
 /// An abstraction over a variable of this type.
@@ -329,13 +369,22 @@ fn abstracted(alloc: Global, ty: Ty, body: Value) -> Result<Meant, Memory>
 {
     let type_depth = one_deeper(type_depth(&ty, DEPTH_LIMIT as u64), body.type_depth);
     let whole = function_type(alloc, copy_type(alloc, &ty)?, body.ty)?;
+    let term = abstracted_term(alloc, ty, body.term)?;
     Ok(Meant::Value(Value {
-        term: Tm::Abs(ty, Box::new(alloc, body.term)?),
+        term,
         ty: whole,
         depth: one_deeper(body.depth, body.depth),
         type_depth,
         has_shallow_types: type_depth <= DEPTH_LIMIT as u64 && body.has_shallow_types,
     }))
+}
+
+// The abstraction of a term over a variable of this type.
+fn abstracted_term(alloc: Global, ty: Ty, body: Tm) -> Result<Tm, Memory>
+    ensures { IfOk result (λ t. term_of_tree t ≡ AbsTree (type_of_tree ty) (term_of_tree body)) }
+{
+    let body = Box::new(alloc, body)?;
+    Ok(Tm::Abs(ty, body))
 }
 
 // The type of a relation between terms of this type.

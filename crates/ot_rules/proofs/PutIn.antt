@@ -1,4 +1,5 @@
 -- Substitutions put into sequents, against the case.
+use Rattle.std.specs.Prelude.{Result, IfOk}
 use Rattle.std.specs.List.{list_all}
 use Rattle.std.proofs.Common.{◌≡◌, ℕ, Bool, true, false, List, [], map, nat_eq, Some, Ok, Err, sym, ap, ◌∙◌}
 use Rattle.ot_plain.specs.Names.{Name}
@@ -7,21 +8,28 @@ use Rattle.ot_plain.specs.Table.{Extends, IsInjective}
 use Rattle.ot_plain.specs.Trees.{Ty, Tm}
 use Rattle.ot_plain.specs.Hol.{same_ty, type_in, TypeMap, TermMap, subst_tm, once_each, sequent_of}
 use Rattle.ot_plain.specs.Rules.{has_type}
+use Rattle.ot_plain.specs.declared.memory.Memory.{Memory}
 use Rattle.ot_laws.proofs.Tests.{tells_names}
 use Rattle.ot_records.specs.Tokens.{BadStep}
 use Rattle.ot_records.specs.Steps.{Step, first_pairs, first_types, subst_step}
 use Rattle.ot_nodes.specs.Items.{Item, term_at}
-use Rattle.ot_nodes.specs.Changing.{type_map, term_map, HasTypes, HasTerms}
+use Rattle.ot_nodes.specs.Changing.{Putting, type_map, term_map, HasTypes, HasTerms}
 use Rattle.ot_nodes.specs.declared.node.VariableNode.{VariableNode}
 use Rattle.ot_nodes.proofs.ItemLemmas.{term-stays}
 use Rattle.ot_nodes.proofs.MapLemmas.{variable_eq, type_map-stays, term_map-stays}
 use Rattle.ot_rules.specs.Statements.{terms_at, sequent_at, HasStatement}
-use Rattle.ot_rules.specs.Putting.{firsts, IsPut}
+use Rattle.ot_rules.specs.Putting.{firsts, IsChanged, IsPut}
 use Rattle.ot_rules.specs.declared.statement.Statement.{Statement}
 use Rattle.ot_rules.proofs.Cases.{refused, passed}
 use Rattle.ot_rules.proofs.Firsts.{subst-first, subst-first_types}
 use Rattle.ot_rules.proofs.Staying.{terms-stay}
 use Rattle.ot_rules.proofs.Substituting.{types-firsts, terms-firsts, first_types-numbers, first_pairs-numbers}
+
+-- a change that puts a substitution in
+pub put-is : (ts us : List Item) (types : List (ℕ × ℕ)) (terms : List (VariableNode × ℕ)) (a : Statement) (r : Result Statement Memory)
+    → IfOk r (IsChanged ts us (Putting (type_map ts types) (term_map ts terms)) a) → IfOk r (IsPut ts us types terms a)
+put-is ts us types terms a (Ok q) h = record { has = h.has; hyps = h.hyps; concl = h.concl }
+put-is ts us types terms a (Err e) h = tt
 
 -- a term's type is the type, or another
 pub has_type-same : (t : Tm Name) (a ty : Ty Name) → type_in names [] t ≡ Some a → has_type names t ty ≡ same_ty names a ty

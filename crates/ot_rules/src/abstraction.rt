@@ -23,17 +23,32 @@ pub fn abs_thm(nodes: &mut Nodes, v: VariableNode, a: &Statement) -> Result<Stat
     ensures gives { Gives result (abs_thm_step names (variable_at nodes.old v) (sequent_at nodes.old a.now)) nodes.new }
     ensures extends { Extends nodes.old nodes.new }
 {
+    let mut done = Done::new(nodes.allocator());
+    over_variable(nodes, &mut done, v, a)
+}
+
+// The same, by what is remembered of the terms in which the variable was closed.
+fn over_variable(
+    nodes: &mut Nodes,
+    done: &mut Done,
+    v: VariableNode,
+    a: &Statement,
+) -> Result<Statement, StepFault>
+    requires v { HasVariable nodes.old v }
+    requires a { HasStatement nodes.old a.now }
+    requires done { IsDone nodes.old (Closing (variable_at nodes.old v)) done.old }
+    ensures gives { Gives result (abs_thm_step names (variable_at nodes.old v) (sequent_at nodes.old a.now)) nodes.new }
+    ensures extends { Extends nodes.old nodes.new }
+{
     let Some(equation) = as_equation(nodes, a.concl) else {
         return Err(StepFault::BadStep);
     };
-    let alloc = nodes.allocator();
-    let mut done = Done::new(alloc);
-    let free = is_free_in_some(nodes, &mut done, &v, &a.hyps)?;
+    let free = is_free_in_some(nodes, done, &v, &a.hyps)?;
     if free {
         return Err(StepFault::BadStep);
     }
-    let hyps = Vec::from_slice(alloc, &a.hyps)?;
-    let concl = equation_of_abstractions(nodes, &mut done, &v, equation)?;
+    let hyps = Vec::from_slice(nodes.allocator(), &a.hyps)?;
+    let concl = equation_of_abstractions(nodes, done, &v, equation)?;
     Ok(Statement { hyps, concl })
 }
 

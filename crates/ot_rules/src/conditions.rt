@@ -14,7 +14,7 @@ ghost use Rattle.ot_rules.specs.Statements.{terms_at, sequent_at, HasStatement};
 ghost use Rattle.ot_rules.specs.Definitions.{pairs_at, HasPairs, names_at};
 ghost use Rattle.ot_rules.specs.Limits.{AreWellTyped};
 ghost use Rattle.ot_rules.specs.Parts.{marks_tm, HasMark, IsOf};
-ghost use Rattle.ot_rules.specs.Symbols.{passes, IsSignature, are_fresh};
+ghost use Rattle.ot_rules.specs.Symbols.{passes, IsSignature, IsSymbolMark, symbol_of, are_fresh};
 ghost use Rattle.ot_rules.specs.Conditions.{is_allowed, is_var_of, is_kept_var, listed, IsTypedTerm, IsGivenTerm, given_term, given_terms, may_be_given};
 ghost use Rattle.ot_rules.specs.declared.parts.Mark.TheVariants.{Constant};
 
@@ -154,19 +154,18 @@ pub(crate) fn may_be_type(
     if !listed {
         return Ok(false);
     }
-    let parts = marks_of(nodes, premise)?;
     let symbols = [
         Mark::Operator(name),
         Mark::Constant(abs),
         Mark::Constant(rep),
     ];
-    let fresh = signature.may_define(nodes.allocator(), nodes, &parts, &symbols)?;
+    let fresh = are_symbols_fresh(signature, nodes, &symbols, premise)?;
     let closed = is_closed_but(nodes, &[], &occurring);
     Ok(fresh & closed)
 }
 
 /// A term that a hypothesis gives a variable, and its type.
-#[derive(Clone, Copy, Debug)]
+#[derive(Clone, Copy)]
 pub(crate) struct Given {
     term: TermId,
     ty: TypeId,
@@ -287,8 +286,24 @@ fn are_constants_fresh(
         → b ≡ are_fresh (all_defined names dl) (all_used names dl) (symbols_of names (sequent_at nodes.now premise.now)) (map ConSymbol (names_at nodes.now constants.now))) }
 {
     let symbols = constant_marks(nodes.allocator(), constants)?;
+    let fresh = are_symbols_fresh(signature, nodes, symbols.as_slice(), premise)?;
+    Ok(fresh)
+}
+
+// Whether the symbols of these marks may be defined from a premise.
+fn are_symbols_fresh(
+    signature: &Signature,
+    nodes: &Nodes,
+    symbols: &[Mark],
+    premise: &Statement,
+) -> Result<bool, Memory>
+    requires symbols { All (IsSymbolMark nodes.now) symbols.now }
+    requires premise { HasStatement nodes.now premise.now }
+    ensures { IfOk result (λ b. (dl : List (StatedDefinition Name)) → IsSignature nodes.now dl signature.now
+        → b ≡ are_fresh (all_defined names dl) (all_used names dl) (symbols_of names (sequent_at nodes.now premise.now)) (map (symbol_of nodes.now) symbols.now)) }
+{
     let parts = marks_of(nodes, premise)?;
-    let fresh = signature.may_define(nodes.allocator(), nodes, &parts, symbols.as_slice())?;
+    let fresh = signature.may_define(nodes.allocator(), nodes, &parts, symbols)?;
     Ok(fresh)
 }
 

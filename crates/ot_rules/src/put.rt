@@ -11,7 +11,7 @@ ghost use Rattle.ot_nodes.specs.Items.{HasTerm, type_at, term_at};
 ghost use Rattle.ot_nodes.specs.Changing.{changed, changing, type_map, term_map, HasVariable, HasTypes, HasTerms, HasChange, IsDone};
 ghost use Rattle.ot_nodes.specs.Typing.{AreTypings};
 ghost use Rattle.ot_rules.specs.Statements.{terms_at, sequent_at, HasStatement, Gives};
-ghost use Rattle.ot_rules.specs.Putting.{firsts, with_new, IsPut};
+ghost use Rattle.ot_rules.specs.Putting.{firsts, with_new, IsPut, IsChanged};
 
 use crate::statement::{Statement, StepFault, once_each};
 use crate::typing::typing_of;
@@ -142,10 +142,26 @@ pub(crate) fn put(
 {
     let change = Change::Put { types, terms };
     let mut done = Done::new(nodes.allocator());
-    let changed = change_each(nodes, &change, &mut done, &a.hyps)?;
+    changed_statement(nodes, &change, &mut done, a)
+}
+
+// A sequent under a change of each of its terms.
+fn changed_statement(
+    nodes: &mut Nodes,
+    change: &Change,
+    done: &mut Done,
+    a: &Statement,
+) -> Result<Statement, Memory>
+    requires change { HasChange nodes.old change.now }
+    requires done { IsDone nodes.old (changing nodes.old change.now) done.old }
+    requires a { HasStatement nodes.old a.now }
+    ensures ok { IfOk result (λ q. IsChanged nodes.old nodes.new (changing nodes.old change.now) a.now q) }
+    ensures extends { Extends nodes.old nodes.new }
+{
+    let changed = change_each(nodes, change, done, &a.hyps)?;
     nodes.primitives();
     let hyps = once_each(nodes.allocator(), &changed)?;
-    let concl = nodes.change(&change, &mut done, a.concl)?;
+    let concl = nodes.change(change, done, a.concl)?;
     Ok(Statement { hyps, concl })
 }
 

@@ -40,11 +40,15 @@ all-from : {X : Type 0} (P : X → Type 0) (xs : List X) → ((x : X) → IsMemb
 all-from P [] h = All-nil P
 all-from P (x ∷ xs) h = All-cons P x xs (h x (inl refl)) (all-from P xs (λ y m. h y (inr m)))
 
-pub theorems-typed : (al : List (Sequent Name)) (dl : List (Definition Name)) (d : Definition Name) (ts : List Item) (qs : List Statement) → IsAcceptable al dl d → map (sequent_at ts) qs ≡ theorems names d → All (λ q. AreWellTyped (sequent_at ts q)) qs
+pub theorems-typed : (al : List (Sequent Name)) (dl : List (Definition Name))
+    (d : Definition Name) (ts : List Item) (qs : List Statement)
+    → IsAcceptable al dl d → map (sequent_at ts) qs ≡ theorems names d → All (λ q. AreWellTyped (sequent_at ts q)) qs
 theorems-typed al dl d ts qs a are =
     all-from (λ q. AreWellTyped (sequent_at ts q)) qs (λ q m.
-    let (j, at) = place_of (sequent_at ts q) (theorems names d) (subst (IsMember (sequent_at ts q)) are (IsMember-map (sequent_at ts) q qs m)) in
-    sequent-typed (sequent_at ts q) (defined-theorem names tells_names al dl d a.next.fine (premise-stated d a.premise) j (sequent_at ts q) at).sequent)
+    let (j, at) = place_of (sequent_at ts q) (theorems names d)
+    (subst (IsMember (sequent_at ts q)) are (IsMember-map (sequent_at ts) q qs m)) in
+    sequent-typed (sequent_at ts q) (defined-theorem names tells_names al dl d
+    a.next.fine (premise-stated d a.premise) j (sequent_at ts q) at).sequent)
 
 -- ---- what is added
 module _ (ts : List Item) (h : Held) (l : IsLog ts h) where
@@ -53,17 +57,34 @@ module _ (ts : List Item) (h : Held) (l : IsLog ts h) where
     abbrev assumed : Held
     assumed = record h { sequents = h.sequents ++ q ∷ []; assumptions = al }
 
-    assumption-by : (b : Bool) → is_sequent_within names (sequent_at ts q) ≡ b → makes_assumption names (Ok (sequent_at ts q)) (state_of ts h)
-        ≡ (unless stated.LogNesting b >>= λ _. Ok (record (state_of ts h) { sequents = map (sequent_at ts) h.sequents ++ sequent_at ts q ∷ []; assumptions = kept_once names (map (sequent_at ts) h.assumptions) (sequent_at ts q) }))
-    assumption-by b e = ap (λ b. unless stated.LogNesting b >>= λ _. Ok (record (state_of ts h) { sequents = map (sequent_at ts) h.sequents ++ sequent_at ts q ∷ []; assumptions = kept_once names (map (sequent_at ts) h.assumptions) (sequent_at ts q) })) e
+    assumption-by : (b : Bool) → is_sequent_within names (sequent_at ts q) ≡ b
+        → makes_assumption names (Ok (sequent_at ts q)) (state_of ts h)
+        ≡ (unless stated.LogNesting b
+        >>= λ _. Ok (record (state_of ts h) {
+          sequents = map (sequent_at ts) h.sequents ++ sequent_at ts q ∷ [];
+          assumptions = kept_once names (map (sequent_at ts) h.assumptions) (sequent_at ts q);
+        }))
+    assumption-by b e =
+        ap (λ b. unless stated.LogNesting b
+        >>= λ _. Ok (record (state_of ts h) {
+          sequents = map (sequent_at ts) h.sequents ++ sequent_at ts q ∷ [];
+          assumptions = kept_once names (map (sequent_at ts) h.assumptions) (sequent_at ts q);
+        })) e
 
-    pub assumption-made : is_sequent_within names (sequent_at ts q) ≡ true → map (sequent_at ts) al ≡ kept_once names (map (sequent_at ts) h.assumptions) (sequent_at ts q) → makes_assumption names (Ok (sequent_at ts q)) (state_of ts h) ≡ Ok (state_of ts assumed)
-    assumption-made e k = assumption-by true e ∙ (λ i. Ok (record (state_of ts h) { sequents = sym (map-push (sequent_at ts) h.sequents q) i; assumptions = sym k i }))
+    pub assumption-made : is_sequent_within names (sequent_at ts q) ≡ true
+        → map (sequent_at ts) al ≡ kept_once names (map (sequent_at ts) h.assumptions) (sequent_at ts q)
+        → makes_assumption names (Ok (sequent_at ts q)) (state_of ts h) ≡ Ok (state_of ts assumed)
+    assumption-made e k =
+        assumption-by true e
+        ∙ (λ i. Ok (record (state_of ts h) { sequents = sym (map-push (sequent_at ts) h.sequents q) i; assumptions = sym k i }))
 
-    pub assumption-deep : is_sequent_within names (sequent_at ts q) ≡ false → makes_assumption names (Ok (sequent_at ts q)) (state_of ts h) ≡ Err stated.LogNesting
+    pub assumption-deep : is_sequent_within names (sequent_at ts q) ≡ false
+        → makes_assumption names (Ok (sequent_at ts q)) (state_of ts h) ≡ Err stated.LogNesting
     assumption-deep e = assumption-by false e
 
-    pub with-assumption : (hyps : List ℕ) (concl : ℕ) → HasStatement ts q → All (HasStatement ts) al → assumption_step names (terms_at ts hyps) (term_at ts concl) ≡ Ok (sequent_at ts q) → is_sequent_within names (sequent_at ts q) ≡ true
+    pub with-assumption : (hyps : List ℕ) (concl : ℕ) → HasStatement ts q → All (HasStatement ts) al
+        → assumption_step names (terms_at ts hyps) (term_at ts concl) ≡ Ok (sequent_at ts q)
+        → is_sequent_within names (sequent_at ts q) ≡ true
         → map (sequent_at ts) al ≡ kept_once names (map (sequent_at ts) h.assumptions) (sequent_at ts q) → IsLog ts assumed
     with-assumption hyps concl has all step e k = record {
       types = l.types;
@@ -72,7 +93,10 @@ module _ (ts : List Item) (h : Held) (l : IsLog ts h) where
       assumptions = all;
       definitions = l.definitions;
       results = l.results;
-      sound = sound-here (state_of ts assumed) (assumption-sound names tells_names (terms_at ts hyps) (term_at ts concl) (state_of ts h) (state_of ts assumed) (sound-stated (state_of ts h) l.sound) (ap (λ z. makes_assumption names z (state_of ts h)) step ∙ assumption-made e k));
+      sound =
+          sound-here (state_of ts assumed) (assumption-sound names tells_names (terms_at ts hyps)
+          (term_at ts concl) (state_of ts h) (state_of ts assumed) (sound-stated (state_of ts h) l.sound)
+          (ap (λ z. makes_assumption names z (state_of ts h)) step ∙ assumption-made e k));
     }
 
   -- a definition with its theorems
@@ -80,13 +104,23 @@ module _ (ts : List Item) (h : Held) (l : IsLog ts h) where
     abbrev d : Definition Name
     d = accepted_at ts a
 
-    definition-by : (b : Bool) → list_all (is_sequent_within names) (map (sequent_at ts) a.theorems.items) ≡ b → makes_definition names (λ dl. Ok d) (state_of ts h)
-        ≡ (unless stated.LogNesting b >>= λ _. Ok (record (state_of ts h) { sequents = map (sequent_at ts) h.sequents ++ theorems names d; definitions = map (accepted_at ts) h.definitions ++ d ∷ [] }))
+    definition-by : (b : Bool) → list_all (is_sequent_within names) (map (sequent_at ts) a.theorems.items) ≡ b
+        → makes_definition names (λ dl. Ok d) (state_of ts h)
+        ≡ (unless stated.LogNesting b
+        >>= λ _. Ok (record (state_of ts h) {
+          sequents = map (sequent_at ts) h.sequents ++ theorems names d;
+          definitions = map (accepted_at ts) h.definitions ++ d ∷ [];
+        }))
     definition-by b e =
-        ap (λ b. unless stated.LogNesting b >>= λ _. Ok (record (state_of ts h) { sequents = map (sequent_at ts) h.sequents ++ theorems names d; definitions = map (accepted_at ts) h.definitions ++ d ∷ [] }))
+        ap (λ b. unless stated.LogNesting b
+        >>= λ _. Ok (record (state_of ts h) {
+          sequents = map (sequent_at ts) h.sequents ++ theorems names d;
+          definitions = map (accepted_at ts) h.definitions ++ d ∷ [];
+        }))
         (ap (list_all (is_sequent_within names)) (sym has.are) ∙ e)
 
-    pub definition-deep : list_all (is_sequent_within names) (map (sequent_at ts) a.theorems.items) ≡ false → makes_definition names (λ dl. Ok d) (state_of ts h) ≡ Err stated.LogNesting
+    pub definition-deep : list_all (is_sequent_within names) (map (sequent_at ts) a.theorems.items) ≡ false
+        → makes_definition names (λ dl. Ok d) (state_of ts h) ≡ Err stated.LogNesting
     definition-deep e = definition-by false e
 
     -- which are copied
@@ -94,12 +128,18 @@ module _ (ts : List Item) (h : Held) (l : IsLog ts h) where
       abbrev established : Held
       established = record h { sequents = h.sequents ++ qs; definitions = h.definitions ++ a ∷ [] }
 
-      pub definition-made : list_all (is_sequent_within names) (map (sequent_at ts) a.theorems.items) ≡ true → makes_definition names (λ dl. Ok d) (state_of ts h) ≡ Ok (state_of ts established)
+      pub definition-made : list_all (is_sequent_within names) (map (sequent_at ts) a.theorems.items) ≡ true
+          → makes_definition names (λ dl. Ok d) (state_of ts h) ≡ Ok (state_of ts established)
       definition-made e =
-          let all = ap (λ z. map (sequent_at ts) h.sequents ++ z) (sym has.are ∙ sym same) ∙ sym (map-append (sequent_at ts) h.sequents qs) in
-          definition-by true e ∙ (λ i. Ok (record (state_of ts h) { sequents = all i; definitions = sym (map-push (accepted_at ts) h.definitions a) i }))
+          let all = ap (λ z. map (sequent_at ts) h.sequents ++ z) (sym has.are ∙ sym same)
+          ∙ sym (map-append (sequent_at ts) h.sequents qs) in
+          definition-by true e
+          ∙ (λ i. Ok
+          (record (state_of ts h) { sequents = all i; definitions = sym (map-push (accepted_at ts) h.definitions a) i }))
 
-      pub with-definition : All (HasStatement ts) qs → IsAcceptable (map (sequent_at ts) h.assumptions) (map (accepted_at ts) h.definitions) d → list_all (is_sequent_within names) (map (sequent_at ts) a.theorems.items) ≡ true → IsLog ts established
+      pub with-definition : All (HasStatement ts) qs
+          → IsAcceptable (map (sequent_at ts) h.assumptions) (map (accepted_at ts) h.definitions) d
+          → list_all (is_sequent_within names) (map (sequent_at ts) a.theorems.items) ≡ true → IsLog ts established
       with-definition all fine e = record {
         types = l.types;
         terms = l.terms;
@@ -107,21 +147,30 @@ module _ (ts : List Item) (h : Held) (l : IsLog ts h) where
         assumptions = l.assumptions;
         definitions = All-push (HasAccepted ts) h.definitions a l.definitions has;
         results = l.results;
-        sound = sound-here (state_of ts established) (definition-sound names tells_names (λ dl. Ok d) (state_of ts h) (state_of ts established) (λ c is. acceptable-stated (map (sequent_at ts) h.assumptions) (map (accepted_at ts) h.definitions) c (as-given c is)) (sound-stated (state_of ts h) l.sound) (definition-made e));
+        sound =
+            sound-here (state_of ts established) (definition-sound names tells_names (λ dl. Ok d) (state_of ts h)
+            (state_of ts established)
+            (λ c is. acceptable-stated (map (sequent_at ts) h.assumptions) (map (accepted_at ts) h.definitions) c (as-given c is))
+            (sound-stated (state_of ts h) l.sound) (definition-made e));
       }
         where
-          as-given : (c : Definition Name) → ◌≡◌ {A = Result (Definition Name) stated.LogFault} (Ok d) (Ok c) → IsAcceptable (map (sequent_at ts) h.assumptions) (map (accepted_at ts) h.definitions) c
-          as-given c is = subst (IsAcceptable (map (sequent_at ts) h.assumptions) (map (accepted_at ts) h.definitions)) (same_Ok d c is) fine
+          as-given : (c : Definition Name) → ◌≡◌ {A = Result (Definition Name) stated.LogFault} (Ok d) (Ok c)
+              → IsAcceptable (map (sequent_at ts) h.assumptions) (map (accepted_at ts) h.definitions) c
+          as-given c is =
+              subst (IsAcceptable (map (sequent_at ts) h.assumptions) (map (accepted_at ts) h.definitions)) (same_Ok d c is) fine
 
   -- a result, where it is new
-  module _ (q : Statement) (ql : List Statement) (kept : map (sequent_at ts) ql ≡ kept_once names (map (sequent_at ts) h.results) (sequent_at ts q)) where
+  module _ (q : Statement) (ql : List Statement)
+      (kept : map (sequent_at ts) ql ≡ kept_once names (map (sequent_at ts) h.results) (sequent_at ts q)) where
     abbrev resulting : Held
     resulting = record h { results = ql }
 
     pub result-made : makes_result names (sequent_at ts q) (state_of ts h) ≡ Ok (state_of ts resulting)
     result-made = λ i. Ok (record (state_of ts h) { results = sym kept i })
 
-    pub with-result : All (HasStatement ts) ql → IsTheorem names (map (sequent_at ts) h.assumptions) (map (accepted_at ts) h.definitions) (sequent_at ts q) → IsLog ts resulting
+    pub with-result : All (HasStatement ts) ql
+        → IsTheorem names (map (sequent_at ts) h.assumptions) (map (accepted_at ts) h.definitions) (sequent_at ts q)
+        → IsLog ts resulting
     with-result all follows = record {
       types = l.types;
       terms = l.terms;
@@ -129,5 +178,7 @@ module _ (ts : List Item) (h : Held) (l : IsLog ts h) where
       assumptions = l.assumptions;
       definitions = l.definitions;
       results = all;
-      sound = sound-here (state_of ts resulting) (result-sound names tells_names (sequent_at ts q) (state_of ts h) (state_of ts resulting) follows (sound-stated (state_of ts h) l.sound) result-made);
+      sound =
+          sound-here (state_of ts resulting) (result-sound names tells_names (sequent_at ts q) (state_of ts h)
+          (state_of ts resulting) follows (sound-stated (state_of ts h) l.sound) result-made);
     }

@@ -15,13 +15,15 @@ use Rattle.ot_verify.specs.declared.fault.VerifyFault.TheVariants as verify
 
 -- ---- items, one for one
 module _ {X A : Type 0} where
-  pub each-more : (is is' : X → A → Type 0) → ((x : X) (y : A) → is x y → is' x y) → (xs : List X) (ys : List A) → AreEach is xs ys → AreEach is' xs ys
+  pub each-more : (is is' : X → A → Type 0) → ((x : X) (y : A) → is x y → is' x y) → (xs : List X) (ys : List A)
+      → AreEach is xs ys → AreEach is' xs ys
   each-more is is' more [] [] h = tt
   each-more is is' more (x ∷ xs) (y ∷ ys) h = (more x y h.0, each-more is is' more xs ys h.1)
   each-more is is' more [] (y ∷ ys) h = absurd h
   each-more is is' more (x ∷ xs) [] h = absurd h
 
-  pub each-push : (is : X → A → Type 0) (xs : List X) (ys : List A) (x : X) (y : A) → AreEach is xs ys → is x y → AreEach is (xs ++ x ∷ []) (ys ++ y ∷ [])
+  pub each-push : (is : X → A → Type 0) (xs : List X) (ys : List A) (x : X) (y : A) → AreEach is xs ys → is x y
+      → AreEach is (xs ++ x ∷ []) (ys ++ y ∷ [])
   each-push is [] [] x y h e = (e, tt)
   each-push is (z ∷ xs) (u ∷ ys) x y h e = (h.0, each-push is xs ys x y h.1 e)
   each-push is [] (u ∷ ys) x y h e = absurd h
@@ -29,47 +31,68 @@ module _ {X A : Type 0} where
 
 module _ {A X : Type 0} (st : LogState Name) (ask : (A → RecordForm names) → RecordForm names) where
   -- the count was read
-  pub collects-start : (is : X → A → Type 0) (n : ℕ) (old new : Reader) (l m : Option (List ℕ)) → AnsweredFrom st AskCount IsValue (Ok n) old new l m → CollectsFrom st ask is [] n old new l m
+  pub collects-start : (is : X → A → Type 0) (n : ℕ) (old new : Reader) (l m : Option (List ℕ))
+      → AnsweredFrom st AskCount IsValue (Ok n) old new l m → CollectsFrom st ask is [] n old new l m
   collects-start is n old new None m a = tt
   collects-start is n old new (Some l) None a = a
-  collects-start is n old new (Some l) (Some m) a = ([], tt, λ first next. a.2 first (λ k. ask_each ask k next) ∙ ap (λ k. outcome_in first st (ask_each ask k next) (rest new m)) (sym a.1))
+  collects-start is n old new (Some l) (Some m) a = (
+    [],
+    tt,
+    λ first next. a.2 first (λ k. ask_each ask k next)
+        ∙ ap (λ k. outcome_in first st (ask_each ask k next) (rest new m)) (sym a.1),
+  )
 
   module _ (is is' : X → A → Type 0) (more : (x : X) (y : A) → is x y → is' x y) where
     -- one more
-    next-one : (xs : List X) (x : X) (k : ℕ) (o r s : Rest) → Collects st ask is xs (suc k) o r → Answered st ask is' (Ok x) r s → Collects st ask is' (xs ++ x ∷ []) k o s
+    next-one : (xs : List X) (x : X) (k : ℕ) (o r s : Rest) → Collects st ask is xs (suc k) o r → Answered st ask is' (Ok x) r s
+        → Collects st ask is' (xs ++ x ∷ []) k o s
     next-one xs x k o r s c a = (
       c.0 ++ a.0 ∷ [],
       each-push is' xs c.0 x a.0 (each-more is is' more xs c.0 c.1) a.1,
       λ first next.
           c.2 first next
           ∙ a.2 first (λ y. ask_each ask k (λ us. next (c.0 ++ (y ∷ us))))
-          ∙ ap (λ (f : List A → RecordForm names). outcome_in first st (ask_each ask k f) s) (λ j us. next (sym (append_assoc c.0 (a.0 ∷ []) us) j)),
+          ∙ ap (λ (f : List A → RecordForm names). outcome_in first st (ask_each ask k f) s)
+          (λ j us. next (sym (append_assoc c.0 (a.0 ∷ []) us) j)),
     )
 
-    pub collects-next : (xs : List X) (x : X) (k : ℕ) (old mid new : Reader) (l m n : Option (List ℕ)) → CollectsFrom st ask is xs (suc k) old mid l m → AnsweredFrom st ask is' (Ok x) mid new m n → CollectsFrom st ask is' (xs ++ x ∷ []) k old new l n
+    pub collects-next : (xs : List X) (x : X) (k : ℕ) (old mid new : Reader) (l m n : Option (List ℕ))
+        → CollectsFrom st ask is xs (suc k) old mid l m → AnsweredFrom st ask is' (Ok x) mid new m n
+        → CollectsFrom st ask is' (xs ++ x ∷ []) k old new l n
     collects-next xs x k old mid new None m n c a = tt
     collects-next xs x k old mid new (Some l) None n c a = absurd c
     collects-next xs x k old mid new (Some l) (Some m) None c a = a
     collects-next xs x k old mid new (Some l) (Some m) (Some n) c a = next-one xs x k (rest old l) (rest mid m) (rest new n) c a
 
   -- all of them
-  pub collects-end : {V : Type 0} (is : X → A → Type 0) (items : V → List X) (v : V) (old new : Reader) (l m : Option (List ℕ)) → CollectsFrom st ask is (items v) 0 old new l m → AnsweredFrom st (ask_list ask) (λ (v : V). AreEach is (items v)) (Ok v) old new l m
+  pub collects-end : {V : Type 0} (is : X → A → Type 0) (items : V → List X) (v : V) (old new : Reader) (l m : Option (List ℕ))
+      → CollectsFrom st ask is (items v) 0 old new l m
+      → AnsweredFrom st (ask_list ask) (λ (v : V). AreEach is (items v)) (Ok v) old new l m
   collects-end is items v old new None m c = tt
   collects-end is items v old new (Some l) None c = c
-  collects-end is items v old new (Some l) (Some m) c = (c.0, c.1, λ first next. c.2 first next ∙ ap (λ ys. outcome_in first st (next ys) (rest new m)) (append-nil c.0))
+  collects-end is items v old new (Some l) (Some m) c = (
+    c.0,
+    c.1,
+    λ first next. c.2 first next ∙ ap (λ ys. outcome_in first st (next ys) (rest new m)) (append-nil c.0),
+  )
 
   -- one that was not read
-  pub collects-stop : {Y Z : Type 0} (is : X → A → Type 0) (xs : List X) (k : ℕ) (e : VerifyFault) (old mid new : Reader) (l m n : Option (List ℕ)) (at : Z → A → Type 0) (these : Y → List A → Type 0) → CollectsFrom st ask is xs (suc k) old mid l m → AnsweredFrom st ask at (Err e) mid new m n → AnsweredFrom st (ask_list ask) these (Err e) old new l n
+  pub collects-stop : {Y Z : Type 0} (is : X → A → Type 0) (xs : List X) (k : ℕ) (e : VerifyFault)
+      (old mid new : Reader) (l m n : Option (List ℕ)) (at : Z → A → Type 0) (these : Y → List A → Type 0)
+      → CollectsFrom st ask is xs (suc k) old mid l m → AnsweredFrom st ask at (Err e) mid new m n
+      → AnsweredFrom st (ask_list ask) these (Err e) old new l n
   collects-stop is xs k e old mid new None m n at these c a = tt
   collects-stop is xs k e old mid new (Some l) None n at these c a = absurd c
   collects-stop is xs k e old mid new (Some l) (Some m) None at these c a = a
-  collects-stop is xs k (verify.At line f) old mid new (Some l) (Some m) (Some n) at these c a = λ first next. c.2 first next ∙ a first (λ x. ask_each ask k (λ us. next (c.0 ++ (x ∷ us))))
+  collects-stop is xs k (verify.At line f) old mid new (Some l) (Some m) (Some n) at these c a =
+      λ first next. c.2 first next ∙ a first (λ x. ask_each ask k (λ us. next (c.0 ++ (x ∷ us))))
   collects-stop is xs k verify.ReadFault old mid new (Some l) (Some m) (Some n) at these c a = tt
   collects-stop is xs k verify.Memory old mid new (Some l) (Some m) (Some n) at these c a = tt
 
 module _ {A : Type 0} (st : LogState Name) (ask : (A → RecordForm names) → RecordForm names) where
   -- the count was not read
-  pub collects-none : {Y : Type 0} (e : VerifyFault) (old new : Reader) (l m : Option (List ℕ)) (these : Y → List A → Type 0) → AnsweredFrom {X = ℕ} st AskCount IsValue (Err e) old new l m → AnsweredFrom st (ask_list ask) these (Err e) old new l m
+  pub collects-none : {Y : Type 0} (e : VerifyFault) (old new : Reader) (l m : Option (List ℕ)) (these : Y → List A → Type 0)
+      → AnsweredFrom {X = ℕ} st AskCount IsValue (Err e) old new l m → AnsweredFrom st (ask_list ask) these (Err e) old new l m
   collects-none e old new None m these a = tt
   collects-none e old new (Some l) None these a = a
   collects-none (verify.At line f) old new (Some l) (Some m) these a = λ first next. a first (λ k. ask_each ask k next)
@@ -77,23 +100,33 @@ module _ {A : Type 0} (st : LogState Name) (ask : (A → RecordForm names) → R
   collects-none verify.Memory old new (Some l) (Some m) these a = tt
 
 -- ---- one thing after another, asked for together
-module _ {A B C X Y Z : Type 0} (st : LogState Name) (ask : (A → RecordForm names) → RecordForm names) (also : (B → RecordForm names) → RecordForm names) (pair : A → B → C) where
+module _ {A B C X Y Z : Type 0} (st : LogState Name) (ask : (A → RecordForm names) → RecordForm names)
+    (also : (B → RecordForm names) → RecordForm names) (pair : A → B → C) where
   -- both were read
-  pub both-read : (is : X → A → Type 0) (are : Y → B → Type 0) (all : Z → C → Type 0) (x : X) (y : Y) (z : Z) (old mid new : Reader) (l m n : Option (List ℕ))
-      → AnsweredFrom st ask is (Ok x) old mid l m → AnsweredFrom st also are (Ok y) mid new m n → ((a : A) (b : B) → is x a → are y b → all z (pair a b)) → AnsweredFrom st (λ next. ask (λ a. also (λ b. next (pair a b)))) all (Ok z) old new l n
+  pub both-read : (is : X → A → Type 0) (are : Y → B → Type 0) (all : Z → C → Type 0)
+      (x : X) (y : Y) (z : Z) (old mid new : Reader) (l m n : Option (List ℕ))
+      → AnsweredFrom st ask is (Ok x) old mid l m → AnsweredFrom st also are (Ok y) mid new m n
+      → ((a : A) (b : B) → is x a → are y b → all z (pair a b))
+      → AnsweredFrom st (λ next. ask (λ a. also (λ b. next (pair a b)))) all (Ok z) old new l n
   both-read is are all x y z old mid new None m n g h f = tt
   both-read is are all x y z old mid new (Some l) None n g h f = absurd g
   both-read is are all x y z old mid new (Some l) (Some m) None g h f = h
-  both-read is are all x y z old mid new (Some l) (Some m) (Some n) g h f =
-      (pair g.0 h.0, f g.0 h.0 g.1 h.1, λ first next. g.2 first (λ a. also (λ b. next (pair a b))) ∙ h.2 first (λ b. next (pair g.0 b)))
+  both-read is are all x y z old mid new (Some l) (Some m) (Some n) g h f = (
+    pair g.0 h.0,
+    f g.0 h.0 g.1 h.1,
+    λ first next. g.2 first (λ a. also (λ b. next (pair a b))) ∙ h.2 first (λ b. next (pair g.0 b)),
+  )
 
   -- the second was not read
-  pub second-stop : (is : X → A → Type 0) (are : Y → B → Type 0) (all : Z → C → Type 0) (x : X) (e : VerifyFault) (old mid new : Reader) (l m n : Option (List ℕ))
-      → AnsweredFrom st ask is (Ok x) old mid l m → AnsweredFrom st also are (Err e) mid new m n → AnsweredFrom st (λ next. ask (λ a. also (λ b. next (pair a b)))) all (Err e) old new l n
+  pub second-stop : (is : X → A → Type 0) (are : Y → B → Type 0) (all : Z → C → Type 0)
+      (x : X) (e : VerifyFault) (old mid new : Reader) (l m n : Option (List ℕ))
+      → AnsweredFrom st ask is (Ok x) old mid l m → AnsweredFrom st also are (Err e) mid new m n
+      → AnsweredFrom st (λ next. ask (λ a. also (λ b. next (pair a b)))) all (Err e) old new l n
   second-stop is are all x e old mid new None m n g h = tt
   second-stop is are all x e old mid new (Some l) None n g h = absurd g
   second-stop is are all x e old mid new (Some l) (Some m) None g h = h
-  second-stop is are all x (verify.At line f) old mid new (Some l) (Some m) (Some n) g h = λ first next. g.2 first (λ a. also (λ b. next (pair a b))) ∙ h first (λ b. next (pair g.0 b))
+  second-stop is are all x (verify.At line f) old mid new (Some l) (Some m) (Some n) g h =
+      λ first next. g.2 first (λ a. also (λ b. next (pair a b))) ∙ h first (λ b. next (pair g.0 b))
   second-stop is are all x verify.ReadFault old mid new (Some l) (Some m) (Some n) g h = tt
   second-stop is are all x verify.Memory old mid new (Some l) (Some m) (Some n) g h = tt
 

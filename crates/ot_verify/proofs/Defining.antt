@@ -27,7 +27,8 @@ use Rattle.ot_verify.proofs.Sound.{acceptable-here}
 use Rattle.ot_verify.proofs.Logging.{held_of, IsKept, state-stays}
 
 -- a change that does the same
-pub made-alike : (r : Result (Unit {0}) Refusal) (c b : Change names) (old mid new : LogState Name) → c old ≡ b mid → MadeBy r b mid new → MadeBy r c old new
+pub made-alike : (r : Result (Unit {0}) Refusal) (c b : Change names) (old mid new : LogState Name) → c old ≡ b mid
+    → MadeBy r b mid new → MadeBy r c old new
 made-alike (Ok u) c b old mid new e m = e ∙ m
 made-alike (Err refusals.BadStep) c b old mid new e m = e ∙ m
 made-alike (Err refusals.LogNesting) c b old mid new e m = e ∙ m
@@ -45,29 +46,45 @@ module _ (ts : List Item) (q r : Statement) (hyps : r.hyps.items ≡ q.hyps.item
 abbrev pub Steps : Type 0
 Steps = List (Definition Name) → Result (Definition Name) stated.LogFault
 
-pub made-definition : (made : Result (Vec Statement) StepFault) (d : Definition Name) (case : Steps) (r : Result (Unit {0}) Refusal) (old : LogState Name) (mid new : LogView) → mid.state ≡ old → Defines made d (case mid.state.definitions) mid.items → AddsDefinition r d made mid new → MadeBy r (makes_definition names case) old new.state
+pub made-definition : (made : Result (Vec Statement) StepFault) (d : Definition Name)
+    (case : Steps) (r : Result (Unit {0}) Refusal) (old : LogState Name) (mid new : LogView)
+    → mid.state ≡ old → Defines made d (case mid.state.definitions) mid.items → AddsDefinition r d made mid new
+    → MadeBy r (makes_definition names case) old new.state
 made-definition (Ok v) d case r old mid new e g a =
     subst (λ z. MadeBy r (makes_definition names case) z new.state) e
-    (made-alike r (makes_definition names case) (makes_definition names (λ dl. Ok d)) mid.state mid.state new.state (ap (λ z. makes_definition names (λ dl. z) mid.state) g.2) a)
+    (made-alike r (makes_definition names case) (makes_definition names (λ dl. Ok d)) mid.state
+    mid.state new.state (ap (λ z. makes_definition names (λ dl. z) mid.state) g.2) a)
 made-definition (Err step.BadStep) d case r old mid new e g a =
     subst (λ z. MadeBy r (makes_definition names case) z new.state) e
-    (subst (λ z. MadeBy z (makes_definition names case) mid.state new.state) (sym a) (ap (λ z. makes_definition names (λ dl. z) mid.state) g))
-made-definition (Err step.Memory) d case r old mid new e g a = subst (λ z. MadeBy z (makes_definition names case) old new.state) (sym a) tt
+    (subst (λ z. MadeBy z (makes_definition names case) mid.state new.state)
+    (sym a) (ap (λ z. makes_definition names (λ dl. z) mid.state) g))
+made-definition (Err step.Memory) d case r old mid new e g a =
+    subst (λ z. MadeBy z (makes_definition names case) old new.state) (sym a) tt
 
 -- what a case gives may be next where the case is sound
-pub establishes : (made : Result (Vec Statement) StepFault) (d : Definition Name) (case : Steps) (l : LogView) → Defines made d (case l.state.definitions) l.items → ((c : Definition Name) → case l.state.definitions ≡ Ok c → IsAcceptable names l.state.assumptions l.state.definitions c) → Establishes l d made
+pub establishes : (made : Result (Vec Statement) StepFault) (d : Definition Name) (case : Steps) (l : LogView)
+    → Defines made d (case l.state.definitions) l.items
+    → ((c : Definition Name) → case l.state.definitions ≡ Ok c → IsAcceptable names l.state.assumptions l.state.definitions c)
+    → Establishes l d made
 establishes (Ok v) d case l g s = (g.0, g.1, acceptable-here l.state.assumptions l.state.definitions d (s d g.2))
 establishes (Err step.BadStep) d case l g s = tt
 establishes (Err step.Memory) d case l g s = tt
 
 -- the case, of the definitions that the grown table has, and the definition by that table
-pub defines-grown : (l : Inside) (us : List Item) (e : Extends l.nodes us) (k : IsKept l.nodes l) (d : code.Definition) (has : HasDefinition l.nodes d) (made : Result (Vec Statement) StepFault) (case : Steps)
-    → Defines made (definition_at l.nodes d) (case (state_of l.nodes (held_of l)).definitions) us → Defines made (definition_at us d) (case (state_of us (held_of l)).definitions) us
+pub defines-grown : (l : Inside) (us : List Item) (e : Extends l.nodes us) (k : IsKept l.nodes l)
+    (d : code.Definition) (has : HasDefinition l.nodes d) (made : Result (Vec Statement) StepFault) (case : Steps)
+    → Defines made (definition_at l.nodes d) (case (state_of l.nodes (held_of l)).definitions) us
+    → Defines made (definition_at us d) (case (state_of us (held_of l)).definitions) us
 defines-grown l us e k d has made case g =
-    subst (λ (s : LogState Name). Defines made (definition_at us d) (case s.definitions) us) (sym (state-stays l.nodes us e (held_of l) k.log))
-    (subst (λ z. Defines made z (case (state_of l.nodes (held_of l)).definitions) us) (sym (definition-stays l.nodes us e d has)) g)
+    subst (λ (s : LogState Name). Defines made (definition_at us d) (case s.definitions) us)
+    (sym (state-stays l.nodes us e (held_of l) k.log))
+    (subst (λ z. Defines made z (case (state_of l.nodes (held_of l)).definitions) us)
+    (sym (definition-stays l.nodes us e d has)) g)
 
 -- a step that gives no assumption
-pub refused-assumption : (fault : StepFault) (case : Step names) (ts : List Item) (old new : LogState Name) (e : Refusal) → e ≡ of_step fault → Gives (Err fault) case ts → MadeBy (Err e) (makes_assumption names case) old new
-refused-assumption step.BadStep case ts old new e p g = subst (λ z. MadeBy (Err z) (makes_assumption names case) old new) (sym p) (ap (λ z. makes_assumption names z old) g)
-refused-assumption step.Memory case ts old new e p g = subst (λ z. MadeBy (Err z) (makes_assumption names case) old new) (sym p) tt
+pub refused-assumption : (fault : StepFault) (case : Step names) (ts : List Item) (old new : LogState Name) (e : Refusal)
+    → e ≡ of_step fault → Gives (Err fault) case ts → MadeBy (Err e) (makes_assumption names case) old new
+refused-assumption step.BadStep case ts old new e p g =
+    subst (λ z. MadeBy (Err z) (makes_assumption names case) old new) (sym p) (ap (λ z. makes_assumption names z old) g)
+refused-assumption step.Memory case ts old new e p g =
+    subst (λ z. MadeBy (Err z) (makes_assumption names case) old new) (sym p) tt

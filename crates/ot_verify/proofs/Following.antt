@@ -18,7 +18,8 @@ use Rattle.ot_verify.specs.declared.fault.VerifyFault.TheVariants as verify
 
 module _ (max : ℕ) (st now : LogState Name) (w : RecordWord) (old mid new : Reader) where
   -- one record more
-  pub follows-record : (all l m n : Option (List ℕ)) → Follows max st old all l → BeginsFrom (Ok (Some w)) old mid l m → RecordedFrom (Ok (tt {0})) (form names w) mid.last st now mid new m n → Follows max now new all n
+  pub follows-record : (all l m n : Option (List ℕ)) → Follows max st old all l → BeginsFrom (Ok (Some w)) old mid l m
+      → RecordedFrom (Ok (tt {0})) (form names w) mid.last st now mid new m n → Follows max now new all n
   follows-record None l m n f b r = tt
   follows-record (Some bytes) None m n f b r = absurd f
   follows-record (Some bytes) (Some l) None n f b r = absurd b
@@ -26,12 +27,16 @@ module _ (max : ℕ) (st now : LogState Name) (w : RecordWord) (old mid new : Re
   follows-record (Some bytes) (Some l) (Some m) (Some n) f b r = f ∙ b st ∙ r
 
   -- a record that is refused
-  stops : (e : VerifyFault) (bytes l m n : List ℕ) → log_check max bytes ≡ check names old.last (Between st) (rest old l).tokens → Begins (Ok (Some w)) (rest old l) (rest mid m) → Recorded (Err e) (form names w) mid.last st now (rest mid m) (rest new n) → Verifies (Err e) (log_check max bytes)
+  stops : (e : VerifyFault) (bytes l m n : List ℕ) → log_check max bytes ≡ check names old.last (Between st) (rest old l).tokens
+      → Begins (Ok (Some w)) (rest old l) (rest mid m) → Recorded (Err e) (form names w) mid.last st now (rest mid m) (rest new n)
+      → Verifies (Err e) (log_check max bytes)
   stops (verify.At line fault) bytes l m n f b r = f ∙ b st ∙ r
   stops verify.ReadFault bytes l m n f b r = tt
   stops verify.Memory bytes l m n f b r = tt
 
-  pub follows-refused : (e : VerifyFault) (all l m n : Option (List ℕ)) → Follows max st old all l → BeginsFrom (Ok (Some w)) old mid l m → RecordedFrom (Err e) (form names w) mid.last st now mid new m n → IfSome all (λ bytes. Verifies (Err e) (log_check max bytes))
+  pub follows-refused : (e : VerifyFault) (all l m n : Option (List ℕ)) → Follows max st old all l
+      → BeginsFrom (Ok (Some w)) old mid l m → RecordedFrom (Err e) (form names w) mid.last st now mid new m n
+      → IfSome all (λ bytes. Verifies (Err e) (log_check max bytes))
   follows-refused e None l m n f b r = tt
   follows-refused e (Some bytes) None m n f b r = absurd f
   follows-refused e (Some bytes) (Some l) None n f b r = absurd b
@@ -47,13 +52,16 @@ module _ (max : ℕ) (old new : Reader) (is : old ≡ first_reader max) where
   from-first bytes = ap (λ (r : Reader). check names r.last AtFirst (rest r bytes).tokens) (sym is)
 
   -- the header was read
-  pub follows-header : (st : LogState Name) (u : Unit {0}) (all l : Option (List ℕ)) → st ≡ nothing_made → HeadsFrom (Ok u) old new all l → Follows max st new all l
+  pub follows-header : (st : LogState Name) (u : Unit {0}) (all l : Option (List ℕ)) → st ≡ nothing_made
+      → HeadsFrom (Ok u) old new all l → Follows max st new all l
   follows-header st u None l e h = tt
   follows-header st u (Some bytes) None e h = absurd h
-  follows-header st u (Some bytes) (Some l) e h = from-first bytes ∙ h ∙ ap (λ s. check names new.last (Between s) (rest new l).tokens) (sym e)
+  follows-header st u (Some bytes) (Some l) e h =
+      from-first bytes ∙ h ∙ ap (λ s. check names new.last (Between s) (rest new l).tokens) (sym e)
 
   -- no header
-  pub header-refused : (e : VerifyFault) (all l : Option (List ℕ)) → HeadsFrom (Err e) old new all l → IfSome all (λ bytes. Verifies (Err e) (log_check max bytes))
+  pub header-refused : (e : VerifyFault) (all l : Option (List ℕ)) → HeadsFrom (Err e) old new all l
+      → IfSome all (λ bytes. Verifies (Err e) (log_check max bytes))
   header-refused e None l h = tt
   header-refused e (Some bytes) None h = absurd h
   header-refused (verify.At line fault) (Some bytes) (Some l) h = from-first bytes ∙ h
@@ -61,7 +69,8 @@ module _ (max : ℕ) (old new : Reader) (is : old ≡ first_reader max) where
   header-refused verify.Memory (Some bytes) (Some l) h = tt
 
 -- no word of a record
-pub word-refused : (max : ℕ) (st : LogState Name) (old new : Reader) (e : VerifyFault) (all l m : Option (List ℕ)) → Follows max st old all l → BeginsFrom (Err e) old new l m → IfSome all (λ bytes. Verifies (Err e) (log_check max bytes))
+pub word-refused : (max : ℕ) (st : LogState Name) (old new : Reader) (e : VerifyFault) (all l m : Option (List ℕ))
+    → Follows max st old all l → BeginsFrom (Err e) old new l m → IfSome all (λ bytes. Verifies (Err e) (log_check max bytes))
 word-refused max st old new e None l m f b = tt
 word-refused max st old new e (Some bytes) None m f b = absurd f
 word-refused max st old new e (Some bytes) (Some l) None f b = absurd b

@@ -44,7 +44,8 @@ use Rattle.ot_verify.proofs.Adding.{sequent-typed, theorems-typed, assumption-ma
 use Rattle.ot_verify.proofs.Logging.{held_of, IsKept, map-push, accepted-stays, still-accepted, state-stays, log-grown, log-kept, sequent-here, theorem-now, state-then, with-type, type-made, type-deep, with-term, term-made, term-deep, with-sequent, sequent-made, sequent-deep}
 
 -- a change of the same thing
-pub made-by : {A : Type 0} (f : A → Change names) (x y : A) (r : Result (Unit {0}) Refusal) (old mid new : LogState Name) → mid ≡ old → y ≡ x → MadeBy r (f y) mid new → MadeBy r (f x) old new
+pub made-by : {A : Type 0} (f : A → Change names) (x y : A) (r : Result (Unit {0}) Refusal) (old mid new : LogState Name)
+    → mid ≡ old → y ≡ x → MadeBy r (f y) mid new → MadeBy r (f x) old new
 made-by f x y r old mid new e s m = subst (λ z. MadeBy r (f x) z new) e (subst (λ z. MadeBy r (f z) mid new) s m)
 
 -- ---- types and terms
@@ -53,44 +54,72 @@ module _ (l : Inside) (k : IsKept l.nodes l) (now : LogView) (is : view_of l.nod
     pub type-has : HasType l.nodes id
     type-has = subst (λ (v : LogView). HasType v.items id) (sym is) h
 
-    pub type-kept : (xs : List ℕ) → xs ≡ l.types.items ++ id ∷ [] → IsWhole l.nodes (record (held_of l) { types = xs }) l.typings.known.entries l.signature l.assumptions l.results
+    pub type-kept : (xs : List ℕ) → xs ≡ l.types.items ++ id ∷ []
+        → IsWhole l.nodes (record (held_of l) { types = xs }) l.typings.known.entries l.signature l.assumptions l.results
     type-kept xs p =
-        subst (λ zs. IsWhole l.nodes (record (held_of l) { types = zs }) l.typings.known.entries l.signature l.assumptions l.results) (sym p)
-        (record { log = with-type l.nodes (held_of l) k.log id type-has; typings = k.typings; signature = k.signature; assumptions = k.assumptions; results = k.results })
+        subst
+        (λ zs. IsWhole l.nodes (record (held_of l) { types = zs }) l.typings.known.entries l.signature l.assumptions l.results)
+        (sym p)
+        (record {
+          log = with-type l.nodes (held_of l) k.log id type-has;
+          typings = k.typings;
+          signature = k.signature;
+          assumptions = k.assumptions;
+          results = k.results;
+        })
 
     type-same : type_at l.nodes id ≡ type_at now.items id
     type-same = ap (λ (v : LogView). type_at v.items id) is
 
-    pub type-added : (xs : List ℕ) → xs ≡ l.types.items ++ id ∷ [] → nat_le (depth_ty names (type_at l.nodes id)) log_depth ≡ true → MadeBy (Ok (tt {0})) (makes_type names (type_at now.items id)) now.state (state_of l.nodes (record (held_of l) { types = xs }))
+    pub type-added : (xs : List ℕ) → xs ≡ l.types.items ++ id ∷ [] → nat_le (depth_ty names (type_at l.nodes id)) log_depth ≡ true
+        → MadeBy (Ok (tt {0})) (makes_type names (type_at now.items id))
+        now.state (state_of l.nodes (record (held_of l) { types = xs }))
     type-added xs p e =
-        made-by (makes_type names) (type_at now.items id) (type_at l.nodes id) (Ok (tt {0})) now.state (state_of l.nodes (held_of l)) _ (ap (λ (v : LogView). v.state) is) type-same
+        made-by (makes_type names) (type_at now.items id) (type_at l.nodes id) (Ok (tt {0}))
+        now.state (state_of l.nodes (held_of l)) _ (ap (λ (v : LogView). v.state) is) type-same
         (type-made l.nodes (held_of l) k.log id e ∙ ap (λ zs. Ok (state_of l.nodes (record (held_of l) { types = zs }))) (sym p))
 
-    pub type-refused : (new : LogState Name) → nat_le (depth_ty names (type_at l.nodes id)) log_depth ≡ false → MadeBy (Err refusals.LogNesting) (makes_type names (type_at now.items id)) now.state new
+    pub type-refused : (new : LogState Name) → nat_le (depth_ty names (type_at l.nodes id)) log_depth ≡ false
+        → MadeBy (Err refusals.LogNesting) (makes_type names (type_at now.items id)) now.state new
     type-refused new e =
-        made-by (makes_type names) (type_at now.items id) (type_at l.nodes id) (Err refusals.LogNesting) now.state (state_of l.nodes (held_of l)) new (ap (λ (v : LogView). v.state) is) type-same
+        made-by (makes_type names) (type_at now.items id) (type_at l.nodes id) (Err refusals.LogNesting)
+        now.state (state_of l.nodes (held_of l)) new (ap (λ (v : LogView). v.state) is) type-same
         (type-deep l.nodes (held_of l) k.log id e)
 
   module _ (id : ℕ) (h : HasTerm now.items id) where
     pub term-has : HasTerm l.nodes id
     term-has = subst (λ (v : LogView). HasTerm v.items id) (sym is) h
 
-    pub term-kept : (xs : List ℕ) → xs ≡ l.terms.items ++ id ∷ [] → IsWhole l.nodes (record (held_of l) { terms = xs }) l.typings.known.entries l.signature l.assumptions l.results
+    pub term-kept : (xs : List ℕ) → xs ≡ l.terms.items ++ id ∷ []
+        → IsWhole l.nodes (record (held_of l) { terms = xs }) l.typings.known.entries l.signature l.assumptions l.results
     term-kept xs p =
-        subst (λ zs. IsWhole l.nodes (record (held_of l) { terms = zs }) l.typings.known.entries l.signature l.assumptions l.results) (sym p)
-        (record { log = with-term l.nodes (held_of l) k.log id term-has; typings = k.typings; signature = k.signature; assumptions = k.assumptions; results = k.results })
+        subst
+        (λ zs. IsWhole l.nodes (record (held_of l) { terms = zs }) l.typings.known.entries l.signature l.assumptions l.results)
+        (sym p)
+        (record {
+          log = with-term l.nodes (held_of l) k.log id term-has;
+          typings = k.typings;
+          signature = k.signature;
+          assumptions = k.assumptions;
+          results = k.results;
+        })
 
     term-same : term_at l.nodes id ≡ term_at now.items id
     term-same = ap (λ (v : LogView). term_at v.items id) is
 
-    pub term-added : (xs : List ℕ) → xs ≡ l.terms.items ++ id ∷ [] → nat_le (depth_tm names (term_at l.nodes id)) log_depth ≡ true → MadeBy (Ok (tt {0})) (makes_term names (term_at now.items id)) now.state (state_of l.nodes (record (held_of l) { terms = xs }))
+    pub term-added : (xs : List ℕ) → xs ≡ l.terms.items ++ id ∷ [] → nat_le (depth_tm names (term_at l.nodes id)) log_depth ≡ true
+        → MadeBy (Ok (tt {0})) (makes_term names (term_at now.items id))
+        now.state (state_of l.nodes (record (held_of l) { terms = xs }))
     term-added xs p e =
-        made-by (makes_term names) (term_at now.items id) (term_at l.nodes id) (Ok (tt {0})) now.state (state_of l.nodes (held_of l)) _ (ap (λ (v : LogView). v.state) is) term-same
+        made-by (makes_term names) (term_at now.items id) (term_at l.nodes id) (Ok (tt {0}))
+        now.state (state_of l.nodes (held_of l)) _ (ap (λ (v : LogView). v.state) is) term-same
         (term-made l.nodes (held_of l) k.log id e ∙ ap (λ zs. Ok (state_of l.nodes (record (held_of l) { terms = zs }))) (sym p))
 
-    pub term-refused : (new : LogState Name) → nat_le (depth_tm names (term_at l.nodes id)) log_depth ≡ false → MadeBy (Err refusals.LogNesting) (makes_term names (term_at now.items id)) now.state new
+    pub term-refused : (new : LogState Name) → nat_le (depth_tm names (term_at l.nodes id)) log_depth ≡ false
+        → MadeBy (Err refusals.LogNesting) (makes_term names (term_at now.items id)) now.state new
     term-refused new e =
-        made-by (makes_term names) (term_at now.items id) (term_at l.nodes id) (Err refusals.LogNesting) now.state (state_of l.nodes (held_of l)) new (ap (λ (v : LogView). v.state) is) term-same
+        made-by (makes_term names) (term_at now.items id) (term_at l.nodes id) (Err refusals.LogNesting)
+        now.state (state_of l.nodes (held_of l)) new (ap (λ (v : LogView). v.state) is) term-same
         (term-deep l.nodes (held_of l) k.log id e)
 
 -- ---- sequents
@@ -108,38 +137,67 @@ module _ (l : Inside) (k : IsKept l.nodes l) (now : LogView) (is : view_of l.nod
     module _ (us : List Item) (e : Extends l.nodes us) where
       there : IsTheorem names (state_of us (held_of l)).assumptions (state_of us (held_of l)).definitions (sequent_at us q)
       there =
-          subst (λ (st : LogState Name). IsTheorem names st.assumptions st.definitions (sequent_at us q)) (sym (state-stays l.nodes us e (held_of l) k.log))
-          (subst (IsTheorem names (state_of l.nodes (held_of l)).assumptions (state_of l.nodes (held_of l)).definitions) (sym (sequent-stays l.nodes us e q here.0)) here.1)
+          subst (λ (st : LogState Name). IsTheorem names st.assumptions st.definitions (sequent_at us q))
+          (sym (state-stays l.nodes us e (held_of l) k.log))
+          (subst (IsTheorem names (state_of l.nodes (held_of l)).assumptions (state_of l.nodes (held_of l)).definitions)
+          (sym (sequent-stays l.nodes us e q here.0)) here.1)
 
-      pub statement-kept : (es : List (Scope × Option Typed)) (xs : List Statement) → AreTypings us es → xs ≡ l.sequents.items ++ q ∷ [] → IsWhole us (record (held_of l) { sequents = xs }) es l.signature l.assumptions l.results
+      pub statement-kept : (es : List (Scope × Option Typed)) (xs : List Statement) → AreTypings us es
+          → xs ≡ l.sequents.items ++ q ∷ []
+          → IsWhole us (record (held_of l) { sequents = xs }) es l.signature l.assumptions l.results
       statement-kept es xs t p =
           subst (λ zs. IsWhole us (record (held_of l) { sequents = zs }) es l.signature l.assumptions l.results) (sym p)
-          (record { log = with-sequent us (held_of l) (log-grown l.nodes us e (held_of l) k.log) q (still-statement l.nodes us e q here.0) there; typings = t; signature = (log-kept l us e k).signature; assumptions = k.assumptions; results = k.results })
+          (record {
+            log =
+                with-sequent us (held_of l) (log-grown l.nodes us e (held_of l) k.log)
+                q (still-statement l.nodes us e q here.0) there;
+            typings = t;
+            signature = (log-kept l us e k).signature;
+            assumptions = k.assumptions;
+            results = k.results;
+          })
 
       same : sequent_at us q ≡ sequent_at now.items q
       same = sequent-stays l.nodes us e q here.0 ∙ ap (λ (v : LogView). sequent_at v.items q) is
 
-      within : (b c : Bool) → b ≡ is_sequent_within names (sequent_at l.nodes q) → b ≡ c → is_sequent_within names (sequent_at us q) ≡ c
+      within : (b c : Bool) → b ≡ is_sequent_within names (sequent_at l.nodes q) → b ≡ c
+          → is_sequent_within names (sequent_at us q) ≡ c
       within b c p t = ap (is_sequent_within names) (sequent-stays l.nodes us e q here.0) ∙ sym p ∙ t
 
-      pub statement-added : (b : Bool) (xs : List Statement) → b ≡ is_sequent_within names (sequent_at l.nodes q) → b ≡ true → xs ≡ l.sequents.items ++ q ∷ [] → MadeBy (Ok (tt {0})) (makes_sequent names (Ok (sequent_at now.items q))) now.state (state_of us (record (held_of l) { sequents = xs }))
+      pub statement-added : (b : Bool) (xs : List Statement) → b ≡ is_sequent_within names (sequent_at l.nodes q) → b ≡ true
+          → xs ≡ l.sequents.items ++ q ∷ []
+          → MadeBy (Ok (tt {0})) (makes_sequent names (Ok (sequent_at now.items q)))
+          now.state (state_of us (record (held_of l) { sequents = xs }))
       statement-added b xs p t x =
-          made-by (λ z. makes_sequent names (Ok z)) (sequent_at now.items q) (sequent_at us q) (Ok (tt {0})) now.state (state_of us (held_of l)) _ (state-then l us now is e k) same
-          (sequent-made us (held_of l) (log-grown l.nodes us e (held_of l) k.log) q (within b true p t) ∙ ap (λ zs. Ok (state_of us (record (held_of l) { sequents = zs }))) (sym x))
+          made-by (λ z. makes_sequent names (Ok z)) (sequent_at now.items q) (sequent_at us q)
+          (Ok (tt {0})) now.state (state_of us (held_of l)) _ (state-then l us now is e k) same
+          (sequent-made us (held_of l) (log-grown l.nodes us e (held_of l) k.log) q (within b true p t)
+          ∙ ap (λ zs. Ok (state_of us (record (held_of l) { sequents = zs }))) (sym x))
 
-      pub statement-refused : (b : Bool) (new : LogState Name) → b ≡ is_sequent_within names (sequent_at l.nodes q) → b ≡ false → MadeBy (Err refusals.LogNesting) (makes_sequent names (Ok (sequent_at now.items q))) now.state new
+      pub statement-refused : (b : Bool) (new : LogState Name) → b ≡ is_sequent_within names (sequent_at l.nodes q) → b ≡ false
+          → MadeBy (Err refusals.LogNesting) (makes_sequent names (Ok (sequent_at now.items q))) now.state new
       statement-refused b new p t =
-          made-by (λ z. makes_sequent names (Ok z)) (sequent_at now.items q) (sequent_at us q) (Err refusals.LogNesting) now.state (state_of us (held_of l)) new (state-then l us now is e k) same
+          made-by (λ z. makes_sequent names (Ok z)) (sequent_at now.items q) (sequent_at us q)
+          (Err refusals.LogNesting) now.state (state_of us (held_of l)) new (state-then l us now is e k) same
           (sequent-deep us (held_of l) (log-grown l.nodes us e (held_of l) k.log) q (within b false p t))
 
 -- ---- the same lists, and what is kept beside them anew
-pub whole-same : (l : Inside) (us : List Item) (h : Held) (es : List (Scope × Option Typed)) (s : Signature) (al ql : Kept) → h ≡ held_of l → IsKept us l → AreTypings us es → IsSignature us (map (accepted_at us) l.definitions.items) s → AreKeyed al → AreKeyed ql → IsWhole us h es s al ql
-whole-same l us h es s al ql e k t g a q = subst (λ z. IsWhole us z es s al ql) (sym e) (record { log = k.log; typings = t; signature = g; assumptions = a; results = q })
+pub whole-same : (l : Inside) (us : List Item) (h : Held) (es : List (Scope × Option Typed)) (s : Signature) (al ql : Kept)
+    → h ≡ held_of l → IsKept us l → AreTypings us es → IsSignature us (map (accepted_at us) l.definitions.items) s → AreKeyed al
+    → AreKeyed ql → IsWhole us h es s al ql
+whole-same l us h es s al ql e k t g a q =
+    subst (λ z. IsWhole us z es s al ql) (sym e)
+    (record { log = k.log; typings = t; signature = g; assumptions = a; results = q })
 
 -- ---- assumptions
 -- terms that are propositions are well typed
-hyps-typed : (hs : List (Tm Name)) → list_all (is_proposition names) hs ≡ true → (x : Tm Name) → IsMember x hs → IsWellTyped names x
-hyps-typed (y ∷ hs) h x (inl e) = subst (IsWellTyped names) e (bool_ty names, proposition-is names tells_names y (and_parts (is_proposition names y) (list_all (is_proposition names) hs) h).0)
+hyps-typed : (hs : List (Tm Name)) → list_all (is_proposition names) hs ≡ true → (x : Tm Name) → IsMember x hs
+    → IsWellTyped names x
+hyps-typed (y ∷ hs) h x (inl e) =
+    subst (IsWellTyped names) e (
+      bool_ty names,
+      proposition-is names tells_names y (and_parts (is_proposition names y) (list_all (is_proposition names) hs) h).0,
+    )
 hyps-typed (y ∷ hs) h x (inr m) = hyps-typed hs (and_parts (is_proposition names y) (list_all (is_proposition names) hs) h).1 x m
 hyps-typed [] h x m = absurd m
 
@@ -154,15 +212,20 @@ step-typed hyps p q h =
     let both = and_parts (is_proposition names p) (list_all (is_proposition names) hyps) (unless-ok stated.BadStep test u e) in
     let made : Sequent Name = record { hyps = once_each names hyps; concl = p } in
     let typed : AreWellTyped made = record {
-      hyps = all-members (IsWellTyped names) (once_each names hyps) (λ x m. hyps-typed hyps both.1 x ((IsMember-once_each names tells_names x hyps).0 m));
+      hyps =
+          all-members (IsWellTyped names) (once_each names hyps)
+          (λ x m. hyps-typed hyps both.1 x ((IsMember-once_each names tells_names x hyps).0 m));
       concl = (bool_ty names, proposition-is names tells_names p both.0);
     } in
     subst AreWellTyped (same_Ok made q k) typed
 
-module _ (l : Inside) (k : IsKept l.nodes l) (now : LogView) (is : view_of l.nodes (held_of l) ≡ now) (hyps : List ℕ) (concl : ℕ) (q : Statement) (hs : All (HasTerm now.items) hyps) (hc : HasTerm now.items concl)
+module _ (l : Inside) (k : IsKept l.nodes l) (now : LogView) (is : view_of l.nodes (held_of l) ≡ now)
+    (hyps : List ℕ) (concl : ℕ) (q : Statement) (hs : All (HasTerm now.items) hyps) (hc : HasTerm now.items concl)
     (g : Gives (Ok q) (assumption_step names (terms_at now.items hyps) (term_at now.items concl)) now.items) where
   gives : Gives (Ok q) (assumption_step names (terms_at l.nodes hyps) (term_at l.nodes concl)) l.nodes
-  gives = subst (λ (v : LogView). Gives (Ok q) (assumption_step names (terms_at v.items hyps) (term_at v.items concl)) v.items) (sym is) g
+  gives =
+      subst (λ (v : LogView). Gives (Ok q) (assumption_step names (terms_at v.items hyps) (term_at v.items concl)) v.items)
+      (sym is) g
 
   pub assumed-has : HasStatement l.nodes q
   assumed-has = gives.0
@@ -189,43 +252,83 @@ module _ (l : Inside) (k : IsKept l.nodes l) (now : LogView) (is : view_of l.nod
       assumed-within : (c : Bool) → b ≡ c → is_sequent_within names (sequent_at us q) ≡ c
       assumed-within c t = ap (is_sequent_within names) (sequent-stays l.nodes us e q gives.0) ∙ sym p ∙ t
 
-      pub assumption-refused : (new : LogState Name) → b ≡ false → MadeBy (Err refusals.LogNesting) (makes_assumption names (Ok (sequent_at now.items q))) now.state new
+      pub assumption-refused : (new : LogState Name) → b ≡ false
+          → MadeBy (Err refusals.LogNesting) (makes_assumption names (Ok (sequent_at now.items q))) now.state new
       assumption-refused new t =
-          made-by (λ z. makes_assumption names (Ok z)) (sequent_at now.items q) (sequent_at us q) (Err refusals.LogNesting) now.state (state_of us (held_of l)) new (state-then l us now is e k) assumed-same
+          made-by (λ z. makes_assumption names (Ok z)) (sequent_at now.items q) (sequent_at us q)
+          (Err refusals.LogNesting) now.state (state_of us (held_of l)) new (state-then l us now is e k) assumed-same
           (assumption-deep us (held_of l) (log-grown l.nodes us e (held_of l) k.log) q [] (assumed-within false t))
 
-      module _ (al : Kept) (xs : List Statement) (t : b ≡ true) (x : xs ≡ l.sequents.items ++ q ∷ []) (once : map (sequent_at us) al.statements.items ≡ kept_once names (map (sequent_at us) l.assumptions.statements.items) (sequent_at us q)) where
-        pub assumption-kept : (es : List (Scope × Option Typed)) → AreTypings us es → AreKeyed al → All (HasStatement us) al.statements.items → IsWhole us (record (held_of l) { sequents = xs; assumptions = al.statements.items }) es l.signature al l.results
+      module _ (al : Kept) (xs : List Statement) (t : b ≡ true) (x : xs ≡ l.sequents.items ++ q ∷ [])
+          (once : map (sequent_at us) al.statements.items
+          ≡ kept_once names (map (sequent_at us) l.assumptions.statements.items) (sequent_at us q)) where
+        pub assumption-kept : (es : List (Scope × Option Typed)) → AreTypings us es → AreKeyed al
+            → All (HasStatement us) al.statements.items
+            → IsWhole us (record (held_of l) { sequents = xs; assumptions = al.statements.items }) es l.signature al l.results
         assumption-kept es t' a all =
-            subst (λ zs. IsWhole us (record (held_of l) { sequents = zs; assumptions = al.statements.items }) es l.signature al l.results) (sym x)
-            (record { log = with-assumption us (held_of l) (log-grown l.nodes us e (held_of l) k.log) q al.statements.items hyps concl assumed-there all step-there (assumed-within true t) once; typings = t'; signature = (log-kept l us e k).signature; assumptions = a; results = k.results })
+            subst (λ zs. IsWhole us (record (held_of l) { sequents = zs; assumptions = al.statements.items })
+            es l.signature al l.results)
+            (sym x)
+            (record {
+              log =
+                  with-assumption us (held_of l) (log-grown l.nodes us e (held_of l) k.log) q
+                  al.statements.items hyps concl assumed-there all step-there (assumed-within true t) once;
+              typings = t';
+              signature = (log-kept l us e k).signature;
+              assumptions = a;
+              results = k.results;
+            })
 
-        pub assumption-added : MadeBy (Ok (tt {0})) (makes_assumption names (Ok (sequent_at now.items q))) now.state (state_of us (record (held_of l) { sequents = xs; assumptions = al.statements.items }))
+        pub assumption-added : MadeBy (Ok (tt {0})) (makes_assumption names (Ok (sequent_at now.items q)))
+            now.state (state_of us (record (held_of l) { sequents = xs; assumptions = al.statements.items }))
         assumption-added =
-            made-by (λ z. makes_assumption names (Ok z)) (sequent_at now.items q) (sequent_at us q) (Ok (tt {0})) now.state (state_of us (held_of l)) _ (state-then l us now is e k) assumed-same
-            (assumption-made us (held_of l) (log-grown l.nodes us e (held_of l) k.log) q al.statements.items (assumed-within true t) once ∙ ap (λ zs. Ok (state_of us (record (held_of l) { sequents = zs; assumptions = al.statements.items }))) (sym x))
+            made-by (λ z. makes_assumption names (Ok z)) (sequent_at now.items q) (sequent_at us q)
+            (Ok (tt {0})) now.state (state_of us (held_of l)) _ (state-then l us now is e k) assumed-same
+            (assumption-made us (held_of l) (log-grown l.nodes us e (held_of l) k.log)
+            q al.statements.items (assumed-within true t) once
+            ∙ ap (λ zs. Ok (state_of us (record (held_of l) { sequents = zs; assumptions = al.statements.items }))) (sym x))
 
 -- ---- results
-module _ (l : Inside) (k : IsKept l.nodes l) (now : LogView) (is : view_of l.nodes (held_of l) ≡ now) (i : ℕ) (q : Statement) (at : slice_get l.sequents.items i ≡ Some q) (ql : Kept)
-    (once : map (sequent_at l.nodes) ql.statements.items ≡ kept_once names (map (sequent_at l.nodes) l.results.statements.items) (sequent_at l.nodes q)) where
-  pub result-kept : AreKeyed ql → All (HasStatement l.nodes) ql.statements.items → IsWhole l.nodes (record (held_of l) { results = ql.statements.items }) l.typings.known.entries l.signature l.assumptions ql
-  result-kept a all = record { log = with-result l.nodes (held_of l) k.log q ql.statements.items once all (theorem-now l k i q at); typings = k.typings; signature = k.signature; assumptions = k.assumptions; results = a }
+module _ (l : Inside) (k : IsKept l.nodes l) (now : LogView) (is : view_of l.nodes (held_of l) ≡ now)
+    (i : ℕ) (q : Statement) (at : slice_get l.sequents.items i ≡ Some q) (ql : Kept)
+    (once : map (sequent_at l.nodes) ql.statements.items
+    ≡ kept_once names (map (sequent_at l.nodes) l.results.statements.items) (sequent_at l.nodes q)) where
+  pub result-kept : AreKeyed ql → All (HasStatement l.nodes) ql.statements.items
+      → IsWhole l.nodes (record (held_of l) { results = ql.statements.items })
+      l.typings.known.entries l.signature l.assumptions ql
+  result-kept a all = record {
+    log = with-result l.nodes (held_of l) k.log q ql.statements.items once all (theorem-now l k i q at);
+    typings = k.typings;
+    signature = k.signature;
+    assumptions = k.assumptions;
+    results = a;
+  }
 
-  pub result-added : (s : Sequent Name) → slice_get now.state.sequents i ≡ Some s → MadeBy (Ok (tt {0})) (makes_result names s) now.state (state_of l.nodes (record (held_of l) { results = ql.statements.items }))
+  pub result-added : (s : Sequent Name) → slice_get now.state.sequents i ≡ Some s
+      → MadeBy (Ok (tt {0})) (makes_result names s) now.state
+      (state_of l.nodes (record (held_of l) { results = ql.statements.items }))
   result-added s h =
-      made-by (makes_result names) s (sequent_at l.nodes q) (Ok (tt {0})) now.state (state_of l.nodes (held_of l)) _ (ap (λ (v : LogView). v.state) is) (sequent-here l now is i q s at h)
+      made-by (makes_result names) s (sequent_at l.nodes q) (Ok (tt {0})) now.state
+      (state_of l.nodes (held_of l)) _ (ap (λ (v : LogView). v.state) is) (sequent-here l now is i q s at h)
       (result-made l.nodes (held_of l) k.log q ql.statements.items once)
 
 -- ---- definitions
-module _ (l : Inside) (k : IsKept l.nodes l) (now : LogView) (is : view_of l.nodes (held_of l) ≡ now) (a : Accepted) (hd : HasDefinition now.items a.definition) (g : Establishes now (definition_at now.items a.definition) (Ok a.theorems)) where
+module _ (l : Inside) (k : IsKept l.nodes l) (now : LogView) (is : view_of l.nodes (held_of l) ≡ now) (a : Accepted)
+    (hd : HasDefinition now.items a.definition) (g : Establishes now (definition_at now.items a.definition) (Ok a.theorems)) where
   given : Establishes (view_of l.nodes (held_of l)) (definition_at l.nodes a.definition) (Ok a.theorems)
   given = subst (λ (v : LogView). Establishes v (definition_at v.items a.definition) (Ok a.theorems)) (sym is) g
 
   pub accepted-has : HasAccepted l.nodes a
-  accepted-has = record { definition = subst (λ (v : LogView). HasDefinition v.items a.definition) (sym is) hd; has = given.0; are = given.1 }
+  accepted-has = record {
+    definition = subst (λ (v : LogView). HasDefinition v.items a.definition) (sym is) hd;
+    has = given.0;
+    are = given.1;
+  }
 
   pub accepted-typed : All (λ q. AreWellTyped (sequent_at l.nodes q)) a.theorems.items
-  accepted-typed = theorems-typed (state_of l.nodes (held_of l)).assumptions (state_of l.nodes (held_of l)).definitions (accepted_at l.nodes a) l.nodes a.theorems.items given.2 given.1
+  accepted-typed =
+      theorems-typed (state_of l.nodes (held_of l)).assumptions (state_of l.nodes (held_of l)).definitions
+      (accepted_at l.nodes a) l.nodes a.theorems.items given.2 given.1
 
   module _ (us : List Item) (e : Extends l.nodes us) where
     pub accepted-there : HasAccepted us a
@@ -233,39 +336,61 @@ module _ (l : Inside) (k : IsKept l.nodes l) (now : LogView) (is : view_of l.nod
 
     acceptable-there : IsAcceptable (state_of us (held_of l)).assumptions (state_of us (held_of l)).definitions (accepted_at us a)
     acceptable-there =
-        subst (λ (st : LogState Name). IsAcceptable st.assumptions st.definitions (accepted_at us a)) (sym (state-stays l.nodes us e (held_of l) k.log))
-        (subst (IsAcceptable (state_of l.nodes (held_of l)).assumptions (state_of l.nodes (held_of l)).definitions) (sym (accepted-stays l.nodes us e a accepted-has)) given.2)
+        subst (λ (st : LogState Name). IsAcceptable st.assumptions st.definitions (accepted_at us a))
+        (sym (state-stays l.nodes us e (held_of l) k.log))
+        (subst (IsAcceptable (state_of l.nodes (held_of l)).assumptions (state_of l.nodes (held_of l)).definitions)
+        (sym (accepted-stays l.nodes us e a accepted-has)) given.2)
 
     accepted-same : accepted_at us a ≡ definition_at now.items a.definition
     accepted-same = accepted-stays l.nodes us e a accepted-has ∙ ap (λ (v : LogView). definition_at v.items a.definition) is
 
     module _ (b : Bool) (p : b ≡ list_all (is_sequent_within names) (map (sequent_at l.nodes) a.theorems.items)) where
       accepted-within : (c : Bool) → b ≡ c → list_all (is_sequent_within names) (map (sequent_at us) a.theorems.items) ≡ c
-      accepted-within c t = ap (list_all (is_sequent_within names)) (map-agree (HasStatement l.nodes) (sequent_at l.nodes) (sequent_at us) (sequent-stays l.nodes us e) a.theorems.items given.0) ∙ sym p ∙ t
+      accepted-within c t =
+          ap (list_all (is_sequent_within names)) (map-agree (HasStatement l.nodes)
+          (sequent_at l.nodes) (sequent_at us) (sequent-stays l.nodes us e) a.theorems.items given.0)
+          ∙ sym p
+          ∙ t
 
-      pub definition-refused : (new : LogState Name) → b ≡ false → MadeBy (Err refusals.LogNesting) (makes_definition names (λ dl. Ok (definition_at now.items a.definition))) now.state new
+      pub definition-refused : (new : LogState Name) → b ≡ false
+          → MadeBy (Err refusals.LogNesting)
+          (makes_definition names (λ dl. Ok (definition_at now.items a.definition))) now.state new
       definition-refused new t =
-          made-by (λ z. makes_definition names (λ dl. Ok z)) (definition_at now.items a.definition) (accepted_at us a) (Err refusals.LogNesting) now.state (state_of us (held_of l)) new (state-then l us now is e k) accepted-same
+          made-by (λ z. makes_definition names (λ dl. Ok z)) (definition_at now.items a.definition) (accepted_at us a)
+          (Err refusals.LogNesting) now.state (state_of us (held_of l)) new (state-then l us now is e k) accepted-same
           (definition-deep us (held_of l) (log-grown l.nodes us e (held_of l) k.log) a accepted-there (accepted-within false t))
 
-      module _ (t : b ≡ true) (qs : List Statement) (same' : map (sequent_at us) qs ≡ map (sequent_at us) a.theorems.items) (xs : List Statement) (ds : List Accepted) (x : xs ≡ l.sequents.items ++ qs) (y : ds ≡ l.definitions.items ++ a ∷ []) where
-        pub definition-kept : (es : List (Scope × Option Typed)) (s : Signature) → AreTypings us es → All (HasStatement us) qs → IsSignature us (map (accepted_at us) l.definitions.items ++ accepted_at us a ∷ []) s → IsWhole us (record (held_of l) { sequents = xs; definitions = ds }) es s l.assumptions l.results
+      module _ (t : b ≡ true) (qs : List Statement)
+          (same' : map (sequent_at us) qs ≡ map (sequent_at us) a.theorems.items) (xs : List Statement)
+          (ds : List Accepted) (x : xs ≡ l.sequents.items ++ qs) (y : ds ≡ l.definitions.items ++ a ∷ []) where
+        pub definition-kept : (es : List (Scope × Option Typed)) (s : Signature) → AreTypings us es → All (HasStatement us) qs
+            → IsSignature us (map (accepted_at us) l.definitions.items ++ accepted_at us a ∷ []) s
+            → IsWhole us (record (held_of l) { sequents = xs; definitions = ds }) es s l.assumptions l.results
         definition-kept es s t' all sig =
-            subst (λ (z : List Statement × List Accepted). IsWhole us (record (held_of l) { sequents = z.0; definitions = z.1 }) es s l.assumptions l.results) (λ i. (sym x i, sym y i))
+            subst (λ (z : List Statement × List Accepted). IsWhole us
+            (record (held_of l) { sequents = z.0; definitions = z.1 }) es s l.assumptions l.results)
+            (λ i. (sym x i, sym y i))
             (record {
-              log = with-definition us (held_of l) (log-grown l.nodes us e (held_of l) k.log) a accepted-there qs same' all acceptable-there (accepted-within true t);
+              log =
+                  with-definition us (held_of l) (log-grown l.nodes us e (held_of l) k.log)
+                  a accepted-there qs same' all acceptable-there (accepted-within true t);
               typings = t';
               signature = subst (λ dl. IsSignature us dl s) (sym (map-push (accepted_at us) l.definitions.items a)) sig;
               assumptions = k.assumptions;
               results = k.results;
             })
 
-        pub definition-added : MadeBy (Ok (tt {0})) (makes_definition names (λ dl. Ok (definition_at now.items a.definition))) now.state (state_of us (record (held_of l) { sequents = xs; definitions = ds }))
+        pub definition-added : MadeBy (Ok (tt {0})) (makes_definition names (λ dl. Ok (definition_at now.items a.definition)))
+            now.state (state_of us (record (held_of l) { sequents = xs; definitions = ds }))
         definition-added =
-            made-by (λ z. makes_definition names (λ dl. Ok z)) (definition_at now.items a.definition) (accepted_at us a) (Ok (tt {0})) now.state (state_of us (held_of l)) _ (state-then l us now is e k) accepted-same
-            (definition-made us (held_of l) (log-grown l.nodes us e (held_of l) k.log) a accepted-there qs same' (accepted-within true t) ∙ (λ i. Ok (state_of us (record (held_of l) { sequents = sym x i; definitions = sym y i }))))
+            made-by (λ z. makes_definition names (λ dl. Ok z)) (definition_at now.items a.definition) (accepted_at us a)
+            (Ok (tt {0})) now.state (state_of us (held_of l)) _ (state-then l us now is e k) accepted-same
+            (definition-made us (held_of l) (log-grown l.nodes us e (held_of l) k.log)
+            a accepted-there qs same' (accepted-within true t)
+            ∙ (λ i. Ok (state_of us (record (held_of l) { sequents = sym x i; definitions = sym y i }))))
 
 -- ---- want of memory
-pub memory-made : (r : Result (Unit {0}) Refusal) (c : Change names) (old new : LogState Name) → IsErrAnd r (λ x. x ≡ refusals.Memory) → MadeBy r c old new
+pub memory-made : (r : Result (Unit {0}) Refusal) (c : Change names) (old new : LogState Name)
+    → IsErrAnd r (λ x. x ≡ refusals.Memory) → MadeBy r c old new
 memory-made (Err e) c old new h = subst (λ z. MadeBy (Err z) c old new) (sym h) tt
 memory-made (Ok u) c old new h = absurd h

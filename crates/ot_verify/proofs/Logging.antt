@@ -42,7 +42,8 @@ use Rattle.ot_verify.specs.declared.log.Log.TheInside.{Inside}
 use Rattle.ot_verify.specs.declared.log.Refusal.{Refusal}
 
 -- ---- places
-pub map-at : {X A : Type 0} (f : X → A) (xs : List X) (i : ℕ) (x : X) → slice_get xs i ≡ Some x → slice_get (map f xs) i ≡ Some (f x)
+pub map-at : {X A : Type 0} (f : X → A) (xs : List X) (i : ℕ) (x : X) → slice_get xs i ≡ Some x
+    → slice_get (map f xs) i ≡ Some (f x)
 map-at f [] i x h = cc
 map-at f (y ∷ xs) zero x h = ap (λ z. Some (f z)) (same_Some y x h)
 map-at f (y ∷ xs) (suc i) x h = map-at f xs i x h
@@ -53,7 +54,8 @@ map-none f (y ∷ xs) zero a h e = cc
 map-none f (y ∷ xs) (suc i) a h e = map-none f xs i a h e
 
 -- what stands at a place is what the number there stands for
-pub found-at : {X A : Type 0} (f : X → A) (xs : List X) (i : ℕ) (x : X) (a : A) → slice_get xs i ≡ Some x → slice_get (map f xs) i ≡ Some a → f x ≡ a
+pub found-at : {X A : Type 0} (f : X → A) (xs : List X) (i : ℕ) (x : X) (a : A) → slice_get xs i ≡ Some x
+    → slice_get (map f xs) i ≡ Some a → f x ≡ a
 found-at f xs i x a h e = same_Some (f x) a (sym (map-at f xs i x h) ∙ e)
 
 pub all-at : {X : Type 0} (P : X → Type 0) (xs : List X) (i : ℕ) (x : X) → All P xs → slice_get xs i ≡ Some x → P x
@@ -78,7 +80,10 @@ module _ (ts us : List Item) (e : Extends ts us) where
   still-accepted a h = record {
     definition = still-definition ts us e a.definition h.definition;
     has = All-weaker (HasStatement ts) (HasStatement us) (still-statement ts us e) a.theorems.items h.has;
-    are = map-agree (HasStatement ts) (sequent_at ts) (sequent_at us) (sequent-stays ts us e) a.theorems.items h.has ∙ h.are ∙ ap (theorems names) (sym (accepted-stays a h));
+    are =
+        map-agree (HasStatement ts) (sequent_at ts) (sequent_at us) (sequent-stays ts us e) a.theorems.items h.has
+        ∙ h.are
+        ∙ ap (theorems names) (sym (accepted-stays a h));
   }
 
 module _ (ts us : List Item) (e : Extends ts us) (h : Held) (l : IsLog ts h) where
@@ -87,10 +92,19 @@ module _ (ts us : List Item) (e : Extends ts us) (h : Held) (l : IsLog ts h) whe
       let types = map-agree (HasType ts) (type_at ts) (type_at us) (type-stays ts us e) h.types l.types in
       let terms = map-agree (HasTerm ts) (term_at ts) (term_at us) (term-stays ts us e) h.terms l.terms in
       let sequents = map-agree (HasStatement ts) (sequent_at ts) (sequent_at us) (sequent-stays ts us e) h.sequents l.sequents in
-      let assumptions = map-agree (HasStatement ts) (sequent_at ts) (sequent_at us) (sequent-stays ts us e) h.assumptions l.assumptions in
-      let definitions = map-agree (HasAccepted ts) (accepted_at ts) (accepted_at us) (accepted-stays ts us e) h.definitions l.definitions in
+      let assumptions = map-agree (HasStatement ts) (sequent_at ts)
+      (sequent_at us) (sequent-stays ts us e) h.assumptions l.assumptions in
+      let definitions = map-agree (HasAccepted ts) (accepted_at ts)
+      (accepted_at us) (accepted-stays ts us e) h.definitions l.definitions in
       let results = map-agree (HasStatement ts) (sequent_at ts) (sequent_at us) (sequent-stays ts us e) h.results l.results in
-      λ i. record { types = types i; terms = terms i; sequents = sequents i; assumptions = assumptions i; definitions = definitions i; results = results i }
+      λ i. record {
+        types = types i;
+        terms = terms i;
+        sequents = sequents i;
+        assumptions = assumptions i;
+        definitions = definitions i;
+        results = results i;
+      }
 
   pub log-grown : IsLog us h
   log-grown = record {
@@ -117,16 +131,28 @@ module _ (ts : List Item) (h : Held) (l : IsLog ts h) where
     assumptions = l.assumptions;
     definitions = l.definitions;
     results = l.results;
-    sound = record { sequents = l.sound.sequents; assumptions = l.sound.assumptions; accepted = l.sound.accepted; results = l.sound.results };
+    sound = record {
+      sequents = l.sound.sequents;
+      assumptions = l.sound.assumptions;
+      accepted = l.sound.accepted;
+      results = l.sound.results;
+    };
   }
 
-  pub type-made : (id : ℕ) → nat_le (depth_ty names (type_at ts id)) log_depth ≡ true → makes_type names (type_at ts id) (state_of ts h) ≡ Ok (state_of ts (record h { types = h.types ++ id ∷ [] }))
+  pub type-made : (id : ℕ) → nat_le (depth_ty names (type_at ts id)) log_depth ≡ true
+      → makes_type names (type_at ts id) (state_of ts h) ≡ Ok (state_of ts (record h { types = h.types ++ id ∷ [] }))
   type-made id e =
-      ap (λ b. unless stated.LogNesting b >>= λ _. Ok (record (state_of ts h) { types = map (type_at ts) h.types ++ type_at ts id ∷ [] })) e
+      ap (λ b. unless stated.LogNesting b
+      >>= λ _. Ok (record (state_of ts h) { types = map (type_at ts) h.types ++ type_at ts id ∷ [] }))
+      e
       ∙ ap (λ ys. Ok (record (state_of ts h) { types = ys })) (sym (map-push (type_at ts) h.types id))
 
-  pub type-deep : (id : ℕ) → nat_le (depth_ty names (type_at ts id)) log_depth ≡ false → makes_type names (type_at ts id) (state_of ts h) ≡ Err stated.LogNesting
-  type-deep id e = ap (λ b. unless stated.LogNesting b >>= λ _. Ok (record (state_of ts h) { types = map (type_at ts) h.types ++ type_at ts id ∷ [] })) e
+  pub type-deep : (id : ℕ) → nat_le (depth_ty names (type_at ts id)) log_depth ≡ false
+      → makes_type names (type_at ts id) (state_of ts h) ≡ Err stated.LogNesting
+  type-deep id e =
+      ap (λ b. unless stated.LogNesting b
+      >>= λ _. Ok (record (state_of ts h) { types = map (type_at ts) h.types ++ type_at ts id ∷ [] }))
+      e
 
   -- a term within the limit
   pub with-term : (id : ℕ) → HasTerm ts id → IsLog ts (record h { terms = h.terms ++ id ∷ [] })
@@ -137,23 +163,38 @@ module _ (ts : List Item) (h : Held) (l : IsLog ts h) where
     assumptions = l.assumptions;
     definitions = l.definitions;
     results = l.results;
-    sound = record { sequents = l.sound.sequents; assumptions = l.sound.assumptions; accepted = l.sound.accepted; results = l.sound.results };
+    sound = record {
+      sequents = l.sound.sequents;
+      assumptions = l.sound.assumptions;
+      accepted = l.sound.accepted;
+      results = l.sound.results;
+    };
   }
 
-  pub term-made : (id : ℕ) → nat_le (depth_tm names (term_at ts id)) log_depth ≡ true → makes_term names (term_at ts id) (state_of ts h) ≡ Ok (state_of ts (record h { terms = h.terms ++ id ∷ [] }))
+  pub term-made : (id : ℕ) → nat_le (depth_tm names (term_at ts id)) log_depth ≡ true
+      → makes_term names (term_at ts id) (state_of ts h) ≡ Ok (state_of ts (record h { terms = h.terms ++ id ∷ [] }))
   term-made id e =
-      ap (λ b. unless stated.LogNesting b >>= λ _. Ok (record (state_of ts h) { terms = map (term_at ts) h.terms ++ term_at ts id ∷ [] })) e
+      ap (λ b. unless stated.LogNesting b
+      >>= λ _. Ok (record (state_of ts h) { terms = map (term_at ts) h.terms ++ term_at ts id ∷ [] }))
+      e
       ∙ ap (λ ys. Ok (record (state_of ts h) { terms = ys })) (sym (map-push (term_at ts) h.terms id))
 
-  pub term-deep : (id : ℕ) → nat_le (depth_tm names (term_at ts id)) log_depth ≡ false → makes_term names (term_at ts id) (state_of ts h) ≡ Err stated.LogNesting
-  term-deep id e = ap (λ b. unless stated.LogNesting b >>= λ _. Ok (record (state_of ts h) { terms = map (term_at ts) h.terms ++ term_at ts id ∷ [] })) e
+  pub term-deep : (id : ℕ) → nat_le (depth_tm names (term_at ts id)) log_depth ≡ false
+      → makes_term names (term_at ts id) (state_of ts h) ≡ Err stated.LogNesting
+  term-deep id e =
+      ap (λ b. unless stated.LogNesting b
+      >>= λ _. Ok (record (state_of ts h) { terms = map (term_at ts) h.terms ++ term_at ts id ∷ [] }))
+      e
 
   -- a sequent that follows, within the limit
-  pub with-sequent : (q : Statement) → HasStatement ts q → IsTheorem names (map (sequent_at ts) h.assumptions) (map (accepted_at ts) h.definitions) (sequent_at ts q) → IsLog ts (record h { sequents = h.sequents ++ q ∷ [] })
+  pub with-sequent : (q : Statement) → HasStatement ts q
+      → IsTheorem names (map (sequent_at ts) h.assumptions) (map (accepted_at ts) h.definitions) (sequent_at ts q)
+      → IsLog ts (record h { sequents = h.sequents ++ q ∷ [] })
   with-sequent q has follows =
       let T : Sequent Name → Type 0 = IsTheorem names (map (sequent_at ts) h.assumptions) (map (accepted_at ts) h.definitions) in
       let more : (r : Sequent Name) → IsMember r (map (sequent_at ts) h.sequents ++ sequent_at ts q ∷ []) → T r =
-      λ r m. elim (IsMember-cases r (map (sequent_at ts) h.sequents) (sequent_at ts q ∷ []) m) [ inl i ↦ l.sound.sequents r i | inr i ↦ elim i [ inl same ↦ subst T same follows | inr j ↦ absurd j ] ] in
+      λ r m. elim (IsMember-cases r (map (sequent_at ts) h.sequents) (sequent_at ts q ∷ []) m)
+      [ inl i ↦ l.sound.sequents r i | inr i ↦ elim i [ inl same ↦ subst T same follows | inr j ↦ absurd j ] ] in
       record {
         types = l.types;
         terms = l.terms;
@@ -169,35 +210,61 @@ module _ (ts : List Item) (h : Held) (l : IsLog ts h) where
         };
       }
 
-  pub sequent-made : (q : Statement) → is_sequent_within names (sequent_at ts q) ≡ true → makes_sequent names (Ok (sequent_at ts q)) (state_of ts h) ≡ Ok (state_of ts (record h { sequents = h.sequents ++ q ∷ [] }))
+  pub sequent-made : (q : Statement) → is_sequent_within names (sequent_at ts q) ≡ true
+      → makes_sequent names (Ok (sequent_at ts q)) (state_of ts h)
+      ≡ Ok (state_of ts (record h { sequents = h.sequents ++ q ∷ [] }))
   sequent-made q e =
-      ap (λ b. unless stated.LogNesting b >>= λ _. Ok (record (state_of ts h) { sequents = map (sequent_at ts) h.sequents ++ sequent_at ts q ∷ [] })) e
+      ap (λ b. unless stated.LogNesting b
+      >>= λ _. Ok (record (state_of ts h) { sequents = map (sequent_at ts) h.sequents ++ sequent_at ts q ∷ [] }))
+      e
       ∙ ap (λ ys. Ok (record (state_of ts h) { sequents = ys })) (sym (map-push (sequent_at ts) h.sequents q))
 
-  pub sequent-deep : (q : Statement) → is_sequent_within names (sequent_at ts q) ≡ false → makes_sequent names (Ok (sequent_at ts q)) (state_of ts h) ≡ Err stated.LogNesting
-  sequent-deep q e = ap (λ b. unless stated.LogNesting b >>= λ _. Ok (record (state_of ts h) { sequents = map (sequent_at ts) h.sequents ++ sequent_at ts q ∷ [] })) e
+  pub sequent-deep : (q : Statement) → is_sequent_within names (sequent_at ts q) ≡ false
+      → makes_sequent names (Ok (sequent_at ts q)) (state_of ts h) ≡ Err stated.LogNesting
+  sequent-deep q e =
+      ap (λ b. unless stated.LogNesting b
+      >>= λ _. Ok (record (state_of ts h) { sequents = map (sequent_at ts) h.sequents ++ sequent_at ts q ∷ [] }))
+      e
 
 -- ---- a record's change over a table that grew
-pub made-type : (t u : Ty Name) (r : Result (Unit {0}) Refusal) (old mid new : LogState Name) → mid ≡ old → u ≡ t → MadeBy r (makes_type names u) mid new → MadeBy r (makes_type names t) old new
-made-type t u r old mid new e s m = subst (λ z. MadeBy r (makes_type names t) z new) e (subst (λ z. MadeBy r (makes_type names z) mid new) s m)
+pub made-type : (t u : Ty Name) (r : Result (Unit {0}) Refusal) (old mid new : LogState Name) → mid ≡ old → u ≡ t
+    → MadeBy r (makes_type names u) mid new → MadeBy r (makes_type names t) old new
+made-type t u r old mid new e s m =
+    subst (λ z. MadeBy r (makes_type names t) z new) e (subst (λ z. MadeBy r (makes_type names z) mid new) s m)
 
-pub made-term : (t u : Tm Name) (r : Result (Unit {0}) Refusal) (old mid new : LogState Name) → mid ≡ old → u ≡ t → MadeBy r (makes_term names u) mid new → MadeBy r (makes_term names t) old new
-made-term t u r old mid new e s m = subst (λ z. MadeBy r (makes_term names t) z new) e (subst (λ z. MadeBy r (makes_term names z) mid new) s m)
+pub made-term : (t u : Tm Name) (r : Result (Unit {0}) Refusal) (old mid new : LogState Name) → mid ≡ old → u ≡ t
+    → MadeBy r (makes_term names u) mid new → MadeBy r (makes_term names t) old new
+made-term t u r old mid new e s m =
+    subst (λ z. MadeBy r (makes_term names t) z new) e (subst (λ z. MadeBy r (makes_term names z) mid new) s m)
 
-pub made-sequent : (made : Result Statement StepFault) (case : Step names) (r : Result (Unit {0}) Refusal) (old : LogState Name) (mid new : LogView) → mid.state ≡ old → Gives made case mid.items → AddsSequent r made mid new → MadeBy r (makes_sequent names case) old new.state
-made-sequent (Ok q) case r old mid new e g a = subst (λ z. MadeBy r (makes_sequent names z) old new.state) (sym g.1) (subst (λ z. MadeBy r (makes_sequent names (Ok (sequent_at mid.items q))) z new.state) e a)
-made-sequent (Err step.BadStep) case r old mid new e g a = subst (λ z. MadeBy z (makes_sequent names case) old new.state) (sym a) (ap (λ z. makes_sequent names z old) g)
-made-sequent (Err step.Memory) case r old mid new e g a = subst (λ z. MadeBy z (makes_sequent names case) old new.state) (sym a) tt
+pub made-sequent : (made : Result Statement StepFault) (case : Step names)
+    (r : Result (Unit {0}) Refusal) (old : LogState Name) (mid new : LogView)
+    → mid.state ≡ old → Gives made case mid.items → AddsSequent r made mid new → MadeBy r (makes_sequent names case) old new.state
+made-sequent (Ok q) case r old mid new e g a =
+    subst (λ z. MadeBy r (makes_sequent names z) old new.state) (sym g.1)
+    (subst (λ z. MadeBy r (makes_sequent names (Ok (sequent_at mid.items q))) z new.state) e a)
+made-sequent (Err step.BadStep) case r old mid new e g a =
+    subst (λ z. MadeBy z (makes_sequent names case) old new.state) (sym a) (ap (λ z. makes_sequent names z old) g)
+made-sequent (Err step.Memory) case r old mid new e g a =
+    subst (λ z. MadeBy z (makes_sequent names case) old new.state) (sym a) tt
 
 -- a sequent that a case gives follows where the case is sound
-pub supported : (made : Result Statement StepFault) (case : Step names) (l : LogView) → Gives made case l.items → ((q : Sequent Name) → case ≡ Ok q → IsTheorem names l.state.assumptions l.state.definitions q) → Supports l made
+pub supported : (made : Result Statement StepFault) (case : Step names) (l : LogView) → Gives made case l.items
+    → ((q : Sequent Name) → case ≡ Ok q → IsTheorem names l.state.assumptions l.state.definitions q) → Supports l made
 supported (Ok q) case l g s = (g.0, s (sequent_at l.items q) g.1)
 supported (Err step.BadStep) case l g s = tt
 supported (Err step.Memory) case l g s = tt
 
 -- ---- the log of the code, whose table grows
 abbrev pub held_of : Inside → Held
-held_of l = record { types = l.types.items; terms = l.terms.items; sequents = l.sequents.items; assumptions = l.assumptions.statements.items; definitions = l.definitions.items; results = l.results.statements.items }
+held_of l = record {
+  types = l.types.items;
+  terms = l.terms.items;
+  sequents = l.sequents.items;
+  assumptions = l.assumptions.statements.items;
+  definitions = l.definitions.items;
+  results = l.results.statements.items;
+}
 
 abbrev pub IsKept : List Item → Inside → Type 0
 IsKept ts l = IsWhole ts (held_of l) l.typings.known.entries l.signature l.assumptions l.results
@@ -206,17 +273,28 @@ pub log-kept : (l : Inside) (us : List Item) → Extends l.nodes us → IsKept l
 log-kept l us e k = record {
   log = log-grown l.nodes us e (held_of l) k.log;
   typings = typings-grown l.nodes us e l.typings.known.entries k.typings;
-  signature = subst (λ dl. IsSignature us dl l.signature) (sym (ap (λ (s : LogState Name). s.definitions) (state-stays l.nodes us e (held_of l) k.log))) (signature-grown l.nodes us e (map (accepted_at l.nodes) l.definitions.items) l.signature k.signature);
+  signature =
+      subst (λ dl. IsSignature us dl l.signature)
+      (sym (ap (λ (s : LogState Name). s.definitions) (state-stays l.nodes us e (held_of l) k.log)))
+      (signature-grown l.nodes us e (map (accepted_at l.nodes) l.definitions.items) l.signature k.signature);
   assumptions = k.assumptions;
   results = k.results;
 }
 
 -- with further typings
-pub with-typings : (l : Inside) (us : List Item) (es : List (Scope × Option Typed)) → IsKept us l → AreTypings us es → IsWhole us (held_of l) es l.signature l.assumptions l.results
-with-typings l us es k t = record { log = k.log; typings = t; signature = k.signature; assumptions = k.assumptions; results = k.results }
+pub with-typings : (l : Inside) (us : List Item) (es : List (Scope × Option Typed)) → IsKept us l → AreTypings us es
+    → IsWhole us (held_of l) es l.signature l.assumptions l.results
+with-typings l us es k t = record {
+  log = k.log;
+  typings = t;
+  signature = k.signature;
+  assumptions = k.assumptions;
+  results = k.results;
+}
 
 -- and what it stands for is the same
-pub state-then : (l : Inside) (us : List Item) (now : LogView) → view_of l.nodes (held_of l) ≡ now → Extends l.nodes us → IsKept l.nodes l → state_of us (held_of l) ≡ now.state
+pub state-then : (l : Inside) (us : List Item) (now : LogView) → view_of l.nodes (held_of l) ≡ now → Extends l.nodes us
+    → IsKept l.nodes l → state_of us (held_of l) ≡ now.state
 state-then l us now is e k = state-stays l.nodes us e (held_of l) k.log ∙ ap (λ (v : LogView). v.state) is
 
 -- ---- what the old tables say of an operand
@@ -227,32 +305,49 @@ module _ (l : Inside) (now : LogView) (is : view_of l.nodes (held_of l) ≡ now)
   pub named-here : (i : ℕ) (n : Name) → IsNamed now i n → IsName l.nodes i n
   named-here i n h = subst (λ (v : LogView). IsNamed v i n) (sym is) h
 
-  pub type-here : (i id : ℕ) (t : Ty Name) → slice_get l.types.items i ≡ Some id → slice_get now.state.types i ≡ Some t → type_at l.nodes id ≡ t
-  type-here i id t h e = found-at (type_at l.nodes) l.types.items i id t h (subst (λ (v : LogView). slice_get v.state.types i ≡ Some t) (sym is) e)
+  pub type-here : (i id : ℕ) (t : Ty Name) → slice_get l.types.items i ≡ Some id → slice_get now.state.types i ≡ Some t
+      → type_at l.nodes id ≡ t
+  type-here i id t h e =
+      found-at (type_at l.nodes) l.types.items i id t h (subst (λ (v : LogView). slice_get v.state.types i ≡ Some t) (sym is) e)
 
-  pub term-here : (i id : ℕ) (t : Tm Name) → slice_get l.terms.items i ≡ Some id → slice_get now.state.terms i ≡ Some t → term_at l.nodes id ≡ t
-  term-here i id t h e = found-at (term_at l.nodes) l.terms.items i id t h (subst (λ (v : LogView). slice_get v.state.terms i ≡ Some t) (sym is) e)
+  pub term-here : (i id : ℕ) (t : Tm Name) → slice_get l.terms.items i ≡ Some id → slice_get now.state.terms i ≡ Some t
+      → term_at l.nodes id ≡ t
+  term-here i id t h e =
+      found-at (term_at l.nodes) l.terms.items i id t h (subst (λ (v : LogView). slice_get v.state.terms i ≡ Some t) (sym is) e)
 
-  pub sequent-here : (i : ℕ) (q : Statement) (s : Sequent Name) → slice_get l.sequents.items i ≡ Some q → slice_get now.state.sequents i ≡ Some s → sequent_at l.nodes q ≡ s
-  sequent-here i q s h e = found-at (sequent_at l.nodes) l.sequents.items i q s h (subst (λ (v : LogView). slice_get v.state.sequents i ≡ Some s) (sym is) e)
+  pub sequent-here : (i : ℕ) (q : Statement) (s : Sequent Name) → slice_get l.sequents.items i ≡ Some q
+      → slice_get now.state.sequents i ≡ Some s → sequent_at l.nodes q ≡ s
+  sequent-here i q s h e =
+      found-at (sequent_at l.nodes) l.sequents.items i q s h
+      (subst (λ (v : LogView). slice_get v.state.sequents i ≡ Some s) (sym is) e)
 
   pub no-type : (i : ℕ) (t : Ty Name) → slice_get l.types.items i ≡ None → slice_get now.state.types i ≢ Some t
-  no-type i t h e = map-none (type_at l.nodes) l.types.items i t h (subst (λ (v : LogView). slice_get v.state.types i ≡ Some t) (sym is) e)
+  no-type i t h e =
+      map-none (type_at l.nodes) l.types.items i t h (subst (λ (v : LogView). slice_get v.state.types i ≡ Some t) (sym is) e)
 
   pub no-term : (i : ℕ) (t : Tm Name) → slice_get l.terms.items i ≡ None → slice_get now.state.terms i ≢ Some t
-  no-term i t h e = map-none (term_at l.nodes) l.terms.items i t h (subst (λ (v : LogView). slice_get v.state.terms i ≡ Some t) (sym is) e)
+  no-term i t h e =
+      map-none (term_at l.nodes) l.terms.items i t h (subst (λ (v : LogView). slice_get v.state.terms i ≡ Some t) (sym is) e)
 
   pub no-sequent : (i : ℕ) (s : Sequent Name) → slice_get l.sequents.items i ≡ None → slice_get now.state.sequents i ≢ Some s
-  no-sequent i s h e = map-none (sequent_at l.nodes) l.sequents.items i s h (subst (λ (v : LogView). slice_get v.state.sequents i ≡ Some s) (sym is) e)
+  no-sequent i s h e =
+      map-none (sequent_at l.nodes) l.sequents.items i s h
+      (subst (λ (v : LogView). slice_get v.state.sequents i ≡ Some s) (sym is) e)
 
 -- a sequent of the log is a theorem, in the table that grew too
-pub theorem-here : (l : Inside) (us : List Item) → Extends l.nodes us → IsKept l.nodes l → (i : ℕ) (q : Statement) → slice_get l.sequents.items i ≡ Some q → IsTheorem names (state_of us (held_of l)).assumptions (state_of us (held_of l)).definitions (sequent_at l.nodes q)
+pub theorem-here : (l : Inside) (us : List Item) → Extends l.nodes us → IsKept l.nodes l → (i : ℕ) (q : Statement)
+    → slice_get l.sequents.items i ≡ Some q
+    → IsTheorem names (state_of us (held_of l)).assumptions (state_of us (held_of l)).definitions (sequent_at l.nodes q)
 theorem-here l us e k i q h =
-    subst (λ (s : LogState Name). IsTheorem names s.assumptions s.definitions (sequent_at l.nodes q)) (sym (state-stays l.nodes us e (held_of l) k.log))
-    (k.log.sound.sequents (sequent_at l.nodes q) (member_at (map (sequent_at l.nodes) l.sequents.items) i (sequent_at l.nodes q) (map-at (sequent_at l.nodes) l.sequents.items i q h)))
+    subst (λ (s : LogState Name). IsTheorem names s.assumptions s.definitions (sequent_at l.nodes q))
+    (sym (state-stays l.nodes us e (held_of l) k.log))
+    (k.log.sound.sequents (sequent_at l.nodes q)
+    (member_at (map (sequent_at l.nodes) l.sequents.items) i
+    (sequent_at l.nodes q) (map-at (sequent_at l.nodes) l.sequents.items i q h)))
 
 -- its numbers are of the table
-pub statement-here : (l : Inside) → IsKept l.nodes l → (i : ℕ) (q : Statement) → slice_get l.sequents.items i ≡ Some q → HasStatement l.nodes q
+pub statement-here : (l : Inside) → IsKept l.nodes l → (i : ℕ) (q : Statement) → slice_get l.sequents.items i ≡ Some q
+    → HasStatement l.nodes q
 statement-here l k i q h = all-at (HasStatement l.nodes) l.sequents.items i q k.log.sequents h
 
 pub typed-here : (l : Inside) → IsKept l.nodes l → (i id : ℕ) → slice_get l.types.items i ≡ Some id → HasType l.nodes id
@@ -262,14 +357,19 @@ pub held-here : (l : Inside) → IsKept l.nodes l → (i id : ℕ) → slice_get
 held-here l k i id h = all-at (HasTerm l.nodes) l.terms.items i id k.log.terms h
 
 -- a sequent of the log is a theorem
-pub theorem-now : (l : Inside) → IsKept l.nodes l → (i : ℕ) (q : Statement) → slice_get l.sequents.items i ≡ Some q → IsTheorem names (state_of l.nodes (held_of l)).assumptions (state_of l.nodes (held_of l)).definitions (sequent_at l.nodes q)
-theorem-now l k i q h = k.log.sound.sequents (sequent_at l.nodes q) (member_at (map (sequent_at l.nodes) l.sequents.items) i (sequent_at l.nodes q) (map-at (sequent_at l.nodes) l.sequents.items i q h))
+pub theorem-now : (l : Inside) → IsKept l.nodes l → (i : ℕ) (q : Statement) → slice_get l.sequents.items i ≡ Some q
+    → IsTheorem names (state_of l.nodes (held_of l)).assumptions (state_of l.nodes (held_of l)).definitions (sequent_at l.nodes q)
+theorem-now l k i q h =
+    k.log.sound.sequents (sequent_at l.nodes q)
+    (member_at (map (sequent_at l.nodes) l.sequents.items) i
+    (sequent_at l.nodes q) (map-at (sequent_at l.nodes) l.sequents.items i q h))
 
 -- nothing is made yet
 abbrev pub nothing_held : Held
 nothing_held = record { types = []; terms = []; sequents = []; assumptions = []; definitions = []; results = [] }
 
-pub nothing-whole : (ts : List Item) (h : Held) (es : List (Scope × Option Typed)) (s : Signature) (al ql : Kept) → h ≡ nothing_held → AreTypings ts es → IsSignature ts [] s → AreKeyed al → AreKeyed ql → IsWhole ts h es s al ql
+pub nothing-whole : (ts : List Item) (h : Held) (es : List (Scope × Option Typed)) (s : Signature) (al ql : Kept)
+    → h ≡ nothing_held → AreTypings ts es → IsSignature ts [] s → AreKeyed al → AreKeyed ql → IsWhole ts h es s al ql
 nothing-whole ts h es s al ql e t g a q = record {
   log = subst (IsLog ts) (sym e) (record {
     types = All-nil (HasType ts);
@@ -287,5 +387,6 @@ nothing-whole ts h es s al ql e t g a q = record {
 }
 
 -- names may have been met
-pub met : (l : Inside) (us : List Item) (now : LogView) → view_of l.nodes (held_of l) ≡ now → Extends l.nodes us → IsKept l.nodes l → MeetsNames now (view_of us (held_of l))
+pub met : (l : Inside) (us : List Item) (now : LogView) → view_of l.nodes (held_of l) ≡ now → Extends l.nodes us
+    → IsKept l.nodes l → MeetsNames now (view_of us (held_of l))
 met l us now is e k = record { items = subst (λ (v : LogView). Extends v.items us) is e; state = state-then l us now is e k }

@@ -26,7 +26,11 @@ module _ (l m : LogView) where
   type_pair-later x p a h = (named-later x.name p.0 a h.0, ap (λ (s : LogState Name). slice_get s.types x.ty) a.state ∙ h.1)
 
   pub term_pair-later : (x : TermPair) (p : Variable Name × Tm Name) → MeetsNames l m → IsTermPair l x p → IsTermPair m x p
-  term_pair-later x p a h = (variable-later x.variable p.0 a h.0, ap (λ (s : LogState Name). slice_get s.terms x.term) a.state ∙ h.1)
+  term_pair-later x p a h = (
+    variable-later x.variable p.0 a h.0,
+    ap (λ (s : LogState Name). slice_get s.terms x.term) a.state ∙ h.1,
+  )
 
-  pub constant_pair-later : (x : ConstantPair) (p : Name × Variable Name) → MeetsNames l m → IsConstantPair l x p → IsConstantPair m x p
+  pub constant_pair-later : (x : ConstantPair) (p : Name × Variable Name) → MeetsNames l m → IsConstantPair l x p
+      → IsConstantPair m x p
   constant_pair-later x p a h = (named-later x.constant p.0 a h.0, variable-later x.variable p.1 a h.1)

@@ -22,22 +22,27 @@ none-some o y p q = cc
 
 module _ {X Y : Type 0} (is : X → Y → Type 0) where
   -- one more
-  pub each-next : (xs : List X) (i : ℕ) (x : X) (ys : List Y) (y : Y) → i < length xs → x ≡ get_or xs i x → AreEach is (take i xs) ys → is x y → AreEach is (take (i + 1) xs) (ys ++ y ∷ [])
-  each-next xs i x ys y h p a e = subst (λ zs. AreEach is zs (ys ++ y ∷ [])) (sym (take_more xs i x h)) (each-push is (take i xs) ys (get_or xs i x) y a (subst (λ z. is z y) p e))
+  pub each-next : (xs : List X) (i : ℕ) (x : X) (ys : List Y) (y : Y) → i < length xs → x ≡ get_or xs i x
+      → AreEach is (take i xs) ys → is x y → AreEach is (take (i + 1) xs) (ys ++ y ∷ [])
+  each-next xs i x ys y h p a e =
+      subst (λ zs. AreEach is zs (ys ++ y ∷ [])) (sym (take_more xs i x h))
+      (each-push is (take i xs) ys (get_or xs i x) y a (subst (λ z. is z y) p e))
 
   -- all of them
   pub each-all : (xs : List X) (i : ℕ) (ys : List Y) → length xs ≤ i → AreEach is (take i xs) ys → AreEach is xs ys
   each-all xs i ys h a = subst (λ zs. AreEach is zs ys) (take_all i xs h) a
 
   -- one that stands for nothing
-  pub each-none : (xs : List X) (i : ℕ) (x : X) → i < length xs → x ≡ get_or xs i x → ((y : Y) → is x y → ⊥) → (ys : List Y) → AreEach is xs ys → ⊥
+  pub each-none : (xs : List X) (i : ℕ) (x : X) → i < length xs → x ≡ get_or xs i x → ((y : Y) → is x y → ⊥) → (ys : List Y)
+      → AreEach is xs ys → ⊥
   each-none [] i x h p fails ys a = absurd (omega arith)
   each-none (z ∷ xs) i x h p fails [] a = a
   each-none (z ∷ xs) zero x h p fails (y ∷ ys) a = fails y (subst (λ w. is w y) (sym p) a.0)
   each-none (z ∷ xs) (suc i) x h p fails (y ∷ ys) a = each-none xs i x (omega arith) p fails ys a.1
 
 -- a refusal of what stands for something can only be want of memory
-pub missed : {X Y : Type 0} (is : X → Y → Type 0) (e : Refusal) (xs : List X) (c : Change names) (old new : LogState Name) → FindsEach is (Err e) xs → (ys : List Y) × AreEach is xs ys → MadeBy (Err e) c old new
+pub missed : {X Y : Type 0} (is : X → Y → Type 0) (e : Refusal) (xs : List X) (c : Change names) (old new : LogState Name)
+    → FindsEach is (Err e) xs → (ys : List Y) × AreEach is xs ys → MadeBy (Err e) c old new
 missed is refusals.NoSuch xs c old new f g = absurd (f g.0 g.1)
 missed is refusals.Memory xs c old new f g = tt
 missed is refusals.BadStep xs c old new f g = absurd f

@@ -25,8 +25,10 @@ premise-here (ConDef n t) h = h
 premise-here (ListDef ps q) h = h
 premise-here (TyDef n abs rep vs q) h = h
 
-pub acceptable-stated : (al : List (Sequent Name)) (dl : List (Definition Name)) (d : Definition Name) → IsAcceptable al dl d → definitions.IsAcceptable names al dl d
+pub acceptable-stated : (al : List (Sequent Name)) (dl : List (Definition Name)) (d : Definition Name) → IsAcceptable al dl d
+    → definitions.IsAcceptable names al dl d
 acceptable-stated al dl d a = record { next = a.next; premise = premise-stated d a.premise }
 
-pub acceptable-here : (al : List (Sequent Name)) (dl : List (Definition Name)) (d : Definition Name) → definitions.IsAcceptable names al dl d → IsAcceptable al dl d
+pub acceptable-here : (al : List (Sequent Name)) (dl : List (Definition Name)) (d : Definition Name)
+    → definitions.IsAcceptable names al dl d → IsAcceptable al dl d
 acceptable-here al dl d a = record { next = a.next; premise = premise-here d a.premise }

@@ -103,10 +103,13 @@ AddsSequent result (Err e) old new = result ≡ Err (of_step e)
 
 -- the theorems of a definition that may be next
 abbrev pub Establishes : LogView → Definition Name → Result (Vec Statement) StepFault → Type 0
-Establishes l d (Ok v) = All (HasStatement l.items) v.items × (map (sequent_at l.items) v.items ≡ theorems names d) × IsAcceptable l.state.assumptions l.state.definitions d
+Establishes l d (Ok v) =
+    All (HasStatement l.items) v.items × (map (sequent_at l.items) v.items ≡ theorems names d)
+    × IsAcceptable l.state.assumptions l.state.definitions d
 Establishes l d (Err e) = Unit {0}
 
 -- the definition was added with its theorems, within the limit; a refusal stays
-abbrev pub AddsDefinition : Result (Unit {0}) Refusal → Definition Name → Result (Vec Statement) StepFault → LogView → LogView → Type 0
+abbrev pub AddsDefinition : Result (Unit {0}) Refusal → Definition Name → Result (Vec Statement) StepFault → LogView → LogView
+    → Type 0
 AddsDefinition result d (Ok v) old new = MadeBy result (makes_definition names (λ dl. Ok d)) old.state new.state
 AddsDefinition result d (Err e) old new = result ≡ Err (of_step e)

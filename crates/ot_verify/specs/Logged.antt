@@ -29,14 +29,29 @@ pub record LogView : Type 0 where
   pub state : LogState Name
 
 abbrev coded_state : Coded (LogState Name)
-coded_state = code_by (List (Ty Name) × (List (Tm Name) × (List (Sequent Name) × (List (Sequent Name) × (List (Definition Name) × List (Sequent Name))))))
-    (coded× (coded_list (coded_ty coded_name)) (coded× (coded_list (coded_tm coded_name)) (coded× (coded_list (coded_sequent coded_name)) (coded× (coded_list (coded_sequent coded_name)) (coded× (coded_list (coded_definition coded_name)) (coded_list (coded_sequent coded_name)))))))
+coded_state =
+    code_by (List (Ty Name)
+    × (List (Tm Name) × (List (Sequent Name) × (List (Sequent Name) × (List (Definition Name) × List (Sequent Name))))))
+    (coded× (coded_list (coded_ty coded_name))
+    (coded× (coded_list (coded_tm coded_name))
+    (coded× (coded_list (coded_sequent coded_name))
+    (coded× (coded_list (coded_sequent coded_name))
+    (coded× (coded_list (coded_definition coded_name)) (coded_list (coded_sequent coded_name)))))))
     (λ s. (s.types, (s.terms, (s.sequents, (s.assumptions, (s.definitions, s.results))))))
-    (λ p. record { types = p.0; terms = p.1.0; sequents = p.1.1.0; assumptions = p.1.1.1.0; definitions = p.1.1.1.1.0; results = p.1.1.1.1.1 })
+    (λ p. record {
+      types = p.0;
+      terms = p.1.0;
+      sequents = p.1.1.0;
+      assumptions = p.1.1.1.0;
+      definitions = p.1.1.1.1.0;
+      results = p.1.1.1.1.1;
+    })
     (λ _. refl)
 
 abbrev pub coded_log : Coded LogView
-coded_log = code_by (List Item × LogState Name) (coded× (coded_list coded_item) coded_state) (λ l. (l.items, l.state)) (λ p. record { items = p.0; state = p.1 }) (λ _. refl)
+coded_log =
+    code_by (List Item × LogState Name) (coded× (coded_list coded_item) coded_state)
+    (λ l. (l.items, l.state)) (λ p. record { items = p.0; state = p.1 }) (λ _. refl)
 
 -- the number is that of a name, and of a name with a type
 abbrev pub IsNamed : LogView → ℕ → Name → Type 0
@@ -87,7 +102,9 @@ Recorded (Err verify.ReadFault) f first st now old new = Unit {0}
 Recorded (Err verify.Memory) f first st now old new = Unit {0}
 
 -- where the source tells its bytes; one that tells them goes on to do so
-abbrev pub RecordedFrom : Result (Unit {0}) VerifyFault → RecordForm names → ℕ → LogState Name → LogState Name → Reader → Reader → Option (List ℕ) → Option (List ℕ) → Type 0
+abbrev pub RecordedFrom : Result (Unit {0}) VerifyFault → RecordForm names → ℕ → LogState Name → LogState Name → Reader → Reader
+    → Option (List ℕ) → Option (List ℕ) → Type 0
 RecordedFrom result f first st now old new None left' = Unit {0}
 RecordedFrom result f first st now old new (Some left) None = ⊥
-RecordedFrom result f first st now old new (Some left) (Some left') = Recorded result f first st now (rest old left) (rest new left')
+RecordedFrom result f first st now old new (Some left) (Some left') =
+    Recorded result f first st now (rest old left) (rest new left')

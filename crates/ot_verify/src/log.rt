@@ -95,9 +95,23 @@ impl Model for Log {
 
     ghost use Rattle.ot_verify.specs.Held.{view_of, IsWhole};
 
-    ghost view = { λ l. view_of l.nodes (record { types = l.types.items; terms = l.terms.items; sequents = l.sequents.items; assumptions = l.assumptions.statements.items; definitions = l.definitions.items; results = l.results.statements.items }) };
+    ghost view = { λ l. view_of l.nodes (record {
+      types = l.types.items;
+      terms = l.terms.items;
+      sequents = l.sequents.items;
+      assumptions = l.assumptions.statements.items;
+      definitions = l.definitions.items;
+      results = l.results.statements.items;
+    }) };
 
-    ghost invariant = { λ l. IsWhole l.nodes (record { types = l.types.items; terms = l.terms.items; sequents = l.sequents.items; assumptions = l.assumptions.statements.items; definitions = l.definitions.items; results = l.results.statements.items }) l.typings.known.entries l.signature l.assumptions l.results };
+    ghost invariant = { λ l. IsWhole l.nodes (record {
+      types = l.types.items;
+      terms = l.terms.items;
+      sequents = l.sequents.items;
+      assumptions = l.assumptions.statements.items;
+      definitions = l.definitions.items;
+      results = l.results.statements.items;
+    }) l.typings.known.entries l.signature l.assumptions l.results };
 }
 
 impl Log {
@@ -536,8 +550,11 @@ impl Log {
     ) -> Result<(), Refusal>
         requires hyps { All (HasTerm self.old.items) hyps.now }
         requires concl { HasTerm self.old.items concl }
-        requires gives { Gives made (assumption_step names (terms_at self.old.items hyps.now) (term_at self.old.items concl)) self.old.items }
-        ensures { MadeBy result (makes_assumption names (assumption_step names (terms_at self.old.items hyps.now) (term_at self.old.items concl))) self.old.state self.new.state }
+        requires gives { Gives made
+            (assumption_step names (terms_at self.old.items hyps.now) (term_at self.old.items concl)) self.old.items }
+        ensures { MadeBy result
+            (makes_assumption names (assumption_step names (terms_at self.old.items hyps.now) (term_at self.old.items concl)))
+            self.old.state self.new.state }
     {
         match made {
             Ok(statement) => self.add_assumption(hyps, concl, statement),
@@ -554,8 +571,10 @@ impl Log {
     ) -> Result<(), Refusal>
         requires hyps { All (HasTerm self.old.items) hyps.now }
         requires concl { HasTerm self.old.items concl }
-        requires gives { Gives (Ok statement) (assumption_step names (terms_at self.old.items hyps.now) (term_at self.old.items concl)) self.old.items }
-        ensures { MadeBy result (makes_assumption names (Ok (sequent_at self.old.items statement))) self.old.state self.new.state }
+        requires gives { Gives (Ok statement)
+            (assumption_step names (terms_at self.old.items hyps.now) (term_at self.old.items concl)) self.old.items }
+        ensures { MadeBy result (makes_assumption names (Ok (sequent_at self.old.items statement)))
+            self.old.state self.new.state }
     {
         let within = is_statement_within(&mut self.nodes, &mut self.typings, &statement)?;
         if !within {
@@ -624,7 +643,8 @@ impl Log {
 
 /// The item at a place.
 pub(crate) fn at<T>(items: &[T], place: usize) -> Result<&T, Refusal>
-    ensures { MatchResult result (λ x. slice_get items.now place ≡ Some x.now) (λ e. (e ≡ Refusal.NoSuch) × (slice_get items.now place ≡ None)) }
+    ensures { MatchResult result (λ x. slice_get items.now place ≡ Some x.now)
+        (λ e. (e ≡ Refusal.NoSuch) × (slice_get items.now place ≡ None)) }
 {
     match items.get(place) {
         Some(item) => Ok(item),

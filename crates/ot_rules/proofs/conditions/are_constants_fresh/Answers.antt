@@ -5,19 +5,17 @@ use Rattle.ot_plain.specs.Hol.{symbols_of}
 use Rattle.ot_records.specs.Steps.{all_defined, all_used}
 use Rattle.ot_rules.specs.Statements.{sequent_at}
 use Rattle.ot_rules.specs.Symbols.{IsSymbolMark, symbol_of, are_fresh}
-use Rattle.ot_rules.proofs.Freshness.{symbols-in_sequent, names-are, names-marked}
+use Rattle.ot_rules.proofs.Freshness.{names-are, names-marked}
 use Rattle.ot_rules.proofs.conditions.are_constants_fresh.Goals as goal
 
-pub may_define-requires-clause-symbols : goal.may_define-requires-clause-symbols
-may_define-requires-clause-symbols c = subst (All (IsSymbolMark c.args.nodes.now)) (sym (c.as_slice.ensures.value ∙ c.in_ok-symbols.ensures)) (names-marked c.args.nodes.now c.args.constants.now c.requires.constants)
-
-pub may_define-requires-clause-premise : goal.may_define-requires-clause-premise
-may_define-requires-clause-premise c = c.in_ok-parts.ensures.has
+pub are_symbols_fresh-requires-clause-symbols : goal.are_symbols_fresh-requires-clause-symbols
+are_symbols_fresh-requires-clause-symbols c =
+    subst (All (IsSymbolMark c.args.nodes.now)) (sym (c.as_slice.ensures.value ∙ c.in_ok-symbols.ensures))
+    (names-marked c.args.nodes.now c.args.constants.now c.requires.constants)
 
 pub returns : goal.returns
 returns c = λ dl sig.
     let ts = c.args.nodes.now in
     let q = sequent_at ts c.args.premise.now in
     let is = ap (map (symbol_of ts)) (c.as_slice.ensures.value ∙ c.in_ok-symbols.ensures) ∙ names-are ts c.args.constants.now in
-    c.in_ok-fresh.ensures dl (symbols_of names q) sig (symbols-in_sequent ts q c.in_ok-parts.parts c.in_ok-parts.ensures)
-    ∙ ap (are_fresh (all_defined names dl) (all_used names dl) (symbols_of names q)) is
+    c.in_ok-fresh.ensures dl sig ∙ ap (are_fresh (all_defined names dl) (all_used names dl) (symbols_of names q)) is

@@ -1,47 +1,10 @@
-use Rattle.std.specs.List.{All}
-use Rattle.std.proofs.Common.{map, subst, sym, ap, ◌∙◌}
-use Rattle.ot_plain.specs.Naming.{names}
-use Rattle.ot_plain.specs.Hol.{once_each}
-use Rattle.ot_plain.proofs.TableLemmas.{Extends-trans}
-use Rattle.ot_nodes.specs.Items.{HasTerm}
-use Rattle.ot_nodes.specs.Changing.{changed, changing, HasChange}
+use Rattle.ot_nodes.specs.Changing.{changing}
 use Rattle.ot_nodes.specs.declared.table.change.Change.TheVariants as change
-use Rattle.ot_nodes.proofs.ItemLemmas.{has-term, term-is, term-stays, still-term}
-use Rattle.ot_nodes.proofs.MapLemmas.{changing-stays}
-use Rattle.ot_rules.specs.Statements.{terms_at, once_of}
-use Rattle.ot_rules.proofs.Numbers.{once-numbers, has-once}
-use Rattle.ot_rules.proofs.Staying.{terms-stay, still-terms}
+use Rattle.ot_rules.proofs.PutIn.{put-is}
 use Rattle.ot_rules.proofs.put.put.Goals as goal
 
 pub returns-clause-ok : goal.returns-clause-ok
-returns-clause-ok c =
-    let ts = c.args.nodes.now in
-    let us = c.change_each.new.nodes in
-    let vs = c.change.new.self in
-    let e = c.in_ok-changed.ensures.extends in
-    let f = c.in_ok-concl.ensures.extends in
-    let made = change.Put c.args.types c.args.terms in
-    let has_change : HasChange ts made = (c.requires.types, c.requires.terms) in
-    let ids = c.in_ok-changed.changed.items in
-    let once = c.in_ok-hyps.ensures ∙ ap once_of c.deref-2.ensures.value in
-    let kept = has-once (HasTerm us) ids c.in_ok-changed.ensures.has in
-    record {
-      has = record {
-        hyps = subst (All (HasTerm vs)) (sym once) (still-terms us vs f (once_of ids) kept);
-        concl = has-term vs c.in_ok-concl.concl _ c.in_ok-concl.ensures.ok;
-      };
-      hyps = ap (terms_at vs) once ∙ terms-stay us vs f (once_of ids) kept ∙ once-numbers us c.primitives.ensures.once ids c.in_ok-changed.ensures.has ∙ ap (once_each names) (c.in_ok-changed.ensures.ok ∙ ap (λ l. map (changed (changing ts made) 0) (terms_at ts l)) c.deref.ensures.value);
-      concl = term-is vs c.in_ok-concl.concl _ c.in_ok-concl.ensures.ok ∙ (λ i. changed (changing-stays ts us e made has_change i) 0 (term-stays ts us e c.args.a.now.concl c.requires.a.concl i));
-    }
+returns-clause-ok c = put-is c.args.nodes.now c.changed_statement.new.nodes c.args.types.entries c.args.terms.entries c.args.a.now c.changed_statement.result c.changed_statement.ensures.ok
 
-pub change_each-requires-clause-done : goal.change_each-requires-clause-done
-change_each-requires-clause-done c = c.new-done.ensures c.args.nodes.now (changing c.args.nodes.now (change.Put c.args.types c.args.terms))
-
-pub change-requires-clause-id : goal.change-requires-clause-id
-change-requires-clause-id c = still-term c.args.nodes.now c.change_each.new.nodes c.in_ok-changed.ensures.extends c.args.a.now.concl c.requires.a.concl
-
-pub returns-in_err-concl-clause-extends : goal.returns-in_err-concl-clause-extends
-returns-in_err-concl-clause-extends c = Extends-trans c.change_each.ensures.extends c.change.ensures.extends
-
-pub returns-clause-extends : goal.returns-clause-extends
-returns-clause-extends c = Extends-trans c.change_each.ensures.extends c.change.ensures.extends
+pub changed_statement-requires-clause-done : goal.changed_statement-requires-clause-done
+changed_statement-requires-clause-done c = c.new-done.ensures c.args.nodes.now (changing c.args.nodes.now (change.Put c.args.types c.args.terms))

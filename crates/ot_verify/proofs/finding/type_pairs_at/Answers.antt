@@ -5,9 +5,12 @@ use Rattle.ot_verify.proofs.Places.{each-next, each-none}
 use Rattle.ot_verify.proofs.finding.type_pairs_at.Goals as goal
 
 pub returns-in-None : goal.returns-in-None
-returns-in-None c = each-none (IsFoundTypePair c.args.nodes.now c.args.types.now) c.args.pairs.now c.loop-pair.pair-index _ c.loop-pair-test.true c.pair-item.is (λ y. c.in-None.ensures (record { name = y.0; ty = y.1 }))
+returns-in-None c =
+    each-none (IsFoundTypePair c.args.nodes.now c.args.types.now) c.args.pairs.now c.loop-pair.pair-index
+    _ c.loop-pair-test.true c.pair-item.is (λ y. c.in-None.ensures (record { name = y.0; ty = y.1 }))
 
 pub loop-pair-preserved : goal.loop-pair-preserved
 loop-pair-preserved c =
     subst (AreEach (IsFoundTypePair c.args.nodes.now c.args.types.now) _) (sym c.in_ok-push-in-Some.ensures.items)
-    (each-next (IsFoundTypePair c.args.nodes.now c.args.types.now) c.args.pairs.now c.loop-pair.pair-index _ c.loop-pair.found.items _ c.loop-pair-test.true c.pair-item.is c.loop-pair.invariant c.in-Some.ensures)
+    (each-next (IsFoundTypePair c.args.nodes.now c.args.types.now) c.args.pairs.now c.loop-pair.pair-index _
+    c.loop-pair.found.items _ c.loop-pair-test.true c.pair-item.is c.loop-pair.invariant c.in-Some.ensures)

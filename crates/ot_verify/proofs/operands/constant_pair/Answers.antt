@@ -21,8 +21,13 @@ returns-clause-answered g c =
     let mid = c.name_number.new.reader in
     let new = c.named_type.new.reader in
     let meets = c.in_ok-constant.ensures.meets in
-    let second = subst (λ (s : LogState Name). AnsweredFrom s ask_variable (IsVariable c.named_type.new.log) (Ok c.in-Ok.variable) mid new m n) meets.state c.in-Ok.ensures.variable in
-    both-read st AskName ask_variable (λ x v. (x, v)) (IsNamed c.name_number.new.log) (IsVariable c.named_type.new.log) (IsConstantPair c.named_type.new.log) c.in_ok-constant.constant c.in-Ok.variable (record { constant = c.in_ok-constant.constant; variable = c.in-Ok.variable }) old mid new l m n c.in_ok-constant.ensures.answered second
+    let second = subst (λ (s : LogState Name). AnsweredFrom s ask_variable
+    (IsVariable c.named_type.new.log) (Ok c.in-Ok.variable) mid new m n)
+    meets.state c.in-Ok.ensures.variable in
+    both-read st AskName ask_variable (λ x v. (x, v)) (IsNamed c.name_number.new.log)
+    (IsVariable c.named_type.new.log) (IsConstantPair c.named_type.new.log) c.in_ok-constant.constant
+    c.in-Ok.variable (record { constant = c.in_ok-constant.constant; variable = c.in-Ok.variable })
+    old mid new l m n c.in_ok-constant.ensures.answered second
     (λ a b h k. (named-later c.name_number.new.log c.named_type.new.log c.in_ok-constant.constant a c.in-Ok.ensures.meets h, k))
 
 pub returns-in-Err-clause-answered : goal.returns-in-Err-clause-answered
@@ -35,11 +40,17 @@ returns-in-Err-clause-answered g c =
     let mid = c.name_number.new.reader in
     let new = c.named_type.new.reader in
     let meets = c.in_ok-constant.ensures.meets in
-    let second = subst (λ (s : LogState Name). AnsweredFrom {X = NamedType} s ask_variable (IsVariable c.named_type.new.log) (Err c.in-Err.fault) mid new m n) meets.state c.in-Err.ensures.variable in
-    second-stop {Z = ConstantPair} st AskName ask_variable (λ x v. (x, v)) (IsNamed c.name_number.new.log) (IsVariable c.named_type.new.log) (IsConstantPair c.named_type.new.log) c.in_ok-constant.constant c.in-Err.fault old mid new l m n c.in_ok-constant.ensures.answered second
+    let second = subst (λ (s : LogState Name). AnsweredFrom {X = NamedType} s
+    ask_variable (IsVariable c.named_type.new.log) (Err c.in-Err.fault) mid new m n)
+    meets.state c.in-Err.ensures.variable in
+    second-stop {Z = ConstantPair} st AskName ask_variable (λ x v. (x, v)) (IsNamed c.name_number.new.log)
+    (IsVariable c.named_type.new.log) (IsConstantPair c.named_type.new.log) c.in_ok-constant.constant
+    c.in-Err.fault old mid new l m n c.in_ok-constant.ensures.answered second
 
 pub returns-clause-meets : goal.returns-clause-meets
-returns-clause-meets g c = meets-then c.args.log.now c.name_number.new.log c.named_type.new.log c.in_ok-constant.ensures.meets c.in-Ok.ensures.meets
+returns-clause-meets g c =
+    meets-then c.args.log.now c.name_number.new.log c.named_type.new.log c.in_ok-constant.ensures.meets c.in-Ok.ensures.meets
 
 pub returns-in-Err-clause-meets : goal.returns-in-Err-clause-meets
-returns-in-Err-clause-meets g c = meets-then c.args.log.now c.name_number.new.log c.named_type.new.log c.in_ok-constant.ensures.meets c.in-Err.ensures.meets
+returns-in-Err-clause-meets g c =
+    meets-then c.args.log.now c.name_number.new.log c.named_type.new.log c.in_ok-constant.ensures.meets c.in-Err.ensures.meets

@@ -19,8 +19,11 @@ returns-clause-pair g c =
     let mid = c.name_number.new.reader in
     let new = c.type_number.new.reader in
     let meets = c.in_ok-name.ensures.meets in
-    let second = subst (λ (s : LogState Name). AnsweredFrom s AskType (IsAt s.types) (Ok c.in-Ok.ty) mid new m n) meets.state c.in-Ok.ensures.answered in
-    both-read st AskName AskType (λ x t. (x, t)) (IsNamed c.name_number.new.log) (IsAt st.types) (IsTypePair c.name_number.new.log) c.in_ok-name.name c.in-Ok.ty (record { name = c.in_ok-name.name; ty = c.in-Ok.ty }) old mid new l m n c.in_ok-name.ensures.answered second
+    let second = subst (λ (s : LogState Name). AnsweredFrom s AskType (IsAt s.types) (Ok c.in-Ok.ty) mid new m n)
+    meets.state c.in-Ok.ensures.answered in
+    both-read st AskName AskType (λ x t. (x, t)) (IsNamed c.name_number.new.log) (IsAt st.types)
+    (IsTypePair c.name_number.new.log) c.in_ok-name.name c.in-Ok.ty
+    (record { name = c.in_ok-name.name; ty = c.in-Ok.ty }) old mid new l m n c.in_ok-name.ensures.answered second
     (λ a b h k. (h, ap (λ (s : LogState Name). slice_get s.types c.in-Ok.ty) meets.state ∙ k))
 
 pub returns-in-Err-clause-pair : goal.returns-in-Err-clause-pair
@@ -33,8 +36,10 @@ returns-in-Err-clause-pair g c =
     let mid = c.name_number.new.reader in
     let new = c.type_number.new.reader in
     let meets = c.in_ok-name.ensures.meets in
-    let second = subst (λ (s : LogState Name). AnsweredFrom {X = ℕ} s AskType (IsAt s.types) (Err c.in-Err.fault) mid new m n) meets.state c.in-Err.ensures.answered in
-    second-stop {Z = NamedType} st AskName AskType (λ x t. (x, t)) (IsNamed c.name_number.new.log) (IsAt st.types) (IsTypePair c.name_number.new.log) c.in_ok-name.name c.in-Err.fault old mid new l m n c.in_ok-name.ensures.answered second
+    let second = subst (λ (s : LogState Name). AnsweredFrom {X = ℕ} s AskType (IsAt s.types) (Err c.in-Err.fault) mid new m n)
+    meets.state c.in-Err.ensures.answered in
+    second-stop {Z = NamedType} st AskName AskType (λ x t. (x, t)) (IsNamed c.name_number.new.log) (IsAt st.types)
+    (IsTypePair c.name_number.new.log) c.in_ok-name.name c.in-Err.fault old mid new l m n c.in_ok-name.ensures.answered second
 
 pub returns-clause-variable : goal.returns-clause-variable
 returns-clause-variable g c =
@@ -46,8 +51,11 @@ returns-clause-variable g c =
     let mid = c.name_number.new.reader in
     let new = c.type_number.new.reader in
     let meets = c.in_ok-name.ensures.meets in
-    let second = subst (λ (s : LogState Name). AnsweredFrom s AskType (IsAt s.types) (Ok c.in-Ok.ty) mid new m n) meets.state c.in-Ok.ensures.answered in
-    both-read st AskName AskType (λ x t. record { name = x; ty = t }) (IsNamed c.name_number.new.log) (IsAt st.types) (IsVariable c.name_number.new.log) c.in_ok-name.name c.in-Ok.ty (record { name = c.in_ok-name.name; ty = c.in-Ok.ty }) old mid new l m n c.in_ok-name.ensures.answered second
+    let second = subst (λ (s : LogState Name). AnsweredFrom s AskType (IsAt s.types) (Ok c.in-Ok.ty) mid new m n)
+    meets.state c.in-Ok.ensures.answered in
+    both-read st AskName AskType (λ x t. record { name = x; ty = t }) (IsNamed c.name_number.new.log)
+    (IsAt st.types) (IsVariable c.name_number.new.log) c.in_ok-name.name c.in-Ok.ty
+    (record { name = c.in_ok-name.name; ty = c.in-Ok.ty }) old mid new l m n c.in_ok-name.ensures.answered second
     (λ a b h k. (h, ap (λ (s : LogState Name). slice_get s.types c.in-Ok.ty) meets.state ∙ k))
 
 pub returns-in-Err-clause-variable : goal.returns-in-Err-clause-variable
@@ -60,5 +68,8 @@ returns-in-Err-clause-variable g c =
     let mid = c.name_number.new.reader in
     let new = c.type_number.new.reader in
     let meets = c.in_ok-name.ensures.meets in
-    let second = subst (λ (s : LogState Name). AnsweredFrom {X = ℕ} s AskType (IsAt s.types) (Err c.in-Err.fault) mid new m n) meets.state c.in-Err.ensures.answered in
-    second-stop {Z = NamedType} st AskName AskType (λ x t. record { name = x; ty = t }) (IsNamed c.name_number.new.log) (IsAt st.types) (IsVariable c.name_number.new.log) c.in_ok-name.name c.in-Err.fault old mid new l m n c.in_ok-name.ensures.answered second
+    let second = subst (λ (s : LogState Name). AnsweredFrom {X = ℕ} s AskType (IsAt s.types) (Err c.in-Err.fault) mid new m n)
+    meets.state c.in-Err.ensures.answered in
+    second-stop {Z = NamedType} st AskName AskType (λ x t. record { name = x; ty = t })
+    (IsNamed c.name_number.new.log) (IsAt st.types) (IsVariable c.name_number.new.log)
+    c.in_ok-name.name c.in-Err.fault old mid new l m n c.in_ok-name.ensures.answered second

@@ -15,9 +15,14 @@ each-init g c =
     let l = g.S.Source.left c.args.source.now in
     let m = g.S.Source.left c.count.new.source in
     let k : c.in-Ok.count ≡ c.in-Ok.count - 0 = omega arith in
-    let none = collects-start st AskName (IsNamed c.args.log.now) c.in-Ok.count c.args.reader.now c.count.new.self l m (c.in-Ok.ensures.answered st) in
+    let none = collects-start st AskName (IsNamed c.args.log.now) c.in-Ok.count
+    c.args.reader.now c.count.new.self l m (c.in-Ok.ensures.answered st) in
     record {
-      so_far = subst (λ (is : List ℕ). CollectsFrom st AskName (IsNamed c.args.log.now) is (c.in-Ok.count - 0) c.args.reader.now c.count.new.self l m) (sym c.new-read.ensures.items) (subst (λ n. CollectsFrom {X = ℕ} st AskName (IsNamed c.args.log.now) [] n c.args.reader.now c.count.new.self l m) k none);
+      so_far =
+          subst (λ (is : List ℕ). CollectsFrom st AskName (IsNamed c.args.log.now)
+          is (c.in-Ok.count - 0) c.args.reader.now c.count.new.self l m)
+          (sym c.new-read.ensures.items) (subst
+          (λ n. CollectsFrom {X = ℕ} st AskName (IsNamed c.args.log.now) [] n c.args.reader.now c.count.new.self l m) k none);
       meets = meets-nothing c.args.log.now;
       advances = c.in-Ok.ensures.advances;
       later = c.count.ensures.later;
@@ -33,12 +38,23 @@ each-preserved g c =
     let m = g.S.Source.left c.each.source in
     let n = g.S.Source.left c.name_number.new.source in
     let k : c.in-Ok.count - c.each.done ≡ suc (c.in-Ok.count - (c.each.done + 1)) = omega arith in
-    let before = subst (λ n. CollectsFrom st AskName (IsNamed c.each.log) c.each.read.items n c.args.reader.now c.each.reader l m) k c.each.invariant.so_far in
+    let before = subst (λ n. CollectsFrom st AskName (IsNamed c.each.log) c.each.read.items n c.args.reader.now c.each.reader l m)
+    k c.each.invariant.so_far in
     record {
-      so_far = subst (λ (is : List ℕ). CollectsFrom st AskName (IsNamed c.name_number.new.log) is (c.in-Ok.count - (c.each.done + 1)) c.args.reader.now c.name_number.new.reader l n) (sym c.in_ok-push-in-Ok-name_number.ensures.items)
-          (collects-next st AskName (IsNamed c.each.log) (IsNamed c.name_number.new.log) (λ x y. named-later c.each.log c.name_number.new.log x y c.in-Ok-name_number.ensures.meets) c.each.read.items c.in-Ok-name_number.item (c.in-Ok.count - (c.each.done + 1)) c.args.reader.now c.each.reader c.name_number.new.reader l m n before (subst (λ (s : LogState Name). AnsweredFrom s AskName (IsNamed c.name_number.new.log) (Ok c.in-Ok-name_number.item) c.each.reader c.name_number.new.reader m n) c.each.invariant.meets.state c.in-Ok-name_number.ensures.answered));
+      so_far =
+          subst (λ (is : List ℕ). CollectsFrom st AskName (IsNamed c.name_number.new.log) is
+          (c.in-Ok.count - (c.each.done + 1)) c.args.reader.now c.name_number.new.reader l n)
+          (sym c.in_ok-push-in-Ok-name_number.ensures.items)
+          (collects-next st AskName (IsNamed c.each.log) (IsNamed c.name_number.new.log)
+          (λ x y. named-later c.each.log c.name_number.new.log x y c.in-Ok-name_number.ensures.meets) c.each.read.items
+          c.in-Ok-name_number.item (c.in-Ok.count - (c.each.done + 1)) c.args.reader.now c.each.reader c.name_number.new.reader l
+          m n before (subst (λ (s : LogState Name). AnsweredFrom s AskName (IsNamed c.name_number.new.log)
+          (Ok c.in-Ok-name_number.item) c.each.reader c.name_number.new.reader m n)
+          c.each.invariant.meets.state c.in-Ok-name_number.ensures.answered));
       meets = meets-then c.args.log.now c.each.log c.name_number.new.log c.each.invariant.meets c.in-Ok-name_number.ensures.meets;
-      advances = advances-then c.args.reader.now c.each.reader c.name_number.new.reader c.each.invariant.advances c.in-Ok-name_number.ensures.advances;
+      advances =
+          advances-then c.args.reader.now c.each.reader c.name_number.new.reader
+          c.each.invariant.advances c.in-Ok-name_number.ensures.advances;
       later = omega (arith, c.each.invariant.later, c.name_number.ensures.later);
       folder = c.name_number.ensures.folder ∙ c.each.invariant.folder;
       misses = c.name_number.ensures.misses ∙ c.each.invariant.misses;
@@ -48,7 +64,9 @@ each-preserved g c =
 pub returns-in-Err-clause-answered : goal.returns-in-Err-clause-answered
 returns-in-Err-clause-answered g c =
     let st = c.args.log.now.state in
-    collects-none st AskName c.in-Err.fault c.args.reader.now c.count.new.self (g.S.Source.left c.args.source.now) (g.S.Source.left c.count.new.source) (λ (v : Vec ℕ Global). AreEach (IsNamed c.args.log.now) v.items) (c.in-Err.ensures.answered st)
+    collects-none st AskName c.in-Err.fault c.args.reader.now c.count.new.self
+    (g.S.Source.left c.args.source.now) (g.S.Source.left c.count.new.source)
+    (λ (v : Vec ℕ Global). AreEach (IsNamed c.args.log.now) v.items) (c.in-Err.ensures.answered st)
 
 pub returns-in-Err-name_number-clause-answered : goal.returns-in-Err-name_number-clause-answered
 returns-in-Err-name_number-clause-answered g c =
@@ -57,8 +75,14 @@ returns-in-Err-name_number-clause-answered g c =
     let m = g.S.Source.left c.each.source in
     let n = g.S.Source.left c.name_number.new.source in
     let k : c.in-Ok.count - c.each.done ≡ suc (c.in-Ok.count - (c.each.done + 1)) = omega arith in
-    let before = subst (λ n. CollectsFrom st AskName (IsNamed c.each.log) c.each.read.items n c.args.reader.now c.each.reader l m) k c.each.invariant.so_far in
-    collects-stop st AskName (IsNamed c.each.log) c.each.read.items (c.in-Ok.count - (c.each.done + 1)) c.in-Err-name_number.fault c.args.reader.now c.each.reader c.name_number.new.reader l m n (IsNamed c.name_number.new.log) (λ (v : Vec ℕ Global). AreEach (IsNamed c.name_number.new.log) v.items) before (subst (λ (s : LogState Name). AnsweredFrom {X = ℕ} s AskName (IsNamed c.name_number.new.log) (Err c.in-Err-name_number.fault) c.each.reader c.name_number.new.reader m n) c.each.invariant.meets.state c.in-Err-name_number.ensures.answered)
+    let before = subst (λ n. CollectsFrom st AskName (IsNamed c.each.log) c.each.read.items n c.args.reader.now c.each.reader l m)
+    k c.each.invariant.so_far in
+    collects-stop st AskName (IsNamed c.each.log) c.each.read.items (c.in-Ok.count - (c.each.done + 1)) c.in-Err-name_number.fault
+    c.args.reader.now c.each.reader c.name_number.new.reader l m n (IsNamed c.name_number.new.log)
+    (λ (v : Vec ℕ Global). AreEach (IsNamed c.name_number.new.log) v.items) before
+    (subst (λ (s : LogState Name). AnsweredFrom {X = ℕ} s AskName (IsNamed c.name_number.new.log)
+    (Err c.in-Err-name_number.fault) c.each.reader c.name_number.new.reader m n)
+    c.each.invariant.meets.state c.in-Err-name_number.ensures.answered)
 
 pub returns-clause-answered : goal.returns-clause-answered
 returns-clause-answered g c =
@@ -66,4 +90,6 @@ returns-clause-answered g c =
     let l = g.S.Source.left c.args.source.now in
     let m = g.S.Source.left c.each.source in
     let k : c.in-Ok.count - c.each.done ≡ 0 = omega arith in
-    collects-end st AskName (IsNamed c.each.log) (λ (v : Vec ℕ Global). v.items) c.each.read c.args.reader.now c.each.reader l m (subst (λ n. CollectsFrom st AskName (IsNamed c.each.log) c.each.read.items n c.args.reader.now c.each.reader l m) k c.each.invariant.so_far)
+    collects-end st AskName (IsNamed c.each.log) (λ (v : Vec ℕ Global). v.items) c.each.read c.args.reader.now c.each.reader l m
+    (subst (λ n. CollectsFrom st AskName (IsNamed c.each.log) c.each.read.items n c.args.reader.now c.each.reader l m)
+    k c.each.invariant.so_far)

@@ -19,8 +19,12 @@ returns-clause-answered g c =
     let mid = c.named_type.new.reader in
     let new = c.term_number.new.reader in
     let meets = c.in_ok-variable.ensures.meets in
-    let second = subst (λ (s : LogState Name). AnsweredFrom s AskTerm (IsAt s.terms) (Ok c.in-Ok.term) mid new m n) meets.state c.in-Ok.ensures.answered in
-    both-read st ask_variable AskTerm (λ v t. (v, t)) (IsVariable c.named_type.new.log) (IsAt st.terms) (IsTermPair c.named_type.new.log) c.in_ok-variable.variable c.in-Ok.term (record { variable = c.in_ok-variable.variable; term = c.in-Ok.term }) old mid new l m n c.in_ok-variable.ensures.variable second
+    let second = subst (λ (s : LogState Name). AnsweredFrom s AskTerm (IsAt s.terms) (Ok c.in-Ok.term) mid new m n)
+    meets.state c.in-Ok.ensures.answered in
+    both-read st ask_variable AskTerm (λ v t. (v, t)) (IsVariable c.named_type.new.log)
+    (IsAt st.terms) (IsTermPair c.named_type.new.log) c.in_ok-variable.variable
+    c.in-Ok.term (record { variable = c.in_ok-variable.variable; term = c.in-Ok.term })
+    old mid new l m n c.in_ok-variable.ensures.variable second
     (λ a b h k. (h, ap (λ (s : LogState Name). slice_get s.terms c.in-Ok.term) meets.state ∙ k))
 
 pub returns-in-Err-clause-answered : goal.returns-in-Err-clause-answered
@@ -33,5 +37,8 @@ returns-in-Err-clause-answered g c =
     let mid = c.named_type.new.reader in
     let new = c.term_number.new.reader in
     let meets = c.in_ok-variable.ensures.meets in
-    let second = subst (λ (s : LogState Name). AnsweredFrom {X = ℕ} s AskTerm (IsAt s.terms) (Err c.in-Err.fault) mid new m n) meets.state c.in-Err.ensures.answered in
-    second-stop {Z = TermPair} st ask_variable AskTerm (λ v t. (v, t)) (IsVariable c.named_type.new.log) (IsAt st.terms) (IsTermPair c.named_type.new.log) c.in_ok-variable.variable c.in-Err.fault old mid new l m n c.in_ok-variable.ensures.variable second
+    let second = subst (λ (s : LogState Name). AnsweredFrom {X = ℕ} s AskTerm (IsAt s.terms) (Err c.in-Err.fault) mid new m n)
+    meets.state c.in-Err.ensures.answered in
+    second-stop {Z = TermPair} st ask_variable AskTerm (λ v t. (v, t)) (IsVariable c.named_type.new.log)
+    (IsAt st.terms) (IsTermPair c.named_type.new.log) c.in_ok-variable.variable c.in-Err.fault old mid
+    new l m n c.in_ok-variable.ensures.variable second

@@ -16,9 +16,15 @@ each-init g c =
     let l = g.S.Source.left c.args.source.now in
     let m = g.S.Source.left c.count.new.source in
     let k : c.in-Ok.count ≡ c.in-Ok.count - 0 = omega arith in
-    let none = collects-start st ask_term_pair (IsTermPair c.args.log.now) c.in-Ok.count c.args.reader.now c.count.new.self l m (c.in-Ok.ensures.answered st) in
+    let none = collects-start st ask_term_pair (IsTermPair c.args.log.now) c.in-Ok.count
+    c.args.reader.now c.count.new.self l m (c.in-Ok.ensures.answered st) in
     record {
-      so_far = subst (λ (is : List TermPair). CollectsFrom st ask_term_pair (IsTermPair c.args.log.now) is (c.in-Ok.count - 0) c.args.reader.now c.count.new.self l m) (sym c.new-read.ensures.items) (subst (λ n. CollectsFrom {X = TermPair} st ask_term_pair (IsTermPair c.args.log.now) [] n c.args.reader.now c.count.new.self l m) k none);
+      so_far =
+          subst (λ (is : List TermPair). CollectsFrom st ask_term_pair (IsTermPair c.args.log.now)
+          is (c.in-Ok.count - 0) c.args.reader.now c.count.new.self l m)
+          (sym c.new-read.ensures.items) (subst (λ n. CollectsFrom {X = TermPair} st
+          ask_term_pair (IsTermPair c.args.log.now) [] n c.args.reader.now c.count.new.self l m)
+          k none);
       meets = meets-nothing c.args.log.now;
       advances = c.in-Ok.ensures.advances;
       later = c.count.ensures.later;
@@ -34,12 +40,24 @@ each-preserved g c =
     let m = g.S.Source.left c.each.source in
     let n = g.S.Source.left c.term_pair.new.source in
     let k : c.in-Ok.count - c.each.done ≡ suc (c.in-Ok.count - (c.each.done + 1)) = omega arith in
-    let before = subst (λ n. CollectsFrom st ask_term_pair (IsTermPair c.each.log) c.each.read.items n c.args.reader.now c.each.reader l m) k c.each.invariant.so_far in
+    let before = subst (λ n. CollectsFrom st ask_term_pair (IsTermPair c.each.log)
+    c.each.read.items n c.args.reader.now c.each.reader l m)
+    k c.each.invariant.so_far in
     record {
-      so_far = subst (λ (is : List TermPair). CollectsFrom st ask_term_pair (IsTermPair c.term_pair.new.log) is (c.in-Ok.count - (c.each.done + 1)) c.args.reader.now c.term_pair.new.reader l n) (sym c.in_ok-push-in-Ok-term_pair.ensures.items)
-          (collects-next st ask_term_pair (IsTermPair c.each.log) (IsTermPair c.term_pair.new.log) (λ x y. term_pair-later c.each.log c.term_pair.new.log x y c.in-Ok-term_pair.ensures.meets) c.each.read.items c.in-Ok-term_pair.item (c.in-Ok.count - (c.each.done + 1)) c.args.reader.now c.each.reader c.term_pair.new.reader l m n before (subst (λ (s : LogState Name). AnsweredFrom s ask_term_pair (IsTermPair c.term_pair.new.log) (Ok c.in-Ok-term_pair.item) c.each.reader c.term_pair.new.reader m n) c.each.invariant.meets.state c.in-Ok-term_pair.ensures.answered));
+      so_far =
+          subst (λ (is : List TermPair). CollectsFrom st ask_term_pair (IsTermPair c.term_pair.new.log)
+          is (c.in-Ok.count - (c.each.done + 1)) c.args.reader.now c.term_pair.new.reader l n)
+          (sym c.in_ok-push-in-Ok-term_pair.ensures.items)
+          (collects-next st ask_term_pair (IsTermPair c.each.log) (IsTermPair c.term_pair.new.log)
+          (λ x y. term_pair-later c.each.log c.term_pair.new.log x y c.in-Ok-term_pair.ensures.meets) c.each.read.items
+          c.in-Ok-term_pair.item (c.in-Ok.count - (c.each.done + 1)) c.args.reader.now c.each.reader c.term_pair.new.reader l m n
+          before (subst (λ (s : LogState Name). AnsweredFrom s ask_term_pair (IsTermPair c.term_pair.new.log)
+          (Ok c.in-Ok-term_pair.item) c.each.reader c.term_pair.new.reader m n)
+          c.each.invariant.meets.state c.in-Ok-term_pair.ensures.answered));
       meets = meets-then c.args.log.now c.each.log c.term_pair.new.log c.each.invariant.meets c.in-Ok-term_pair.ensures.meets;
-      advances = advances-then c.args.reader.now c.each.reader c.term_pair.new.reader c.each.invariant.advances c.in-Ok-term_pair.ensures.advances;
+      advances =
+          advances-then c.args.reader.now c.each.reader c.term_pair.new.reader
+          c.each.invariant.advances c.in-Ok-term_pair.ensures.advances;
       later = omega (arith, c.each.invariant.later, c.term_pair.ensures.later);
       folder = c.term_pair.ensures.folder ∙ c.each.invariant.folder;
       misses = c.term_pair.ensures.misses ∙ c.each.invariant.misses;
@@ -49,7 +67,9 @@ each-preserved g c =
 pub returns-in-Err-clause-answered : goal.returns-in-Err-clause-answered
 returns-in-Err-clause-answered g c =
     let st = c.args.log.now.state in
-    collects-none st ask_term_pair c.in-Err.fault c.args.reader.now c.count.new.self (g.S.Source.left c.args.source.now) (g.S.Source.left c.count.new.source) (λ (v : Vec TermPair Global). AreEach (IsTermPair c.args.log.now) v.items) (c.in-Err.ensures.answered st)
+    collects-none st ask_term_pair c.in-Err.fault c.args.reader.now c.count.new.self
+    (g.S.Source.left c.args.source.now) (g.S.Source.left c.count.new.source)
+    (λ (v : Vec TermPair Global). AreEach (IsTermPair c.args.log.now) v.items) (c.in-Err.ensures.answered st)
 
 pub returns-in-Err-term_pair-clause-answered : goal.returns-in-Err-term_pair-clause-answered
 returns-in-Err-term_pair-clause-answered g c =
@@ -58,8 +78,15 @@ returns-in-Err-term_pair-clause-answered g c =
     let m = g.S.Source.left c.each.source in
     let n = g.S.Source.left c.term_pair.new.source in
     let k : c.in-Ok.count - c.each.done ≡ suc (c.in-Ok.count - (c.each.done + 1)) = omega arith in
-    let before = subst (λ n. CollectsFrom st ask_term_pair (IsTermPair c.each.log) c.each.read.items n c.args.reader.now c.each.reader l m) k c.each.invariant.so_far in
-    collects-stop st ask_term_pair (IsTermPair c.each.log) c.each.read.items (c.in-Ok.count - (c.each.done + 1)) c.in-Err-term_pair.fault c.args.reader.now c.each.reader c.term_pair.new.reader l m n (IsTermPair c.term_pair.new.log) (λ (v : Vec TermPair Global). AreEach (IsTermPair c.term_pair.new.log) v.items) before (subst (λ (s : LogState Name). AnsweredFrom {X = TermPair} s ask_term_pair (IsTermPair c.term_pair.new.log) (Err c.in-Err-term_pair.fault) c.each.reader c.term_pair.new.reader m n) c.each.invariant.meets.state c.in-Err-term_pair.ensures.answered)
+    let before = subst (λ n. CollectsFrom st ask_term_pair (IsTermPair c.each.log)
+    c.each.read.items n c.args.reader.now c.each.reader l m)
+    k c.each.invariant.so_far in
+    collects-stop st ask_term_pair (IsTermPair c.each.log) c.each.read.items (c.in-Ok.count - (c.each.done + 1))
+    c.in-Err-term_pair.fault c.args.reader.now c.each.reader c.term_pair.new.reader l m n (IsTermPair c.term_pair.new.log)
+    (λ (v : Vec TermPair Global). AreEach (IsTermPair c.term_pair.new.log) v.items) before
+    (subst (λ (s : LogState Name). AnsweredFrom {X = TermPair} s ask_term_pair
+    (IsTermPair c.term_pair.new.log) (Err c.in-Err-term_pair.fault) c.each.reader c.term_pair.new.reader m n)
+    c.each.invariant.meets.state c.in-Err-term_pair.ensures.answered)
 
 pub returns-clause-answered : goal.returns-clause-answered
 returns-clause-answered g c =
@@ -67,4 +94,7 @@ returns-clause-answered g c =
     let l = g.S.Source.left c.args.source.now in
     let m = g.S.Source.left c.each.source in
     let k : c.in-Ok.count - c.each.done ≡ 0 = omega arith in
-    collects-end st ask_term_pair (IsTermPair c.each.log) (λ (v : Vec TermPair Global). v.items) c.each.read c.args.reader.now c.each.reader l m (subst (λ n. CollectsFrom st ask_term_pair (IsTermPair c.each.log) c.each.read.items n c.args.reader.now c.each.reader l m) k c.each.invariant.so_far)
+    collects-end st ask_term_pair (IsTermPair c.each.log) (λ (v : Vec TermPair Global). v.items) c.each.read c.args.reader.now
+    c.each.reader l m (subst (λ n. CollectsFrom st ask_term_pair
+    (IsTermPair c.each.log) c.each.read.items n c.args.reader.now c.each.reader l m)
+    k c.each.invariant.so_far)

@@ -11,9 +11,15 @@ each-init g c =
     let l = g.S.Source.left c.args.source.now in
     let m = g.S.Source.left c.count.new.source in
     let k : c.in-Ok.count ≡ c.in-Ok.count - 0 = omega arith in
-    let none = collects-start st AskTerm (IsAt c.args.log.now.state.terms) c.in-Ok.count c.args.reader.now c.count.new.self l m (c.in-Ok.ensures.answered st) in
+    let none = collects-start st AskTerm (IsAt c.args.log.now.state.terms) c.in-Ok.count
+    c.args.reader.now c.count.new.self l m (c.in-Ok.ensures.answered st) in
     record {
-      so_far = subst (λ (is : List ℕ). CollectsFrom st AskTerm (IsAt c.args.log.now.state.terms) is (c.in-Ok.count - 0) c.args.reader.now c.count.new.self l m) (sym c.new-read.ensures.items) (subst (λ n. CollectsFrom {X = ℕ} st AskTerm (IsAt c.args.log.now.state.terms) [] n c.args.reader.now c.count.new.self l m) k none);
+      so_far =
+          subst (λ (is : List ℕ). CollectsFrom st AskTerm (IsAt c.args.log.now.state.terms)
+          is (c.in-Ok.count - 0) c.args.reader.now c.count.new.self l m)
+          (sym c.new-read.ensures.items) (subst
+          (λ n. CollectsFrom {X = ℕ} st AskTerm (IsAt c.args.log.now.state.terms) [] n c.args.reader.now c.count.new.self l m) k
+          none);
       advances = c.in-Ok.ensures.advances;
       later = c.count.ensures.later;
       folder = c.count.ensures.folder;
@@ -28,11 +34,20 @@ each-preserved g c =
     let m = g.S.Source.left c.each.source in
     let n = g.S.Source.left c.term_number.new.source in
     let k : c.in-Ok.count - c.each.done ≡ suc (c.in-Ok.count - (c.each.done + 1)) = omega arith in
-    let before = subst (λ n. CollectsFrom st AskTerm (IsAt c.args.log.now.state.terms) c.each.read.items n c.args.reader.now c.each.reader l m) k c.each.invariant.so_far in
+    let before = subst (λ n. CollectsFrom st AskTerm (IsAt c.args.log.now.state.terms)
+    c.each.read.items n c.args.reader.now c.each.reader l m)
+    k c.each.invariant.so_far in
     record {
-      so_far = subst (λ (is : List ℕ). CollectsFrom st AskTerm (IsAt c.args.log.now.state.terms) is (c.in-Ok.count - (c.each.done + 1)) c.args.reader.now c.term_number.new.reader l n) (sym c.in_ok-push-in-Ok-term_number.ensures.items)
-          (collects-next st AskTerm (IsAt c.args.log.now.state.terms) (IsAt c.args.log.now.state.terms) (λ x y h. h) c.each.read.items c.in-Ok-term_number.item (c.in-Ok.count - (c.each.done + 1)) c.args.reader.now c.each.reader c.term_number.new.reader l m n before c.in-Ok-term_number.ensures.answered);
-      advances = advances-then c.args.reader.now c.each.reader c.term_number.new.reader c.each.invariant.advances c.in-Ok-term_number.ensures.advances;
+      so_far =
+          subst (λ (is : List ℕ). CollectsFrom st AskTerm (IsAt c.args.log.now.state.terms) is
+          (c.in-Ok.count - (c.each.done + 1)) c.args.reader.now c.term_number.new.reader l n)
+          (sym c.in_ok-push-in-Ok-term_number.ensures.items)
+          (collects-next st AskTerm (IsAt c.args.log.now.state.terms) (IsAt c.args.log.now.state.terms) (λ x y h. h)
+          c.each.read.items c.in-Ok-term_number.item (c.in-Ok.count - (c.each.done + 1)) c.args.reader.now
+          c.each.reader c.term_number.new.reader l m n before c.in-Ok-term_number.ensures.answered);
+      advances =
+          advances-then c.args.reader.now c.each.reader c.term_number.new.reader
+          c.each.invariant.advances c.in-Ok-term_number.ensures.advances;
       later = omega (arith, c.each.invariant.later, c.term_number.ensures.later);
       folder = c.term_number.ensures.folder ∙ c.each.invariant.folder;
       misses = c.term_number.ensures.misses ∙ c.each.invariant.misses;
@@ -42,7 +57,9 @@ each-preserved g c =
 pub returns-in-Err-clause-answered : goal.returns-in-Err-clause-answered
 returns-in-Err-clause-answered g c =
     let st = c.args.log.now.state in
-    collects-none st AskTerm c.in-Err.fault c.args.reader.now c.count.new.self (g.S.Source.left c.args.source.now) (g.S.Source.left c.count.new.source) (λ (v : Vec ℕ Global). AreEach (IsAt c.args.log.now.state.terms) v.items) (c.in-Err.ensures.answered st)
+    collects-none st AskTerm c.in-Err.fault c.args.reader.now c.count.new.self
+    (g.S.Source.left c.args.source.now) (g.S.Source.left c.count.new.source)
+    (λ (v : Vec ℕ Global). AreEach (IsAt c.args.log.now.state.terms) v.items) (c.in-Err.ensures.answered st)
 
 pub returns-in-Err-term_number-clause-answered : goal.returns-in-Err-term_number-clause-answered
 returns-in-Err-term_number-clause-answered g c =
@@ -51,8 +68,12 @@ returns-in-Err-term_number-clause-answered g c =
     let m = g.S.Source.left c.each.source in
     let n = g.S.Source.left c.term_number.new.source in
     let k : c.in-Ok.count - c.each.done ≡ suc (c.in-Ok.count - (c.each.done + 1)) = omega arith in
-    let before = subst (λ n. CollectsFrom st AskTerm (IsAt c.args.log.now.state.terms) c.each.read.items n c.args.reader.now c.each.reader l m) k c.each.invariant.so_far in
-    collects-stop st AskTerm (IsAt c.args.log.now.state.terms) c.each.read.items (c.in-Ok.count - (c.each.done + 1)) c.in-Err-term_number.fault c.args.reader.now c.each.reader c.term_number.new.reader l m n (IsAt c.args.log.now.state.terms) (λ (v : Vec ℕ Global). AreEach (IsAt c.args.log.now.state.terms) v.items) before c.in-Err-term_number.ensures.answered
+    let before = subst (λ n. CollectsFrom st AskTerm (IsAt c.args.log.now.state.terms)
+    c.each.read.items n c.args.reader.now c.each.reader l m)
+    k c.each.invariant.so_far in
+    collects-stop st AskTerm (IsAt c.args.log.now.state.terms) c.each.read.items (c.in-Ok.count - (c.each.done + 1))
+    c.in-Err-term_number.fault c.args.reader.now c.each.reader c.term_number.new.reader l m n (IsAt c.args.log.now.state.terms)
+    (λ (v : Vec ℕ Global). AreEach (IsAt c.args.log.now.state.terms) v.items) before c.in-Err-term_number.ensures.answered
 
 pub returns-clause-answered : goal.returns-clause-answered
 returns-clause-answered g c =
@@ -60,4 +81,7 @@ returns-clause-answered g c =
     let l = g.S.Source.left c.args.source.now in
     let m = g.S.Source.left c.each.source in
     let k : c.in-Ok.count - c.each.done ≡ 0 = omega arith in
-    collects-end st AskTerm (IsAt c.args.log.now.state.terms) (λ (v : Vec ℕ Global). v.items) c.each.read c.args.reader.now c.each.reader l m (subst (λ n. CollectsFrom st AskTerm (IsAt c.args.log.now.state.terms) c.each.read.items n c.args.reader.now c.each.reader l m) k c.each.invariant.so_far)
+    collects-end st AskTerm (IsAt c.args.log.now.state.terms) (λ (v : Vec ℕ Global). v.items) c.each.read c.args.reader.now
+    c.each.reader l m (subst (λ n. CollectsFrom st AskTerm (IsAt c.args.log.now.state.terms)
+    c.each.read.items n c.args.reader.now c.each.reader l m)
+    k c.each.invariant.so_far)

@@ -6,7 +6,8 @@ use Rattle.ot_verify.proofs.operands.terms.Given as goal
 
 abbrev pub invariant-each : goal.invariant-each
 invariant-each g l = record {
-  so_far : CollectsFrom l.log.state AskTerm (IsAt l.log.state.terms) l.read.items (l.count - l.done) l.fn.reader l.reader (g.S.Source.left l.fn.source) (g.S.Source.left l.source);
+  so_far : CollectsFrom l.log.state AskTerm (IsAt l.log.state.terms) l.read.items (l.count - l.done)
+      l.fn.reader l.reader (g.S.Source.left l.fn.source) (g.S.Source.left l.source);
   advances : Advances l.fn.reader l.reader;
   later : g.S.Source.faults l.fn.source ≤ g.S.Source.faults l.source;
   folder : g.S.Source.folder l.source ≡ g.S.Source.folder l.fn.source;

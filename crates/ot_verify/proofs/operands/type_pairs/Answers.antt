@@ -16,9 +16,15 @@ each-init g c =
     let l = g.S.Source.left c.args.source.now in
     let m = g.S.Source.left c.count.new.source in
     let k : c.in-Ok.count ≡ c.in-Ok.count - 0 = omega arith in
-    let none = collects-start st ask_type_pair (IsTypePair c.args.log.now) c.in-Ok.count c.args.reader.now c.count.new.self l m (c.in-Ok.ensures.answered st) in
+    let none = collects-start st ask_type_pair (IsTypePair c.args.log.now) c.in-Ok.count
+    c.args.reader.now c.count.new.self l m (c.in-Ok.ensures.answered st) in
     record {
-      so_far = subst (λ (is : List NamedType). CollectsFrom st ask_type_pair (IsTypePair c.args.log.now) is (c.in-Ok.count - 0) c.args.reader.now c.count.new.self l m) (sym c.new-read.ensures.items) (subst (λ n. CollectsFrom {X = NamedType} st ask_type_pair (IsTypePair c.args.log.now) [] n c.args.reader.now c.count.new.self l m) k none);
+      so_far =
+          subst (λ (is : List NamedType). CollectsFrom st ask_type_pair (IsTypePair c.args.log.now)
+          is (c.in-Ok.count - 0) c.args.reader.now c.count.new.self l m)
+          (sym c.new-read.ensures.items) (subst (λ n. CollectsFrom {X = NamedType} st
+          ask_type_pair (IsTypePair c.args.log.now) [] n c.args.reader.now c.count.new.self l m)
+          k none);
       meets = meets-nothing c.args.log.now;
       advances = c.in-Ok.ensures.advances;
       later = c.count.ensures.later;
@@ -34,12 +40,24 @@ each-preserved g c =
     let m = g.S.Source.left c.each.source in
     let n = g.S.Source.left c.named_type.new.source in
     let k : c.in-Ok.count - c.each.done ≡ suc (c.in-Ok.count - (c.each.done + 1)) = omega arith in
-    let before = subst (λ n. CollectsFrom st ask_type_pair (IsTypePair c.each.log) c.each.read.items n c.args.reader.now c.each.reader l m) k c.each.invariant.so_far in
+    let before = subst (λ n. CollectsFrom st ask_type_pair (IsTypePair c.each.log)
+    c.each.read.items n c.args.reader.now c.each.reader l m)
+    k c.each.invariant.so_far in
     record {
-      so_far = subst (λ (is : List NamedType). CollectsFrom st ask_type_pair (IsTypePair c.named_type.new.log) is (c.in-Ok.count - (c.each.done + 1)) c.args.reader.now c.named_type.new.reader l n) (sym c.in_ok-push-in-Ok-named_type.ensures.items)
-          (collects-next st ask_type_pair (IsTypePair c.each.log) (IsTypePair c.named_type.new.log) (λ x y. type_pair-later c.each.log c.named_type.new.log x y c.in-Ok-named_type.ensures.meets) c.each.read.items c.in-Ok-named_type.item (c.in-Ok.count - (c.each.done + 1)) c.args.reader.now c.each.reader c.named_type.new.reader l m n before (subst (λ (s : LogState Name). AnsweredFrom s ask_type_pair (IsTypePair c.named_type.new.log) (Ok c.in-Ok-named_type.item) c.each.reader c.named_type.new.reader m n) c.each.invariant.meets.state c.in-Ok-named_type.ensures.pair));
+      so_far =
+          subst (λ (is : List NamedType). CollectsFrom st ask_type_pair (IsTypePair c.named_type.new.log)
+          is (c.in-Ok.count - (c.each.done + 1)) c.args.reader.now c.named_type.new.reader l n)
+          (sym c.in_ok-push-in-Ok-named_type.ensures.items)
+          (collects-next st ask_type_pair (IsTypePair c.each.log) (IsTypePair c.named_type.new.log)
+          (λ x y. type_pair-later c.each.log c.named_type.new.log x y c.in-Ok-named_type.ensures.meets) c.each.read.items
+          c.in-Ok-named_type.item (c.in-Ok.count - (c.each.done + 1)) c.args.reader.now c.each.reader c.named_type.new.reader l m
+          n before (subst (λ (s : LogState Name). AnsweredFrom s ask_type_pair (IsTypePair c.named_type.new.log)
+          (Ok c.in-Ok-named_type.item) c.each.reader c.named_type.new.reader m n)
+          c.each.invariant.meets.state c.in-Ok-named_type.ensures.pair));
       meets = meets-then c.args.log.now c.each.log c.named_type.new.log c.each.invariant.meets c.in-Ok-named_type.ensures.meets;
-      advances = advances-then c.args.reader.now c.each.reader c.named_type.new.reader c.each.invariant.advances c.in-Ok-named_type.ensures.advances;
+      advances =
+          advances-then c.args.reader.now c.each.reader c.named_type.new.reader
+          c.each.invariant.advances c.in-Ok-named_type.ensures.advances;
       later = omega (arith, c.each.invariant.later, c.named_type.ensures.later);
       folder = c.named_type.ensures.folder ∙ c.each.invariant.folder;
       misses = c.named_type.ensures.misses ∙ c.each.invariant.misses;
@@ -49,7 +67,9 @@ each-preserved g c =
 pub returns-in-Err-clause-answered : goal.returns-in-Err-clause-answered
 returns-in-Err-clause-answered g c =
     let st = c.args.log.now.state in
-    collects-none st ask_type_pair c.in-Err.fault c.args.reader.now c.count.new.self (g.S.Source.left c.args.source.now) (g.S.Source.left c.count.new.source) (λ (v : Vec NamedType Global). AreEach (IsTypePair c.args.log.now) v.items) (c.in-Err.ensures.answered st)
+    collects-none st ask_type_pair c.in-Err.fault c.args.reader.now c.count.new.self
+    (g.S.Source.left c.args.source.now) (g.S.Source.left c.count.new.source)
+    (λ (v : Vec NamedType Global). AreEach (IsTypePair c.args.log.now) v.items) (c.in-Err.ensures.answered st)
 
 pub returns-in-Err-named_type-clause-answered : goal.returns-in-Err-named_type-clause-answered
 returns-in-Err-named_type-clause-answered g c =
@@ -58,8 +78,15 @@ returns-in-Err-named_type-clause-answered g c =
     let m = g.S.Source.left c.each.source in
     let n = g.S.Source.left c.named_type.new.source in
     let k : c.in-Ok.count - c.each.done ≡ suc (c.in-Ok.count - (c.each.done + 1)) = omega arith in
-    let before = subst (λ n. CollectsFrom st ask_type_pair (IsTypePair c.each.log) c.each.read.items n c.args.reader.now c.each.reader l m) k c.each.invariant.so_far in
-    collects-stop st ask_type_pair (IsTypePair c.each.log) c.each.read.items (c.in-Ok.count - (c.each.done + 1)) c.in-Err-named_type.fault c.args.reader.now c.each.reader c.named_type.new.reader l m n (IsTypePair c.named_type.new.log) (λ (v : Vec NamedType Global). AreEach (IsTypePair c.named_type.new.log) v.items) before (subst (λ (s : LogState Name). AnsweredFrom {X = NamedType} s ask_type_pair (IsTypePair c.named_type.new.log) (Err c.in-Err-named_type.fault) c.each.reader c.named_type.new.reader m n) c.each.invariant.meets.state c.in-Err-named_type.ensures.pair)
+    let before = subst (λ n. CollectsFrom st ask_type_pair (IsTypePair c.each.log)
+    c.each.read.items n c.args.reader.now c.each.reader l m)
+    k c.each.invariant.so_far in
+    collects-stop st ask_type_pair (IsTypePair c.each.log) c.each.read.items (c.in-Ok.count - (c.each.done + 1))
+    c.in-Err-named_type.fault c.args.reader.now c.each.reader c.named_type.new.reader l m n (IsTypePair c.named_type.new.log)
+    (λ (v : Vec NamedType Global). AreEach (IsTypePair c.named_type.new.log) v.items) before
+    (subst (λ (s : LogState Name). AnsweredFrom {X = NamedType} s ask_type_pair
+    (IsTypePair c.named_type.new.log) (Err c.in-Err-named_type.fault) c.each.reader c.named_type.new.reader m n)
+    c.each.invariant.meets.state c.in-Err-named_type.ensures.pair)
 
 pub returns-clause-answered : goal.returns-clause-answered
 returns-clause-answered g c =
@@ -67,4 +94,7 @@ returns-clause-answered g c =
     let l = g.S.Source.left c.args.source.now in
     let m = g.S.Source.left c.each.source in
     let k : c.in-Ok.count - c.each.done ≡ 0 = omega arith in
-    collects-end st ask_type_pair (IsTypePair c.each.log) (λ (v : Vec NamedType Global). v.items) c.each.read c.args.reader.now c.each.reader l m (subst (λ n. CollectsFrom st ask_type_pair (IsTypePair c.each.log) c.each.read.items n c.args.reader.now c.each.reader l m) k c.each.invariant.so_far)
+    collects-end st ask_type_pair (IsTypePair c.each.log) (λ (v : Vec NamedType Global). v.items) c.each.read c.args.reader.now
+    c.each.reader l m (subst (λ n. CollectsFrom st ask_type_pair
+    (IsTypePair c.each.log) c.each.read.items n c.args.reader.now c.each.reader l m)
+    k c.each.invariant.so_far)

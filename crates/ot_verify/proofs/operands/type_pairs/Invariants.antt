@@ -7,7 +7,8 @@ use Rattle.ot_verify.proofs.operands.type_pairs.Given as goal
 
 abbrev pub invariant-each : goal.invariant-each
 invariant-each g l = record {
-  so_far : CollectsFrom l.fn.log.state ask_type_pair (IsTypePair l.log) l.read.items (l.count - l.done) l.fn.reader l.reader (g.S.Source.left l.fn.source) (g.S.Source.left l.source);
+  so_far : CollectsFrom l.fn.log.state ask_type_pair (IsTypePair l.log) l.read.items (l.count - l.done)
+      l.fn.reader l.reader (g.S.Source.left l.fn.source) (g.S.Source.left l.source);
   meets : MeetsNames l.fn.log l.log;
   advances : Advances l.fn.reader l.reader;
   later : g.S.Source.faults l.fn.source ≤ g.S.Source.faults l.source;

@@ -11,9 +11,15 @@ each-init g c =
     let l = g.S.Source.left c.args.source.now in
     let m = g.S.Source.left c.count.new.source in
     let k : c.in-Ok.count ≡ c.in-Ok.count - 0 = omega arith in
-    let none = collects-start st AskType (IsAt c.args.log.now.state.types) c.in-Ok.count c.args.reader.now c.count.new.self l m (c.in-Ok.ensures.answered st) in
+    let none = collects-start st AskType (IsAt c.args.log.now.state.types) c.in-Ok.count
+    c.args.reader.now c.count.new.self l m (c.in-Ok.ensures.answered st) in
     record {
-      so_far = subst (λ (is : List ℕ). CollectsFrom st AskType (IsAt c.args.log.now.state.types) is (c.in-Ok.count - 0) c.args.reader.now c.count.new.self l m) (sym c.new-read.ensures.items) (subst (λ n. CollectsFrom {X = ℕ} st AskType (IsAt c.args.log.now.state.types) [] n c.args.reader.now c.count.new.self l m) k none);
+      so_far =
+          subst (λ (is : List ℕ). CollectsFrom st AskType (IsAt c.args.log.now.state.types)
+          is (c.in-Ok.count - 0) c.args.reader.now c.count.new.self l m)
+          (sym c.new-read.ensures.items) (subst
+          (λ n. CollectsFrom {X = ℕ} st AskType (IsAt c.args.log.now.state.types) [] n c.args.reader.now c.count.new.self l m) k
+          none);
       advances = c.in-Ok.ensures.advances;
       later = c.count.ensures.later;
       folder = c.count.ensures.folder;
@@ -28,11 +34,20 @@ each-preserved g c =
     let m = g.S.Source.left c.each.source in
     let n = g.S.Source.left c.type_number.new.source in
     let k : c.in-Ok.count - c.each.done ≡ suc (c.in-Ok.count - (c.each.done + 1)) = omega arith in
-    let before = subst (λ n. CollectsFrom st AskType (IsAt c.args.log.now.state.types) c.each.read.items n c.args.reader.now c.each.reader l m) k c.each.invariant.so_far in
+    let before = subst (λ n. CollectsFrom st AskType (IsAt c.args.log.now.state.types)
+    c.each.read.items n c.args.reader.now c.each.reader l m)
+    k c.each.invariant.so_far in
     record {
-      so_far = subst (λ (is : List ℕ). CollectsFrom st AskType (IsAt c.args.log.now.state.types) is (c.in-Ok.count - (c.each.done + 1)) c.args.reader.now c.type_number.new.reader l n) (sym c.in_ok-push-in-Ok-type_number.ensures.items)
-          (collects-next st AskType (IsAt c.args.log.now.state.types) (IsAt c.args.log.now.state.types) (λ x y h. h) c.each.read.items c.in-Ok-type_number.item (c.in-Ok.count - (c.each.done + 1)) c.args.reader.now c.each.reader c.type_number.new.reader l m n before c.in-Ok-type_number.ensures.answered);
-      advances = advances-then c.args.reader.now c.each.reader c.type_number.new.reader c.each.invariant.advances c.in-Ok-type_number.ensures.advances;
+      so_far =
+          subst (λ (is : List ℕ). CollectsFrom st AskType (IsAt c.args.log.now.state.types) is
+          (c.in-Ok.count - (c.each.done + 1)) c.args.reader.now c.type_number.new.reader l n)
+          (sym c.in_ok-push-in-Ok-type_number.ensures.items)
+          (collects-next st AskType (IsAt c.args.log.now.state.types) (IsAt c.args.log.now.state.types) (λ x y h. h)
+          c.each.read.items c.in-Ok-type_number.item (c.in-Ok.count - (c.each.done + 1)) c.args.reader.now
+          c.each.reader c.type_number.new.reader l m n before c.in-Ok-type_number.ensures.answered);
+      advances =
+          advances-then c.args.reader.now c.each.reader c.type_number.new.reader
+          c.each.invariant.advances c.in-Ok-type_number.ensures.advances;
       later = omega (arith, c.each.invariant.later, c.type_number.ensures.later);
       folder = c.type_number.ensures.folder ∙ c.each.invariant.folder;
       misses = c.type_number.ensures.misses ∙ c.each.invariant.misses;
@@ -42,7 +57,9 @@ each-preserved g c =
 pub returns-in-Err-clause-answered : goal.returns-in-Err-clause-answered
 returns-in-Err-clause-answered g c =
     let st = c.args.log.now.state in
-    collects-none st AskType c.in-Err.fault c.args.reader.now c.count.new.self (g.S.Source.left c.args.source.now) (g.S.Source.left c.count.new.source) (λ (v : Vec ℕ Global). AreEach (IsAt c.args.log.now.state.types) v.items) (c.in-Err.ensures.answered st)
+    collects-none st AskType c.in-Err.fault c.args.reader.now c.count.new.self
+    (g.S.Source.left c.args.source.now) (g.S.Source.left c.count.new.source)
+    (λ (v : Vec ℕ Global). AreEach (IsAt c.args.log.now.state.types) v.items) (c.in-Err.ensures.answered st)
 
 pub returns-in-Err-type_number-clause-answered : goal.returns-in-Err-type_number-clause-answered
 returns-in-Err-type_number-clause-answered g c =
@@ -51,8 +68,12 @@ returns-in-Err-type_number-clause-answered g c =
     let m = g.S.Source.left c.each.source in
     let n = g.S.Source.left c.type_number.new.source in
     let k : c.in-Ok.count - c.each.done ≡ suc (c.in-Ok.count - (c.each.done + 1)) = omega arith in
-    let before = subst (λ n. CollectsFrom st AskType (IsAt c.args.log.now.state.types) c.each.read.items n c.args.reader.now c.each.reader l m) k c.each.invariant.so_far in
-    collects-stop st AskType (IsAt c.args.log.now.state.types) c.each.read.items (c.in-Ok.count - (c.each.done + 1)) c.in-Err-type_number.fault c.args.reader.now c.each.reader c.type_number.new.reader l m n (IsAt c.args.log.now.state.types) (λ (v : Vec ℕ Global). AreEach (IsAt c.args.log.now.state.types) v.items) before c.in-Err-type_number.ensures.answered
+    let before = subst (λ n. CollectsFrom st AskType (IsAt c.args.log.now.state.types)
+    c.each.read.items n c.args.reader.now c.each.reader l m)
+    k c.each.invariant.so_far in
+    collects-stop st AskType (IsAt c.args.log.now.state.types) c.each.read.items (c.in-Ok.count - (c.each.done + 1))
+    c.in-Err-type_number.fault c.args.reader.now c.each.reader c.type_number.new.reader l m n (IsAt c.args.log.now.state.types)
+    (λ (v : Vec ℕ Global). AreEach (IsAt c.args.log.now.state.types) v.items) before c.in-Err-type_number.ensures.answered
 
 pub returns-clause-answered : goal.returns-clause-answered
 returns-clause-answered g c =
@@ -60,4 +81,7 @@ returns-clause-answered g c =
     let l = g.S.Source.left c.args.source.now in
     let m = g.S.Source.left c.each.source in
     let k : c.in-Ok.count - c.each.done ≡ 0 = omega arith in
-    collects-end st AskType (IsAt c.args.log.now.state.types) (λ (v : Vec ℕ Global). v.items) c.each.read c.args.reader.now c.each.reader l m (subst (λ n. CollectsFrom st AskType (IsAt c.args.log.now.state.types) c.each.read.items n c.args.reader.now c.each.reader l m) k c.each.invariant.so_far)
+    collects-end st AskType (IsAt c.args.log.now.state.types) (λ (v : Vec ℕ Global). v.items) c.each.read c.args.reader.now
+    c.each.reader l m (subst (λ n. CollectsFrom st AskType (IsAt c.args.log.now.state.types)
+    c.each.read.items n c.args.reader.now c.each.reader l m)
+    k c.each.invariant.so_far)

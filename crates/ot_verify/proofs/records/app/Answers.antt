@@ -14,8 +14,15 @@ returns-clause-recorded g c =
     let first = c.args.first in
     let made = c.app-made.result in
     rw c.settle.ensures
-    (answered-then st now AskTerm (IsAt c.args.log.now.state.terms) c.in_ok-f.f (λ x0. AskTerm (λ x1. Makes (makes_term names (App x0 x1)))) first (settled_at first made) c.args.reader.now c.term_number.new.reader c.term_number-2.new.reader (g.S.Source.left c.args.source.now) (g.S.Source.left c.term_number.new.source) (g.S.Source.left c.term_number-2.new.source)
+    (answered-then st now AskTerm (IsAt c.args.log.now.state.terms) c.in_ok-f.f
+    (λ x0. AskTerm (λ x1. Makes (makes_term names (App x0 x1)))) first (settled_at first made)
+    c.args.reader.now c.term_number.new.reader c.term_number-2.new.reader (g.S.Source.left c.args.source.now)
+    (g.S.Source.left c.term_number.new.source) (g.S.Source.left c.term_number-2.new.source)
     c.in_ok-f.ensures.answered
-    (λ x0 h0. answered-then st now AskTerm (IsAt c.args.log.now.state.terms) c.in_ok-x.x (λ x1. Makes (makes_term names (App x0 x1))) first (settled_at first made) c.term_number.new.reader c.term_number-2.new.reader c.term_number-2.new.reader (g.S.Source.left c.term_number.new.source) (g.S.Source.left c.term_number-2.new.source) (g.S.Source.left c.term_number-2.new.source)
+    (λ x0 h0. answered-then st now AskTerm (IsAt c.args.log.now.state.terms) c.in_ok-x.x
+    (λ x1. Makes (makes_term names (App x0 x1))) first (settled_at first made) c.term_number.new.reader
+    c.term_number-2.new.reader c.term_number-2.new.reader (g.S.Source.left c.term_number.new.source)
+    (g.S.Source.left c.term_number-2.new.source) (g.S.Source.left c.term_number-2.new.source)
     c.in_ok-x.ensures.answered
-    (λ x1 h1. made-settled (makes_term names (App x0 x1)) first st now c.term_number-2.new.reader (g.S.Source.left c.term_number-2.new.source) made (c.app-made.ensures x0 x1 h0 h1))))
+    (λ x1 h1. made-settled (makes_term names (App x0 x1)) first st now c.term_number-2.new.reader
+    (g.S.Source.left c.term_number-2.new.source) made (c.app-made.ensures x0 x1 h0 h1))))

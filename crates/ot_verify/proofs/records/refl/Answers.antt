@@ -14,6 +14,10 @@ returns-clause-recorded g c =
     let first = c.args.first in
     let made = c.refl-made.result in
     rw c.settle.ensures
-    (answered-then st now AskTerm (IsAt c.args.log.now.state.terms) c.in_ok-term.term (λ x0. Makes (makes_sequent names (refl_step names x0))) first (settled_at first made) c.args.reader.now c.term_number.new.reader c.term_number.new.reader (g.S.Source.left c.args.source.now) (g.S.Source.left c.term_number.new.source) (g.S.Source.left c.term_number.new.source)
+    (answered-then st now AskTerm (IsAt c.args.log.now.state.terms) c.in_ok-term.term
+    (λ x0. Makes (makes_sequent names (refl_step names x0))) first (settled_at first made) c.args.reader.now
+    c.term_number.new.reader c.term_number.new.reader (g.S.Source.left c.args.source.now)
+    (g.S.Source.left c.term_number.new.source) (g.S.Source.left c.term_number.new.source)
     c.in_ok-term.ensures.answered
-    (λ x0 h0. made-settled (makes_sequent names (refl_step names x0)) first st now c.term_number.new.reader (g.S.Source.left c.term_number.new.source) made (c.refl-made.ensures x0 h0)))
+    (λ x0 h0. made-settled (makes_sequent names (refl_step names x0)) first st now
+    c.term_number.new.reader (g.S.Source.left c.term_number.new.source) made (c.refl-made.ensures x0 h0)))

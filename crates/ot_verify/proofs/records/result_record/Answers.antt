@@ -13,6 +13,10 @@ returns-clause-recorded g c =
     let first = c.args.first in
     let made = c.add_result-made.result in
     rw c.settle.ensures
-    (answered-then st now AskSequent (IsAt c.args.log.now.state.sequents) c.in_ok-sequent.sequent (λ x0. Makes (makes_result names x0)) first (settled_at first made) c.args.reader.now c.sequent_number.new.reader c.sequent_number.new.reader (g.S.Source.left c.args.source.now) (g.S.Source.left c.sequent_number.new.source) (g.S.Source.left c.sequent_number.new.source)
+    (answered-then st now AskSequent (IsAt c.args.log.now.state.sequents) c.in_ok-sequent.sequent
+    (λ x0. Makes (makes_result names x0)) first (settled_at first made) c.args.reader.now
+    c.sequent_number.new.reader c.sequent_number.new.reader (g.S.Source.left c.args.source.now)
+    (g.S.Source.left c.sequent_number.new.source) (g.S.Source.left c.sequent_number.new.source)
     c.in_ok-sequent.ensures.answered
-    (λ x0 h0. made-settled (makes_result names x0) first st now c.sequent_number.new.reader (g.S.Source.left c.sequent_number.new.source) made (c.add_result-made.ensures x0 h0)))
+    (λ x0 h0. made-settled (makes_result names x0) first st now c.sequent_number.new.reader
+    (g.S.Source.left c.sequent_number.new.source) made (c.add_result-made.ensures x0 h0)))

@@ -21,10 +21,38 @@ returns-clause-recorded g c =
     let first = c.args.first in
     let made = c.subst-made.result in
     rw c.settle.ensures
-    (answered-then st now AskSequent (IsAt c.args.log.now.state.sequents) c.in_ok-sequent.sequent (λ x0. ask_list ask_type_pair (λ x1. ask_list ask_term_pair (λ x2. Makes (makes_sequent names (subst_step names x1 x2 x0))))) first (settled_at first made) c.args.reader.now c.sequent_number.new.reader c.term_pairs.new.reader (g.S.Source.left c.args.source.now) (g.S.Source.left c.sequent_number.new.source) (g.S.Source.left c.term_pairs.new.source)
+    (answered-then st now AskSequent (IsAt c.args.log.now.state.sequents) c.in_ok-sequent.sequent
+    (λ x0. ask_list ask_type_pair (λ x1. ask_list ask_term_pair (λ x2. Makes (makes_sequent names (subst_step names x1 x2 x0)))))
+    first (settled_at first made) c.args.reader.now c.sequent_number.new.reader c.term_pairs.new.reader
+    (g.S.Source.left c.args.source.now) (g.S.Source.left c.sequent_number.new.source) (g.S.Source.left c.term_pairs.new.source)
     c.in_ok-sequent.ensures.answered
-    (λ x0 h0. answered-then st now (λ next. ask_list ask_type_pair next) (λ (v : Vec NamedType Global). AreEach (IsTypePair c.type_pairs.new.log) v.items) c.in_ok-types.types (λ x1. ask_list ask_term_pair (λ x2. Makes (makes_sequent names (subst_step names x1 x2 x0)))) first (settled_at first made) c.sequent_number.new.reader c.type_pairs.new.reader c.term_pairs.new.reader (g.S.Source.left c.sequent_number.new.source) (g.S.Source.left c.type_pairs.new.source) (g.S.Source.left c.term_pairs.new.source)
+    (λ x0 h0. answered-then st now (λ next. ask_list ask_type_pair next)
+    (λ (v : Vec NamedType Global). AreEach (IsTypePair c.type_pairs.new.log) v.items) c.in_ok-types.types
+    (λ x1. ask_list ask_term_pair (λ x2. Makes (makes_sequent names (subst_step names x1 x2 x0)))) first (settled_at first made)
+    c.sequent_number.new.reader c.type_pairs.new.reader c.term_pairs.new.reader (g.S.Source.left c.sequent_number.new.source)
+    (g.S.Source.left c.type_pairs.new.source) (g.S.Source.left c.term_pairs.new.source)
     c.in_ok-types.ensures.answered
-    (λ x1 h1. answered-then st now (λ next. ask_list ask_term_pair next) (λ (v : Vec TermPair Global). AreEach (IsTermPair c.term_pairs.new.log) v.items) c.in_ok-terms.terms (λ x2. Makes (makes_sequent names (subst_step names x1 x2 x0))) first (settled_at first made) c.type_pairs.new.reader c.term_pairs.new.reader c.term_pairs.new.reader (g.S.Source.left c.type_pairs.new.source) (g.S.Source.left c.term_pairs.new.source) (g.S.Source.left c.term_pairs.new.source)
-    (subst (λ (s : LogState Name). AnsweredFrom s (λ next. ask_list ask_term_pair next) (λ (v : Vec TermPair Global). AreEach (IsTermPair c.term_pairs.new.log) v.items) (Ok c.in_ok-terms.terms) c.type_pairs.new.reader c.term_pairs.new.reader (g.S.Source.left c.type_pairs.new.source) (g.S.Source.left c.term_pairs.new.source)) c.in_ok-types.ensures.meets.state c.in_ok-terms.ensures.answered)
-    (λ x2 h2. made-settled (makes_sequent names (subst_step names x1 x2 x0)) first st now c.term_pairs.new.reader (g.S.Source.left c.term_pairs.new.source) made (subst (λ s. MadeBy made (makes_sequent names (subst_step names x1 x2 x0)) s now) (meets-then c.args.log.now c.type_pairs.new.log c.term_pairs.new.log c.in_ok-types.ensures.meets c.in_ok-terms.ensures.meets).state (c.subst-made.ensures x0 x1 x2 (subst (λ (s : LogState Name). IsAt s.sequents c.in_ok-sequent.sequent x0) (sym (meets-then c.args.log.now c.type_pairs.new.log c.term_pairs.new.log c.in_ok-types.ensures.meets c.in_ok-terms.ensures.meets).state) h0) (subst (λ is. AreEach (IsTypePair c.term_pairs.new.log) is x1) (sym c.as_slice.ensures.value) (each-more (IsTypePair c.type_pairs.new.log) (IsTypePair c.term_pairs.new.log) (λ x y. type_pair-later c.type_pairs.new.log c.term_pairs.new.log x y c.in_ok-terms.ensures.meets) c.in_ok-types.types.items x1 h1)) (subst (λ is. AreEach (IsTermPair c.term_pairs.new.log) is x2) (sym c.as_slice-2.ensures.value) h2)))))))
+    (λ x1 h1. answered-then st now (λ next. ask_list ask_term_pair next)
+    (λ (v : Vec TermPair Global). AreEach (IsTermPair c.term_pairs.new.log) v.items) c.in_ok-terms.terms
+    (λ x2. Makes (makes_sequent names (subst_step names x1 x2 x0))) first (settled_at first made)
+    c.type_pairs.new.reader c.term_pairs.new.reader c.term_pairs.new.reader (g.S.Source.left c.type_pairs.new.source)
+    (g.S.Source.left c.term_pairs.new.source) (g.S.Source.left c.term_pairs.new.source)
+    (subst (λ (s : LogState Name). AnsweredFrom s (λ next. ask_list ask_term_pair next)
+    (λ (v : Vec TermPair Global). AreEach (IsTermPair c.term_pairs.new.log) v.items)
+    (Ok c.in_ok-terms.terms) c.type_pairs.new.reader c.term_pairs.new.reader
+    (g.S.Source.left c.type_pairs.new.source) (g.S.Source.left c.term_pairs.new.source))
+    c.in_ok-types.ensures.meets.state c.in_ok-terms.ensures.answered)
+    (λ x2 h2. made-settled (makes_sequent names (subst_step names x1 x2 x0)) first st now c.term_pairs.new.reader
+    (g.S.Source.left c.term_pairs.new.source) made
+    (subst (λ s. MadeBy made (makes_sequent names (subst_step names x1 x2 x0)) s now)
+    (meets-then c.args.log.now c.type_pairs.new.log c.term_pairs.new.log
+    c.in_ok-types.ensures.meets c.in_ok-terms.ensures.meets).state
+    (c.subst-made.ensures x0 x1 x2 (subst (λ (s : LogState Name). IsAt s.sequents c.in_ok-sequent.sequent x0)
+    (sym (meets-then c.args.log.now c.type_pairs.new.log c.term_pairs.new.log
+    c.in_ok-types.ensures.meets c.in_ok-terms.ensures.meets).state)
+    h0)
+    (subst (λ is. AreEach (IsTypePair c.term_pairs.new.log) is x1) (sym c.as_slice.ensures.value)
+    (each-more (IsTypePair c.type_pairs.new.log) (IsTypePair c.term_pairs.new.log)
+    (λ x y. type_pair-later c.type_pairs.new.log c.term_pairs.new.log x y c.in_ok-terms.ensures.meets)
+    c.in_ok-types.types.items x1 h1))
+    (subst (λ is. AreEach (IsTermPair c.term_pairs.new.log) is x2) (sym c.as_slice-2.ensures.value) h2)))))))

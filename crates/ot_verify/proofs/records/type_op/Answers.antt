@@ -17,8 +17,23 @@ returns-clause-recorded g c =
     let first = c.args.first in
     let made = c.type_op-made.result in
     rw c.settle.ensures
-    (answered-then st now AskName (IsNamed c.name_number.new.log) c.in_ok-name.name (λ x0. ask_list AskType (λ x1. Makes (makes_type names (TyOp x0 (arguments x1))))) first (settled_at first made) c.args.reader.now c.name_number.new.reader c.types.new.reader (g.S.Source.left c.args.source.now) (g.S.Source.left c.name_number.new.source) (g.S.Source.left c.types.new.source)
+    (answered-then st now AskName (IsNamed c.name_number.new.log) c.in_ok-name.name
+    (λ x0. ask_list AskType (λ x1. Makes (makes_type names (TyOp x0 (arguments x1))))) first (settled_at first made)
+    c.args.reader.now c.name_number.new.reader c.types.new.reader (g.S.Source.left c.args.source.now)
+    (g.S.Source.left c.name_number.new.source) (g.S.Source.left c.types.new.source)
     c.in_ok-name.ensures.answered
-    (λ x0 h0. answered-then st now (λ next. ask_list AskType next) (λ (v : Vec ℕ Global). AreEach (IsAt c.args.log.now.state.types) v.items) c.in_ok-args.args (λ x1. Makes (makes_type names (TyOp x0 (arguments x1)))) first (settled_at first made) c.name_number.new.reader c.types.new.reader c.types.new.reader (g.S.Source.left c.name_number.new.source) (g.S.Source.left c.types.new.source) (g.S.Source.left c.types.new.source)
-    (subst (λ (s : LogState Name). AnsweredFrom s (λ next. ask_list AskType next) (λ (v : Vec ℕ Global). AreEach (IsAt s.types) v.items) (Ok c.in_ok-args.args) c.name_number.new.reader c.types.new.reader (g.S.Source.left c.name_number.new.source) (g.S.Source.left c.types.new.source)) c.in_ok-name.ensures.meets.state c.in_ok-args.ensures.answered)
-    (λ x1 h1. made-settled (makes_type names (TyOp x0 (arguments x1))) first st now c.types.new.reader (g.S.Source.left c.types.new.source) made (subst (λ s. MadeBy made (makes_type names (TyOp x0 (arguments x1))) s now) c.in_ok-name.ensures.meets.state (c.type_op-made.ensures x0 x1 h0 (subst (λ is. AreEach (IsAt c.name_number.new.log.state.types) is x1) (sym c.as_slice.ensures.value) (subst (λ (s : LogState Name). AreEach (IsAt s.types) c.in_ok-args.args.items x1) (sym c.in_ok-name.ensures.meets.state) h1)))))))
+    (λ x0 h0. answered-then st now (λ next. ask_list AskType next)
+    (λ (v : Vec ℕ Global). AreEach (IsAt c.args.log.now.state.types) v.items) c.in_ok-args.args
+    (λ x1. Makes (makes_type names (TyOp x0 (arguments x1)))) first (settled_at first made)
+    c.name_number.new.reader c.types.new.reader c.types.new.reader (g.S.Source.left c.name_number.new.source)
+    (g.S.Source.left c.types.new.source) (g.S.Source.left c.types.new.source)
+    (subst (λ (s : LogState Name). AnsweredFrom s (λ next. ask_list AskType next)
+    (λ (v : Vec ℕ Global). AreEach (IsAt s.types) v.items) (Ok c.in_ok-args.args) c.name_number.new.reader
+    c.types.new.reader (g.S.Source.left c.name_number.new.source) (g.S.Source.left c.types.new.source))
+    c.in_ok-name.ensures.meets.state c.in_ok-args.ensures.answered)
+    (λ x1 h1. made-settled (makes_type names (TyOp x0 (arguments x1))) first st now c.types.new.reader
+    (g.S.Source.left c.types.new.source) made
+    (subst (λ s. MadeBy made (makes_type names (TyOp x0 (arguments x1))) s now) c.in_ok-name.ensures.meets.state
+    (c.type_op-made.ensures x0 x1 h0 (subst (λ is. AreEach (IsAt c.name_number.new.log.state.types) is x1)
+    (sym c.as_slice.ensures.value) (subst (λ (s : LogState Name). AreEach (IsAt s.types) c.in_ok-args.args.items x1)
+    (sym c.in_ok-name.ensures.meets.state) h1)))))))

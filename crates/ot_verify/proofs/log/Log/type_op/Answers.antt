@@ -21,14 +21,19 @@ use Rattle.ot_verify.proofs.log.Log.type_op.Goals as goal
 pub returns-then-not-has_name : goal.returns-then-not-has_name
 returns-then-not-has_name c = λ n ts h k.
     let l = c.self.inside in
-    absurd (true≢false (sym (c.has_name.ensures.1 (has-name l.nodes c.args.name n (named-here l c.args.self.now c.self.view_is c.args.name n h))) ∙ c.if-not-has_name.true))
+    absurd (true≢false (sym (c.has_name.ensures.1 (has-name l.nodes c.args.name
+    n (named-here l c.args.self.now c.self.view_is c.args.name n h)))
+    ∙ c.if-not-has_name.true))
 
 pub returns-in-Err : goal.returns-in-Err
 returns-in-Err c = λ n ts h k.
     let l = c.self.inside in
     let there = types-there l c.args.self.now c.self.view_is c.self.invariant c.args.args.now ts k in
-    missed (IsAt l.types.items) c.in-Err.refusal c.args.args.now (makes_type names (TyOp n (arguments ts))) c.args.self.now.state _
-    (subst (λ (is : List ℕ). FindsEach {Y = ℕ} (IsAt is) (Err c.in-Err.refusal) c.args.args.now) c.deref.ensures.value c.in-Err.ensures) there
+    missed (IsAt l.types.items) c.in-Err.refusal c.args.args.now
+    (makes_type names (TyOp n (arguments ts))) c.args.self.now.state _
+    (subst (λ (is : List ℕ). FindsEach {Y = ℕ} (IsAt is) (Err c.in-Err.refusal) c.args.args.now)
+    c.deref.ensures.value c.in-Err.ensures)
+    there
 
 pub type_op-requires-clause-name : goal.type_op-requires-clause-name
 type_op-requires-clause-name c = c.has_name.ensures.0 c.if-not-has_name.false
@@ -36,8 +41,10 @@ type_op-requires-clause-name c = c.has_name.ensures.0 c.if-not-has_name.false
 pub type_op-requires-clause-args : goal.type_op-requires-clause-args
 type_op-requires-clause-args c =
     let l = c.self.inside in
-    let found = subst (λ (is : List ℕ). AreEach (IsAt is) c.args.args.now c.in-Ok.found.items) c.deref.ensures.value c.in-Ok.ensures in
-    subst (All (HasType l.nodes)) (sym c.deref-2.ensures.value) (types-held l c.args.self.now c.self.view_is c.self.invariant c.args.args.now c.in-Ok.found.items found)
+    let found = subst (λ (is : List ℕ). AreEach (IsAt is) c.args.args.now c.in-Ok.found.items)
+    c.deref.ensures.value c.in-Ok.ensures in
+    subst (All (HasType l.nodes)) (sym c.deref-2.ensures.value)
+    (types-held l c.args.self.now c.self.view_is c.self.invariant c.args.args.now c.in-Ok.found.items found)
 
 pub invariant_of-self : goal.invariant_of-self
 invariant_of-self c = log-kept c.self.inside c.type_op.new.self c.type_op.ensures.extends c.self.invariant
@@ -53,7 +60,12 @@ returns c = λ n ts h k.
     let l = c.self.inside in
     let us = c.type_op.new.self in
     let name = name-is l.nodes c.args.name n (named-here l c.args.self.now c.self.view_is c.args.name n h) in
-    let found = subst (λ (is : List ℕ). AreEach (IsAt is) c.args.args.now c.in-Ok.found.items) c.deref.ensures.value c.in-Ok.ensures in
-    let all = ap (types_at l.nodes) c.deref-2.ensures.value ∙ types-as l.nodes c.in-Ok.found.items ∙ ap arguments (types-found l c.args.self.now c.self.view_is c.self.invariant c.args.args.now c.in-Ok.found.items ts found k) in
-    made-type (TyOp n (arguments ts)) (type_at us c.in_ok-id.id) c.add_type.result c.args.self.now.state (state_of us (held_of l)) c.add_type.new.self.state (state-then l us c.args.self.now c.self.view_is c.in_ok-id.ensures.extends c.self.invariant)
+    let found = subst (λ (is : List ℕ). AreEach (IsAt is) c.args.args.now c.in-Ok.found.items)
+    c.deref.ensures.value c.in-Ok.ensures in
+    let all = ap (types_at l.nodes) c.deref-2.ensures.value
+    ∙ types-as l.nodes c.in-Ok.found.items
+    ∙ ap arguments (types-found l c.args.self.now c.self.view_is
+    c.self.invariant c.args.args.now c.in-Ok.found.items ts found k) in
+    made-type (TyOp n (arguments ts)) (type_at us c.in_ok-id.id) c.add_type.result c.args.self.now.state (state_of us (held_of l))
+    c.add_type.new.self.state (state-then l us c.args.self.now c.self.view_is c.in_ok-id.ensures.extends c.self.invariant)
     (type-is us c.in_ok-id.id _ c.in_ok-id.ensures.ok ∙ (λ i. TyOp (name i) (all i))) c.add_type.ensures

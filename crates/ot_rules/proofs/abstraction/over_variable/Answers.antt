@@ -10,7 +10,7 @@ use Rattle.ot_nodes.proofs.ItemLemmas.{type-stays, term-stays, still-type, still
 use Rattle.ot_nodes.proofs.MapLemmas.{variable-stays}
 use Rattle.ot_rules.specs.Statements.{terms_at}
 use Rattle.ot_rules.proofs.Cases.{abs_thm-refused, abs_thm-free, abs_thm-made}
-use Rattle.ot_rules.proofs.abstraction.abs_thm.Goals as goal
+use Rattle.ot_rules.proofs.abstraction.over_variable.Goals as goal
 
 pub returns-in_default-clause-gives : goal.returns-in_default-clause-gives
 returns-in_default-clause-gives c = abs_thm-refused c.args.nodes.now (variable_at c.args.nodes.now c.args.v) c.args.a.now c.in_default.ensures
