@@ -92,7 +92,7 @@ abbrev breaks : List ℕ → Bool
 breaks [] = false
 breaks (b ∷ bs) = (b == 10) || breaks bs
 
-unbroken-by : (text : List ℕ) → breaks text ≡ false → ¬ (IsMember 10 text)
+pub unbroken-by : (text : List ℕ) → breaks text ≡ false → ¬ (IsMember 10 text)
 unbroken-by [] h m = m
 unbroken-by (b ∷ bs) h (inl e) = elim (eqb_tells b 10) [ inl p ↦ (let f : (true || breaks bs) ≡ false = rw p.0 at h in cc) | inr p ↦ p.1 e ]
 unbroken-by (b ∷ bs) h (inr m) = unbroken-by bs (later (b == 10) h) m
@@ -101,7 +101,7 @@ unbroken-by (b ∷ bs) h (inr m) = unbroken-by bs (later (b == 10) h) m
     later true e = absurd (cc)
     later false e = e
 
-tidy-line : (text : List ℕ) → IsTidy text → ¬ (IsMember 10 text) → length text ≤ 65535 → IsLineText text
+pub tidy-line : (text : List ℕ) → IsTidy text → ¬ (IsMember 10 text) → length text ≤ 65535 → IsLineText text
 tidy-line text i h k = record { stays = tidy-text text i; said = tidy-said text i; unbroken = h; short = k }
 
 word-stays : (w : Cmd) → text_of (spelling w ++ 10 ∷ []) ≡ spelling w
@@ -123,7 +123,7 @@ word-short _ = refl
 word-text : (w : Cmd) → IsLineText (spelling w)
 word-text w = record { stays = word-stays w; said = word-said w; unbroken = unbroken-by (spelling w) (word-unbroken w); short = let h = word-short w in grind (arith, nat_tests) }
 
-name-tidy : (n : Name) → IsTidy (spelled n)
+pub name-tidy : (n : Name) → IsTidy (spelled n)
 name-tidy n = record {
   first = 34;
   more = joined (map (map item_of) n) ++ 34 ∷ [];
@@ -164,7 +164,7 @@ digits-tidy (d ∷ ds) h some =
     let last = digit-solid l.1 (all-last is_ascii_digit l.0 l.1 (ap (list_all is_ascii_digit) (sym l.2) ∙ h)) in
     record { first = d; more = ds; begins = refl; solid = first.0; said = first.1; front = l.0; last = l.1; ends = l.2; end_solid = last.0; no_return = last.2 }
 
-number-text : (n : ℕ) → n < 2 ^ 63 → IsLineText (decimal n)
+pub number-text : (n : ℕ) → n < 2 ^ 63 → IsLineText (decimal n)
 number-text n h =
     let k : n < 2 ^ 64 = omega arith in
     let all = digits_decimal all_digits n k in
@@ -204,7 +204,7 @@ pieces-lines (l ∷ ls) h =
     let i = line-is l h.0 in
     ap pieces (append_assoc (line_text l) (10 ∷ []) (bytes_of ls)) ∙ pieces-whole (line_text l) (bytes_of ls) i.text.unbroken ∙ ap (λ ps. line_bytes l ∷ ps) (pieces-lines ls h.1)
 
-within : (max before : ℕ) (text : List ℕ) → length text ≤ 65535 → before + length (text ++ 10 ∷ []) ≤ max → limit_fault max before (text ++ 10 ∷ []) ≡ None
+pub within : (max before : ℕ) (text : List ℕ) → length text ≤ 65535 → before + length (text ++ 10 ∷ []) ≤ max → limit_fault max before (text ++ 10 ∷ []) ≡ None
 within max before text short fits =
     let a : without_last 10 (text ++ 10 ∷ []) ≡ text = without-newline 10 text in
     let b : nat_le 65536 (length (without_last 10 (text ++ 10 ∷ []))) ≡ false = ap (λ z. nat_le 65536 (length z)) a ∙ few in

@@ -53,7 +53,7 @@ theorems-long w os x h =
     let p = paired-is os a.0 a.1 in
     (rows.defines w fresh [] (paired os a.0) x (given-of w [] (objects_of (paired os a.0)) x (ap (defines w []) p.1 ∙ a.2)) p.2).long
 
-get-short : {X : Type 0} (xs : List X) (j : ℕ) (x : X) → slice_get xs j ≡ Some x → j < length xs
+pub get-short : {X : Type 0} (xs : List X) (j : ℕ) (x : X) → slice_get xs j ≡ Some x → j < length xs
 get-short [] j x h = absurd (cc)
 get-short (y ∷ xs) zero x h = omega arith
 get-short (y ∷ xs) (suc j) x h = let r = get-short xs j x h in omega arith
@@ -122,7 +122,7 @@ module _ (same : Origin Name → Origin Name → Bool) (same-is : (a b : Origin 
           let y = bind-ok (values os) (λ us. Ok (x.0 ∷ us)) vs x.2 in
           (one-settled o x.0 rests.0 x.1 (a o (inl refl)).0 (a o (inl refl)).1, all-settled os y.0 rests.1 y.1 (λ p m. a p (inr m)))
 
-map-snoc : {X Y : Type 0} (f : X → Y) (xs : List X) (x : X) → map f (xs ++ x ∷ []) ≡ map f xs ++ f x ∷ []
+pub map-snoc : {X Y : Type 0} (f : X → Y) (xs : List X) (x : X) → map f (xs ++ x ∷ []) ≡ map f xs ++ f x ∷ []
 map-snoc f [] x = refl
 map-snoc f (y ∷ xs) x = ap (λ l. f y ∷ l) (map-snoc f xs x)
 

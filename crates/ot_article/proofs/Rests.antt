@@ -129,7 +129,7 @@ module _ (IsNamed : Name → Type 0) (r : RunState) (lawful : IsLawfulRun IsName
     reached-rests d (OfTheorem j _ a) = (reached-rests (Outcome j d) a).1
     reached-rests d (OfSymbol o _ a m s) = definition-rests d m
 
-    taken-axiom : (o : Origin Name) (q : Sequent Name) → IsReached roots origins o → IsAxiom o → value o ≡ Ok (theorem q) → (g : Given) × IsMember g r.assumptions × (g.origin ≡ o) × (g.sequent ≡ q)
+    pub taken-axiom : (o : Origin Name) (q : Sequent Name) → IsReached roots origins o → IsAxiom o → value o ≡ Ok (theorem q) → (g : Given) × IsMember g r.assumptions × (g.origin ≡ o) × (g.sequent ≡ q)
     taken-axiom o q a x h =
         let rests : RestsOn whole (Make words.Axiom x.0) = subst (RestsOn whole) x.1 (reached-rests o a) in
         let m = member-map (λ (g : Given). g.origin) (Make words.Axiom x.0) r.assumptions rests.1 in

@@ -26,11 +26,14 @@ indented-bytes room xs h = let more = within xs in omega arith
     within [] = omega arith
     within (y ∷ ys) =
         let more = within ys in
-        let n : length (codes "    " ++ y ++ 10 ∷ indented_text ys) ≡ suc (suc (suc (suc (length y + suc (length (indented_text ys)))))) = ap (λ k. suc (suc (suc (suc k)))) (length-append y (10 ∷ indented_text ys)) in
+        let n : length (codes "    " ++ y ++ 10 ∷ indented_text ys)
+        ≡ suc (suc (suc (suc (length y + suc (length (indented_text ys)))))) =
+        ap (λ k. suc (suc (suc (suc k)))) (length-append y (10 ∷ indented_text ys)) in
         omega arith
 
 -- a line, followed by those of the others
-pub indented-first : (x y : List ℕ) (xs : List (List ℕ)) → y ≡ x → indented_text (x ∷ xs) ≡ codes "    " ++ y ++ codes "\n" ++ indented_text xs
+pub indented-first : (x y : List ℕ) (xs : List (List ℕ)) → y ≡ x
+    → indented_text (x ∷ xs) ≡ codes "    " ++ y ++ codes "\n" ++ indented_text xs
 indented-first x y xs p =
     ap (λ z. codes "    " ++ z ++ 10 ∷ indented_text xs) (sym p)
     ∙ sym (append_assoc (codes "    " ++ y) (10 ∷ []) (indented_text xs))
@@ -47,4 +50,5 @@ pub type-lines : (s : State) (ps : List (Name × ℕ)) → map (type_line_at s) 
 type-lines s ps = texts-through type_line (λ q. (q.0, type_at s q.1)) ps (types_of s ps) refl
 
 pub variable-lines : (s : State) (ps : List (Name × ℕ × ℕ)) → map (variable_line_at s) ps ≡ map variable_line (terms_of s ps)
-variable-lines s ps = texts-through variable_line (λ q. (record { name = q.0; ty = type_at s q.1 }, term_at s q.2)) ps (terms_of s ps) refl
+variable-lines s ps =
+    texts-through variable_line (λ q. (record { name = q.0; ty = type_at s q.1 }, term_at s q.2)) ps (terms_of s ps) refl

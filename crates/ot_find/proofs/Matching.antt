@@ -1,6 +1,6 @@
 -- The computed matches are those of the definition.
 use Rattle.std.proofs.Common.{◌≡◌, List, [], ◌∷◌, ◌++◌, Option, Some, None, refl, sym, ap, ◌∙◌, subst, append_assoc, append-nil, inl, inr}
-use Rattle.std.specs.Prelude.{ℕ, ◌⊎◌}
+use Rattle.std.specs.Prelude.{ℕ}
 use Rattle.ot_plain.specs.Names.{Name}
 use Rattle.ot_plain.specs.Naming.{names}
 use Rattle.ot_plain.specs.Trees.{Tm, Sequent}
@@ -37,12 +37,15 @@ module _ (p : Tm Name) where
   no-maps : (e : Export) → HasNoMatch p e → matched names p e.sequent.concl ≡ None
   no-maps e h = (none_match names tells_names p e.sequent.concl).1 h
 
-  left-out : (e : Export) (fs : List Found) → HasNoMatch p e → found e.source e.sequent (matched names p e.sequent.concl) ++ fs ≡ fs
+  left-out : (e : Export) (fs : List Found) → HasNoMatch p e
+      → found e.source e.sequent (matched names p e.sequent.concl) ++ fs ≡ fs
   left-out e fs h = ap (λ o. found e.source e.sequent o ++ fs) (no-maps e h)
 
-  taken : (e : Export) (f : Found) (fs : List Found) → IsFound p e f → found e.source e.sequent (matched names p e.sequent.concl) ++ fs ≡ f ∷ fs
+  taken : (e : Export) (f : Found) (fs : List Found) → IsFound p e f
+      → found e.source e.sequent (matched names p e.sequent.concl) ++ fs ≡ f ∷ fs
   taken e f fs h =
-      let maps : matched names p e.sequent.concl ≡ Some (f.types, f.vars) = (matched_is_match names tells_names p e.sequent.concl f.types f.vars).1 h.match_ in
+      let maps : matched names p e.sequent.concl ≡ Some (f.types, f.vars) =
+      (matched_is_match names tells_names p e.sequent.concl f.types f.vars).1 h.match_ in
       ap (λ o. found e.source e.sequent o ++ fs) maps
       ∙ sym (λ j. (record { source = h.source j; sequent = h.sequent j; types = f.types; vars = f.vars }) ∷ fs)
 
@@ -61,9 +64,14 @@ module _ (p : Tm Name) where
   among-are [] = tt
   among-are (e ∷ es) = go (matched names p e.sequent.concl) refl (among-are es)
     where
-      go : (o : Option (TypeMap names × TermMap names)) → matched names p e.sequent.concl ≡ o → AreMatches p es (among es) → AreMatches p (e ∷ es) (found e.source e.sequent o ++ among es)
+      go : (o : Option (TypeMap names × TermMap names)) → matched names p e.sequent.concl ≡ o → AreMatches p es (among es)
+          → AreMatches p (e ∷ es) (found e.source e.sequent o ++ among es)
       go None q m = passed e es (among es) ((none_match names tells_names p e.sequent.concl).0 q) m
-      go (Some w) q m = inl (record { source = refl; sequent = refl; match_ = (matched_is_match names tells_names p e.sequent.concl w.0 w.1).0 q }, m)
+      go (Some w) q m =
+          inl (
+            record { source = refl; sequent = refl; match_ = (matched_is_match names tells_names p e.sequent.concl w.0 w.1).0 q },
+            m,
+          )
 
 pub matches_are_those : MatchesAreThose
 matches_are_those p ss fs = (

@@ -1,6 +1,6 @@
 -- The text of the matches, one source and one theorem after another.
 use Rattle.std.specs.Prelude.{codes}
-use Rattle.std.proofs.Common.{◌≡◌, ℕ, suc, ◌+◌, ◌-◌, ◌<◌, ◌≤◌, Bool, true, false, cond, nat_le, List, [], ◌∷◌, ◌++◌, map, length, take, get_or, Option, Some, None, refl, sym, ap, ◌∙◌, subst, append_assoc, append-nil, length-append, inl, inr, arith}
+use Rattle.std.proofs.Common.{◌≡◌, ℕ, ◌+◌, ◌-◌, ◌<◌, ◌≤◌, Bool, true, false, cond, nat_le, List, [], ◌∷◌, ◌++◌, map, length, take, get_or, Option, Some, None, refl, sym, ap, ◌∙◌, subst, append_assoc, append-nil, length-append, inl, inr, arith}
 use Rattle.std.specs.Prelude.{◌⊎◌, Result, Ok, IfOk}
 use Rattle.std.specs.Option.{option_map}
 use Rattle.std.proofs.lemmas.Bool.Decides.{nat_tests}
@@ -10,7 +10,7 @@ use Rattle.ot_plain.specs.Naming.{names}
 use Rattle.ot_plain.specs.Trees.{Tm, Sequent}
 use Rattle.ot_text.specs.Texts.{number_text}
 use Rattle.ot_text.specs.Pages.{Printed, Bytes, Full, NoMemory, put, is_stopped, IsPut, IsCopied, printed}
-use Rattle.ot_text.proofs.Putting.{then, same-text, stays, nothing}
+use Rattle.ot_text.proofs.Putting.{then, same-text, stays}
 use Rattle.ot_kernel.specs.State.{State}
 use Rattle.ot_match.specs.Matching.{matched}
 use Rattle.ot_match.specs.Found.{types_of, terms_of, maps_of}
@@ -23,7 +23,8 @@ use Rattle.ot_find.specs.declared.search.Search.{Search}
 
 pub matches-append : (fs gs : List Found) → matches_text (fs ++ gs) ≡ matches_text fs ++ matches_text gs
 matches-append [] gs = refl
-matches-append (f ∷ fs) gs = ap (λ x. found_text f ++ x) (matches-append fs gs) ∙ sym (append_assoc (found_text f) (matches_text fs) (matches_text gs))
+matches-append (f ∷ fs) gs =
+    ap (λ x. found_text f ++ x) (matches-append fs gs) ∙ sym (append_assoc (found_text f) (matches_text fs) (matches_text gs))
 
 -- each has a byte at least
 matches-long : (fs : List Found) → length fs ≤ length (matches_text fs)
@@ -37,21 +38,27 @@ matches-long (f ∷ fs) =
     some-bytes : (f : Found) → 0 < length (found_text f)
     some-bytes f = omega arith
 
-in-append : (p : Tm Name) (source : List ℕ) (qs rs : List (Sequent Name)) → matches_in p source (qs ++ rs) ≡ matches_in p source qs ++ matches_in p source rs
+in-append : (p : Tm Name) (source : List ℕ) (qs rs : List (Sequent Name))
+    → matches_in p source (qs ++ rs) ≡ matches_in p source qs ++ matches_in p source rs
 in-append p source [] rs = refl
 in-append p source (q ∷ qs) rs =
     ap (λ fs. found source q (matched names p q.concl) ++ fs) (in-append p source qs rs)
     ∙ sym (append_assoc (found source q (matched names p q.concl)) (matches_in p source qs) (matches_in p source rs))
 
 -- one theorem more
-pub in-more : {X : Type 0} (p : Tm Name) (source : List ℕ) (at : X → Sequent Name) (xs : List X) (i : ℕ) (x d : X) (fs : List Found) → i < length xs → x ≡ get_or xs i d
-    → (fs ++ matches_in p source (map at (take i xs))) ++ found source (at x) (matched names p (at x).concl) ≡ fs ++ matches_in p source (map at (take (i + 1) xs))
+pub in-more : {X : Type 0} (p : Tm Name) (source : List ℕ)
+    (at : X → Sequent Name) (xs : List X) (i : ℕ) (x d : X) (fs : List Found)
+    → i < length xs → x ≡ get_or xs i d
+    → (fs ++ matches_in p source (map at (take i xs))) ++ found source (at x) (matched names p (at x).concl)
+    ≡ fs ++ matches_in p source (map at (take (i + 1) xs))
 in-more p source at xs i x d fs h is =
     append_assoc fs (matches_in p source (map at (take i xs))) (found source (at x) (matched names p (at x).concl))
     ∙ ap (λ gs. fs ++ gs)
-    (ap (λ gs. matches_in p source (map at (take i xs)) ++ gs) (sym (append-nil (found source (at x) (matched names p (at x).concl))))
+    (ap (λ gs. matches_in p source (map at (take i xs)) ++ gs)
+    (sym (append-nil (found source (at x) (matched names p (at x).concl))))
     ∙ sym (in-append p source (map at (take i xs)) (at x ∷ []))
-    ∙ ap (matches_in p source) (sym (map-append at (take i xs) (x ∷ [])) ∙ ap (map at) (ap (λ y. take i xs ++ y ∷ []) is ∙ sym (take_more xs i d h))))
+    ∙ ap (matches_in p source) (sym (map-append at (take i xs) (x ∷ []))
+    ∙ ap (map at) (ap (λ y. take i xs ++ y ∷ []) is ∙ sym (take_more xs i d h))))
 
 -- ---- pages
 
@@ -80,11 +87,13 @@ module _ (x : List ℕ) (max : ℕ) where
   held : (bs : List ℕ) (room : ℕ) → IsPut x (Bytes [] max) (Bytes bs room) → (bs ≡ x) × (length x ≤ max)
   held bs room p = go p.state
     where
-      fits : (b : Bool) → nat_le (length x) max ≡ b → Bytes bs room ≡ cond b (Bytes x (max - length x)) Full → (bs ≡ x) × (length x ≤ max)
+      fits : (b : Bool) → nat_le (length x) max ≡ b → Bytes bs room ≡ cond b (Bytes x (max - length x)) Full
+          → (bs ≡ x) × (length x ≤ max)
       fits true h e = (cc, le-true h)
       fits false h e = cc
 
-      go : (Bytes bs room ≡ NoMemory) ⊎ (Bytes bs room ≡ cond (nat_le (length x) max) (Bytes x (max - length x)) Full) → (bs ≡ x) × (length x ≤ max)
+      go : (Bytes bs room ≡ NoMemory) ⊎ (Bytes bs room ≡ cond (nat_le (length x) max) (Bytes x (max - length x)) Full)
+          → (bs ≡ x) × (length x ≤ max)
       go (inl e) = cc
       go (inr e) = fits (nat_le (length x) max) refl e
 
@@ -112,12 +121,15 @@ module _ (x : List ℕ) (max : ℕ) where
 -- ---- searches
 
 -- further matches, whose text was put on the page and which were counted
-pub found-more : (old new : Search) (fs gs : List Found) → new.max ≡ old.max → IsPut (matches_text gs) (printed old.page) (printed new.page)
+pub found-more : (old new : Search) (fs gs : List Found) → new.max ≡ old.max
+    → IsPut (matches_text gs) (printed old.page) (printed new.page)
     → (is_stopped (printed new.page) ≡ false → new.count ≡ old.count + length gs) → HasFound old fs → HasFound new (fs ++ gs)
 found-more old new fs gs m p n h = record { text = text; count = count }
   where
     text : IsPut (matches_text (fs ++ gs)) (Bytes [] new.max) (printed new.page)
-    text = same-text (sym (matches-append fs gs)) (subst (λ k. IsPut (matches_text fs ++ matches_text gs) (Bytes [] k) (printed new.page)) (sym m) (then h.text p))
+    text =
+        same-text (sym (matches-append fs gs)) (subst
+        (λ k. IsPut (matches_text fs ++ matches_text gs) (Bytes [] k) (printed new.page)) (sym m) (then h.text p))
 
     count : is_stopped (printed new.page) ≡ false → new.count ≡ length (fs ++ gs)
     count open_ =
@@ -127,7 +139,8 @@ found-more old new fs gs m p n h = record { text = text; count = count }
         omega arith
 
 -- so many matches are fewer than the bytes that the limit allows
-pub found-few : (old : Search) (new : Printed) (fs gs : List Found) → HasFound old fs → IsPut (matches_text gs) (printed old.page) new → is_stopped new ≡ false → old.count + length gs ≤ old.max
+pub found-few : (old : Search) (new : Printed) (fs gs : List Found) → HasFound old fs
+    → IsPut (matches_text gs) (printed old.page) new → is_stopped new ≡ false → old.count + length gs ≤ old.max
 found-few old new fs gs h p open_ =
     let b = h.count (still-open (matches_text gs) (printed old.page) new p open_) in
     let w = held-within (matches_text (fs ++ gs)) old.max new (same-text (sym (matches-append fs gs)) (then h.text p)) open_ in
@@ -136,11 +149,14 @@ found-few old new fs gs h p open_ =
     omega arith
 
 -- a search that is stopped stays as it is
-pub stopped-step : (old : Search) (fs gs : List Found) → is_stopped (printed old.page) ≡ true → HasFound old fs → HasFound old (fs ++ gs)
-stopped-step old fs gs st h = found-more old old fs gs refl (stays (printed old.page) st) (λ o. let no : true ≡ false = sym st ∙ o in cc) h
+pub stopped-step : (old : Search) (fs gs : List Found) → is_stopped (printed old.page) ≡ true → HasFound old fs
+    → HasFound old (fs ++ gs)
+stopped-step old fs gs st h =
+    found-more old old fs gs refl (stays (printed old.page) st) (λ o. let no : true ≡ false = sym st ∙ o in cc) h
 
 module _ (k : State) (p : Tm Name) (source : List ℕ) (q : Sequent Name) (t : Tm Name) {E : Type 0} (r : Result (Option Match) E)
-    (is : IfOk r (λ o. option_map (maps_of k) o ≡ matched names p t)) (at : t ≡ q.concl) (old : Search) (fs : List Found) (h : HasFound old fs) where
+    (is : IfOk r (λ o. option_map (maps_of k) o ≡ matched names p t))
+    (at : t ≡ q.concl) (old : Search) (fs : List Found) (h : HasFound old fs) where
   -- the matcher's answer
   answer : (o : Option Match) → r ≡ Ok o → option_map (maps_of k) o ≡ matched names p q.concl
   answer o e = subst (λ x. IfOk x (λ a. option_map (maps_of k) a ≡ matched names p t)) e is ∙ ap (matched names p) at
@@ -156,17 +172,23 @@ module _ (k : State) (p : Tm Name) (source : List ℕ) (q : Sequent Name) (t : T
     abbrev pub one : Found
     one = record { source = source; sequent = q; types = types_of k m.types.items; vars = terms_of k m.vars.items }
 
-    pub some-step : new.max ≡ old.max → IsPut (found_text one) (printed old.page) (printed new.page) → (old.count < old.max → new.count ≡ old.count + 1)
+    pub some-step : new.max ≡ old.max → IsPut (found_text one) (printed old.page) (printed new.page)
+        → (old.count < old.max → new.count ≡ old.count + 1)
         → HasFound new (fs ++ found source q (matched names p q.concl))
     some-step same put n =
         let some : one ∷ [] ≡ found source q (matched names p q.concl) = ap (found source q) (answer (Some m) e) in
-        let text : IsPut (matches_text (one ∷ [])) (printed old.page) (printed new.page) = same-text (sym (append-nil (found_text one))) put in
+        let text : IsPut (matches_text (one ∷ [])) (printed old.page) (printed new.page) =
+        same-text (sym (append-nil (found_text one))) put in
         let count : is_stopped (printed new.page) ≡ false → new.count ≡ old.count + length (one ∷ []) =
-        (λ o. let few : old.count + 1 ≤ old.max = found-few old (printed new.page) fs (one ∷ []) h text o in n (omega (arith, few))) in
+        (λ o. let few : old.count + 1 ≤ old.max =
+        found-few old (printed new.page) fs (one ∷ []) h text o in
+        n (omega (arith, few)))
+        in
         subst (λ gs. HasFound new (fs ++ gs)) some (found-more old new fs (one ∷ []) same text count h)
 
 -- what is put on a last page
-pub whole-text : (count : ℕ) (fs : List Found) (body : List ℕ) → count ≡ length fs → body ≡ matches_text fs → codes "matches: " ++ number_text count ++ codes "\n" ++ body ≡ find_text fs
+pub whole-text : (count : ℕ) (fs : List Found) (body : List ℕ) → count ≡ length fs → body ≡ matches_text fs
+    → codes "matches: " ++ number_text count ++ codes "\n" ++ body ≡ find_text fs
 whole-text count fs body n b =
     (λ j. codes "matches: " ++ number_text (n j) ++ codes "\n" ++ b j)
     ∙ append_assoc (codes "matches: " ++ number_text (length fs)) (10 ∷ []) (matches_text fs)

@@ -74,4 +74,5 @@ MatchesAreThose = (p : Tm Name) (ss : List Source) (fs : List Found) → AreMatc
 
 -- a law: the matches of one source more stand behind those of the others
 abbrev pub MatchesOfOneMore : Type 0
-MatchesOfOneMore = (p : Tm Name) (ss : List Source) (s : Source) → matches p (ss ++ s ∷ []) ≡ matches p ss ++ matches_in p s.name s.exports
+MatchesOfOneMore =
+    (p : Tm Name) (ss : List Source) (s : Source) → matches p (ss ++ s ∷ []) ≡ matches p ss ++ matches_in p s.name s.exports

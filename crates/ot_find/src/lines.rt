@@ -19,7 +19,8 @@ use std::collections::BTreeSet;
 /// What stands for the type variables. The lines together cost no more than the limit.
 pub(crate) fn put_types(page: &mut Page, alloc: Global, kernel: &Kernel, types: &[(Name, TypeId)])
     requires { AreTypesIn kernel.now types.now }
-    ensures { IsPut (indented_text (ascending (map type_line_of (types_of kernel.now types.now)))) (printed page.old) (printed page.new) }
+    ensures { IsPut (indented_text (ascending (map type_line_of (types_of kernel.now types.now))))
+        (printed page.old) (printed page.new) }
 {
     if page.is_stopped() {
         return;
@@ -38,7 +39,8 @@ pub(crate) fn put_vars(
     vars: &[(Name, TypeId, TermId)],
 )
     requires { AreTermsIn kernel.now vars.now }
-    ensures { IsPut (indented_text (ascending (map variable_line_of (terms_of kernel.now vars.now)))) (printed page.old) (printed page.new) }
+    ensures { IsPut (indented_text (ascending (map variable_line_of (terms_of kernel.now vars.now))))
+        (printed page.old) (printed page.new) }
 {
     if page.is_stopped() {
         return;
@@ -58,7 +60,8 @@ fn type_lines(
 ) -> Result<BTreeSet<Vec<u8>>, PrintFault>
     requires { AreTypesIn kernel.now types.now }
     ensures ok { IfOk result (λ lines. texts_of lines ≡ ascending (map type_line_of (types_of kernel.now types.now))) }
-    ensures too_large { result ≡ Err PrintFault.TooLarge → max < bytes_in (ascending (map type_line_of (types_of kernel.now types.now))) }
+    ensures too_large { result ≡ Err PrintFault.TooLarge
+        → max < bytes_in (ascending (map type_line_of (types_of kernel.now types.now))) }
 {
     let mut lines = BTreeSet::new(alloc);
     let mut room = max;
@@ -78,7 +81,8 @@ fn variable_lines(
 ) -> Result<BTreeSet<Vec<u8>>, PrintFault>
     requires { AreTermsIn kernel.now vars.now }
     ensures ok { IfOk result (λ lines. texts_of lines ≡ ascending (map variable_line_of (terms_of kernel.now vars.now))) }
-    ensures too_large { result ≡ Err PrintFault.TooLarge → max < bytes_in (ascending (map variable_line_of (terms_of kernel.now vars.now))) }
+    ensures too_large { result ≡ Err PrintFault.TooLarge
+        → max < bytes_in (ascending (map variable_line_of (terms_of kernel.now vars.now))) }
 {
     let mut lines = BTreeSet::new(alloc);
     let mut room = max;
@@ -122,8 +126,10 @@ fn variable_line(
 ) -> Result<Vec<u8>, PrintFault>
     requires ty { ty < length kernel.now.types }
     requires id { id < length kernel.now.terms }
-    ensures ok { IfOk result (λ line. line.items ≡ variable_line_of (record { name = name.now; ty = type_at kernel.now ty }, term_at kernel.now id)) }
-    ensures too_large { result ≡ Err PrintFault.TooLarge → max < length (variable_line_of (record { name = name.now; ty = type_at kernel.now ty }, term_at kernel.now id)) }
+    ensures ok { IfOk result
+        (λ line. line.items ≡ variable_line_of (record { name = name.now; ty = type_at kernel.now ty }, term_at kernel.now id)) }
+    ensures too_large { result ≡ Err PrintFault.TooLarge
+        → max < length (variable_line_of (record { name = name.now; ty = type_at kernel.now ty }, term_at kernel.now id)) }
 {
     let mut page = Page::new(alloc, max);
     let mut line = Vec::new(alloc);

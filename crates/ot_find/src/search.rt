@@ -55,7 +55,8 @@ impl Search {
     )
         requires { All (λ th. th < length kernel.now.theorems) theorems.now }
         ensures found { (fs : List Found) → HasFound self.old fs
-            → HasFound self.new (fs ++ matches_in (term_of_tree pattern.now) source.now (map (theorem_at kernel.now) theorems.now)) }
+            → HasFound self.new (fs
+            ++ matches_in (term_of_tree pattern.now) source.now (map (theorem_at kernel.now) theorems.now)) }
         ensures max { self.new.max ≡ self.old.max }
     {
         for th in theorems {
@@ -74,7 +75,9 @@ impl Search {
     )
         requires { th < length kernel.now.theorems }
         ensures found { (fs : List Found) → HasFound self.old fs
-            → HasFound self.new (fs ++ found source.now (theorem_at kernel.now th) (matched names (term_of_tree pattern.now) (theorem_at kernel.now th).concl)) }
+            → HasFound self.new (fs
+            ++ found source.now (theorem_at kernel.now th)
+            (matched names (term_of_tree pattern.now) (theorem_at kernel.now th).concl)) }
         ensures max { self.new.max ≡ self.old.max }
     {
         if self.page.is_stopped() {
@@ -94,8 +97,10 @@ impl Search {
     /// variables: the types and then the terms, both in the order of the bytes of their lines. `TooLarge` exactly where
     /// the text has more than the search's limit. After a refusal `out` is as it was.
     pub fn finish(self, alloc: Global, out: &mut Vec<u8>) -> Result<(), PrintFault>
-        ensures ok { (fs : List Found) → HasFound self fs → OnOk result (Appended (find_text fs) self.max out.old.items out.new.items) }
-        ensures too_large { (fs : List Found) → HasFound self fs → result ≡ Err PrintFault.TooLarge → self.max < length (find_text fs) }
+        ensures ok { (fs : List Found) → HasFound self fs
+            → OnOk result (Appended (find_text fs) self.max out.old.items out.new.items) }
+        ensures too_large { (fs : List Found) → HasFound self fs → result ≡ Err PrintFault.TooLarge
+            → self.max < length (find_text fs) }
         ensures err { OnErr result (out.new.items ≡ out.old.items) }
     {
         let mut matches = Vec::new(alloc);
@@ -119,8 +124,10 @@ fn append_counted(
     max: usize,
     out: &mut Vec<u8>,
 ) -> Result<(), PrintFault>
-    ensures ok { OnOk result (Appended (codes "matches: " ++ number_text count ++ codes "\n" ++ matches.now) max out.old.items out.new.items) }
-    ensures too_large { result ≡ Err PrintFault.TooLarge → max < length (codes "matches: " ++ number_text count ++ codes "\n" ++ matches.now) }
+    ensures ok { OnOk result (Appended (codes "matches: " ++ number_text count ++ codes "\n" ++ matches.now)
+        max out.old.items out.new.items) }
+    ensures too_large { result ≡ Err PrintFault.TooLarge
+        → max < length (codes "matches: " ++ number_text count ++ codes "\n" ++ matches.now) }
     ensures err { OnErr result (out.new.items ≡ out.old.items) }
 {
     let mut page = Page::new(alloc, max);
@@ -142,7 +149,12 @@ fn put_found(
 )
     requires th { th < length kernel.now.theorems }
     requires maps { IsMatchIn kernel.now maps.now }
-    ensures { IsPut (found_text (record { source = source.now; sequent = theorem_at kernel.now th; types = types_of kernel.now maps.now.types.items; vars = terms_of kernel.now maps.now.vars.items }))
+    ensures { IsPut (found_text (record {
+      source = source.now;
+      sequent = theorem_at kernel.now th;
+      types = types_of kernel.now maps.now.types.items;
+      vars = terms_of kernel.now maps.now.vars.items;
+    }))
         (printed page.old) (printed page.new) }
 {
     page.put(b"  ");

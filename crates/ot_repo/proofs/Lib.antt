@@ -16,5 +16,7 @@ pub mod Tags
 pub mod SoFar
 -- One step of it.
 pub mod Steps
+-- What it has reached.
+pub mod Reached
 -- Small folders, by computation.
 pub mod Rows

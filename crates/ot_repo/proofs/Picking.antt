@@ -13,7 +13,8 @@ use Rattle.std.proofs.lemmas.List.Folds.{list_any-append, find-append}
 use Rattle.ot_theory.specs.Lines.{LineText}
 use Rattle.ot_blocks.specs.Paths.{is_package, name_part}
 use Rattle.ot_repo.specs.Required.{BadIndex, full_names, names_of, picked_by_name}
-use Rattle.ot_repo.specs.Reading.{texts_of, ArePackages}
+use Rattle.ot_repo.specs.Answers.{ArePackages}
+use Rattle.ot_repo.specs.Reading.{texts_of}
 use Rattle.ot_blocks.proofs.Members.{member_push}
 
 -- ---- lines

@@ -135,7 +135,7 @@ module _ (folder : Folder) (max : ℕ) (packages : List ℕ) (listed : List (Lis
   abbrev requires_by : (full other : List ℕ) (e : Edge (List ℕ) Refusal) → EdgeTag full e → e.target ≡ Ok other → Requires folder max packages listed full other
   requires_by full other e h t = record { theory = h.theory; read = h.read; tag = h.tag; has = h.has; picks = picks_target (package_path packages full) h.tag e other h.is t }
 
-  needed_by : (path : List ℕ) (tags : List TagText) (k : List ℕ) → Reaches (edges_of folder max packages listed) (edges_in listed path tags) k → IsNeeded folder max packages listed tags k
+  pub needed_by : (path : List ℕ) (tags : List TagText) (k : List ℕ) → Reaches (edges_of folder max packages listed) (edges_in listed path tags) k → IsNeeded folder max packages listed tags k
   needed_by path tags k (walks.First j e m t) =
       let (tag, has, is) = tag_of_edge listed path tags e m in
       ByTag j tag has (picks_target path tag e j is t)

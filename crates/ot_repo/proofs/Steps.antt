@@ -129,7 +129,7 @@ module _ (old new : List ℕ → Option Mark) (k : List ℕ) (mark : Mark) (upda
 
 -- ---- what is met
 
-target_new : (marked : List ℕ → Option Mark) (back : Refusal) (t : Result (List ℕ) Refusal) (k : List ℕ) → next_at marked (record { target = t; back = back }) ≡ Ok (Some k) → (t ≡ Ok k) × (marked k ≡ None)
+pub target_new : (marked : List ℕ → Option Mark) (back : Refusal) (t : Result (List ℕ) Refusal) (k : List ℕ) → next_at marked (record { target = t; back = back }) ≡ Ok (Some k) → (t ≡ Ok k) × (marked k ≡ None)
 target_new marked back (Err fault) k e = absurd cc
 target_new marked back (Ok j) k e = by_mark (marked j) refl e where
   by_mark : (o : Option Mark) → marked j ≡ o → arrived o j back ≡ Ok (Some k) → (◌≡◌ {A = Result (List ℕ) Refusal} (Ok j) (Ok k)) × (marked k ≡ None)

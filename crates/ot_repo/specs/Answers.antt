@@ -1,7 +1,9 @@
 -- How the code's answers stand to the stated ones. After a read fault, and where memory ran out, the answer is open.
-use Rattle.std.specs.Prelude.{◌≡◌, ℕ, List, map, Option, Result, Ok, Err, Vec, String, IfSome, string_bytes}
+use Rattle.std.specs.Prelude.{◌≡◌, ℕ, List, true, map, Option, Result, Ok, Err, Vec, String, IfSome, string_bytes}
 use Rattle.std.specs.Global.{Global}
 use Rattle.ot_io.specs.Causes.{Rose}
+use Rattle.ot_plain.specs.Lists.{IsMember}
+use Rattle.ot_blocks.specs.Paths.{is_package}
 use Rattle.ot_repo.specs.Required.{Refusal, Theory, TheoryTooLarge, IndexTooLarge, BadIndex, NotInstalled, RequiresCycle, Missing}
 use Rattle.ot_repo.specs.declared.fault.RepoFault.{RepoFault}
 use Rattle.ot_repo.specs.declared.fault.RepoFault.TheVariants as faults
@@ -9,6 +11,10 @@ use Rattle.ot_repo.specs.declared.fault.RepoFault.TheVariants as faults
 -- the names that the code gives
 abbrev pub names_of : Vec (String Global) Global → List (List ℕ)
 names_of names = map string_bytes names.items
+
+-- each is a full name
+abbrev pub ArePackages : List (List ℕ) → Type 0
+ArePackages names = (full : List ℕ) → IsMember full names → is_package full ≡ true
 
 -- this refusal is the stated answer
 abbrev pub Refuses : {A : Type 0} → RepoFault → Result A Refusal → Type 0
@@ -42,3 +48,15 @@ HasCause faults.Memory misses misses' faults faults' at = Unit {0}
 -- no file is missing, and no read failed
 abbrev pub IsInside : RepoFault → Type 0
 IsInside e = (misses misses' faults faults' : ℕ) (at : Option (List ℕ)) → HasCause e misses misses' faults faults' at
+
+-- a read fault is at such a path
+abbrev pub FailsAt : (List ℕ → Type 0) → RepoFault → Type 0
+FailsAt P (faults.ReadFault path) = P (string_bytes path)
+FailsAt P (faults.Theory path line fault) = Unit {0}
+FailsAt P (faults.TheoryTooLarge path) = Unit {0}
+FailsAt P (faults.IndexTooLarge path) = Unit {0}
+FailsAt P (faults.BadIndex path line) = Unit {0}
+FailsAt P (faults.NotInstalled path line) = Unit {0}
+FailsAt P (faults.RequiresCycle path line) = Unit {0}
+FailsAt P (faults.NoFile path) = Unit {0}
+FailsAt P faults.Memory = Unit {0}

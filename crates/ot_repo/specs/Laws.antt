@@ -60,6 +60,14 @@ module _ (folder : Folder) (max : ℕ) (packages : List ℕ) (listed : List (Lis
     Round : (full other : List ℕ) → IsNeeded tags full → (r : Requires full other) → LeadsTo other full
         → IsRefused path tags (RequiresCycle (package_path packages full) r.tag.line)
 
+-- a file that the walk needs for the theory file of a path: that file; the list of installed packages, where it has a tag; and
+-- the theory file of each package that is needed
+pub data IsWalked (folder : Folder) (max : ℕ) (packages path : List ℕ) : List ℕ → Type 0 where
+  OwnFile : IsWalked folder max packages path path
+  ListFile : (t : TheoryText) → theory_at folder max path ≡ Ok t → requirements t ≢ [] → IsWalked folder max packages path (index_path packages)
+  PackageFile : (t : TheoryText) (listed : List (List ℕ)) (full : List ℕ) → theory_at folder max path ≡ Ok t → index_at folder (index_path packages) ≡ Ok listed
+      → IsNeeded folder max packages listed (requirements t) full → IsWalked folder max packages path (package_path packages full)
+
 -- what the theory file of a path requires: nothing, where it has no tag for it
 pub record AreRequired (folder : Folder) (max : ℕ) (packages path : List ℕ) (order : List (List ℕ)) : Type 0 where
   pub theory : TheoryText

@@ -1,5 +1,5 @@
 -- What the code's parts answer.
-use Rattle.std.specs.Prelude.{◌≡◌, ℕ, List, [], ◌∷◌, true, nat_le, map, length, reverse, Option, Some, None, Result, Ok, Err, string_bytes, if◌then◌else◌}
+use Rattle.std.specs.Prelude.{◌≡◌, ℕ, List, nat_le, map, length, reverse, Option, Some, None, Result, Ok, Err, string_bytes, if◌then◌else◌}
 use Rattle.std.specs.Borrow.{Bor}
 use Rattle.std.specs.HashMap.{HashMap, get_by}
 use Rattle.std.specs.Option.{option_map}
@@ -7,9 +7,13 @@ use Rattle.std.specs.Str.{bytes_eq}
 use Rattle.ot_io.specs.Folder.{Folder}
 use Rattle.ot_plain.specs.Answers.{◌>>=◌, some_or}
 use Rattle.ot_plain.specs.Lists.{IsMember}
-use Rattle.ot_blocks.specs.Paths.{is_package}
+use Rattle.ot_blocks.specs.Paths.{package_path}
+use Rattle.ot_theory.specs.Theory.{TagText}
 use Rattle.ot_repo.specs.Walk.{Edge}
-use Rattle.ot_repo.specs.Required.{Refusal, NotInstalled, RequiresCycle, file_at, picked}
+use Rattle.ot_repo.specs.Walks.{Reaches}
+use Rattle.ot_repo.specs.Laws.{IsNeeded}
+use Rattle.ot_repo.specs.Answers.{ArePackages}
+use Rattle.ot_repo.specs.Required.{Refusal, NotInstalled, RequiresCycle, file_at, index_at, index_path, picked}
 use Rattle.ot_repo.specs.declared.index.Index.{Index}
 use Rattle.ot_repo.specs.declared.requirements.Requirement.{Requirement}
 use Rattle.ot_repo.specs.declared.requirements.File.{File}
@@ -35,10 +39,6 @@ listed_in index = texts_of index.names.items
 -- the name that a map has for a value
 abbrev pub value_in : {S : Type 0} → HashMap (Bor (List ℕ)) (Bor (List ℕ)) S → List ℕ → Option (List ℕ)
 value_in picks value = option_map (λ full. full.now) (get_by (λ key. bytes_eq value key.now) picks)
-
--- each is a full name
-abbrev pub ArePackages : List (List ℕ) → Type 0
-ArePackages names = (full : List ℕ) → IsMember full names → is_package full ≡ true
 
 -- its names are full names, and its map has what each value picks
 pub record IsIndex (index : Index) : Type 0 where
@@ -74,3 +74,17 @@ arrived (Some Done) full back = Ok None
 -- the same, by the marks
 abbrev pub next_at : (List ℕ → Option Mark) → Edge (List ℕ) Refusal → Result (Option (List ℕ)) Refusal
 next_at marked e = e.target >>= λ full. arrived (marked full) full e.back
+
+-- ---- the files that are needed
+
+-- the theory file of a package that these edges lead to
+pub record IsReachedFile (edges : List ℕ → Result (List (Edge (List ℕ) Refusal)) Refusal) (start : List (Edge (List ℕ) Refusal)) (packages file : List ℕ) : Type 0 where
+  pub full : List ℕ
+  pub reached : Reaches edges start full
+  pub file_is : file ≡ package_path packages full
+
+-- a file that is needed for tags: the list of installed packages, or the theory file of a package that they need
+pub data IsTagFile (folder : Folder) (max : ℕ) (packages : List ℕ) (tags : List TagText) : List ℕ → Type 0 where
+  TheList : IsTagFile folder max packages tags (index_path packages)
+  OfPackage : (listed : List (List ℕ)) (full : List ℕ) → index_at folder (index_path packages) ≡ Ok listed
+      → IsNeeded folder max packages listed tags full → IsTagFile folder max packages tags (package_path packages full)

@@ -4,8 +4,8 @@ ghost use Rattle.std.specs.Option.{option_map};
 ghost use Rattle.ot_theory.specs.Lines.{lines_of};
 ghost use Rattle.ot_blocks.specs.Paths.{is_package};
 ghost use Rattle.ot_repo.specs.Required.{names_of, picked, picked_by_name};
-ghost use Rattle.ot_repo.specs.Answers.{Gives, IsInside};
-ghost use Rattle.ot_repo.specs.Reading.{texts_of, listed_in, ArePackages, IsIndex, value_in};
+ghost use Rattle.ot_repo.specs.Answers.{ArePackages, Gives, IsInside};
+ghost use Rattle.ot_repo.specs.Reading.{texts_of, listed_in, IsIndex, value_in};
 
 use crate::fault::RepoFault;
 use ot_blocks::{is_package, name_part};

@@ -4,7 +4,9 @@ ghost use Rattle.std.specs.String.{string_bytes};
 ghost use Rattle.ot_io.specs.Folder.{Folder};
 ghost use Rattle.ot_theory.specs.Answers.{tag_of, tags_of};
 ghost use Rattle.ot_repo.specs.Required.{required, required_over, is_requirement, index_path};
-ghost use Rattle.ot_repo.specs.Answers.{Gives, names_of, HasCause};
+ghost use Rattle.ot_repo.specs.Laws.{IsWalked};
+ghost use Rattle.ot_repo.specs.Reading.{IsTagFile};
+ghost use Rattle.ot_repo.specs.Answers.{ArePackages, FailsAt, Gives, names_of, HasCause};
 
 use crate::fault::RepoFault;
 use crate::index::Index;
@@ -28,7 +30,8 @@ use std::alloc::Global;
 ///   the folder is told, exactly where the walk stops so, with the path of the file and the line.
 /// - `NoFile`: only where a file was missing in this call, and where the folder is told, exactly
 ///   where the walk needs it and stops there.
-/// - `ReadFault`: only where the files failed in this call, at the path that was asked for last.
+/// - `ReadFault`: only where the files failed in this call, at the path that was asked for last, which is one that the walk
+///   needs.
 /// - `Memory`: free.
 ///
 /// No file is left open.
@@ -41,12 +44,15 @@ pub fn required<F: Files>(
 ) -> Result<Vec<String>, RepoFault>
     ensures required { IfSome (F.folder files.old) (λ folder. Gives names_of result
         (required folder limits.now.theory_bytes packages.now theory_path.now)) }
+    ensures full { IfOk result (λ names. ArePackages (names_of names)) }
     ensures cause { IfErr result (λ e. HasCause e (F.misses files.old) (F.misses files.new)
         (F.faults files.old) (F.faults files.new) (F.at files.new)) }
     ensures later { (F.faults files.old ≤ F.faults files.new)
         × (F.misses files.old ≤ F.misses files.new) }
     ensures folder { F.folder files.new ≡ F.folder files.old }
     ensures closed { F.left files.new ≡ Some [] }
+    ensures failure { IfSome (F.folder files.old) (λ folder.
+        IfErr result (FailsAt (IsWalked folder limits.now.theory_bytes packages.now theory_path.now))) }
 {
     let setting = Setting {
         alloc,
@@ -66,11 +72,14 @@ fn required_by<F: Files>(
 ) -> Result<Vec<String>, RepoFault>
     ensures required { (folder : Folder) → F.folder files.old ≡ Some folder → Gives names_of result
         (required folder setting.entry.max_bytes setting.entry.packages.now path.now) }
+    ensures full { IfOk result (λ names. ArePackages (names_of names)) }
     ensures cause { IfErr result (λ e. HasCause e (F.misses files.old) (F.misses files.new)
         (F.faults files.old) (F.faults files.new) (F.at files.new)) }
     ensures later { (F.faults files.old ≤ F.faults files.new)
         × (F.misses files.old ≤ F.misses files.new) }
     ensures folder { F.folder files.new ≡ F.folder files.old }
+    ensures failure { (folder : Folder) → F.folder files.old ≡ Some folder → IfErr result
+        (FailsAt (IsWalked folder setting.entry.max_bytes setting.entry.packages.now path.now)) }
 {
     let text = theory_text(setting.alloc, files, path, setting.max_bytes)?;
     let theory = theory_in(setting.alloc, path, &text)?;
@@ -97,11 +106,15 @@ fn required_over<F: Files>(
     ensures required { (folder : Folder) → F.folder files.old ≡ Some folder → Gives names_of result
         (required_over folder setting.entry.max_bytes setting.entry.packages.now path.now
         (filter is_requirement (tags_of tags.now))) }
+    ensures full { IfOk result (λ names. ArePackages (names_of names)) }
     ensures cause { IfErr result (λ e. HasCause e (F.misses files.old) (F.misses files.new)
         (F.faults files.old) (F.faults files.new) (F.at files.new)) }
     ensures later { (F.faults files.old ≤ F.faults files.new)
         × (F.misses files.old ≤ F.misses files.new) }
     ensures folder { F.folder files.new ≡ F.folder files.old }
+    ensures failure { (folder : Folder) → F.folder files.old ≡ Some folder → IfErr result
+        (FailsAt (IsTagFile folder setting.entry.max_bytes setting.entry.packages.now
+        (filter is_requirement (tags_of tags.now)))) }
 {
     let alloc = setting.alloc;
     let index_path = index_path(alloc, setting.packages)?;

@@ -4,7 +4,7 @@ ghost use Rattle.ot_io.specs.Folder.{Folder};
 ghost use Rattle.ot_theory.specs.Theory.{theory};
 ghost use Rattle.ot_theory.specs.Answers.{theory_of};
 ghost use Rattle.ot_repo.specs.Required.{TheoryTooLarge, IndexTooLarge, text_at, in_file, index_limit};
-ghost use Rattle.ot_repo.specs.Answers.{Gives, HasCause, IsInside};
+ghost use Rattle.ot_repo.specs.Answers.{FailsAt, Gives, HasCause, IsInside};
 ghost use Rattle.std.specs.Option.{option_map};
 ghost use Rattle.ot_repo.specs.Reading.{sized_at};
 
@@ -31,6 +31,7 @@ pub(crate) fn theory_text<F: Files>(
     ensures later { (F.faults files.old ≤ F.faults files.new)
         × (F.misses files.old ≤ F.misses files.new) }
     ensures folder { F.folder files.new ≡ F.folder files.old }
+    ensures failure { IfErr result (FailsAt (λ failed. failed ≡ path.now)) }
 {
     match file_text(alloc, files, path, max_bytes)? {
         Some(text) => Ok(text),
@@ -55,6 +56,7 @@ pub(crate) fn index_text<F: Files>(
     ensures later { (F.faults files.old ≤ F.faults files.new)
         × (F.misses files.old ≤ F.misses files.new) }
     ensures folder { F.folder files.new ≡ F.folder files.old }
+    ensures failure { IfErr result (FailsAt (λ failed. failed ≡ path.now)) }
 {
     match file_text(alloc, files, path, INDEX_LIMIT)? {
         Some(text) => Ok(text),
@@ -79,6 +81,7 @@ fn file_text<F: Files>(
     ensures later { (F.faults files.old ≤ F.faults files.new)
         × (F.misses files.old ≤ F.misses files.new) }
     ensures folder { F.folder files.new ≡ F.folder files.old }
+    ensures failure { IfErr result (FailsAt (λ failed. failed ≡ path.now)) }
 {
     match files.open_file(path) {
         Ok(()) => match read_front(alloc, files, max_bytes) {

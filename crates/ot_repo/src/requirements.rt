@@ -4,10 +4,10 @@ ghost use Rattle.std.specs.List.{filter};
 ghost use Rattle.std.specs.Str.{bytes_eq};
 ghost use Rattle.ot_io.specs.Folder.{Folder};
 ghost use Rattle.ot_theory.specs.Answers.{tag_of, tags_of};
-ghost use Rattle.ot_blocks.specs.Paths.{is_package};
+ghost use Rattle.ot_blocks.specs.Paths.{is_package, package_path};
 ghost use Rattle.ot_plain.specs.Lists.{IsMember};
 ghost use Rattle.ot_repo.specs.Required.{is_requirement, edge_of, edges_of};
-ghost use Rattle.ot_repo.specs.Answers.{Gives, HasCause};
+ghost use Rattle.ot_repo.specs.Answers.{FailsAt, Gives, HasCause};
 ghost use Rattle.ot_repo.specs.Reading.{listed_in, IsIndex, edge_at, edges_left, AreListed};
 
 use crate::fault::RepoFault;
@@ -96,6 +96,7 @@ pub(crate) fn package_file<'a, F: Files>(
     ensures later { (F.faults files.old ≤ F.faults files.new)
         × (F.misses files.old ≤ F.misses files.new) }
     ensures folder { F.folder files.new ≡ F.folder files.old }
+    ensures failure { IfErr result (FailsAt (λ failed. failed ≡ package_path setting.entry.packages.now full.now)) }
 {
     let alloc = setting.alloc;
     let path = package_path(alloc, setting.packages, full)?;

@@ -6,8 +6,8 @@ ghost use Rattle.std.specs.String.{string_bytes};
 ghost use Rattle.ot_io.specs.Folder.{Folder};
 ghost use Rattle.ot_repo.specs.Walk.{walk_from};
 ghost use Rattle.ot_repo.specs.Required.{edges_of, walked};
-ghost use Rattle.ot_repo.specs.Answers.{Gives, names_of, HasCause, IsInside};
-ghost use Rattle.ot_repo.specs.Reading.{listed_in, IsIndex, edge_at, edges_left, AreListed, mark_in, next_at};
+ghost use Rattle.ot_repo.specs.Answers.{ArePackages, FailsAt, Gives, names_of, HasCause, IsInside};
+ghost use Rattle.ot_repo.specs.Reading.{listed_in, IsIndex, IsReachedFile, edge_at, edges_left, AreListed, mark_in, next_at};
 
 use crate::fault::RepoFault;
 use crate::index::Index;
@@ -45,11 +45,15 @@ pub(crate) fn walk<'a, F: Files>(
         → Gives names_of result (walked (walk_from bytes_eq
         (edges_of folder setting.entry.max_bytes setting.entry.packages.now (listed_in index.now))
         (length (listed_in index.now)) (edges_left first.entry))) }
+    ensures full { IfOk result (λ names. ArePackages (names_of names)) }
     ensures cause { IfErr result (λ e. HasCause e (F.misses files.old) (F.misses files.new)
         (F.faults files.old) (F.faults files.new) (F.at files.new)) }
     ensures later { (F.faults files.old ≤ F.faults files.new)
         × (F.misses files.old ≤ F.misses files.new) }
     ensures folder { F.folder files.new ≡ F.folder files.old }
+    ensures failure { (folder : Folder) → F.folder files.old ≡ Some folder → IfErr result (FailsAt (IsReachedFile
+        (edges_of folder setting.entry.max_bytes setting.entry.packages.now (listed_in index.now))
+        (edges_left first.entry) setting.entry.packages.now)) }
 {
     let alloc = setting.alloc;
     let mut marks: HashMap<&'a [u8], Mark> = HashMap::new(alloc);

@@ -14,7 +14,8 @@ use Rattle.ot_uses.specs.Used.{Support, support_of}
 abbrev pub rest_text : Session → List code.Export → ℕ → List ℕ
 rest_text s es i = supports_text (suc i) (map (support_of (run_of s)) (map (export_of s) (drop i es)))
 
-pub rest-more : (s : Session) (es : List code.Export) (i : ℕ) (e : code.Export) → i < length es → e ≡ get_or es i e → rest_text s es i ≡ support_text (i + 1) (support_of (run_of s) (export_of s e)) ++ rest_text s es (i + 1)
+pub rest-more : (s : Session) (es : List code.Export) (i : ℕ) (e : code.Export) → i < length es → e ≡ get_or es i e
+    → rest_text s es i ≡ support_text (i + 1) (support_of (run_of s) (export_of s e)) ++ rest_text s es (i + 1)
 rest-more s es i e h at =
     let n : suc i ≡ i + 1 = omega arith in
     ap (λ l. supports_text (suc i) (map (support_of (run_of s)) (map (export_of s) l))) (drop-cons es i e h)
@@ -24,6 +25,8 @@ pub rest-end : (s : Session) (es : List code.Export) (i : ℕ) → length es ≤
 rest-end s es i h = ap (λ l. supports_text (suc i) (map (support_of (run_of s)) (map (export_of s) l))) (drop_of_length-le es h)
 
 -- the pieces of one
-pub support-pieces : (i : ℕ) (s : Support) → ((((((codes "theorem " ++ number_text i) ++ codes ": ") ++ sequent_text s.theorem) ++ codes "\n") ++ counted_text (codes "assumptions") (ascending (map sequent_text s.assumptions)))
+pub support-pieces : (i : ℕ) (s : Support)
+    → ((((((codes "theorem " ++ number_text i) ++ codes ": ") ++ sequent_text s.theorem) ++ codes "\n")
+    ++ counted_text (codes "assumptions") (ascending (map sequent_text s.assumptions)))
     ++ counted_text (codes "definitions") (map definition_text s.definitions)) ≡ support_text i s
 support-pieces i s = refl

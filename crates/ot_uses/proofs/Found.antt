@@ -32,7 +32,9 @@ map-same : {X Y : Type 0} (f g : X → Y) (xs : List X) → ((x : X) → IsMembe
 map-same f g [] h = refl
 map-same f g (x ∷ xs) h = let e = h x (inl refl) in let r = map-same f g xs (λ y m. h y (inr m)) in λ i. e i ∷ r i
 
-module _ (s : Session) (run : IsRun s) (table : IsNameTable s.kernel.names) (steps : IsInjective s.trace) (root : ℕ) (root_in : root < length s.trace) (marks : List Bool) (m : MarksReached s.trace (root ∷ []) s.definition_steps.items marks) where
+module _ (s : Session) (run : IsRun s) (table : IsNameTable s.kernel.names)
+    (steps : IsInjective s.trace) (root : ℕ) (root_in : root < length s.trace) (marks : List Bool)
+    (m : MarksReached s.trace (root ∷ []) s.definition_steps.items marks) where
   abbrev naming : ℕ → Name
   naming = name_of s.kernel.names
 
@@ -44,7 +46,9 @@ module _ (s : Session) (run : IsRun s) (table : IsNameTable s.kernel.names) (ste
 
   -- the number of a step stands for its origin
   at-is : (i : ℕ) → i < length s.trace → at i ≡ origin_of s i
-  at-is i h = origin-agree naming (name_at s.kernel) (length s.kernel.names) (name_of-index s.kernel.names table) (origin_at s.trace i) (run.named i (Number (pos 0)) h)
+  at-is i h =
+      origin-agree naming (name_at s.kernel) (length s.kernel.names)
+      (name_of-index s.kernel.names table) (origin_at s.trace i) (run.named i (Number (pos 0)) h)
 
   all-at : (is : List ℕ) → IsIn (length s.trace) is → map at is ≡ map (origin_of s) is
   all-at is h = map-same at (origin_of s) is (λ i n. at-is i (h i n))
@@ -56,19 +60,30 @@ module _ (s : Session) (run : IsRun s) (table : IsNameTable s.kernel.names) (ste
   definitions_in = members-in (length s.trace) s.definition_steps.items run.definitions
 
   givens-are : map at s.assumption_steps.items ≡ map (λ g. g.origin) r.assumptions
-  givens-are = all-at s.assumption_steps.items assumptions_in ∙ given-origins s s.kernel.assumptions s.assumption_steps.items run.each_assumption
+  givens-are =
+      all-at s.assumption_steps.items assumptions_in
+      ∙ given-origins s s.kernel.assumptions s.assumption_steps.items run.each_assumption
 
   mades-are : map at s.definition_steps.items ≡ map (λ m. m.origin) r.definitions
-  mades-are = all-at s.definition_steps.items definitions_in ∙ made-origins s s.kernel.definitions s.definition_steps.items run.each_definition
+  mades-are =
+      all-at s.definition_steps.items definitions_in
+      ∙ made-origins s s.kernel.definitions s.definition_steps.items run.each_definition
 
   pub assumptions-are : marked_places 0 marks s.assumption_steps.items ≡ assumption_places r (origin_of s root)
   assumptions-are =
-      assumptions-found s.trace steps naming (name_of-injective s.kernel.names) root s.definition_steps.items definitions_in marks m s.assumption_steps.items assumptions_in
-      ∙ (λ z. places_in (filter (λ p. is_among same p.1 (needed_origins same (at-is root root_in z ∷ []) (mades-are z))) (numbered 0 (givens-are z))))
-      ∙ sym (filter-places (λ g. g.origin) (λ o. is_among same o (needed_origins same (origin_of s root ∷ []) (map (λ m. m.origin) r.definitions))) 0 r.assumptions)
+      assumptions-found s.trace steps naming (name_of-injective s.kernel.names) root
+      s.definition_steps.items definitions_in marks m s.assumption_steps.items assumptions_in
+      ∙ (λ z. places_in (filter (λ p. is_among same p.1 (needed_origins same (at-is root root_in z ∷ []) (mades-are z)))
+      (numbered 0 (givens-are z))))
+      ∙ sym (filter-places (λ g. g.origin)
+      (λ o. is_among same o (needed_origins same (origin_of s root ∷ []) (map (λ m. m.origin) r.definitions))) 0 r.assumptions)
 
   pub definitions-are : first_places 0 marks s.definition_steps.items ≡ definition_places r (origin_of s root)
   definitions-are =
-      definitions-found s.trace steps naming (name_of-injective s.kernel.names) root s.definition_steps.items definitions_in marks m
-      ∙ (λ z. places_in (filter (λ p. is_among same p.1 (needed_definitions same (at-is root root_in z ∷ []) (mades-are z))) (firsts_by same (λ p. p.1) (numbered 0 (mades-are z)))))
-      ∙ sym (firsts-places (λ m. m.origin) (λ o. is_among same o (needed_definitions same (origin_of s root ∷ []) (map (λ m. m.origin) r.definitions))) 0 r.definitions)
+      definitions-found s.trace steps naming (name_of-injective s.kernel.names)
+      root s.definition_steps.items definitions_in marks m
+      ∙ (λ z. places_in (filter (λ p. is_among same p.1 (needed_definitions same (at-is root root_in z ∷ []) (mades-are z)))
+      (firsts_by same (λ p. p.1) (numbered 0 (mades-are z)))))
+      ∙ sym (firsts-places (λ m. m.origin) (λ o. is_among same o
+      (needed_definitions same (origin_of s root ∷ []) (map (λ m. m.origin) r.definitions)))
+      0 r.definitions)

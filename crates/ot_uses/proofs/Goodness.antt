@@ -25,12 +25,14 @@ use Rattle.ot_laws.proofs.Laws.{term_rules_are_sound, rules_are_sound}
 use Rattle.ot_machine.specs.Values.{value, values, value_at, applied}
 use Rattle.ot_uses.proofs.Leaves.{IsGood, AreGood, IsLeaf, HasLeaves, HaveLeaves, ValuesAreGood}
 
-pub if_bind : {A B E : Type 0} (r : Result A E) (f : A → Result B E) (P : A → Type 0) (Q : B → Type 0) → IfOk r P → ((x : A) → P x → IfOk (f x) Q) → IfOk (r >>= f) Q
+pub if_bind : {A B E : Type 0} (r : Result A E) (f : A → Result B E) (P : A → Type 0) (Q : B → Type 0) → IfOk r P
+    → ((x : A) → P x → IfOk (f x) Q) → IfOk (r >>= f) Q
 if_bind (Ok x) f P Q p next = next x p
 if_bind (Err e) f P Q p next = tt
 
 -- where nothing is asked of what was made
-pub any_bind : {A B E : Type 0} (r : Result A E) (f : A → Result B E) (Q : B → Type 0) → ((x : A) → IfOk (f x) Q) → IfOk (r >>= f) Q
+pub any_bind : {A B E : Type 0} (r : Result A E) (f : A → Result B E) (Q : B → Type 0) → ((x : A) → IfOk (f x) Q)
+    → IfOk (r >>= f) Q
 any_bind (Ok x) f Q next = next x
 any_bind (Err e) f Q next = tt
 
@@ -52,7 +54,8 @@ module _ (al : List (Sequent Name)) (dl : List (Definition Name)) where
 
   -- ---- operands
 
-  at-good : (vs : List Object) → AllByRecursion (IsGood al dl) vs → (k : ℕ) (e : Fault Name) → IfOk (some_or e (slice_get vs k)) (IsGood al dl)
+  at-good : (vs : List Object) → AllByRecursion (IsGood al dl) vs → (k : ℕ) (e : Fault Name)
+      → IfOk (some_or e (slice_get vs k)) (IsGood al dl)
   at-good [] g k e = tt
   at-good (v ∷ vs) g zero e = g.0
   at-good (v ∷ vs) g (suc k) e = at-good vs g.1 k e
@@ -71,14 +74,17 @@ module _ (al : List (Sequent Name)) (dl : List (Definition Name)) where
   MakerIsGood (of_two f) = (r s : Read) → GoodRead r → GoodRead s → GoodRead (f r s)
   MakerIsGood no_maker = Unit {0}
 
-  made-good : (m : Maker) → MakerIsGood m → (vs : List Object) → AllByRecursion (IsGood al dl) vs → GoodRead (made_by m (λ n. value_at n vs))
+  made-good : (m : Maker) → MakerIsGood m → (vs : List Object) → AllByRecursion (IsGood al dl) vs
+      → GoodRead (made_by m (λ n. value_at n vs))
   made-good (of_none o) h vs g = h
   made-good (of_top f) h vs g = h (value_at 0 vs) (value_at-good vs g 0)
   made-good (of_two f) h vs g = h (value_at 0 vs) (value_at 1 vs) (value_at-good vs g 0) (value_at-good vs g 1)
   made-good no_maker h vs g = tt
 
   applied-good : (m : Maker) → MakerIsGood m → (vs : List Object) → AllByRecursion (IsGood al dl) vs → GoodRead (applied m vs)
-  applied-good m h vs g = any_bind (unless StackEmpty (length vs == arity m)) (λ x. made_by m (λ n. value_at n vs)) (IsGood al dl) (λ x. made-good m h vs g)
+  applied-good m h vs g =
+      any_bind (unless StackEmpty (length vs == arity m))
+      (λ x. made_by m (λ n. value_at n vs)) (IsGood al dl) (λ x. made-good m h vs g)
 
   -- ---- each word
 
@@ -94,24 +100,38 @@ module _ (al : List (Sequent Name)) (dl : List (Definition Name)) where
   as-theorem : (r : Result (Sequent Name) (Fault Name)) → IfOk r (IsTheorem names al dl) → GoodRead (r >>= λ q. Ok (theorem q))
   as-theorem r g = if_bind r (λ q. Ok (theorem q)) (IsTheorem names al dl) (IsGood al dl) g (λ q t. t)
 
-  one-good : (rule : Sequent Name → Result (Sequent Name) (Fault Name)) → ((th : Sequent Name) → IsTheorem names al dl th → IfOk (rule th) (IsTheorem names al dl)) → MakerIsGood (of_top (one_theorem_made rule))
-  one-good rule sound r g = if_bind (r >>= as_theorem) (λ th. rule th >>= λ q. Ok (theorem q)) (IsTheorem names al dl) (IsGood al dl) (read-theorem r g) (λ th t. as-theorem (rule th) (sound th t))
+  one-good : (rule : Sequent Name → Result (Sequent Name) (Fault Name))
+      → ((th : Sequent Name) → IsTheorem names al dl th → IfOk (rule th) (IsTheorem names al dl))
+      → MakerIsGood (of_top (one_theorem_made rule))
+  one-good rule sound r g =
+      if_bind (r >>= as_theorem) (λ th. rule th >>= λ q. Ok (theorem q)) (IsTheorem names al dl)
+      (IsGood al dl) (read-theorem r g) (λ th t. as-theorem (rule th) (sound th t))
 
-  two-good : (rule : Sequent Name → Sequent Name → Result (Sequent Name) (Fault Name)) → ((lower top : Sequent Name) → IsTheorem names al dl lower → IsTheorem names al dl top → IfOk (rule lower top) (IsTheorem names al dl)) → MakerIsGood (of_two (two_theorems_made rule))
+  two-good : (rule : Sequent Name → Sequent Name → Result (Sequent Name) (Fault Name))
+      → ((lower top : Sequent Name) → IsTheorem names al dl lower → IsTheorem names al dl top
+      → IfOk (rule lower top) (IsTheorem names al dl)) → MakerIsGood (of_two (two_theorems_made rule))
   two-good rule sound r s g h =
-      if_bind (r >>= as_theorem) (λ upper. (s >>= as_theorem) >>= λ lower. rule lower upper >>= λ q. Ok (theorem q)) (IsTheorem names al dl) (IsGood al dl) (read-theorem r g)
-      (λ upper u. if_bind (s >>= as_theorem) (λ lower. rule lower upper >>= λ q. Ok (theorem q)) (IsTheorem names al dl) (IsGood al dl) (read-theorem s h)
+      if_bind (r >>= as_theorem) (λ upper. (s >>= as_theorem) >>= λ lower. rule lower upper >>= λ q. Ok (theorem q))
+      (IsTheorem names al dl) (IsGood al dl) (read-theorem r g)
+      (λ upper u. if_bind (s >>= as_theorem) (λ lower. rule lower upper >>= λ q. Ok (theorem q))
+      (IsTheorem names al dl) (IsGood al dl) (read-theorem s h)
       (λ lower l. as-theorem (rule lower upper) (sound lower upper l u)))
 
-  term-rule-good : (rule : Tm Name → Result (Sequent Name) (Fault Name)) → ((t : Tm Name) → IsWellTyped names t → IfOk (rule t) (IsTheorem names al dl)) → (r : Read) → GoodRead r → GoodRead ((r >>= as_term) >>= λ t. rule t >>= λ q. Ok (theorem q))
-  term-rule-good rule sound r g = if_bind (r >>= as_term) (λ t. rule t >>= λ q. Ok (theorem q)) (IsWellTyped names) (IsGood al dl) (read-term r g) (λ t w. as-theorem (rule t) (sound t w))
+  term-rule-good : (rule : Tm Name → Result (Sequent Name) (Fault Name))
+      → ((t : Tm Name) → IsWellTyped names t → IfOk (rule t) (IsTheorem names al dl)) → (r : Read) → GoodRead r
+      → GoodRead ((r >>= as_term) >>= λ t. rule t >>= λ q. Ok (theorem q))
+  term-rule-good rule sound r g =
+      if_bind (r >>= as_term) (λ t. rule t >>= λ q. Ok (theorem q)) (IsWellTyped names)
+      (IsGood al dl) (read-term r g) (λ t w. as-theorem (rule t) (sound t w))
 
   cons-good : MakerIsGood (of_two cons_made)
   cons-good r s g h =
       if_bind (r >>= as_list) (λ tail. s >>= λ head. consed head tail) (AreGood al dl) (IsGood al dl) (read-list r g)
-      (λ tail t. if_bind s (λ head. consed head tail) (IsGood al dl) (IsGood al dl) h (λ head k. both (nat_le (nesting (list (more_objects head tail))) depth_limit) head tail k t))
+      (λ tail t. if_bind s (λ head. consed head tail) (IsGood al dl) (IsGood al dl) h
+      (λ head k. both (nat_le (nesting (list (more_objects head tail))) depth_limit) head tail k t))
     where
-      both : (b : Bool) (head : Object) (tail : Objects) → IsGood al dl head → AreGood al dl tail → GoodRead (if b then Ok (list (more_objects head tail)) else Err Nesting)
+      both : (b : Bool) (head : Object) (tail : Objects) → IsGood al dl head → AreGood al dl tail
+          → GoodRead (if b then Ok (list (more_objects head tail)) else Err Nesting)
       both true head tail k t = (k, t)
       both false head tail k t = tt
 
@@ -119,27 +139,36 @@ module _ (al : List (Sequent Name)) (dl : List (Definition Name)) where
   app-good r s g h =
       any_bind (r >>= as_term) (λ x. (s >>= as_term) >>= λ f. app_rule names f x >>= λ t. Ok (term t)) (IsGood al dl)
       (λ x. any_bind (s >>= as_term) (λ f. app_rule names f x >>= λ t. Ok (term t)) (IsGood al dl)
-      (λ f. if_bind (app_rule names f x) (λ t. Ok (term t)) (λ t. (t ≡ App f x) × IsWellTyped names t × IsTrue (is_shallow names t)) (IsGood al dl) (rules.app f x) (λ t w. w.1)))
+      (λ f. if_bind (app_rule names f x) (λ t. Ok (term t))
+      (λ t. (t ≡ App f x) × IsWellTyped names t × IsTrue (is_shallow names t)) (IsGood al dl) (rules.app f x) (λ t w. w.1)))
     where
       rules : TermRulesAreSound names
       rules = term_rules_are_sound names tells_names
 
   abs-good : MakerIsGood (of_two abs_term_made)
   abs-good r s g h =
-      if_bind (r >>= as_term) (λ t. (s >>= as_variable) >>= λ v. abs_rule names v t >>= λ u. Ok (term u)) (IsWellTyped names) (IsGood al dl) (read-term r g)
+      if_bind (r >>= as_term) (λ t. (s >>= as_variable) >>= λ v. abs_rule names v t >>= λ u. Ok (term u))
+      (IsWellTyped names) (IsGood al dl) (read-term r g)
       (λ t w. any_bind (s >>= as_variable) (λ v. abs_rule names v t >>= λ u. Ok (term u)) (IsGood al dl)
-      (λ v. if_bind (abs_rule names v t) (λ u. Ok (term u)) (λ u. (u ≡ Abs v.ty (close names v t)) × IsWellTyped names u × IsTrue (is_shallow names u)) (IsGood al dl) (rules.abs v t w) (λ u k. k.1)))
+      (λ v. if_bind (abs_rule names v t) (λ u. Ok (term u))
+      (λ u. (u ≡ Abs v.ty (close names v t)) × IsWellTyped names u × IsTrue (is_shallow names u))
+      (IsGood al dl) (rules.abs v t w) (λ u k. k.1)))
     where
       rules : TermRulesAreSound names
       rules = term_rules_are_sound names tells_names
 
-  abs-thm-good : ((v : Variable Name) (th : Sequent Name) → IsTheorem names al dl th → IfOk (abs_thm_rule names v th) (IsTheorem names al dl)) → MakerIsGood (of_two abs_thm_made)
+  abs-thm-good : ((v : Variable Name) (th : Sequent Name) → IsTheorem names al dl th
+      → IfOk (abs_thm_rule names v th) (IsTheorem names al dl))
+      → MakerIsGood (of_two abs_thm_made)
   abs-thm-good sound r s g h =
-      if_bind (r >>= as_theorem) (λ th. (s >>= as_variable) >>= λ v. abs_thm_rule names v th >>= λ q. Ok (theorem q)) (IsTheorem names al dl) (IsGood al dl) (read-theorem r g)
-      (λ th t. any_bind (s >>= as_variable) (λ v. abs_thm_rule names v th >>= λ q. Ok (theorem q)) (IsGood al dl) (λ v. as-theorem (abs_thm_rule names v th) (sound v th t)))
+      if_bind (r >>= as_theorem) (λ th. (s >>= as_variable) >>= λ v. abs_thm_rule names v th >>= λ q. Ok (theorem q))
+      (IsTheorem names al dl) (IsGood al dl) (read-theorem r g)
+      (λ th t. any_bind (s >>= as_variable) (λ v. abs_thm_rule names v th >>= λ q. Ok (theorem q))
+      (IsGood al dl) (λ v. as-theorem (abs_thm_rule names v th) (sound v th t)))
 
   -- the terms of a map have their variables' types
-  with-typed : (m : TermMap names) (v : Variable Name) (t : Tm Name) → IsTyped names m → HasType names t v.ty → IsTyped names (with_term m v t)
+  with-typed : (m : TermMap names) (v : Variable Name) (t : Tm Name) → IsTyped names m → HasType names t v.ty
+      → IsTyped names (with_term m v t)
   with-typed m v t typed has = go (list_any (λ p. same_var names v p.0) m)
     where
       push : (k : TermMap names) → IsTyped names k → IsTyped names (k ++ (v, t) ∷ [])
@@ -153,27 +182,43 @@ module _ (al : List (Sequent Name)) (dl : List (Definition Name)) where
   terms-typed : (os : Objects) (m : TermMap names) → IsTyped names m → IfOk (terms_onto m os) (IsTyped names)
   terms-typed no_objects m typed = typed
   terms-typed (more_objects o os) m typed =
-      any_bind (term_pair o) (λ p. unless BadSubst (has_type names p.1 p.0.ty) >>= λ x. terms_onto (with_term m p.0 p.1) os) (IsTyped names)
+      any_bind (term_pair o)
+      (λ p. unless BadSubst (has_type names p.1 p.0.ty) >>= λ x. terms_onto (with_term m p.0 p.1) os) (IsTyped names)
       (λ p. test p (has_type names p.1 p.0.ty) refl (λ w. terms-typed os (with_term m p.0 p.1) w))
     where
-      test : (p : Variable Name × Tm Name) (b : Bool) → has_type names p.1 p.0.ty ≡ b → ((w : IsTyped names (with_term m p.0 p.1)) → IfOk (terms_onto (with_term m p.0 p.1) os) (IsTyped names))
+      test : (p : Variable Name × Tm Name) (b : Bool) → has_type names p.1 p.0.ty ≡ b
+          → ((w : IsTyped names (with_term m p.0 p.1)) → IfOk (terms_onto (with_term m p.0 p.1) os) (IsTyped names))
           → IfOk (unless BadSubst b >>= λ x. terms_onto (with_term m p.0 p.1) os) (IsTyped names)
       test p true e next = next (with-typed m p.0 p.1 typed ((has_type-is names tells_names p.1 p.0.ty).0 e))
       test p false e next = tt
 
   maps-typed : (os : Objects) → IfOk (maps_of os) (λ maps. IsTyped names maps.1)
   maps-typed os =
-      any_bind (two_of BadSubst os) (λ parts. or_bad BadSubst (as_list parts.0) >>= λ types. or_bad BadSubst (as_list parts.1) >>= λ terms. types_onto [] types >>= λ s. terms_onto [] terms >>= λ m. Ok (s, m)) (λ maps. IsTyped names maps.1)
-      (λ parts. any_bind (or_bad BadSubst (as_list parts.0)) (λ types. or_bad BadSubst (as_list parts.1) >>= λ terms. types_onto [] types >>= λ s. terms_onto [] terms >>= λ m. Ok (s, m)) (λ maps. IsTyped names maps.1)
-      (λ types. any_bind (or_bad BadSubst (as_list parts.1)) (λ terms. types_onto [] types >>= λ s. terms_onto [] terms >>= λ m. Ok (s, m)) (λ maps. IsTyped names maps.1)
+      any_bind (two_of BadSubst os) (λ parts. or_bad BadSubst (as_list parts.0)
+      >>= λ types. or_bad BadSubst (as_list parts.1)
+      >>= λ terms. types_onto [] types >>= λ s. terms_onto [] terms >>= λ m. Ok (s, m))
+      (λ maps. IsTyped names maps.1)
+      (λ parts. any_bind (or_bad BadSubst (as_list parts.0))
+      (λ types. or_bad BadSubst (as_list parts.1)
+      >>= λ terms. types_onto [] types >>= λ s. terms_onto [] terms >>= λ m. Ok (s, m))
+      (λ maps. IsTyped names maps.1)
+      (λ types. any_bind (or_bad BadSubst (as_list parts.1))
+      (λ terms. types_onto [] types >>= λ s. terms_onto [] terms >>= λ m. Ok (s, m)) (λ maps. IsTyped names maps.1)
       (λ terms. any_bind (types_onto [] types) (λ s. terms_onto [] terms >>= λ m. Ok (s, m)) (λ maps. IsTyped names maps.1)
-      (λ s. if_bind (terms_onto [] terms) (λ m. Ok (s, m)) (IsTyped names) (λ maps. IsTyped names maps.1) (terms-typed terms [] tt) (λ m w. w)))))
+      (λ s. if_bind (terms_onto [] terms) (λ m. Ok (s, m)) (IsTyped names)
+      (λ maps. IsTyped names maps.1) (terms-typed terms [] tt) (λ m w. w)))))
 
-  subst-good : ((s : TypeMap names) (m : TermMap names) (th : Sequent Name) → IsTyped names m → IsTheorem names al dl th → IfOk (subst_rule names s m th) (IsTheorem names al dl)) → MakerIsGood (of_two subst_made)
+  subst-good : ((s : TypeMap names) (m : TermMap names) (th : Sequent Name) → IsTyped names m → IsTheorem names al dl th
+      → IfOk (subst_rule names s m th) (IsTheorem names al dl))
+      → MakerIsGood (of_two subst_made)
   subst-good sound r s g h =
-      if_bind (r >>= as_theorem) (λ th. (s >>= as_list) >>= λ os. maps_of os >>= λ maps. subst_rule names maps.0 maps.1 th >>= λ q. Ok (theorem q)) (IsTheorem names al dl) (IsGood al dl) (read-theorem r g)
-      (λ th t. any_bind (s >>= as_list) (λ os. maps_of os >>= λ maps. subst_rule names maps.0 maps.1 th >>= λ q. Ok (theorem q)) (IsGood al dl)
-      (λ os. if_bind (maps_of os) (λ maps. subst_rule names maps.0 maps.1 th >>= λ q. Ok (theorem q)) (λ maps. IsTyped names maps.1) (IsGood al dl) (maps-typed os)
+      if_bind (r >>= as_theorem) (λ th. (s >>= as_list)
+      >>= λ os. maps_of os >>= λ maps. subst_rule names maps.0 maps.1 th >>= λ q. Ok (theorem q))
+      (IsTheorem names al dl) (IsGood al dl) (read-theorem r g)
+      (λ th t. any_bind (s >>= as_list)
+      (λ os. maps_of os >>= λ maps. subst_rule names maps.0 maps.1 th >>= λ q. Ok (theorem q)) (IsGood al dl)
+      (λ os. if_bind (maps_of os) (λ maps. subst_rule names maps.0 maps.1 th >>= λ q. Ok (theorem q))
+      (λ maps. IsTyped names maps.1) (IsGood al dl) (maps-typed os)
       (λ maps w. as-theorem (subst_rule names maps.0 maps.1 th) (sound maps.0 maps.1 th w t))))
 
   abbrev IsPlain : Cmd → Type 0
@@ -182,7 +227,8 @@ module _ (al : List (Sequent Name)) (dl : List (Definition Name)) where
 
   op-type-good : MakerIsGood (of_two op_type_made)
   op-type-good r s g h =
-      any_bind (r >>= as_list >>= as_each as_type) (λ ts. (s >>= as_type_op) >>= λ n. op_rule names n (arguments ts) >>= λ t. Ok (a_type t)) (IsGood al dl)
+      any_bind (r >>= as_list >>= as_each as_type)
+      (λ ts. (s >>= as_type_op) >>= λ n. op_rule names n (arguments ts) >>= λ t. Ok (a_type t)) (IsGood al dl)
       (λ ts. any_bind (s >>= as_type_op) (λ n. op_rule names n (arguments ts) >>= λ t. Ok (a_type t)) (IsGood al dl)
       (λ n. any_bind (op_rule names n (arguments ts)) (λ t. Ok (a_type t)) (IsGood al dl) (λ t. tt)))
 
@@ -248,7 +294,9 @@ module _ (al : List (Sequent Name)) (dl : List (Definition Name)) where
     value-good (Named n) l = tt
     value-good (Make w os) l = elim (plain-or w) [
       | inl f ↦ f os l.1
-      | inr p ↦ if_bind (values os) (applied (maker w)) (AllByRecursion (IsGood al dl)) (IsGood al dl) (values-good os l.0) (applied-good (maker w) (maker-good w p))
+      | inr p ↦
+          if_bind (values os) (applied (maker w)) (AllByRecursion (IsGood al dl))
+          (IsGood al dl) (values-good os l.0) (applied-good (maker w) (maker-good w p))
     ]
     value-good (Define w os) l = tt
     value-good (Outcome j d) l = l
@@ -257,7 +305,8 @@ module _ (al : List (Sequent Name)) (dl : List (Definition Name)) where
     values-good NoOrigins l = tt
     values-good (MoreOrigins o os) l =
         if_bind (value o) (λ v. values os >>= λ vs. Ok (v ∷ vs)) (IsGood al dl) (AllByRecursion (IsGood al dl)) (value-good o l.0)
-        (λ v g. if_bind (values os) (λ vs. Ok (v ∷ vs)) (AllByRecursion (IsGood al dl)) (AllByRecursion (IsGood al dl)) (values-good os l.1) (λ vs gs. (g, gs)))
+        (λ v g. if_bind (values os) (λ vs. Ok (v ∷ vs)) (AllByRecursion (IsGood al dl))
+        (AllByRecursion (IsGood al dl)) (values-good os l.1) (λ vs gs. (g, gs)))
 
 pub values_are_good : (al : List (Sequent Name)) (dl : List (Definition Name)) → ValuesAreGood al dl
 values_are_good al dl = value-good al dl

@@ -11,23 +11,30 @@ indented-bytes : (xs : List (List ℕ)) → bytes_in xs ≤ length (indented_tex
 indented-bytes [] = omega arith
 indented-bytes (x ∷ xs) =
     let more = indented-bytes xs in
-    let n : length (codes "    " ++ x ++ 10 ∷ indented_text xs) ≡ suc (suc (suc (suc (length x + suc (length (indented_text xs)))))) = ap (λ k. suc (suc (suc (suc k)))) (length-append x (10 ∷ indented_text xs)) in
+    let n : length (codes "    " ++ x ++ 10 ∷ indented_text xs)
+    ≡ suc (suc (suc (suc (length x + suc (length (indented_text xs)))))) =
+    ap (λ k. suc (suc (suc (suc k)))) (length-append x (10 ∷ indented_text xs)) in
     omega arith
 
 -- a line, followed by those of the others
-pub indented-first : (x y : List ℕ) (xs : List (List ℕ)) → y ≡ x → indented_text (x ∷ xs) ≡ codes "    " ++ y ++ codes "\n" ++ indented_text xs
+pub indented-first : (x y : List ℕ) (xs : List (List ℕ)) → y ≡ x
+    → indented_text (x ∷ xs) ≡ codes "    " ++ y ++ codes "\n" ++ indented_text xs
 indented-first x y xs p =
     ap (λ z. codes "    " ++ z ++ 10 ∷ indented_text xs) (sym p)
     ∙ sym (append_assoc (codes "    " ++ y) (10 ∷ []) (indented_text xs))
 
-pub indented-more : {X : Type 0} (f : X → List ℕ) (xs : List X) (i : ℕ) (x : X) (s0 s t : Printed) → i < length xs → x ≡ get_or xs i x
-    → Puts (λ ys. indented_text (map f ys)) xs i s0 s → IsPut (codes "    " ++ f x ++ codes "\n") s t → Puts (λ ys. indented_text (map f ys)) xs (i + 1) s0 t
+pub indented-more : {X : Type 0} (f : X → List ℕ) (xs : List X) (i : ℕ) (x : X) (s0 s t : Printed) → i < length xs
+    → x ≡ get_or xs i x
+    → Puts (λ ys. indented_text (map f ys)) xs i s0 s → IsPut (codes "    " ++ f x ++ codes "\n") s t
+    → Puts (λ ys. indented_text (map f ys)) xs (i + 1) s0 t
 indented-more f xs i x s0 s t h p before put =
-    puts-more (λ ys. indented_text (map f ys)) (λ y. codes "    " ++ f y ++ codes "\n") (λ y ys. indented-first (f y) (f y) (map f ys) refl) xs i x s0 s t h before
+    puts-more (λ ys. indented_text (map f ys)) (λ y. codes "    " ++ f y ++ codes "\n")
+    (λ y ys. indented-first (f y) (f y) (map f ys) refl) xs i x s0 s t h before
     (same-text (ap (λ y. codes "    " ++ f y ++ codes "\n") p) put)
 
 -- the line with the count, and the lines
-pub counted-pieces : (title : List ℕ) (n : ℕ) (xs : List (List ℕ)) → n ≡ length xs → (codes "  " ++ title ++ codes ": " ++ number_text n ++ 10 ∷ []) ++ indented_text xs ≡ counted_text title xs
+pub counted-pieces : (title : List ℕ) (n : ℕ) (xs : List (List ℕ)) → n ≡ length xs
+    → (codes "  " ++ title ++ codes ": " ++ number_text n ++ 10 ∷ []) ++ indented_text xs ≡ counted_text title xs
 counted-pieces title n xs q =
     append_assoc (codes "  " ++ title ++ codes ": " ++ number_text n) (10 ∷ []) (indented_text xs)
     ∙ ap (λ k. codes "  " ++ title ++ codes ": " ++ number_text k ++ 10 ∷ indented_text xs) q

@@ -40,16 +40,20 @@ both false false f g = refl
 
 -- ---- marked places
 
-marked-filter : (k : ℕ) (marks : List Bool) (is : List ℕ) → marked_places k marks is ≡ places_in (filter (λ p. is_marked marks p.1) (numbered k is))
+marked-filter : (k : ℕ) (marks : List Bool) (is : List ℕ)
+    → marked_places k marks is ≡ places_in (filter (λ p. is_marked marks p.1) (numbered k is))
 marked-filter k marks [] = refl
 marked-filter k marks (i ∷ is) = go (is_marked marks i) (marked-filter (suc k) marks is)
   where
     go : (b : Bool) → marked_places (suc k) marks is ≡ places_in (filter (λ p. is_marked marks p.1) (numbered (suc k) is))
-        → cond b (k ∷ marked_places (suc k) marks is) (marked_places (suc k) marks is) ≡ places_in (cond b ((k, i) ∷ filter (λ p. is_marked marks p.1) (numbered (suc k) is)) (filter (λ p. is_marked marks p.1) (numbered (suc k) is)))
+        → cond b (k ∷ marked_places (suc k) marks is) (marked_places (suc k) marks is)
+        ≡ places_in (cond b ((k, i) ∷ filter (λ p. is_marked marks p.1) (numbered (suc k) is))
+        (filter (λ p. is_marked marks p.1) (numbered (suc k) is)))
     go true e = ap (λ l. k ∷ l) e
     go false e = e
 
-module _ (ts : List (Origin ℕ)) (once_in : IsInjective ts) (f : ℕ → Name) (injective : (x y : ℕ) → f x ≡ f y → x ≡ y) (root : ℕ) (ds : List ℕ) (ds_in : IsIn (length ts) ds) (marks : List Bool) (m : MarksReached ts (root ∷ []) ds marks) where
+module _ (ts : List (Origin ℕ)) (once_in : IsInjective ts) (f : ℕ → Name) (injective : (x y : ℕ) → f x ≡ f y → x ≡ y) (root : ℕ)
+    (ds : List ℕ) (ds_in : IsIn (length ts) ds) (marks : List Bool) (m : MarksReached ts (root ∷ []) ds marks) where
   abbrev at : ℕ → Origin Name
   at i = map_origin f (origin_at ts i)
 
@@ -62,10 +66,12 @@ module _ (ts : List (Origin ℕ)) (once_in : IsInjective ts) (f : ℕ → Name) 
   D-is : map (map_origin f) (map (origin_at ts) ds) ≡ D
   D-is = map-map (map_origin f) (origin_at ts) ds
 
-  marked-is : (i : ℕ) → i < length marks → (is_marked marks i ≡ true → IsMarked marks i) × (IsMarked marks i → is_marked marks i ≡ true)
+  marked-is : (i : ℕ) → i < length marks
+      → (is_marked marks i ≡ true → IsMarked marks i) × (IsMarked marks i → is_marked marks i ≡ true)
   marked-is i h = go marks i h
     where
-      go : (bs : List Bool) (i : ℕ) → i < length bs → (get_or bs i false ≡ true → slice_get bs i ≡ Some true) × (slice_get bs i ≡ Some true → get_or bs i false ≡ true)
+      go : (bs : List Bool) (i : ℕ) → i < length bs
+          → (get_or bs i false ≡ true → slice_get bs i ≡ Some true) × (slice_get bs i ≡ Some true → get_or bs i false ≡ true)
       go [] i h = absurd (omega arith)
       go (b ∷ bs) zero h = (λ e. ap Some e, λ e. let q : b ≡ true = cc in q)
       go (b ∷ bs) (suc i) h = go bs i (omega arith)
@@ -77,13 +83,15 @@ module _ (ts : List (Origin ℕ)) (once_in : IsInjective ts) (f : ℕ → Name) 
   marked-reached i h e =
       let n = long in
       let lt : i < length marks = omega arith in
-      subst (λ z. IsReached R z (at i)) D-is (reached-to f (map (origin_at ts) (root ∷ [])) (map (origin_at ts) ds) (origin_at ts i) ((m.marked i h).0 ((marked-is i lt).0 e)))
+      subst (λ z. IsReached R z (at i)) D-is (reached-to f (map (origin_at ts) (root ∷ []))
+      (map (origin_at ts) ds) (origin_at ts i) ((m.marked i h).0 ((marked-is i lt).0 e)))
 
   reached-marked : (i : ℕ) → i < length ts → IsReached R D (at i) → is_marked marks i ≡ true
   reached-marked i h a =
       let n = long in
       let lt : i < length marks = omega arith in
-      (marked-is i lt).1 ((m.marked i h).1 (reached-from f (map (origin_at ts) (root ∷ [])) (map (origin_at ts) ds) injective (origin_at ts i) (subst (λ z. IsReached R z (at i)) (sym D-is) a)))
+      (marked-is i lt).1 ((m.marked i h).1 (reached-from f (map (origin_at ts) (root ∷ []))
+      (map (origin_at ts) ds) injective (origin_at ts i) (subst (λ z. IsReached R z (at i)) (sym D-is) a)))
 
   -- ---- assumptions
 
@@ -92,10 +100,12 @@ module _ (ts : List (Origin ℕ)) (once_in : IsInjective ts) (f : ℕ → Name) 
       (λ e. among-from same tells (at i) (needed_origins same R D) (reached-origin same tells R D (at i) (marked-reached i h e)))
       (λ e. reached-marked i h (origin-reached same tells R D (at i) (among-to same tells (at i) (needed_origins same R D) e)))
 
-  pub assumptions-found : (is : List ℕ) → IsIn (length ts) is → marked_places 0 marks is ≡ places_in (filter (λ p. is_among same p.1 (needed_origins same R D)) (numbered 0 (map at is)))
+  pub assumptions-found : (is : List ℕ) → IsIn (length ts) is
+      → marked_places 0 marks is ≡ places_in (filter (λ p. is_among same p.1 (needed_origins same R D)) (numbered 0 (map at is)))
   assumptions-found is inside =
       marked-filter 0 marks is
-      ∙ ap places_in (filter-same (λ p. is_marked marks p.1) (λ p. is_among same (at p.1) (needed_origins same R D)) (numbered 0 is) (λ p n. marked-origin p.1 (inside p.1 (numbered-member 0 is p n))))
+      ∙ ap places_in (filter-same (λ p. is_marked marks p.1) (λ p. is_among same (at p.1) (needed_origins same R D))
+      (numbered 0 is) (λ p n. marked-origin p.1 (inside p.1 (numbered-member 0 is p n))))
       ∙ filter-places at (λ o. is_among same o (needed_origins same R D)) 0 is
 
   -- ---- definitions
@@ -105,17 +115,21 @@ module _ (ts : List (Origin ℕ)) (once_in : IsInjective ts) (f : ℕ → Name) 
 
   marked-definition : (i : ℕ) → IsMember i ds → is_marked marks i ≡ is_among same (at i) found
   marked-definition i here = both (is_marked marks i) (is_among same (at i) found)
-      (λ e. among-from same tells (at i) found (reached-needed same tells R D (at i) (member-map at i ds here) (marked-reached i (ds_in i here) e)))
+      (λ e. among-from same tells (at i) found (reached-needed same tells R D
+      (at i) (member-map at i ds here) (marked-reached i (ds_in i here) e)))
       (λ e. reached-marked i (ds_in i here) (needed-reached same tells R D (at i) (among-to same tells (at i) found e)).1)
 
   once : (i j : ℕ) → i < length ts → j < length ts → at i ≡ at j → i ≡ j
   once i j h k e =
       let one : origin_at ts i ≡ origin_at ts j = origin-injective f injective (origin_at ts i) (origin_at ts j) e in
-      once_in.same i j (origin_at ts i) (slice_get-get_or ts i (Number (pos 0)) h) (slice_get-get_or ts j (Number (pos 0)) k ∙ ap Some (sym one))
+      once_in.same i j (origin_at ts i) (slice_get-get_or ts i (Number (pos 0)) h)
+      (slice_get-get_or ts j (Number (pos 0)) k ∙ ap Some (sym one))
 
   -- what is marked of the definitions, and wasn't seen
   abbrev Agrees : List Bool → List (Origin Name) → Type 0
-  Agrees now seen = (length now ≡ length ts) × ((i : ℕ) → IsMember i ds → is_marked now i ≡ (is_among same (at i) found && not (is_among same (at i) seen)))
+  Agrees now seen =
+      (length now ≡ length ts)
+      × ((i : ℕ) → IsMember i ds → is_marked now i ≡ (is_among same (at i) found && not (is_among same (at i) seen)))
 
   at-first : Agrees marks []
   at-first = (long, λ i h. marked-definition i h ∙ and-true (is_among same (at i) found))
@@ -124,7 +138,8 @@ module _ (ts : List (Origin ℕ)) (once_in : IsInjective ts) (f : ℕ → Name) 
       and-true true = refl
       and-true false = refl
 
-  seen-other : (i x : ℕ) (seen : List (Origin Name)) → i < length ts → x < length ts → i ≢ x → is_among same (at i) (at x ∷ seen) ≡ is_among same (at i) seen
+  seen-other : (i x : ℕ) (seen : List (Origin Name)) → i < length ts → x < length ts → i ≢ x
+      → is_among same (at i) (at x ∷ seen) ≡ is_among same (at i) seen
   seen-other i x seen h k n = elim (bool_cases (same (at i) (at x))) [
     | inl e ↦ absurd (n (once i x h k ((tells (at i) (at x)).0 e)))
     | inr e ↦ ap (λ b. b || is_among same (at i) seen) e
@@ -138,32 +153,52 @@ module _ (ts : List (Origin ℕ)) (once_in : IsInjective ts) (f : ℕ → Name) 
   never false = refl
 
   -- behind a definition: it is seen, and isn't marked any more
-  next : (now later : List Bool) (seen : List (Origin Name)) (x : ℕ) → IsMember x ds → Agrees now seen → length later ≡ length ts → is_marked later x ≡ false → ((i : ℕ) → i ≢ x → is_marked later i ≡ is_marked now i) → Agrees later (at x ∷ seen)
+  next : (now later : List Bool) (seen : List (Origin Name)) (x : ℕ) → IsMember x ds → Agrees now seen → length later ≡ length ts
+      → is_marked later x ≡ false → ((i : ℕ) → i ≢ x → is_marked later i ≡ is_marked now i) → Agrees later (at x ∷ seen)
   next now later seen x here a l off other = (
     l,
     λ i h. elim (eqb_tells i x) [
-      | inl e ↦ ap (is_marked later) e.1 ∙ off ∙ sym (ap (λ z. is_among same (at i) found && not (is_among same (at z) (at x ∷ seen))) e.1 ∙ ap (λ b. is_among same (at i) found && not b) (seen-self x seen) ∙ never (is_among same (at i) found))
-      | inr e ↦ other i e.1 ∙ a.1 i h ∙ ap (λ b. is_among same (at i) found && not b) (sym (seen-other i x seen (ds_in i h) (ds_in x here) e.1))
+      | inl e ↦
+          ap (is_marked later) e.1
+          ∙ off
+          ∙ sym (ap (λ z. is_among same (at i) found && not (is_among same (at z) (at x ∷ seen))) e.1
+          ∙ ap (λ b. is_among same (at i) found && not b) (seen-self x seen) ∙ never (is_among same (at i) found))
+      | inr e ↦
+          other i e.1
+          ∙ a.1 i h
+          ∙ ap (λ b. is_among same (at i) found && not b) (sym (seen-other i x seen (ds_in i h) (ds_in x here) e.1))
     ],
   )
 
-  pub first-kept : (k : ℕ) (now : List Bool) (seen : List (Origin Name)) (is : List ℕ) → ((i : ℕ) → IsMember i is → IsMember i ds) → Agrees now seen → first_places k now is ≡ places_in (kept same (λ p. at p.1) found seen (numbered k is))
+  pub first-kept : (k : ℕ) (now : List Bool) (seen : List (Origin Name)) (is : List ℕ) → ((i : ℕ) → IsMember i is → IsMember i ds)
+      → Agrees now seen → first_places k now is ≡ places_in (kept same (λ p. at p.1) found seen (numbered k is))
   first-kept k now seen [] h a = refl
   first-kept k now seen (x ∷ is) h a =
       go (is_marked now x) refl
-      (first-kept (suc k) (set now x false) (at x ∷ seen) is (λ i n. h i (inr n)) (next now (set now x false) seen x (h x (inl refl)) a (length-set now x false ∙ a.0)
-      (let n : length now ≡ length ts = a.0 in let l : x < length ts = ds_in x (h x (inl refl)) in let lt : x < length now = omega arith in get_or-set_same now x false false lt) (λ i n. get_or-set_other now x i false false n)))
-      (λ e. first-kept (suc k) now (at x ∷ seen) is (λ i n. h i (inr n)) (next now now seen x (h x (inl refl)) a a.0 e (λ i n. refl)))
+      (first-kept (suc k) (set now x false) (at x ∷ seen) is (λ i n. h i (inr n))
+      (next now (set now x false) seen x (h x (inl refl)) a (length-set now x false ∙ a.0)
+      (let n : length now ≡ length ts =
+      a.0 in
+      let l : x < length ts =
+      ds_in x (h x (inl refl)) in
+      let lt : x < length now = omega arith in get_or-set_same now x false false lt)
+      (λ i n. get_or-set_other now x i false false n)))
+      (λ e. first-kept (suc k) now (at x ∷ seen) is (λ i n. h i (inr n))
+      (next now now seen x (h x (inl refl)) a a.0 e (λ i n. refl)))
     where
       others : List (ℕ × ℕ)
       others = kept same (λ p. at p.1) found (at x ∷ seen) (numbered (suc k) is)
 
-      go : (b : Bool) → is_marked now x ≡ b → first_places (suc k) (set now x false) is ≡ places_in others → (is_marked now x ≡ false → first_places (suc k) now is ≡ places_in others)
-          → cond b (k ∷ first_places (suc k) (set now x false) is) (first_places (suc k) now is) ≡ places_in (cond (is_among same (at x) found && not (is_among same (at x) seen)) ((k, x) ∷ others) others)
-      go true e met passed = ap (λ l. k ∷ l) met ∙ ap (λ c. places_in (cond c ((k, x) ∷ others) others)) (sym e ∙ a.1 x (h x (inl refl)))
+      go : (b : Bool) → is_marked now x ≡ b → first_places (suc k) (set now x false) is ≡ places_in others
+          → (is_marked now x ≡ false → first_places (suc k) now is ≡ places_in others)
+          → cond b (k ∷ first_places (suc k) (set now x false) is) (first_places (suc k) now is)
+          ≡ places_in (cond (is_among same (at x) found && not (is_among same (at x) seen)) ((k, x) ∷ others) others)
+      go true e met passed =
+          ap (λ l. k ∷ l) met ∙ ap (λ c. places_in (cond c ((k, x) ∷ others) others)) (sym e ∙ a.1 x (h x (inl refl)))
       go false e met passed = passed e ∙ ap (λ c. places_in (cond c ((k, x) ∷ others) others)) (sym e ∙ a.1 x (h x (inl refl)))
 
-  pub definitions-found : first_places 0 marks ds ≡ places_in (filter (λ p. is_among same p.1 found) (firsts_by same (λ p. p.1) (numbered 0 (map at ds))))
+  pub definitions-found : first_places 0 marks ds
+      ≡ places_in (filter (λ p. is_among same p.1 found) (firsts_by same (λ p. p.1) (numbered 0 (map at ds))))
   definitions-found =
       first-kept 0 marks [] ds (λ i n. n) at-first
       ∙ ap places_in (kept-is same tells (λ p. at p.1) found (numbered 0 ds))

@@ -27,20 +27,25 @@ places-map : {X Y : Type 0} (f : X → Y) (ps : List (Placed X)) → places_in (
 places-map f [] = refl
 places-map f (p ∷ ps) = ap (λ l. p.0 ∷ l) (places-map f ps)
 
-firsts-map : {X Y : Type 0} (g : X → Y) (of : Y → Origin Name) (xs : List X) → firsts_by same of (map g xs) ≡ map g (firsts_by same (λ x. of (g x)) xs)
+firsts-map : {X Y : Type 0} (g : X → Y) (of : Y → Origin Name) (xs : List X)
+    → firsts_by same of (map g xs) ≡ map g (firsts_by same (λ x. of (g x)) xs)
 firsts-map g of [] = refl
 firsts-map g of (x ∷ xs) =
     ap (λ l. g x ∷ filter (λ y. not (same (of (g x)) (of y))) l) (firsts-map g of xs)
-    ∙ ap (λ l. g x ∷ l) (filter-map g (λ y. not (same (of (g x)) (of y))) (λ y. not (same (of (g x)) (of (g y)))) (λ y. refl) (firsts_by same (λ y. of (g y)) xs))
+    ∙ ap (λ l. g x ∷ l) (filter-map g (λ y. not (same (of (g x)) (of y)))
+    (λ y. not (same (of (g x)) (of (g y)))) (λ y. refl) (firsts_by same (λ y. of (g y)) xs))
 
 -- the places of items are those of what they are mapped to
-pub filter-places : {X Y : Type 0} (f : X → Y) (t : Y → Bool) (k : ℕ) (xs : List X) → places_in (filter (λ p. t (f p.1)) (numbered k xs)) ≡ places_in (filter (λ p. t p.1) (numbered k (map f xs)))
+pub filter-places : {X Y : Type 0} (f : X → Y) (t : Y → Bool) (k : ℕ) (xs : List X)
+    → places_in (filter (λ p. t (f p.1)) (numbered k xs)) ≡ places_in (filter (λ p. t p.1) (numbered k (map f xs)))
 filter-places f t k xs =
-    sym (ap (λ l. places_in (filter (λ p. t p.1) l)) (numbered-map f k xs) ∙ ap places_in (filter-map (moved f) (λ p. t p.1) (λ p. t (f p.1)) (λ p. refl) (numbered k xs))
+    sym (ap (λ l. places_in (filter (λ p. t p.1) l)) (numbered-map f k xs) ∙ ap places_in
+    (filter-map (moved f) (λ p. t p.1) (λ p. t (f p.1)) (λ p. refl) (numbered k xs))
     ∙ places-map f (filter (λ p. t (f p.1)) (numbered k xs)))
 
 pub firsts-places : {X : Type 0} (f : X → Origin Name) (t : Origin Name → Bool) (k : ℕ) (xs : List X)
-    → places_in (filter (λ p. t (f p.1)) (firsts_by same (λ p. f p.1) (numbered k xs))) ≡ places_in (filter (λ p. t p.1) (firsts_by same (λ p. p.1) (numbered k (map f xs))))
+    → places_in (filter (λ p. t (f p.1)) (firsts_by same (λ p. f p.1) (numbered k xs)))
+    ≡ places_in (filter (λ p. t p.1) (firsts_by same (λ p. p.1) (numbered k (map f xs))))
 firsts-places f t k xs =
     sym (ap (λ l. places_in (filter (λ p. t p.1) (firsts_by same (λ p. p.1) l))) (numbered-map f k xs)
     ∙ ap (λ l. places_in (filter (λ p. t p.1) l)) (firsts-map (moved f) (λ p. p.1) (numbered k xs))
@@ -57,10 +62,12 @@ items-numbered : {X : Type 0} (k : ℕ) (xs : List X) → items_in (numbered k x
 items-numbered k [] = refl
 items-numbered k (x ∷ xs) = ap (λ l. x ∷ l) (items-numbered (suc k) xs)
 
-pub items-filter : {X : Type 0} (t : X → Bool) (k : ℕ) (xs : List X) → items_in (filter (λ p. t p.1) (numbered k xs)) ≡ filter t xs
+pub items-filter : {X : Type 0} (t : X → Bool) (k : ℕ) (xs : List X)
+    → items_in (filter (λ p. t p.1) (numbered k xs)) ≡ filter t xs
 items-filter t k xs = sym (filter-map (λ p. p.1) t (λ p. t p.1) (λ p. refl) (numbered k xs)) ∙ ap (filter t) (items-numbered k xs)
 
-pub items-firsts : {X : Type 0} (of : X → Origin Name) (t : X → Bool) (k : ℕ) (xs : List X) → items_in (filter (λ p. t p.1) (firsts_by same (λ p. of p.1) (numbered k xs))) ≡ filter t (firsts_by same of xs)
+pub items-firsts : {X : Type 0} (of : X → Origin Name) (t : X → Bool) (k : ℕ) (xs : List X)
+    → items_in (filter (λ p. t p.1) (firsts_by same (λ p. of p.1) (numbered k xs))) ≡ filter t (firsts_by same of xs)
 items-firsts of t k xs =
     sym (filter-map (λ p. p.1) t (λ p. t p.1) (λ p. refl) (firsts_by same (λ p. of p.1) (numbered k xs)))
     ∙ ap (filter t) (sym (firsts-map (λ p. p.1) of (numbered k xs)) ∙ ap (firsts_by same of) (items-numbered k xs))
@@ -71,8 +78,15 @@ IsAt {X} xs k p = (i : ℕ) × (p.0 ≡ i + k) × (i < length xs) × ((d : X) �
 
 numbered-at : {X : Type 0} (k : ℕ) (xs : List X) (p : Placed X) → IsMember p (numbered k xs) → IsAt xs k p
 numbered-at k [] p m = absurd m
-numbered-at k (x ∷ xs) p (inl e) = (0, sym (ap (λ q. q.0) e) ∙ (let z : k ≡ 0 + k = omega arith in z), omega arith, λ d. ap (λ q. q.1) e)
-numbered-at k (x ∷ xs) p (inr m) = let (i, e, h, at) = numbered-at (suc k) xs p m in let lt : i < length xs = h in (suc i, e ∙ (let z : i + suc k ≡ suc i + k = omega arith in z), omega arith, at)
+numbered-at k (x ∷ xs) p (inl e) = (
+  0,
+  sym (ap (λ q. q.0) e) ∙ (let z : k ≡ 0 + k = omega arith in z),
+  omega arith,
+  λ d. ap (λ q. q.1) e,
+)
+numbered-at k (x ∷ xs) p (inr m) =
+    let (i, e, h, at) = numbered-at (suc k) xs p m in
+    let lt : i < length xs = h in (suc i, e ∙ (let z : i + suc k ≡ suc i + k = omega arith in z), omega arith, at)
 
 pub numbered-member : {X : Type 0} (k : ℕ) (xs : List X) (p : Placed X) → IsMember p (numbered k xs) → IsMember p.1 xs
 numbered-member k [] p m = absurd m
@@ -82,7 +96,8 @@ numbered-member k (x ∷ xs) p (inr m) = inr (numbered-member (suc k) xs p m)
 pub firsts-member : {X : Type 0} (of : X → Origin Name) (x : X) (xs : List X) → IsMember x (firsts_by same of xs) → IsMember x xs
 firsts-member of x [] m = absurd m
 firsts-member of x (y ∷ ys) (inl e) = inl e
-firsts-member of x (y ∷ ys) (inr m) = inr (firsts-member of x ys (filter-to (λ z. not (same (of y) (of z))) x (firsts_by same of ys) m).0)
+firsts-member of x (y ∷ ys) (inr m) =
+    inr (firsts-member of x ys (filter-to (λ z. not (same (of y) (of z))) x (firsts_by same of ys) m).0)
 
 pub pick-one : {X : Type 0} (xs : List X) (i : ℕ) (d : X) → i < length xs → take 1 (drop i xs) ≡ get_or xs i d ∷ []
 pick-one [] i d h = absurd (omega arith)
@@ -90,7 +105,8 @@ pick-one (x ∷ xs) zero d h = refl
 pick-one (x ∷ xs) (suc i) d h = pick-one xs i d (omega arith)
 
 -- of members of the numbered list, the places lead to the items
-module _ {X : Type 0} (xs : List X) (ps : List (Placed X)) (part : (p : Placed X) → IsMember p ps → IsMember p (numbered 0 xs)) where
+module _ {X : Type 0} (xs : List X) (ps : List (Placed X))
+    (part : (p : Placed X) → IsMember p ps → IsMember p (numbered 0 xs)) where
   at-place : (p : Placed X) → IsMember p ps → (p.0 < length xs) × ((d : X) → get_or xs p.0 d ≡ p.1)
   at-place p m =
       let (i, e, h, at) = numbered-at 0 xs p (part p m) in
@@ -109,7 +125,8 @@ module _ {X : Type 0} (xs : List X) (ps : List (Placed X)) (part : (p : Placed X
   pub places-lead : {Y : Type 0} (f : X → Y) → picked (map f xs) (places_in ps) ≡ map f (items_in ps)
   places-lead {Y} f = go ps (λ p n. n)
     where
-      go : (qs : List (Placed X)) → ((p : Placed X) → IsMember p qs → IsMember p ps) → picked (map f xs) (places_in qs) ≡ map f (items_in qs)
+      go : (qs : List (Placed X)) → ((p : Placed X) → IsMember p qs → IsMember p ps)
+          → picked (map f xs) (places_in qs) ≡ map f (items_in qs)
       go [] i = refl
       go (q ∷ qs) i =
           let a = at-place q (i q (inl refl)) in

@@ -8,7 +8,8 @@ use Rattle.ot_plain.specs.Hol.{Derivable, IsFine, Accepted}
 
 -- some members of a list, in their old order: what stands before one stood before it
 abbrev pub IsInOrder : {X : Type 0} → List X → List X → Type 0
-IsInOrder {X} part whole = (i : ℕ) (x : X) → slice_get part i ≡ Some x → (k : ℕ) × (slice_get whole k ≡ Some x) × IsPart (take i part) (take k whole)
+IsInOrder {X} part whole =
+    (i : ℕ) (x : X) → slice_get part i ≡ Some x → (k : ℕ) × (slice_get whole k ≡ Some x) × IsPart (take i part) (take k whole)
 
 pub at_member : {X : Type 0} (xs : List X) (i : ℕ) (x : X) → slice_get xs i ≡ Some x → IsMember x xs
 at_member [] i x e = absurd cc
@@ -31,13 +32,27 @@ module _ {N : Type 0} (alphabet : Alphabet N) where
   abbrev pub HavePremises : List (Sequent N) → List (Definition N) → Type 0
   HavePremises al dl = (i : ℕ) (d : Definition N) → slice_get dl i ≡ Some d → HasPremise al (take i dl) d
 
-  part-fine : (al bl : List (Sequent N)) (dl el : List (Definition N)) (d : Definition N) → HasPremise bl el d → IsFine alphabet al dl d → IsFine alphabet bl el d
+  part-fine : (al bl : List (Sequent N)) (dl el : List (Definition N)) (d : Definition N) → HasPremise bl el d
+      → IsFine alphabet al dl d → IsFine alphabet bl el d
   part-fine al bl dl el (ConDef n t) x f = f
-  part-fine al bl dl el (ListDef ps q) x f = record { distinct = f.distinct; once = f.once; many = f.many; each = f.each; frees = f.frees; derivable = x }
-  part-fine al bl dl el (TyDef n abs rep vs q) x f = record { no_hyps = f.no_hyps; parts = f.parts; distinct = f.distinct; derivable = x }
+  part-fine al bl dl el (ListDef ps q) x f = record {
+    distinct = f.distinct;
+    once = f.once;
+    many = f.many;
+    each = f.each;
+    frees = f.frees;
+    derivable = x;
+  }
+  part-fine al bl dl el (TyDef n abs rep vs q) x f = record {
+    no_hyps = f.no_hyps;
+    parts = f.parts;
+    distinct = f.distinct;
+    derivable = x;
+  }
 
   -- of accepted definitions those are accepted, over any assumptions, that have their premises
-  pub accepted_part : (al bl : List (Sequent N)) (dl el : List (Definition N)) → Accepted alphabet al dl → IsInOrder el dl → HavePremises bl el → Accepted alphabet bl el
+  pub accepted_part : (al bl : List (Sequent N)) (dl el : List (Definition N)) → Accepted alphabet al dl → IsInOrder el dl
+      → HavePremises bl el → Accepted alphabet bl el
   accepted_part al bl dl el a order premises = record {
     each = λ i d h.
         let (k, at, before) = order i d h in

@@ -43,7 +43,8 @@ module _ {M N : Type 0} (f : M → N) where
   elements-map (Make words.Cons (MoreOrigins head (MoreOrigins tail NoOrigins))) = ap (λ l. to head ∷ l) (elements-map tail)
   elements-map _ = refl
 
-  constants-map : (ps : List (Origin M)) → map (λ pair. constant_origin (operand 0 pair)) (map to ps) ≡ map to (map (λ pair. constant_origin (operand 0 pair)) ps)
+  constants-map : (ps : List (Origin M))
+      → map (λ pair. constant_origin (operand 0 pair)) (map to ps) ≡ map to (map (λ pair. constant_origin (operand 0 pair)) ps)
   constants-map [] = refl
   constants-map (p ∷ ps) = λ i. constant_origin (operand-map 0 p i) ∷ constants-map ps i
 
@@ -51,10 +52,13 @@ module _ {M N : Type 0} (f : M → N) where
   symbols-map (Define words.DefineConst os) = λ i. constant_origin (operand-map 0 (Define words.DefineConst os) i) ∷ []
   symbols-map (Define words.DefineConstList os) =
       let d : Origin M = Define words.DefineConstList os in
-      ap (λ o. map (λ pair. constant_origin (operand 0 pair)) (elements o)) (operand-map 0 d) ∙ ap (map (λ pair. constant_origin (operand 0 pair))) (elements-map (operand 0 d)) ∙ constants-map (elements (operand 0 d))
+      ap (λ o. map (λ pair. constant_origin (operand 0 pair)) (elements o)) (operand-map 0 d)
+      ∙ ap (map (λ pair. constant_origin (operand 0 pair))) (elements-map (operand 0 d))
+      ∙ constants-map (elements (operand 0 d))
   symbols-map (Define words.DefineTypeOp os) =
       let d : Origin M = Define words.DefineTypeOp os in
-      λ i. Make words.TypeOp (MoreOrigins (operand-map 0 d i) NoOrigins) ∷ constant_origin (operand-map 1 d i) ∷ constant_origin (operand-map 2 d i) ∷ []
+      λ i. Make words.TypeOp (MoreOrigins (operand-map 0 d i) NoOrigins) ∷ constant_origin (operand-map 1 d i)
+      ∷ constant_origin (operand-map 2 d i) ∷ []
   symbols-map _ = refl
 
   outcome-from : (o : Origin M) (j : ℕ) (d : Origin N) → to o ≡ Outcome j d → (c : Origin M) × (o ≡ Outcome j c) × (to c ≡ d)
@@ -67,9 +71,12 @@ module _ {M N : Type 0} (f : M → N) where
 
     pub reached-to : (o : Origin M) → IsReached roots ds o → Reached (to o)
     reached-to o (Root _ m) = Root (to o) (member-map to o roots m)
-    reached-to p (Operand o _ a m) = Operand (to o) (to p) (reached-to o a) (subst (IsMember (to p)) (sym (operands-map o)) (member-map to p (operands o) m))
+    reached-to p (Operand o _ a m) =
+        Operand (to o) (to p) (reached-to o a) (subst (IsMember (to p)) (sym (operands-map o)) (member-map to p (operands o) m))
     reached-to d (OfTheorem j _ a) = OfTheorem j (to d) (reached-to (Outcome j d) a)
-    reached-to d (OfSymbol o _ a m s) = OfSymbol (to o) (to d) (reached-to o a) (member-map to d ds m) (subst (IsMember (to o)) (sym (symbols-map d)) (member-map to o (symbols d) s))
+    reached-to d (OfSymbol o _ a m s) =
+        OfSymbol (to o) (to d) (reached-to o a) (member-map to d ds m)
+        (subst (IsMember (to o)) (sym (symbols-map d)) (member-map to o (symbols d) s))
 
     module _ (injective : (x y : M) → f x ≡ f y → x ≡ y) where
       comes : (x : Origin N) → Reached x → (o : Origin M) × (to o ≡ x) × IsReached roots ds o

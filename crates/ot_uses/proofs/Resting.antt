@@ -47,8 +47,11 @@ pub record StandsMade (bl : List (Sequent Name)) (es : List Made) (m : Made) : T
 -- and what stands on them is a theorem over them
 pub record Suffice (al bl : List (Sequent Name)) (ms es : List Made) : Type 0 where
   pub accepted : Accepted names bl (definitions_of es)
-  pub theorems : (o : Origin Name) (q : Sequent Name) → StandsOn bl es o → value o ≡ Ok (theorem q) → IsTheorem names bl (definitions_of es) q
+  pub theorems : (o : Origin Name) (q : Sequent Name) → StandsOn bl es o → value o ≡ Ok (theorem q)
+      → IsTheorem names bl (definitions_of es) q
 
 abbrev pub PartsSuffice : Type 0
-PartsSuffice = (al bl : List (Sequent Name)) (ms es : List Made) → AreSequents names al → Accepted names al (definitions_of ms) → IsInOrder es ms
+PartsSuffice =
+    (al bl : List (Sequent Name)) (ms es : List Made) → AreSequents names al → Accepted names al (definitions_of ms)
+    → IsInOrder es ms
     → ((i : ℕ) (m : Made) → slice_get es i ≡ Some m → StandsMade bl (take i es) m) → Suffice al bl ms es

@@ -17,38 +17,44 @@ use Rattle.ot_uses.proofs.Numbering.{places-inside, places-lead, items-filter, i
 
 -- ---- the lists of a run
 
-pub given-origins : (s : Session) (qs : List (Sequent Name)) (is : List ℕ) → length is ≡ length qs → map (origin_of s) is ≡ map (λ g. g.origin) (givens_of s qs is)
+pub given-origins : (s : Session) (qs : List (Sequent Name)) (is : List ℕ) → length is ≡ length qs
+    → map (origin_of s) is ≡ map (λ g. g.origin) (givens_of s qs is)
 given-origins s [] [] e = refl
 given-origins s [] (i ∷ is) e = absurd (omega arith)
 given-origins s (q ∷ qs) [] e = absurd (omega arith)
 given-origins s (q ∷ qs) (i ∷ is) e = ap (λ l. origin_of s i ∷ l) (given-origins s qs is (omega arith))
 
-pub made-origins : (s : Session) (ds : List (Definition Name)) (is : List ℕ) → length is ≡ length ds → map (origin_of s) is ≡ map (λ m. m.origin) (made_of s ds is)
+pub made-origins : (s : Session) (ds : List (Definition Name)) (is : List ℕ) → length is ≡ length ds
+    → map (origin_of s) is ≡ map (λ m. m.origin) (made_of s ds is)
 made-origins s [] [] e = refl
 made-origins s [] (i ∷ is) e = absurd (omega arith)
 made-origins s (d ∷ ds) [] e = absurd (omega arith)
 made-origins s (d ∷ ds) (i ∷ is) e = ap (λ l. origin_of s i ∷ l) (made-origins s ds is (omega arith))
 
-givens-long : (s : Session) (qs : List (Sequent Name)) (is : List ℕ) → length is ≡ length qs → length (givens_of s qs is) ≡ length qs
+givens-long : (s : Session) (qs : List (Sequent Name)) (is : List ℕ) → length is ≡ length qs
+    → length (givens_of s qs is) ≡ length qs
 givens-long s [] [] e = refl
 givens-long s [] (i ∷ is) e = absurd (omega arith)
 givens-long s (q ∷ qs) [] e = absurd (omega arith)
 givens-long s (q ∷ qs) (i ∷ is) e = ap suc (givens-long s qs is (omega arith))
 
-made-long : (s : Session) (ds : List (Definition Name)) (is : List ℕ) → length is ≡ length ds → length (made_of s ds is) ≡ length ds
+made-long : (s : Session) (ds : List (Definition Name)) (is : List ℕ) → length is ≡ length ds
+    → length (made_of s ds is) ≡ length ds
 made-long s [] [] e = refl
 made-long s [] (i ∷ is) e = absurd (omega arith)
 made-long s (d ∷ ds) [] e = absurd (omega arith)
 made-long s (d ∷ ds) (i ∷ is) e = ap suc (made-long s ds is (omega arith))
 
 -- the sequents and the definitions of a run are those of the kernel
-given-sequents : (s : Session) (qs : List (Sequent Name)) (is : List ℕ) → length is ≡ length qs → map (λ g. g.sequent) (givens_of s qs is) ≡ qs
+given-sequents : (s : Session) (qs : List (Sequent Name)) (is : List ℕ) → length is ≡ length qs
+    → map (λ g. g.sequent) (givens_of s qs is) ≡ qs
 given-sequents s [] [] e = refl
 given-sequents s [] (i ∷ is) e = absurd (omega arith)
 given-sequents s (q ∷ qs) [] e = absurd (omega arith)
 given-sequents s (q ∷ qs) (i ∷ is) e = ap (λ l. q ∷ l) (given-sequents s qs is (omega arith))
 
-made-definitions : (s : Session) (ds : List (Definition Name)) (is : List ℕ) → length is ≡ length ds → map (λ m. m.definition) (made_of s ds is) ≡ ds
+made-definitions : (s : Session) (ds : List (Definition Name)) (is : List ℕ) → length is ≡ length ds
+    → map (λ m. m.definition) (made_of s ds is) ≡ ds
 made-definitions s [] [] e = refl
 made-definitions s [] (i ∷ is) e = absurd (omega arith)
 made-definitions s (d ∷ ds) [] e = absurd (omega arith)
@@ -75,22 +81,30 @@ module _ (s : Session) (run : IsRun s) (o : Origin Name) where
   given-part p m = (filter-to (λ p. is_assumed r o p.1) p (numbered 0 r.assumptions) m).0
 
   made-part : (p : ℕ × Made) → IsMember p mades → IsMember p (numbered 0 r.definitions)
-  made-part p m = firsts-member (λ p. p.1.origin) p (numbered 0 r.definitions) (filter-to (λ p. is_used r o p.1) p (firsts_by same (λ p. p.1.origin) (numbered 0 r.definitions)) m).0
+  made-part p m =
+      firsts-member (λ p. p.1.origin) p (numbered 0 r.definitions)
+      (filter-to (λ p. is_used r o p.1) p (firsts_by same (λ p. p.1.origin) (numbered 0 r.definitions)) m).0
 
   pub assumptions-inside : All (λ i. i < length s.kernel.assumptions) (assumption_places r o)
-  assumptions-inside = all-of _ _ (λ i m. subst (λ n. i < n) (givens-long s s.kernel.assumptions s.assumption_steps.items run.each_assumption) (places-inside r.assumptions givens given-part i m))
+  assumptions-inside =
+      all-of _ _ (λ i m. subst (λ n. i < n) (givens-long s s.kernel.assumptions s.assumption_steps.items run.each_assumption)
+      (places-inside r.assumptions givens given-part i m))
 
   pub definitions-inside : All (λ i. i < length s.kernel.definitions) (definition_places r o)
-  definitions-inside = all-of _ _ (λ i m. subst (λ n. i < n) (made-long s s.kernel.definitions s.definition_steps.items run.each_definition) (places-inside r.definitions mades made-part i m))
+  definitions-inside =
+      all-of _ _ (λ i m. subst (λ n. i < n) (made-long s s.kernel.definitions s.definition_steps.items run.each_definition)
+      (places-inside r.definitions mades made-part i m))
 
   pub sequents-are : picked s.kernel.assumptions (assumption_places r o) ≡ map (λ g. g.sequent) (used_assumptions r o)
   sequents-are =
-      ap (λ l. picked l (assumption_places r o)) (sym (given-sequents s s.kernel.assumptions s.assumption_steps.items run.each_assumption))
+      ap (λ l. picked l (assumption_places r o))
+      (sym (given-sequents s s.kernel.assumptions s.assumption_steps.items run.each_assumption))
       ∙ places-lead r.assumptions givens given-part (λ g. g.sequent)
       ∙ ap (map (λ g. g.sequent)) (items-filter (is_assumed r o) 0 r.assumptions)
 
   pub definitions-are : picked s.kernel.definitions (definition_places r o) ≡ definitions_of (used_definitions r o)
   definitions-are =
-      ap (λ l. picked l (definition_places r o)) (sym (made-definitions s s.kernel.definitions s.definition_steps.items run.each_definition))
+      ap (λ l. picked l (definition_places r o))
+      (sym (made-definitions s s.kernel.definitions s.definition_steps.items run.each_definition))
       ∙ places-lead r.definitions mades made-part (λ m. m.definition)
       ∙ ap (map (λ m. m.definition)) (items-firsts (λ m. m.origin) (is_used r o) 0 r.definitions)

@@ -62,10 +62,13 @@ module _ (found : List (Origin Name)) where
 
   -- what is kept of a front, by its origin
   abbrev HasKept : List (Origin Name) → List Made → List Made → Type 0
-  HasKept before front keeps = (x : Made) → IsMember x front → IsMember x.origin found → ¬ (IsMember x.origin before) → (y : Made) × IsMember y keeps × (y.origin ≡ x.origin)
+  HasKept before front keeps =
+      (x : Made) → IsMember x front → IsMember x.origin found → ¬ (IsMember x.origin before)
+      → (y : Made) × IsMember y keeps × (y.origin ≡ x.origin)
 
   abbrev Placed : List (Origin Name) → List Made → List Made → ℕ → Made → Type 0
-  Placed before ms es i m = (k : ℕ) × (slice_get ms k ≡ Some m) × IsPart (take i es) (take k ms) × HasKept before (take k ms) (take i es)
+  Placed before ms es i m =
+      (k : ℕ) × (slice_get ms k ≡ Some m) × IsPart (take i es) (take k ms) × HasKept before (take k ms) (take i es)
 
   -- the two cases of a definition
   test-cases : (before : List (Origin Name)) (o : Origin Name) →
@@ -79,7 +82,9 @@ module _ (found : List (Origin Name)) where
     | inr p ↦ inr (rw p.0 refl, (λ i n. p.1 i))
   ]
 
-  more : (before : List (Origin Name)) (n : Made) (front keeps : List Made) → ((y : Made) → IsMember n.origin found → ¬ (IsMember n.origin before) → (z : Made) × IsMember z keeps × (z.origin ≡ n.origin))
+  more : (before : List (Origin Name)) (n : Made) (front keeps : List Made)
+      → ((y : Made) → IsMember n.origin found → ¬ (IsMember n.origin before)
+      → (z : Made) × IsMember z keeps × (z.origin ≡ n.origin))
       → HasKept (n.origin ∷ before) front keeps → HasKept before (n ∷ front) keeps
   more before n front keeps own rest x (inl e) i o =
       let a : IsMember n.origin found = subst (λ z. IsMember z.origin found) (sym e) i in
@@ -87,14 +92,17 @@ module _ (found : List (Origin Name)) where
       let (z, m, s) = own n a b in (z, m, s ∙ ap (λ w. w.origin) e)
   more before n front keeps own rest x (inr h) i o = elim (cases_of (same n.origin x.origin) (tells n.origin x.origin)) [
     | inl q ↦
-        let (z, m, s) = own n (subst (λ w. IsMember w found) (sym q.1) i) (λ g. o (subst (λ w. IsMember w before) q.1 g)) in (z, m, s ∙ q.1)
+        let (z, m, s) = own n (subst (λ w. IsMember w found) (sym q.1) i) (λ g. o (subst (λ w. IsMember w before) q.1 g)) in
+        (z, m, s ∙ q.1)
     | inr q ↦ rest x h i (λ g. elim g [ inl e ↦ q.1 e | inr j ↦ o j ])
   ]
 
-  wider : (before : List (Origin Name)) (front keeps : List Made) (n : Made) → HasKept before front keeps → HasKept before front (n ∷ keeps)
+  wider : (before : List (Origin Name)) (front keeps : List Made) (n : Made) → HasKept before front keeps
+      → HasKept before front (n ∷ keeps)
   wider before front keeps n h x i a b = let (z, m, s) = h x i a b in (z, inr m, s)
 
-  kept-place : (before : List (Origin Name)) (ms : List Made) (i : ℕ) (m : Made) → slice_get (rest before ms) i ≡ Some m → Placed before ms (rest before ms) i m
+  kept-place : (before : List (Origin Name)) (ms : List Made) (i : ℕ) (m : Made) → slice_get (rest before ms) i ≡ Some m
+      → Placed before ms (rest before ms) i m
   kept-place before [] i m e = absurd cc
   kept-place before (n ∷ ns) i m e = elim (test-cases before n.origin) [
     | inl p ↦
@@ -103,11 +111,17 @@ module _ (found : List (Origin Name)) where
     | inr p ↦
         let e' : slice_get (rest (n.origin ∷ before) ns) i ≡ Some m = rw p.0 at e in
         let (k, at, part, has) = kept-place (n.origin ∷ before) ns i m e' in
-        rw p.0 (suc k, at, (λ x h. inr (part x h)), more before n (take k ns) (take i (rest (n.origin ∷ before) ns)) (λ y a b. absurd (p.1 a b)) has)
+        rw p.0 (
+          suc k,
+          at,
+          (λ x h. inr (part x h)),
+          more before n (take k ns) (take i (rest (n.origin ∷ before) ns)) (λ y a b. absurd (p.1 a b)) has,
+        )
   ]
     where
       taken : (i : ℕ) → slice_get (n ∷ rest (n.origin ∷ before) ns) i ≡ Some m
-          → ((j : ℕ) → slice_get (rest (n.origin ∷ before) ns) j ≡ Some m → Placed (n.origin ∷ before) ns (rest (n.origin ∷ before) ns) j m)
+          → ((j : ℕ) → slice_get (rest (n.origin ∷ before) ns) j ≡ Some m
+          → Placed (n.origin ∷ before) ns (rest (n.origin ∷ before) ns) j m)
           → Placed before (n ∷ ns) (n ∷ rest (n.origin ∷ before) ns) i m
       taken zero f ih = (0, f, (λ x h. absurd h), (λ x h. absurd h))
       taken (suc j) f ih =
@@ -115,14 +129,18 @@ module _ (found : List (Origin Name)) where
             suc k,
             at,
             (λ x h. elim h [ inl q ↦ inl q | inr g ↦ inr (part x g) ]),
-            more before n (take k ns) (n ∷ take j (rest (n.origin ∷ before) ns)) (λ y a b. (n, inl refl, refl)) (wider (n.origin ∷ before) (take k ns) (take j (rest (n.origin ∷ before) ns)) n has),
+            more before n (take k ns) (n ∷ take j (rest (n.origin ∷ before) ns)) (λ y a b. (n, inl refl, refl))
+                (wider (n.origin ∷ before) (take k ns) (take j (rest (n.origin ∷ before) ns)) n has),
           )
 
   kept-all : (before : List (Origin Name)) (ms : List Made) → HasKept before ms (rest before ms)
   kept-all before [] = λ x h. absurd h
   kept-all before (n ∷ ns) = elim (test-cases before n.origin) [
-    | inl p ↦ rw p.0 (more before n ns (n ∷ rest (n.origin ∷ before) ns) (λ y a b. (n, inl refl, refl)) (wider (n.origin ∷ before) ns (rest (n.origin ∷ before) ns) n (kept-all (n.origin ∷ before) ns)))
-    | inr p ↦ rw p.0 (more before n ns (rest (n.origin ∷ before) ns) (λ y a b. absurd (p.1 a b)) (kept-all (n.origin ∷ before) ns))
+    | inl p ↦
+        rw p.0 (more before n ns (n ∷ rest (n.origin ∷ before) ns) (λ y a b. (n, inl refl, refl))
+        (wider (n.origin ∷ before) ns (rest (n.origin ∷ before) ns) n (kept-all (n.origin ∷ before) ns)))
+    | inr p ↦
+        rw p.0 (more before n ns (rest (n.origin ∷ before) ns) (λ y a b. absurd (p.1 a b)) (kept-all (n.origin ∷ before) ns))
   ]
 
   kept-found : (before : List (Origin Name)) (ms : List Made) (y : Made) → IsMember y (rest before ms) → IsMember y.origin found
@@ -138,8 +156,10 @@ module _ (found : List (Origin Name)) where
 -- ---- what is reached stands on what is kept
 
 module _ (bl : List (Sequent Name)) (roots ds : List (Origin Name)) (b : Basis) (es : List Made)
-    (definitions : (d : Origin Name) → IsMember d b.definitions → IsReached roots ds d → (m : Made) × IsMember m es × (definition_of [] d ≡ Ok m.definition))
-    (axioms : (os : Origins Name) (q : Sequent Name) → IsMember (Make words.Axiom os) b.axioms → IsReached roots ds (Make words.Axiom os) → value (Make words.Axiom os) ≡ Ok (theorem q) → IsMember q bl) where
+    (definitions : (d : Origin Name) → IsMember d b.definitions → IsReached roots ds d
+    → (m : Made) × IsMember m es × (definition_of [] d ≡ Ok m.definition))
+    (axioms : (os : Origins Name) (q : Sequent Name) → IsMember (Make words.Axiom os) b.axioms
+    → IsReached roots ds (Make words.Axiom os) → value (Make words.Axiom os) ≡ Ok (theorem q) → IsMember q bl) where
   assumed : (w : Cmd) (os : Origins Name) → IsTaken b w os → IsReached roots ds (Make w os) → IsAssumed bl es w os
   assumed words.Axiom os t r = λ q e. axioms os q t r e
   assumed _ os t r = tt
@@ -152,12 +172,14 @@ module _ (bl : List (Sequent Name)) (roots ds : List (Origin Name)) (b : Basis) 
     reached-stands (Define w os) h r = all-stand os h (λ p m. Operand (Define w os) p r m)
     reached-stands (Outcome j d) h r = definitions d h.0 (OfTheorem j d r)
 
-    all-stand : (os : Origins Name) → AreOn b os → ((p : Origin Name) → IsMember p (listed os) → IsReached roots ds p) → AllStand bl es os
+    all-stand : (os : Origins Name) → AreOn b os → ((p : Origin Name) → IsMember p (listed os) → IsReached roots ds p)
+        → AllStand bl es os
     all-stand NoOrigins h r = tt
     all-stand (MoreOrigins o os) h r = (reached-stands o h.0 (r o (inl refl)), all-stand os h.1 (λ p m. r p (inr m)))
 
 -- only a definition is accepted
-is-define : (ds : List (Definition Name)) (o : Origin Name) (x : Definition Name) → definition_of ds o ≡ Ok x → (w : Cmd) × (os : Origins Name) × (o ≡ Define w os)
+is-define : (ds : List (Definition Name)) (o : Origin Name) (x : Definition Name) → definition_of ds o ≡ Ok x
+    → (w : Cmd) × (os : Origins Name) × (o ≡ Define w os)
 is-define ds (Number k) x e = absurd cc
 is-define ds (Named n) x e = absurd cc
 is-define ds (Make w os) x e = absurd cc
@@ -171,7 +193,10 @@ same_theorem : (p q : Sequent Name) → ◌≡◌ {A = Object} (theorem p) (theo
 same_theorem p q e = cc
 
 pub uses_suffice : (IsNamed : Name → Type 0) → UsesSuffice IsNamed
-uses_suffice IsNamed r lawful acc e law = record { accepted = s.accepted; theorem = s.theorems o e.sequent stands law.proved.value_is }
+uses_suffice IsNamed r lawful acc e law = record {
+  accepted = s.accepted;
+  theorem = s.theorems o e.sequent stands law.proved.value_is;
+}
   where
     o : Origin Name
     o = e.roots.theorem
@@ -198,24 +223,32 @@ uses_suffice IsNamed r lawful acc e law = record { accepted = s.accepted; theore
     own : (m : Made) → IsMember m ms → definition_of [] m.origin ≡ Ok m.definition
     own m here =
         let (k, at) = member_at ms m here in
-        definition-fewer [] (definitions_of (take k ms)) (none-fewer (definitions_of (take k ms))) m.definition m.origin (lawful.definitions k m at).accepted
+        definition-fewer [] (definitions_of (take k ms)) (none-fewer (definitions_of (take k ms)))
+        m.definition m.origin (lawful.definitions k m at).accepted
 
     seqs : AreSequents names al
     seqs i q at =
         let (g, here, is) = get-map (λ g. g.sequent) r.assumptions i q at in
         let m = at_member r.assumptions i g here in
-        let (os, made) = all-member (λ g. (os : Origins Name) × (g.origin ≡ Make words.Axiom os)) r.assumptions lawful.axioms g m in
+        let (os, made) = all-member (λ g. (os : Origins Name) × (g.origin ≡ Make words.Axiom os))
+        r.assumptions lawful.axioms g m in
         let v : value (Make words.Axiom os) ≡ Ok (theorem q) = ap value (sym made) ∙ given g m ∙ ap (λ z. Ok (theorem z)) is in
         (ok_if (value (Make words.Axiom os)) IsProposed (value-axiom os) (theorem q) v).0
 
     held : (g : Given) → IsMember g r.assumptions → IsReached (o ∷ []) ds g.origin → IsMember g.sequent bl
-    held g m reach = member-map (λ g. g.sequent) g (used_assumptions r o) (filter-from (is_assumed r o) g r.assumptions m (among-from same tells g.origin (needed_origins same (o ∷ []) ds) (reached-origin same tells (o ∷ []) ds g.origin reach)))
+    held g m reach =
+        member-map (λ g. g.sequent) g (used_assumptions r o)
+        (filter-from (is_assumed r o) g r.assumptions m
+        (among-from same tells g.origin (needed_origins same (o ∷ []) ds) (reached-origin same tells (o ∷ []) ds g.origin reach)))
 
-    axioms : (os : Origins Name) (p : Sequent Name) → IsMember (Make words.Axiom os) (map (λ g. g.origin) r.assumptions) → IsReached (o ∷ []) ds (Make words.Axiom os) → value (Make words.Axiom os) ≡ Ok (theorem p) → IsMember p bl
+    axioms : (os : Origins Name) (p : Sequent Name) → IsMember (Make words.Axiom os) (map (λ g. g.origin) r.assumptions)
+        → IsReached (o ∷ []) ds (Make words.Axiom os) → value (Make words.Axiom os) ≡ Ok (theorem p) → IsMember p bl
     axioms os p m reach e =
         let (g, here, is) = map-member (λ g. g.origin) (Make words.Axiom os) r.assumptions m in
-        let v : ◌≡◌ {A = Result Object (Fault Name)} (Ok (theorem g.sequent)) (Ok (theorem p)) = sym (given g here) ∙ ap value is ∙ e in
-        subst (λ z. IsMember z bl) (same_theorem g.sequent p (same_ok (theorem g.sequent) (theorem p) v)) (held g here (subst (IsReached (o ∷ []) ds) (sym is) reach))
+        let v : ◌≡◌ {A = Result Object (Fault Name)} (Ok (theorem g.sequent)) (Ok (theorem p)) =
+        sym (given g here) ∙ ap value is ∙ e in
+        subst (λ z. IsMember z bl) (same_theorem g.sequent p (same_ok (theorem g.sequent) (theorem p) v))
+        (held g here (subst (IsReached (o ∷ []) ds) (sym is) reach))
 
     -- the definitions that are kept
     es : List Made
@@ -225,14 +258,18 @@ uses_suffice IsNamed r lawful acc e law = record { accepted = s.accepted; theore
     es-are = kept-is same tells (λ m. m.origin) found ms
 
     es-part : IsPart es ms
-    es-part y n = let (i, at) = member_at es y n in let (k, old, part, has) = kept-place found [] ms i y at in at_member ms k y old
+    es-part y n =
+        let (i, at) = member_at es y n in let (k, old, part, has) = kept-place found [] ms i y at in at_member ms k y old
 
     -- of a front of the definitions, each that is reached is kept
-    front : (xs keeps : List Made) → IsPart xs ms → IsPart keeps ms → HasKept found [] xs keeps → (d : Origin Name) → IsMember d (map (λ m. m.origin) xs) → IsReached (o ∷ []) ds d → (m : Made) × IsMember m keeps × (definition_of [] d ≡ Ok m.definition)
+    front : (xs keeps : List Made) → IsPart xs ms → IsPart keeps ms → HasKept found [] xs keeps → (d : Origin Name)
+        → IsMember d (map (λ m. m.origin) xs) → IsReached (o ∷ []) ds d
+        → (m : Made) × IsMember m keeps × (definition_of [] d ≡ Ok m.definition)
     front xs keeps part inner has d m reach =
         let (x, here, is) = map-member (λ m. m.origin) d xs m in
         let inside : IsMember d ds = subst (λ z. IsMember z ds) is (member-map (λ m. m.origin) x ms (part x here)) in
-        let (y, kept_y, same_y) = has x here (subst (λ z. IsMember z found) (sym is) (reached-needed same tells (o ∷ []) ds d inside reach)) (λ h. h) in
+        let (y, kept_y, same_y) = has x here
+        (subst (λ z. IsMember z found) (sym is) (reached-needed same tells (o ∷ []) ds d inside reach)) (λ h. h) in
         (y, kept_y, ap (definition_of []) (sym (same_y ∙ is)) ∙ own y (inner y kept_y))
 
     order : IsInOrder es ms
@@ -243,10 +280,12 @@ uses_suffice IsNamed r lawful acc e law = record { accepted = s.accepted; theore
         let (k, old, part, has) = kept-place found [] ms i m at in
         let law = lawful.definitions k m old in
         let (w, os, is) = is-define (definitions_of (take k ms)) m.origin m.definition law.accepted in
-        let reach : IsReached (o ∷ []) ds m.origin = (needed-reached same tells (o ∷ []) ds m.origin (kept-found found [] ms m (at_member es i m at))).1 in
+        let reach : IsReached (o ∷ []) ds m.origin =
+        (needed-reached same tells (o ∷ []) ds m.origin (kept-found found [] ms m (at_member es i m at))).1 in
         let st : StandsOn bl (take i es) m.origin =
         reached-stands bl (o ∷ []) ds (basis_of IsNamed r.assumptions (take k ms)) (take i es)
-        (front (take k ms) (take i es) (take-part k ms) (λ x n. es-part x (take-part i es x n)) has) axioms m.origin law.rests reach in
+        (front (take k ms) (take i es) (take-part k ms) (λ x n. es-part x (take-part i es x n)) has)
+        axioms m.origin law.rests reach in
         record {
           word = w;
           operands = os;
@@ -257,7 +296,9 @@ uses_suffice IsNamed r lawful acc e law = record { accepted = s.accepted; theore
         }
 
     stands-kept : StandsOn bl es o
-    stands-kept = reached-stands bl (o ∷ []) ds (run_basis IsNamed r) es (front ms es (λ x n. n) es-part (kept-all found [] ms)) axioms o law.proved.rests (Root o (inl refl))
+    stands-kept =
+        reached-stands bl (o ∷ []) ds (run_basis IsNamed r) es
+        (front ms es (λ x n. n) es-part (kept-all found [] ms)) axioms o law.proved.rests (Root o (inl refl))
 
     s : Suffice al bl ms (used_definitions r o)
     s = subst (Suffice al bl ms) es-are (parts_suffice al bl ms es seqs acc order made)

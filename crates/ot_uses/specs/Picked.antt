@@ -6,4 +6,8 @@ use Rattle.ot_uses.specs.Used.{Support}
 use Rattle.ot_uses.specs.declared.places.Uses.{Uses}
 
 abbrev pub support_in : State → ℕ → Uses → Support
-support_in s th u = record { theorem = theorem_at s th; assumptions = picked s.assumptions u.assumptions.items; definitions = picked s.definitions u.definitions.items }
+support_in s th u = record {
+  theorem = theorem_at s th;
+  assumptions = picked s.assumptions u.assumptions.items;
+  definitions = picked s.definitions u.definitions.items;
+}

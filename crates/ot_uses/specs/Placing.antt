@@ -13,7 +13,8 @@ marked_places k marks (i ∷ is) = cond (is_marked marks i) (k ∷ marked_places
 -- of each such number the first place
 abbrev pub first_places : ℕ → List Bool → List ℕ → List ℕ
 first_places k marks [] = []
-first_places k marks (i ∷ is) = cond (is_marked marks i) (k ∷ first_places (suc k) (set marks i false) is) (first_places (suc k) marks is)
+first_places k marks (i ∷ is) =
+    cond (is_marked marks i) (k ∷ first_places (suc k) (set marks i false) is) (first_places (suc k) marks is)
 
 -- what stands at these places of a list, one after another
 abbrev pub picked : {X : Type 0} → List X → List ℕ → List X

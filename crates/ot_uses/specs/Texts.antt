@@ -17,7 +17,8 @@ counted_text title xs = codes "  " ++ title ++ codes ": " ++ number_text (length
 -- a theorem with its number, its assumptions in the order of the bytes of their texts, and its definitions as they were accepted
 abbrev pub support_text : ℕ → Support → List ℕ
 support_text i s = (codes "theorem " ++ number_text i ++ codes ": " ++ sequent_text s.theorem ++ 10 ∷ [])
-    ++ counted_text (codes "assumptions") (ascending (map sequent_text s.assumptions)) ++ counted_text (codes "definitions") (map definition_text s.definitions)
+    ++ counted_text (codes "assumptions") (ascending (map sequent_text s.assumptions))
+    ++ counted_text (codes "definitions") (map definition_text s.definitions)
 
 -- one after another, numbered from i on
 abbrev pub supports_text : ℕ → List Support → List ℕ

@@ -16,8 +16,10 @@ use std::alloc::Global;
 pub fn uses(alloc: Global, session: &Session, root: StepId) -> Result<Uses, Memory>
     requires run { IsRun session.now }
     requires root { root < length session.now.trace }
-    ensures assumptions { IfOk result (λ used. used.assumptions.items ≡ assumption_places (run_of session.now) (origin_of session.now root)) }
-    ensures definitions { IfOk result (λ used. used.definitions.items ≡ definition_places (run_of session.now) (origin_of session.now root)) }
+    ensures assumptions { IfOk result (λ used. used.assumptions.items
+        ≡ assumption_places (run_of session.now) (origin_of session.now root)) }
+    ensures definitions { IfOk result (λ used. used.definitions.items
+        ≡ definition_places (run_of session.now) (origin_of session.now root)) }
 {
     // Each name has one number, and each origin one step.
     session.kernel().sound();

@@ -34,8 +34,10 @@ pub fn uses_text(
 ) -> Result<(), PrintFault>
     requires run { IsRun session.now }
     requires exports { All (IsExportIn session.now) exports.now }
-    ensures ok { OnOk result (Appended (text_of (run_of session.now) (map (export_of session.now) exports.now)) max out.old.items out.new.items) }
-    ensures too_large { result ≡ Err PrintFault.TooLarge → max < length (text_of (run_of session.now) (map (export_of session.now) exports.now)) }
+    ensures ok { OnOk result (Appended (text_of (run_of session.now) (map (export_of session.now) exports.now))
+        max out.old.items out.new.items) }
+    ensures too_large { result ≡ Err PrintFault.TooLarge
+        → max < length (text_of (run_of session.now) (map (export_of session.now) exports.now)) }
     ensures err { OnErr result (out.new.items ≡ out.old.items) }
 {
     let mut page = Page::new(alloc, max);
@@ -47,7 +49,8 @@ pub fn uses_text(
 fn put_exports(page: &mut Page, alloc: Global, session: &Session, exports: &[Export])
     requires run { IsRun session.now }
     requires exports { All (IsExportIn session.now) exports.now }
-    ensures { IsPut (text_of (run_of session.now) (map (export_of session.now) exports.now)) (printed page.old) (printed page.new) }
+    ensures { IsPut (text_of (run_of session.now) (map (export_of session.now) exports.now))
+        (printed page.old) (printed page.new) }
 {
     for (i, export) in exports.iter().enumerate() {
         put_export(page, alloc, session, i + 1, export);
@@ -58,7 +61,8 @@ fn put_exports(page: &mut Page, alloc: Global, session: &Session, exports: &[Exp
 fn put_export(page: &mut Page, alloc: Global, session: &Session, number: usize, export: &Export)
     requires run { IsRun session.now }
     requires export { IsExportIn session.now export.now }
-    ensures { IsPut (support_text number (support_of (run_of session.now) (export_of session.now export.now))) (printed page.old) (printed page.new) }
+    ensures { IsPut (support_text number (support_of (run_of session.now) (export_of session.now export.now)))
+        (printed page.old) (printed page.new) }
 {
     if page.is_stopped() {
         return;
@@ -102,7 +106,8 @@ fn put_support(
 // The assumptions at these places. Their texts together cost no more than the limit.
 fn put_assumptions(page: &mut Page, alloc: Global, kernel: &Kernel, places: &[usize])
     requires { All (λ i. i < length kernel.now.assumptions) places.now }
-    ensures { IsPut (counted_text (codes "assumptions") (ascending (map sequent_text (picked kernel.now.assumptions places.now)))) (printed page.old) (printed page.new) }
+    ensures { IsPut (counted_text (codes "assumptions") (ascending (map sequent_text (picked kernel.now.assumptions places.now))))
+        (printed page.old) (printed page.new) }
 {
     if page.is_stopped() {
         return;
@@ -122,7 +127,8 @@ fn assumption_texts(
 ) -> Result<BTreeSet<Vec<u8>>, PrintFault>
     requires { All (λ i. i < length kernel.now.assumptions) places.now }
     ensures ok { IfOk result (λ texts. texts_of texts ≡ ascending (map sequent_text (picked kernel.now.assumptions places.now))) }
-    ensures too_large { result ≡ Err PrintFault.TooLarge → max < bytes_in (ascending (map sequent_text (picked kernel.now.assumptions places.now))) }
+    ensures too_large { result ≡ Err PrintFault.TooLarge
+        → max < bytes_in (ascending (map sequent_text (picked kernel.now.assumptions places.now))) }
 {
     let assumptions = kernel.assumptions();
     let mut used = Vec::new(alloc);
@@ -155,7 +161,8 @@ fn put_items<T: Printable>(
 )
     requires items { All (T.is_inside kernel.now) items.now }
     requires places { All (λ i. i < length items.now) places.now }
-    ensures { IsPut (counted_text title.now (map (T.text kernel.now) (picked items.now places.now))) (printed page.old) (printed page.new) }
+    ensures { IsPut (counted_text title.now (map (T.text kernel.now) (picked items.now places.now)))
+        (printed page.old) (printed page.new) }
 {
     put_count(page, title, places.len());
     for place in places {
@@ -167,7 +174,8 @@ fn put_items<T: Printable>(
 
 // The line that says how many there are.
 fn put_count(page: &mut Page, title: &[u8], count: usize)
-    ensures { IsPut (codes "  " ++ title.now ++ codes ": " ++ number_text count ++ 10 ∷ []) (printed page.old) (printed page.new) }
+    ensures { IsPut (codes "  " ++ title.now ++ codes ": " ++ number_text count ++ 10 ∷ [])
+        (printed page.old) (printed page.new) }
 {
     page.put(b"  ");
     page.put(title);

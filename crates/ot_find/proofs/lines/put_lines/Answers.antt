@@ -15,4 +15,5 @@ loop-line-preserved c =
 
 pub returns : goal.returns
 returns c =
-    leaves-all c.loop-line.invariant (ap (λ ts. indented_text (map (λ t. t.items) ts)) (rest_all deref _ _ _ c.in-None.is c.next.ensures.steps)) (nothing _)
+    leaves-all c.loop-line.invariant
+    (ap (λ ts. indented_text (map (λ t. t.items) ts)) (rest_all deref _ _ _ c.in-None.is c.next.ensures.steps)) (nothing _)

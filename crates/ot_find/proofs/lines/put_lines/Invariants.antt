@@ -6,4 +6,6 @@ use Rattle.ot_find.specs.Texts.{indented_text}
 use Rattle.ot_find.proofs.lines.put_lines.Given as goal
 
 abbrev pub invariant-loop-line : goal.invariant-loop-line
-invariant-loop-line l = Leaves (indented_text (map (λ t. t.items) l.line-iterator)) (indented_text (texts_of l.lines)) (printed l.initial.page) (printed l.page)
+invariant-loop-line l =
+    Leaves (indented_text (map (λ t. t.items) l.line-iterator))
+    (indented_text (texts_of l.lines)) (printed l.initial.page) (printed l.page)

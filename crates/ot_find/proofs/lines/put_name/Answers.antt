@@ -4,5 +4,6 @@ use Rattle.ot_find.proofs.lines.put_name.Goals as goal
 
 pub returns : goal.returns
 returns c =
-    same-text (name-spelled c.args.name.now (has-components (λ v. v.items) c.args.name.now c.components-components.result.now c.components-components.ensures.value c.components-components.ensures.some))
+    same-text (name-spelled c.args.name.now (has-components (λ v. v.items) c.args.name.now
+    c.components-components.result.now c.components-components.ensures.value c.components-components.ensures.some))
     c.put_name.ensures

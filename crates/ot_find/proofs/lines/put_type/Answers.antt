@@ -6,7 +6,10 @@ use Rattle.ot_text.proofs.Putting.{same-text, gives-up}
 use Rattle.ot_find.proofs.lines.put_type.Goals as goal
 
 pub returns-in-Ok : goal.returns-in-Ok
-returns-in-Ok c = same-text (c.as_slice.ensures.value ∙ c.in-Ok.ensures.ok.bytes ∙ ap (λ x. x ++ ty_text (type_at c.args.kernel.now c.args.ty)) c.new-text.ensures.items) c.put.ensures
+returns-in-Ok c =
+    same-text (c.as_slice.ensures.value
+    ∙ c.in-Ok.ensures.ok.bytes ∙ ap (λ x. x ++ ty_text (type_at c.args.kernel.now c.args.ty)) c.new-text.ensures.items)
+    c.put.ensures
 
 pub returns : goal.returns
 returns c =

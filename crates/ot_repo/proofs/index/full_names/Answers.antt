@@ -1,7 +1,8 @@
 use Rattle.std.proofs.Common.{◌∙◌, sym, ap, subst, Err}
 use Rattle.ot_theory.specs.Lines.{lines_of, lines_at}
 use Rattle.ot_repo.specs.Required.{BadIndex}
-use Rattle.ot_repo.specs.Reading.{texts_of, ArePackages}
+use Rattle.ot_repo.specs.Answers.{ArePackages}
+use Rattle.ot_repo.specs.Reading.{texts_of}
 use Rattle.ot_repo.proofs.Picking.{Listed, listed_more, listed_bad, packages_more, texts_more}
 use Rattle.ot_repo.proofs.index.full_names.Goals as goal
 

@@ -1,6 +1,7 @@
 use Rattle.std.proofs.Common.{◌≤◌, ◌-◌, length}
 use Rattle.ot_theory.specs.Lines.{lines_of, lines_at}
-use Rattle.ot_repo.specs.Reading.{texts_of, ArePackages}
+use Rattle.ot_repo.specs.Answers.{ArePackages}
+use Rattle.ot_repo.specs.Reading.{texts_of}
 use Rattle.ot_repo.proofs.Picking.{Listed}
 use Rattle.ot_repo.proofs.index.full_names.Given as goal
 

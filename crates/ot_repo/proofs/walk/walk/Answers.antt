@@ -7,12 +7,15 @@ use Rattle.std.proofs.lemmas.Result.{err_from_is_err_and}
 use Rattle.ot_plain.specs.Lists.{IsMember}
 use Rattle.ot_repo.specs.Walk.{walk_from}
 use Rattle.ot_repo.specs.Required.{edges_of, walked}
-use Rattle.ot_repo.specs.Answers.{names_of}
-use Rattle.ot_repo.specs.Reading.{listed_in, edge_at, edges_left, mark_in, next_at}
+use Rattle.ot_repo.specs.Answers.{ArePackages, names_of}
+use Rattle.ot_blocks.specs.Paths.{package_path}
+use Rattle.ot_repo.specs.Reading.{listed_in, IsReachedFile, edge_at, edges_left, mark_in, next_at}
 use Rattle.ot_repo.specs.declared.requirements.File.{File}
+use Rattle.ot_repo.proofs.Picking.{packages_more}
 use Rattle.ot_repo.proofs.Rest.{rest_start}
 use Rattle.ot_repo.proofs.SoFar.{SoFar, Rests}
 use Rattle.ot_repo.proofs.Steps.{rests_known, rests_refused, rests_stopped, rests_new, rests_end, edges_popped, no_edges, pushed, carried, start_so_far, popped_listed, left_so_far, next_unmarked, opened, finished, smaller_opened, smaller_finished, walk_ends}
+use Rattle.ot_repo.proofs.Reached.{ReachedSoFar, fails_more, inside_fails, next_reached, reached_left, reached_opened, reached_finished}
 use Rattle.ot_repo.proofs.walk.walk.Goals as goal
 
 pub walk-init : goal.walk-init
@@ -22,6 +25,8 @@ walk-init g c =
     (record {
       so_far = start_so_far listed (mark_in c.new-marks.result) c.args.first (λ q. first_of (search rules, grind (arith, common_steps))) c.requires.first;
       rests = λ folder told. record { bound = length listed; is = rest_start bytes_eq (edges_of folder c.args.setting.max_bytes c.args.setting.packages.now listed) (length listed) (edges_left c.args.first) };
+      full = λ full m. absurd m;
+      reached = λ folder told. record { here = λ e m. inl m; below = λ w m. absurd m };
       folder = refl;
       later_faults = omega arith;
       later_misses = omega arith;
@@ -109,6 +114,10 @@ walk-preserved-in-Some-2 g c =
           (walk_ends folder c.args.setting.max_bytes c.args.setting.packages.now listed c.args.first c.requires.first) full.now next
           (c.walk.invariant.rests folder told) (record { file = left; full = full }) above refl
           (c.in_ok-above-in-Some.ensures.edges folder (c.walk.invariant.folder ∙ told));
+      full = c.walk.invariant.full;
+      reached = λ folder told.
+          reached_opened (edges_of folder c.args.setting.max_bytes c.args.setting.packages.now listed) (edges_left c.args.first) marked (reverse c.walk.below.items)
+          c.walk.file above (record { file = left; full = full }) edge full.now cut next (c.in_ok-above-in-Some.ensures.edges folder (c.walk.invariant.folder ∙ told)) (c.walk.invariant.reached folder told);
       folder = c.in_ok-above-in-Some.ensures.folder ∙ c.walk.invariant.folder;
       later_faults = omega (arith, c.in_ok-above-in-Some.ensures.later.0, c.walk.invariant.later_faults);
       later_misses = omega (arith, c.in_ok-above-in-Some.ensures.later.1, c.walk.invariant.later_misses);
@@ -129,6 +138,9 @@ walk-preserved-in_default g c =
           rests_known (edges_of folder c.args.setting.max_bytes c.args.setting.packages.now listed)
           (walk_from bytes_eq (edges_of folder c.args.setting.max_bytes c.args.setting.packages.now listed) (length listed) (edges_left c.args.first))
           marked (reverse c.walk.below.items) c.walk.file left (names_of c.walk.done) c.walk.invariant.so_far.marks edge cut (c.walk.invariant.rests folder told) next;
+      full = c.walk.invariant.full;
+      reached = λ folder told.
+          reached_left (edges_of folder c.args.setting.max_bytes c.args.setting.packages.now listed) (edges_left c.args.first) (reverse c.walk.below.items) c.walk.file left edge cut (c.walk.invariant.reached folder told);
       folder = c.walk.invariant.folder;
       later_faults = c.walk.invariant.later_faults;
       later_misses = c.walk.invariant.later_misses;
@@ -172,7 +184,35 @@ walk-preserved g c =
           subst (Rests edges whole below w.file) (sym more)
           (rests_end edges whole c.walk.file (names_of c.walk.done) none w below
           (subst (λ ws. Rests edges whole ws c.walk.file (names_of c.walk.done)) stack (c.walk.invariant.rests folder told)));
+      full = subst ArePackages (sym more) (packages_more (names_of c.walk.done) w.full.now c.walk.invariant.full
+          (c.requires.index.full w.full.now (c.walk.invariant.so_far.levels w (subst (IsMember w) (sym stack) (inl refl))).full));
+      reached = λ folder told.
+          let edges = edges_of folder c.args.setting.max_bytes c.args.setting.packages.now listed in
+          reached_finished edges (edges_left c.args.first) below c.walk.file w
+          (subst (λ ws. ReachedSoFar edges (edges_left c.args.first) ws c.walk.file) stack (c.walk.invariant.reached folder told));
       folder = c.walk.invariant.folder;
       later_faults = c.walk.invariant.later_faults;
       later_misses = c.walk.invariant.later_misses;
     }
+
+pub returns-in_err-full-in-Some-clause-failure : goal.returns-in_err-full-in-Some-clause-failure
+returns-in_err-full-in-Some-clause-failure g c = λ folder told.
+    let packages = c.args.setting.packages.now in
+    let edges = edges_of folder c.args.setting.max_bytes packages (listed_in c.args.index.now) in
+    let p = err_from_is_err_and c.from_residual.result c.from_residual.ensures.1 in
+    rw (p.1, p.2) (inside_fails (IsReachedFile edges (edges_left c.args.first) packages) c.in_err-full-in-Some.field-0.0 c.in_err-full-in-Some.ensures.inside)
+
+pub returns-in_err-above-in-Some-clause-failure : goal.returns-in_err-above-in-Some-clause-failure
+returns-in_err-above-in-Some-clause-failure g c = λ folder told.
+    let packages = c.args.setting.packages.now in
+    let edges = edges_of folder c.args.setting.max_bytes packages (listed_in c.args.index.now) in
+    let r = c.in-Some.requirement in
+    let full = c.in-Some-2.full.now in
+    let left : File = record { path = c.walk.file.path; left = c.pop.new.self } in
+    let edge = edge_at (string_bytes c.walk.file.path) r in
+    let cut = edges_popped c.walk.file left r refl c.in-Some.ensures.items in
+    let next = rw (c.deref.ensures, c.in-Some-2.is) at c.in_ok-full-in-Some.ensures.next in
+    let reached = next_reached edges (edges_left c.args.first) (mark_in c.walk.marks) (reverse c.walk.below.items) c.walk.file left edge full cut next (c.walk.invariant.reached folder told) in
+    let p = err_from_is_err_and c.from_residual-in_err-above-in-Some.result c.from_residual-in_err-above-in-Some.ensures.1 in
+    rw (p.1, p.2) (fails_more (λ failed. failed ≡ package_path packages full) (IsReachedFile edges (edges_left c.args.first) packages) c.in_err-above-in-Some.field-0.0
+    (λ failed is. record { full = full; reached = reached; file_is = is }) c.in_err-above-in-Some.ensures.failure)

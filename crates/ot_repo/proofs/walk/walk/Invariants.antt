@@ -3,9 +3,10 @@ use Rattle.std.specs.Str.{bytes_eq}
 use Rattle.ot_io.specs.Folder.{Folder}
 use Rattle.ot_repo.specs.Walk.{walk_from}
 use Rattle.ot_repo.specs.Required.{edges_of}
-use Rattle.ot_repo.specs.Answers.{names_of}
+use Rattle.ot_repo.specs.Answers.{ArePackages, names_of}
 use Rattle.ot_repo.specs.Reading.{listed_in, edges_left, mark_in}
 use Rattle.ot_repo.proofs.SoFar.{SoFar, Rests, work}
+use Rattle.ot_repo.proofs.Reached.{ReachedSoFar}
 use Rattle.ot_repo.proofs.walk.walk.Given as goal
 
 abbrev pub invariant-walk : goal.invariant-walk
@@ -15,6 +16,9 @@ invariant-walk g l = record {
       (edges_of folder l.setting.max_bytes l.setting.packages.now (listed_in l.index))
       (walk_from bytes_eq (edges_of folder l.setting.max_bytes l.setting.packages.now (listed_in l.index)) (length (listed_in l.index)) (edges_left l.fn.first))
       (reverse l.below.items) l.file (names_of l.done);
+  full : ArePackages (names_of l.done);
+  reached : (folder : Folder) → g.F.Source.folder l.fn.files ≡ Some folder → ReachedSoFar
+      (edges_of folder l.setting.max_bytes l.setting.packages.now (listed_in l.index)) (edges_left l.fn.first) (reverse l.below.items) l.file;
   folder : g.F.Source.folder l.files ≡ g.F.Source.folder l.fn.files;
   later_faults : g.F.Source.faults l.fn.files ≤ g.F.Source.faults l.files;
   later_misses : g.F.Source.misses l.fn.files ≤ g.F.Source.misses l.files;

@@ -13,7 +13,9 @@ returns-clause-assumptions c =
     let once : IsInjective s.trace = subst IsInjective c.trace-trace.ensures c.count-count.ensures.table.injective in
     let marks : MarksReached s.trace (c.args.root ∷ []) s.definition_steps.items c.in_ok-marks.marks.items =
     subst (λ ds. MarksReached s.trace (c.args.root ∷ []) ds c.in_ok-marks.marks.items) c.definition_steps-definitions.ensures
-    (subst (λ ts. MarksReached ts (c.args.root ∷ []) c.definition_steps-definitions.result.now c.in_ok-marks.marks.items) c.trace-trace.ensures c.in_ok-marks.ensures) in
+    (subst (λ ts. MarksReached ts (c.args.root ∷ []) c.definition_steps-definitions.result.now c.in_ok-marks.marks.items)
+    c.trace-trace.ensures c.in_ok-marks.ensures)
+    in
     c.in_ok-marked_places.ensures
     ∙ (λ z. marked_places 0 (c.deref.ensures.value z) (c.assumption_steps.ensures z))
     ∙ assumptions-are s c.requires.run table once c.args.root c.requires.root c.in_ok-marks.marks.items marks
@@ -25,7 +27,9 @@ returns-clause-definitions c =
     let once : IsInjective s.trace = subst IsInjective c.trace-trace.ensures c.count-count.ensures.table.injective in
     let marks : MarksReached s.trace (c.args.root ∷ []) s.definition_steps.items c.in_ok-marks.marks.items =
     subst (λ ds. MarksReached s.trace (c.args.root ∷ []) ds c.in_ok-marks.marks.items) c.definition_steps-definitions.ensures
-    (subst (λ ts. MarksReached ts (c.args.root ∷ []) c.definition_steps-definitions.result.now c.in_ok-marks.marks.items) c.trace-trace.ensures c.in_ok-marks.ensures) in
+    (subst (λ ts. MarksReached ts (c.args.root ∷ []) c.definition_steps-definitions.result.now c.in_ok-marks.marks.items)
+    c.trace-trace.ensures c.in_ok-marks.ensures)
+    in
     c.in_ok-first_places.ensures
     ∙ ap (first_places 0 c.in_ok-marks.marks.items) c.definition_steps-definitions.ensures
     ∙ definitions-are s c.requires.run table once c.args.root c.requires.root c.in_ok-marks.marks.items marks

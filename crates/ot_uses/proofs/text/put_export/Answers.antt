@@ -15,24 +15,32 @@ pub put_support-requires-clause-assumptions : goal.put_support-requires-clause-a
 put_support-requires-clause-assumptions c =
     let s = c.args.session.now in
     subst (λ k. All (λ i. i < length k.assumptions) c.in-Ok.used.assumptions.items) (sym c.kernel.ensures)
-    (subst (λ l. All (λ i. i < length s.kernel.assumptions) l) (sym c.in-Ok.ensures.assumptions) (assumptions-inside s c.requires.run (origin_of s c.args.export.now.theorem)))
+    (subst (λ l. All (λ i. i < length s.kernel.assumptions) l) (sym c.in-Ok.ensures.assumptions)
+    (assumptions-inside s c.requires.run (origin_of s c.args.export.now.theorem)))
 
 pub put_support-requires-clause-definitions : goal.put_support-requires-clause-definitions
 put_support-requires-clause-definitions c =
     let s = c.args.session.now in
     subst (λ k. All (λ i. i < length k.definitions) c.in-Ok.used.definitions.items) (sym c.kernel.ensures)
-    (subst (λ l. All (λ i. i < length s.kernel.definitions) l) (sym c.in-Ok.ensures.definitions) (definitions-inside s c.requires.run (origin_of s c.args.export.now.theorem)))
+    (subst (λ l. All (λ i. i < length s.kernel.definitions) l) (sym c.in-Ok.ensures.definitions)
+    (definitions-inside s c.requires.run (origin_of s c.args.export.now.theorem)))
 
 pub returns-in-Ok : goal.returns-in-Ok
 returns-in-Ok c =
     let s = c.args.session.now in
     let r = run_of s in
     let o = origin_of s c.args.export.now.theorem in
-    let assumptions : picked c.kernel.result.now.assumptions c.in-Ok.used.assumptions.items ≡ map (λ g. g.sequent) (used_assumptions r o) =
+    let assumptions : picked c.kernel.result.now.assumptions c.in-Ok.used.assumptions.items
+    ≡ map (λ g. g.sequent) (used_assumptions r o) =
     (λ z. picked (c.kernel.ensures z).assumptions (c.in-Ok.ensures.assumptions z)) ∙ sequents-are s c.requires.run o in
-    let definitions : picked c.kernel.result.now.definitions c.in-Ok.used.definitions.items ≡ definitions_of (used_definitions r o) =
+    let definitions : picked c.kernel.result.now.definitions c.in-Ok.used.definitions.items
+    ≡ definitions_of (used_definitions r o) =
     (λ z. picked (c.kernel.ensures z).definitions (c.in-Ok.ensures.definitions z)) ∙ definitions-are s c.requires.run o in
-    same-text (λ z. support_text c.args.number (record { theorem = theorem_at (c.kernel.ensures z) c.args.export.now.th; assumptions = assumptions z; definitions = definitions z })) c.put_support.ensures
+    same-text (λ z. support_text c.args.number (record {
+      theorem = theorem_at (c.kernel.ensures z) c.args.export.now.th;
+      assumptions = assumptions z;
+      definitions = definitions z;
+    })) c.put_support.ensures
 
 pub returns-in-Err : goal.returns-in-Err
 returns-in-Err c = record { state = inl c.stop.ensures }

@@ -9,12 +9,16 @@ use Rattle.ot_uses.proofs.text.put_items.Goals as goal
 
 pub loop-place-preserved : goal.loop-place-preserved
 loop-place-preserved g c =
-    lines-more (g.T.Printable.text c.args.kernel.now) c.args.items.now c.args.places.now c.loop-place.place-index c.index-items-place.result _ _ _
+    lines-more (g.T.Printable.text c.args.kernel.now) c.args.items.now
+    c.args.places.now c.loop-place.place-index c.index-items-place.result _ _ _
     c.loop-place-test.true (c.requires.places c.loop-place.place-index 0 c.loop-place-test.true) c.index-items-place.is
     c.loop-place.invariant (then (then c.put.ensures c.put-in-loop-place.ensures) c.put-in-loop-place-2.ensures)
 
 pub returns : goal.returns
 returns g c =
-    same-text (counted-pieces _ _ _ (sym (length-map (g.T.Printable.text c.args.kernel.now) (picked c.args.items.now c.args.places.now) ∙ picked-long c.args.items.now c.args.places.now c.requires.places)))
+    same-text (counted-pieces _ _ _ (sym (length-map
+    (g.T.Printable.text c.args.kernel.now) (picked c.args.items.now c.args.places.now)
+    ∙ picked-long c.args.items.now c.args.places.now c.requires.places)))
     (then c.put_count.ensures
-    (puts-all (lines_at (g.T.Printable.text c.args.kernel.now) c.args.items.now) c.args.places.now c.loop-place.place-index _ _ _ (omega arith) c.loop-place.invariant (nothing (printed c.loop-place.page))))
+    (puts-all (lines_at (g.T.Printable.text c.args.kernel.now) c.args.items.now) c.args.places.now
+    c.loop-place.place-index _ _ _ (omega arith) c.loop-place.invariant (nothing (printed c.loop-place.page))))

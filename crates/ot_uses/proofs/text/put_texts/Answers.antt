@@ -18,4 +18,5 @@ pub returns : goal.returns
 returns c =
     same-text (counted-pieces _ _ _ (c.len.ensures.len ∙ sym (length-map (λ t. t.items) c.args.texts.now.keys)))
     (then c.put_count.ensures
-    (leaves-all c.loop-text.invariant (ap (λ ts. indented_text (map (λ t. t.items) ts)) (rest_all deref _ _ _ c.in-None.is c.next.ensures.steps)) (nothing _)))
+    (leaves-all c.loop-text.invariant
+    (ap (λ ts. indented_text (map (λ t. t.items) ts)) (rest_all deref _ _ _ c.in-None.is c.next.ensures.steps)) (nothing _)))

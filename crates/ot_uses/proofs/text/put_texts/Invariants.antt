@@ -6,4 +6,6 @@ use Rattle.ot_uses.specs.Texts.{indented_text}
 use Rattle.ot_uses.proofs.text.put_texts.Given as goal
 
 abbrev pub invariant-loop-text : goal.invariant-loop-text
-invariant-loop-text l = Leaves (indented_text (map (λ t. t.items) l.text-iterator)) (indented_text (texts_of l.texts)) (printed l.initial.page) (printed l.page)
+invariant-loop-text l =
+    Leaves (indented_text (map (λ t. t.items) l.text-iterator))
+    (indented_text (texts_of l.texts)) (printed l.initial.page) (printed l.page)

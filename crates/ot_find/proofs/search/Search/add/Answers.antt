@@ -13,12 +13,14 @@ loop-th-init c = ((λ fs h. subst (HasFound c.args.self.now) (sym (append-nil fs
 pub loop-th-preserved : goal.loop-th-preserved
 loop-th-preserved c = (
   (λ fs h. subst (HasFound c.add_theorem.new.self)
-      (in-more (term_of_tree c.args.pattern.now) c.args.source.now (theorem_at c.args.kernel.now) c.args.theorems.now c.loop-th.th-index c.th-item.result c.th-item.result fs c.loop-th-test.true c.th-item.is)
+      (in-more (term_of_tree c.args.pattern.now) c.args.source.now (theorem_at c.args.kernel.now)
+      c.args.theorems.now c.loop-th.th-index c.th-item.result c.th-item.result fs c.loop-th-test.true c.th-item.is)
       (c.add_theorem.ensures.found _ (c.loop-th.invariant.0 fs h))),
   c.add_theorem.ensures.max ∙ c.loop-th.invariant.1,
 )
 
 pub returns-clause-found : goal.returns-clause-found
 returns-clause-found c = λ fs h.
-    subst (λ ths. HasFound c.loop-th.self (fs ++ matches_in (term_of_tree c.args.pattern.now) c.args.source.now (map (theorem_at c.args.kernel.now) ths)))
+    subst (λ ths. HasFound c.loop-th.self (fs
+    ++ matches_in (term_of_tree c.args.pattern.now) c.args.source.now (map (theorem_at c.args.kernel.now) ths)))
     (take_all c.loop-th.th-index c.args.theorems.now (omega arith)) (c.loop-th.invariant.0 fs h)
