@@ -50,7 +50,7 @@ in-table (t ∷ ts) o = elim (bool_cases (same t o)) [
     outside t ts o e n (suc i) h = n i (omega arith)
 
 -- the origins of the exports' root steps are their roots
-roots-are : (ts : List (Origin ℕ)) (es : List code.Roots) → map (origin_at ts) (flat_map root_steps es) ≡ roots_of (map (roots_at ts) es)
+pub roots-are : (ts : List (Origin ℕ)) (es : List code.Roots) → map (origin_at ts) (flat_map root_steps es) ≡ roots_of (map (roots_at ts) es)
 roots-are ts [] = refl
 roots-are ts (e ∷ es) = ap (λ l. origin_at ts e.theorem ∷ origin_at ts e.list ∷ origin_at ts e.term ∷ l) (roots-are ts es)
 

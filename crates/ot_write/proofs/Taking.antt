@@ -3,7 +3,7 @@ use Rattle.std.proofs.Common.{◌≡◌, ℕ, ◌+◌, ◌<◌, inl, inr, Bool, 
 use Rattle.std.specs.List.{AllByRecursion, flat_map}
 use Rattle.std.proofs.lemmas.List.{take_more}
 use Rattle.std.proofs.lemmas.Grind.{flat_map-append}
-use Rattle.ot_plain.specs.Lists.{IsMember}
+use Rattle.ot_plain.specs.Lists.{IsMember, IsPart}
 use Rattle.ot_write.specs.declared.roots.Roots as code
 use Rattle.ot_write.specs.Emitting.{is_marked, root_steps, taken}
 
@@ -21,3 +21,13 @@ taken-in n marks (x ∷ is) h = go (is_marked marks x) (h x (inl refl), taken-in
     go : (b : Bool) → (x < n) × AllByRecursion (λ i. i < n) (taken (set marks x false) is) → AllByRecursion (λ i. i < n) (taken marks is) → AllByRecursion (λ i. i < n) (cond b (x ∷ taken (set marks x false) is) (taken marks is))
     go true a c = a
     go false a c = c
+
+-- what is taken is of the list
+pub taken-part : (marks : List Bool) (is : List ℕ) → IsPart (taken marks is) is
+taken-part marks [] i m = m
+taken-part marks (x ∷ is) i m = go (is_marked marks x) (taken-part (set marks x false) is i) (taken-part marks is i) m
+  where
+    go : (b : Bool) → (IsMember i (taken (set marks x false) is) → IsMember i is) → (IsMember i (taken marks is) → IsMember i is) → IsMember i (cond b (x ∷ taken (set marks x false) is) (taken marks is)) → IsMember i (x ∷ is)
+    go true f g (inl e) = inl e
+    go true f g (inr m) = inr (f m)
+    go false f g m = inr (g m)

@@ -1,9 +1,12 @@
 //! The written article.
-ghost use Rattle.std.specs.Prelude.{◌≡◌, ◌<◌, ℕ, List, length, IfOk};
+ghost use Rattle.std.specs.Prelude.{◌≡◌, ◌<◌, ℕ, List, length, map, IfOk};
 ghost use Rattle.std.specs.List.{All, AllByRecursion, flat_map};
-ghost use Rattle.ot_trace.specs.Trace.{IsStepTable};
-ghost use Rattle.ot_write.specs.Bytes.{AreNamed, AreRootsInside, Writes, article_bytes};
-ghost use Rattle.ot_write.specs.Emitting.{counted_bytes, given, root_steps, taken};
+ghost use Rattle.ot_plain.specs.Lists.{IsPart};
+ghost use Rattle.ot_trace.specs.Trace.{IsStepTable, origin_at};
+ghost use Rattle.ot_written.specs.Written.{roots_of};
+ghost use Rattle.ot_written.specs.Needed.{needed_definitions};
+ghost use Rattle.ot_write.specs.Bytes.{AreNamed, AreRootsInside, Writes, article_bytes, roots_at};
+ghost use Rattle.ot_write.specs.Emitting.{counted_bytes, given, root_steps, same, taken};
 
 use crate::roots::Roots;
 use crate::text::WriteRefusal;
@@ -37,6 +40,27 @@ pub fn write_article(
     let counts = uses(alloc, trace, &roots, &marks)?;
     let needed = take_marked(alloc, count, marks, definitions)?;
     write_counted(alloc, trace, names, &counts, &needed, exports, max, out)
+}
+
+/// The steps of the definitions that exports need, in their old order, each origin once.
+///
+/// The roots and the definitions are steps of the trace.
+pub fn needed_steps(
+    alloc: Global,
+    trace: &Trace,
+    definitions: &[StepId],
+    exports: &[Roots],
+) -> Result<Vec<StepId>, Memory>
+    requires definitions { All (λ i. i < length trace.now) definitions.now }
+    requires exports { All (AreRootsInside (length trace.now)) exports.now }
+    ensures some { IfOk result (λ needed. IsPart needed.items definitions.now) }
+    ensures needed { IfOk result (λ needed. map (origin_at trace.now) needed.items
+        ≡ needed_definitions same (roots_of (map (roots_at trace.now) exports.now)) (map (origin_at trace.now) definitions.now)) }
+{
+    let count = trace.count();
+    let roots = root_steps(alloc, exports)?;
+    let marks = reach(alloc, trace, &roots, definitions)?;
+    take_marked(alloc, count, marks, definitions)
 }
 
 /// The steps of all roots, export by export.

@@ -7,6 +7,6 @@ mod roots;
 mod text;
 mod writer;
 
-pub use article::write_article;
+pub use article::{needed_steps, write_article};
 pub use roots::Roots;
 pub use text::WriteRefusal;

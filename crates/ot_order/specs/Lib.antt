@@ -1,0 +1,3 @@
+-- Texts in pieces, and where a term is put among others.
+pub mod Pieces
+pub mod Places

@@ -1,0 +1,27 @@
+-- The log of a run.
+pub mod Kept
+pub mod KeptWords
+pub mod Steps
+pub mod Read
+pub mod KeptObjects
+pub mod Defining
+pub mod Values
+pub mod Told
+pub mod Texts
+pub mod Makes
+pub mod Singles
+pub mod Severals
+pub mod Words
+pub mod Holds
+pub mod Wrote
+pub mod SameDefinitions
+pub mod Defines
+pub mod Outcomes
+pub mod WroteDefinitions
+pub mod WroteResults
+pub mod Free
+pub mod AxiomsReached
+pub mod AllWritten
+pub mod LogBytes
+pub mod RunLog
+pub mod Rows

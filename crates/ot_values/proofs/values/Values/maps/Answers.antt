@@ -1,0 +1,26 @@
+use Rattle.std.specs.Prelude.{ℕ, nat_eq, List}
+use Rattle.std.proofs.Common.{sym, ap, subst, ◌∙◌}
+use Rattle.ot_nodes.specs.declared.node.VariableNode.{VariableNode}
+use Rattle.ot_nodes.proofs.MapLemmas.{variable_eq}
+use Rattle.ot_values.specs.Lists.{AreMapsOf}
+use Rattle.ot_values.specs.Reading.{all_first}
+use Rattle.ot_values.proofs.Later.{type_pairs-later}
+use Rattle.ot_values.proofs.Mapping.{maps-read}
+use Rattle.ot_values.proofs.values.Values.maps.Goals as goal
+
+pub returns-clause-made : goal.returns-clause-made
+returns-clause-made c =
+    let s = c.args.session.now in
+    let us = c.type_pairs.new.nodes in
+    let ws = c.term_pairs.new.nodes in
+    let list = c.args.list in
+    let types = c.in_ok-types.types.items in
+    let terms = c.in_ok-terms.terms.items in
+    let pairs = type_pairs-later s us ws c.in_ok-terms.ensures.extends c.in_ok-first.first types c.in_ok-types.ensures.made in
+    let read = maps-read s ws c.primitives.ensures.once list c.in_ok-first.first
+    c.in_ok-first.second types terms c.in_ok-first.ensures.made
+    pairs c.in_ok-terms.ensures.made in
+    let first = c.in_ok-first_types.ensures ∙ ap (all_first nat_eq) c.deref.ensures.value in
+    let second = c.in_ok-first_terms.ensures ∙ ap (all_first variable_eq) c.deref-2.ensures.value in
+    subst (λ (xs : List (ℕ × ℕ)). AreMapsOf s ws list xs c.in_ok-first_terms.first_terms.items) (sym first)
+    (subst (λ (ys : List (VariableNode × ℕ)). AreMapsOf s ws list (all_first nat_eq types) ys) (sym second) read)

@@ -1,0 +1,13 @@
+use Rattle.std.proofs.Common.{take}
+use Rattle.ot_plain.specs.Table.{Extends}
+use Rattle.ot_values.specs.Reading.{IsTermPairOf}
+use Rattle.ot_values.specs.Known.{AreKnown}
+use Rattle.ot_values.proofs.Listing.{AreEach}
+use Rattle.ot_values.proofs.values.Values.term_pairs.Given as goal
+
+abbrev pub invariant-loop-step : goal.invariant-loop-step
+invariant-loop-step l = record {
+  extends : Extends l.fn.nodes l.nodes;
+  known : AreKnown l.session l.nodes l.self;
+  each : AreEach (IsTermPairOf l.session l.nodes) (take l.step-index l.step-items) l.found.items;
+}

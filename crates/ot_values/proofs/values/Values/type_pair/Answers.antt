@@ -1,0 +1,23 @@
+use Rattle.ot_values.proofs.Later.{known-later, name-later}
+use Rattle.ot_values.proofs.Mapping.{type_pair-read}
+use Rattle.ot_values.proofs.values.Values.type_pair.Goals as goal
+
+pub returns-in_err-name-clause-known : goal.returns-in_err-name-clause-known
+returns-in_err-name-clause-known c =
+    known-later c.args.session.now c.args.nodes.now c.name.new.nodes c.in_err-name.ensures.extends
+    c.args.self.now c.requires.known
+
+pub ty-requires-clause-known : goal.ty-requires-clause-known
+ty-requires-clause-known c =
+    known-later c.args.session.now c.args.nodes.now c.name.new.nodes c.in_ok-name.ensures.extends c.args.self.now c.requires.known
+
+pub returns-clause-made : goal.returns-clause-made
+returns-clause-made c =
+    let s = c.args.session.now in
+    let us = c.name.new.nodes in
+    let ws = c.ty.new.nodes in
+    let name = name-later s us ws c.in_ok-ty.ensures.extends
+    c.in_ok-spelled.spelled c.in_ok-name.name c.in_ok-name.ensures.made in
+    type_pair-read s ws c.args.list c.in_ok-spelled.spelled c.in_ok-spelled.ty
+    c.in_ok-name.name c.in_ok-ty.ty c.in_ok-spelled.ensures.made
+    name c.in_ok-ty.ensures.made

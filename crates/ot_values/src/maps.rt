@@ -1,0 +1,166 @@
+// The maps of a substitution.
+ghost use Rattle.std.specs.Prelude.{◌≡◌, ◌<◌, length, IfOk, OnOk};
+ghost use Rattle.ot_plain.specs.Table.{Extends};
+ghost use Rattle.ot_machine.specs.Meaning.{IsRun};
+ghost use Rattle.ot_values.specs.Lists.{AreMapsOf};
+ghost use Rattle.ot_values.specs.Reading.{IsTypePairOf, IsTermPairOf, AreTypePairsOf, AreTermPairsOf, with_first, all_first};
+ghost use Rattle.ot_values.specs.Known.{AreKnown};
+
+use crate::steps::{elements, name, two_elements};
+use crate::values::Values;
+use indexmap::IndexMap;
+use ot_machine::Session;
+use ot_nodes::{NameId, Nodes, TermId, TypeId, VariableNode};
+use ot_plain::Memory;
+use ot_trace::StepId;
+use std::alloc::Global;
+use std::hash::Hash;
+
+impl Values {
+    /// The types of names and the terms of variables of a substitution, which is the list of a step. Of several for one name
+    /// or variable the first alone is given.
+    pub fn maps(
+        &mut self,
+        nodes: &mut Nodes,
+        session: &Session,
+        list: StepId,
+    ) -> Result<(Vec<(NameId, TypeId)>, Vec<(VariableNode, TermId)>), Memory>
+        requires run { IsRun session.now }
+        requires list { list < length session.now.trace }
+        requires known { AreKnown session.now nodes.old self.old }
+        ensures made { IfOk result (λ p. AreMapsOf session.now nodes.new list p.0.items p.1.items) }
+        ensures extends { Extends nodes.old nodes.new }
+        ensures known { AreKnown session.now nodes.new self.new }
+    {
+        let alloc = nodes.allocator();
+        let (first, second) = two_elements(alloc, session, list)?;
+        let types = self.type_pairs(nodes, session, first)?;
+        let terms = self.term_pairs(nodes, session, second)?;
+        nodes.primitives();
+        let first_types = firsts(alloc, &types)?;
+        let first_terms = firsts(alloc, &terms)?;
+        Ok((first_types, first_terms))
+    }
+
+    // The pairs of a list of lists of a name and a type.
+    fn type_pairs(
+        &mut self,
+        nodes: &mut Nodes,
+        session: &Session,
+        list: StepId,
+    ) -> Result<Vec<(NameId, TypeId)>, Memory>
+        requires run { IsRun session.now }
+        requires list { list < length session.now.trace }
+        requires known { AreKnown session.now nodes.old self.old }
+        ensures made { IfOk result (λ ps. AreTypePairsOf session.now nodes.new list ps.items) }
+        ensures extends { Extends nodes.old nodes.new }
+        ensures known { AreKnown session.now nodes.new self.new }
+    {
+        let alloc = nodes.allocator();
+        let steps = elements(alloc, session, list)?;
+        let mut found = Vec::new(alloc);
+        for step in &steps {
+            let pair = self.type_pair(nodes, session, *step)?;
+            found.push(pair)?;
+        }
+        Ok(found)
+    }
+
+    // The name and the type of a list of the two.
+    fn type_pair(
+        &mut self,
+        nodes: &mut Nodes,
+        session: &Session,
+        list: StepId,
+    ) -> Result<(NameId, TypeId), Memory>
+        requires run { IsRun session.now }
+        requires list { list < length session.now.trace }
+        requires known { AreKnown session.now nodes.old self.old }
+        ensures made { IfOk result (IsTypePairOf session.now nodes.new list) }
+        ensures extends { Extends nodes.old nodes.new }
+        ensures known { AreKnown session.now nodes.new self.new }
+    {
+        let (spelled, ty) = two_elements(nodes.allocator(), session, list)?;
+        let name = name(nodes, session, spelled)?;
+        let ty = self.ty(nodes, session, ty)?;
+        Ok((name, ty))
+    }
+
+    // The pairs of a list of lists of a variable and a term.
+    fn term_pairs(
+        &mut self,
+        nodes: &mut Nodes,
+        session: &Session,
+        list: StepId,
+    ) -> Result<Vec<(VariableNode, TermId)>, Memory>
+        requires run { IsRun session.now }
+        requires list { list < length session.now.trace }
+        requires known { AreKnown session.now nodes.old self.old }
+        ensures made { IfOk result (λ ps. AreTermPairsOf session.now nodes.new list ps.items) }
+        ensures extends { Extends nodes.old nodes.new }
+        ensures known { AreKnown session.now nodes.new self.new }
+    {
+        let alloc = nodes.allocator();
+        let steps = elements(alloc, session, list)?;
+        let mut found = Vec::new(alloc);
+        for step in &steps {
+            let pair = self.term_pair(nodes, session, *step)?;
+            found.push(pair)?;
+        }
+        Ok(found)
+    }
+
+    // The variable and the term of a list of the two.
+    fn term_pair(
+        &mut self,
+        nodes: &mut Nodes,
+        session: &Session,
+        list: StepId,
+    ) -> Result<(VariableNode, TermId), Memory>
+        requires run { IsRun session.now }
+        requires list { list < length session.now.trace }
+        requires known { AreKnown session.now nodes.old self.old }
+        ensures made { IfOk result (IsTermPairOf session.now nodes.new list) }
+        ensures extends { Extends nodes.old nodes.new }
+        ensures known { AreKnown session.now nodes.new self.new }
+    {
+        let (first, second) = two_elements(nodes.allocator(), session, list)?;
+        let variable = self.variable(nodes, session, first)?;
+        let term = self.term(nodes, session, second)?;
+        Ok((variable, term))
+    }
+}
+
+// The pairs, of several for one key the first alone.
+fn firsts<K: Copy + Eq + Hash, V: Copy>(
+    alloc: Global,
+    pairs: &[(K, V)],
+) -> Result<Vec<(K, V)>, Memory>
+    ensures { IfOk result (λ v. v.items ≡ all_first K.eq pairs.now) }
+{
+    let mut seen = IndexMap::new(alloc);
+    let mut found = Vec::new(alloc);
+    for pair in pairs {
+        add_first(&mut seen, &mut found, *pair)?;
+    }
+    Ok(found)
+}
+
+// Adds a pair, unless there is one for its key.
+fn add_first<K: Copy + Eq + Hash, V: Copy>(
+    seen: &mut IndexMap<K, V>,
+    found: &mut Vec<(K, V)>,
+    pair: (K, V),
+) -> Result<(), Memory>
+    requires { seen.old.entries ≡ found.old.items }
+    ensures found { OnOk result (found.new.items ≡ with_first K.eq found.old.items pair) }
+    ensures seen { OnOk result (seen.new.entries ≡ found.new.items) }
+{
+    let (key, value) = pair;
+    if seen.contains_key(&key) {
+        return Ok(());
+    }
+    seen.insert(key, value)?;
+    found.push((key, value))?;
+    Ok(())
+}
