@@ -3,6 +3,7 @@ ghost use Rattle.std.specs.Prelude.{◌≡◌, ◌≤◌, ◌++◌, map, IsTrue,
 ghost use Rattle.ot_io.specs.Folder.{has_distinct_paths};
 ghost use Rattle.ot_io.specs.FileList.{folder_of};
 
+mod finding;
 mod hostile;
 mod logs;
 mod reading;
@@ -434,10 +435,10 @@ fn long_names(rt: HostRuntime) -> Result<(), Fail> {
 }
 
 const USAGE: &[u8] =
-    b"usage: opentheory check|info|link|minimise [--packages DIR] INPUT; info also takes --assumptions --definitions --theorems; opentheory sample [--article] N; opentheory info --uses INPUT; opentheory info --readable INPUT; opentheory read INPUT TEXT; opentheory verify LOG\n";
+    b"usage: opentheory check|info|link|minimise [--packages DIR] INPUT; info also takes --assumptions --definitions --theorems; opentheory sample [--article] N; opentheory info --uses INPUT; opentheory info --readable INPUT; opentheory read INPUT TEXT; opentheory prove INPUT; opentheory verify LOG; opentheory find PATTERN INPUT\n";
 
 /// Words that are no command.
-const OTHER_WORDS: [&[&str]; 12] = [
+const OTHER_WORDS: [&[&str]; 15] = [
     &[],
     &["check"],
     &["check", "a", "b"],
@@ -445,6 +446,9 @@ const OTHER_WORDS: [&[&str]; 12] = [
     &["info", "--readable", "--theorems", "a"],
     &["info", "--uses", "--readable", "a"],
     &["check", "-.thy"],
+    &["find", "(p : bool)"],
+    &["find", "", "a.art"],
+    &["find", "-", "a.art"],
     &["link", "a.art"],
     &["sample", "0"],
     &["sample", "1001"],

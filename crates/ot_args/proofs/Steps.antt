@@ -150,3 +150,14 @@ pub command_read : (words : List (String Global)) (word : String Global) (text :
 command_read words word text r h e same named =
     ap command_of (first_text words word text h e same)
     ∙ ap (option_and_then (λ v. option_and_then (command v) (arguments (texts_of (behind words))))) (sym named)
+
+-- no command has no operand, or three
+pub few_operands : (v : Verb) (s : SettingsValue) (words : List (String Global)) → length words ≤ 0 → None ≡ command_with v s (texts_of words)
+few_operands v s [] none = refl
+few_operands v s (word ∷ words) none = absurd (omega arith)
+
+pub many_operands : (v : Verb) (s : SettingsValue) (words : List (String Global)) → 3 ≤ length words → None ≡ command_with v s (texts_of words)
+many_operands v s [] many = absurd (omega arith)
+many_operands v s (one ∷ []) many = absurd (omega arith)
+many_operands v s (one ∷ two ∷ []) many = absurd (omega arith)
+many_operands v s (one ∷ two ∷ three ∷ words) many = refl

@@ -10,7 +10,7 @@ use Rattle.ot_args.specs.declared.command.Command.{Command}
 use Rattle.ot_args.specs.declared.command.Usage.{Usage}
 use Rattle.ot_args.specs.declared.verb.Verb.{Verb}
 use Rattle.ot_args.specs.declared.verb.Verb.TheVariants as verb
-use Rattle.ot_args.specs.Grammar.{OptionValue, Packages, Assumptions, Definitions, Theorems, UsesFlag, ReadableFlag, Article, Arguments, SettingsValue, CommandValue, Check, Info, Uses, Readable, Link, Minimise, Sample, SampleArticle, Verify, Read, packages_name, option_name, option_words, flag_named, flag_or_operand, with_option, operands_alone, are_options, settings_of, packages_of, names_any, shown, is_input, is_text, is_theory, count_of, arguments, argument_words, sample, command, command_on, command_on_two, command_with, command_of, verb_word, verb_named, verb_of, operands_of, FitsOperands, FitsSettings, Writes, IsRead, command_value, answer}
+use Rattle.ot_args.specs.Grammar.{OptionValue, Packages, Assumptions, Definitions, Theorems, UsesFlag, ReadableFlag, Article, Arguments, SettingsValue, CommandValue, Check, Info, Uses, Readable, Link, Minimise, Sample, SampleArticle, Read, Prove, Verify, Find, packages_name, option_name, option_words, flag_named, flag_or_operand, with_option, operands_alone, are_options, settings_of, packages_of, names_any, shown, is_input, is_plain, is_theory, count_of, arguments, argument_words, sample, command, command_on, command_on_two, command_with, command_of, verb_word, verb_named, verb_of, operands_of, FitsOperands, FitsSettings, Writes, IsRead, command_value, answer}
 use Rattle.ot_args.proofs.Counts.{found, finds}
 use Rattle.ot_args.proofs.Steps.{flag_first, operand_first}
 
@@ -96,6 +96,11 @@ arguments_read (Article ∷ os) operands plain = flag_first (option_name Article
 sample_plain : (n : ℕ) → 1 ≤ n → n ≤ 1000 → is_input (decimal n) ≡ true
 sample_plain n one most = high_first (decimal n) (first_decimal n (omega arith) (omega arith))
 
+-- a pattern may be an input's name
+plain_first : (text : List ℕ) → is_plain text ≡ true → is_input text ≡ true
+plain_first [] h = h
+plain_first (b ∷ bs) h = rw h (or_true _)
+
 begins_plain : (c : CommandValue) → FitsOperands c → BeginPlain (operands_of c)
 begins_plain (Check packages input) h = h
 begins_plain (Info packages input sections) h = h
@@ -105,8 +110,10 @@ begins_plain (Link packages file) h = h.0
 begins_plain (Minimise packages input) h = h
 begins_plain (Sample n) h = sample_plain n h.0 h.1
 begins_plain (SampleArticle n) h = sample_plain n h.0 h.1
-begins_plain (Verify log) h = h
 begins_plain (Read packages input text) h = h.0
+begins_plain (Prove packages input) h = h
+begins_plain (Verify log) h = h
+begins_plain (Find packages pattern input) h = plain_first pattern h.0
 
 -- a command whose operand passes its test
 passed : (b : Bool) (c d : CommandValue) (r : Option CommandValue) → b ≡ true → c ≡ d → cond b (Some c) r ≡ Some d
@@ -134,9 +141,12 @@ fits_read (Link packages file) s e h =
 fits_read (Minimise packages input) s e h = passed (is_input input) _ _ _ h (ap (λ (p : List ℕ). Minimise p input) e)
 fits_read (Sample n) s e h = sample_read s.article n _ h.0 h.1 (ap (λ (b : Bool). sample b n) e)
 fits_read (SampleArticle n) s e h = sample_read s.article n _ h.0 h.1 (ap (λ (b : Bool). sample b n) e)
-fits_read (Verify log) s e h = passed (is_input log) _ _ _ h refl
 fits_read (Read packages input text) s e h =
-    passed (is_input input && is_text text) _ _ _ (both (is_input input) (is_text text) h.0 h.1) (ap (λ (p : List ℕ). Read p input text) e)
+    passed (is_input input && is_plain text) _ _ _ (both (is_input input) (is_plain text) h.0 h.1) (ap (λ (p : List ℕ). Read p input text) e)
+fits_read (Prove packages input) s e h = passed (is_input input) _ _ _ h (ap (λ (p : List ℕ). Prove p input) e)
+fits_read (Verify log) s e h = passed (is_input log) _ _ _ h refl
+fits_read (Find packages pattern input) s e h =
+    passed (is_plain pattern && is_input input) _ _ _ (both (is_plain pattern) (is_input input) h.0 h.1) (ap (λ (p : List ℕ). Find p pattern input) e)
 
 -- a command's word names it
 verb_read : (v : Verb) → verb_named (verb_word v) ≡ Some v
@@ -145,8 +155,10 @@ verb_read verb.Info = refl
 verb_read verb.Link = refl
 verb_read verb.Minimise = refl
 verb_read verb.Sample = refl
-verb_read verb.Verify = refl
 verb_read verb.Read = refl
+verb_read verb.Prove = refl
+verb_read verb.Verify = refl
+verb_read verb.Find = refl
 
 -- the command of a word that names it, of arguments that are read, whose options it takes
 command_is : (v : Verb) (a : Arguments) (words : List (List ℕ)) → arguments words ≡ Some a → are_options v a.options ≡ true → command_of (verb_word v ∷ words) ≡ command_with v (settings_of a.options) a.operands
@@ -270,9 +282,12 @@ on_one verb.Link s file c =
 on_one verb.Minimise s input c =
     chosen verb.Minimise s (input ∷ []) (is_input input) c (Minimise (packages_of s) input) (λ h. record { same_verb = refl; same_operands = refl; settings = refl; fits = h })
 on_one verb.Sample s operand c = sample_fits s operand c s.article _ refl refl
+on_one verb.Prove s input c =
+    chosen verb.Prove s (input ∷ []) (is_input input) c (Prove (packages_of s) input) (λ h. record { same_verb = refl; same_operands = refl; settings = refl; fits = h })
 on_one verb.Verify s log c =
     chosen verb.Verify s (log ∷ []) (is_input log) c (Verify log) (λ h. record { same_verb = refl; same_operands = refl; settings = tt; fits = h })
 on_one verb.Read s operand c = λ h. cc
+on_one verb.Find s operand c = λ h. cc
 
 on_two : (v : Verb) (s : SettingsValue) (one two : List ℕ) (c : CommandValue) → command_on_two v s one two ≡ Some c → Fits v s (one ∷ two ∷ []) c
 on_two verb.Check s one two c = λ h. cc
@@ -280,9 +295,12 @@ on_two verb.Info s one two c = λ h. cc
 on_two verb.Link s one two c = λ h. cc
 on_two verb.Minimise s one two c = λ h. cc
 on_two verb.Sample s one two c = λ h. cc
+on_two verb.Prove s one two c = λ h. cc
 on_two verb.Verify s one two c = λ h. cc
 on_two verb.Read s input text c =
-    chosen verb.Read s (input ∷ text ∷ []) (is_input input && is_text text) c (Read (packages_of s) input text) (λ h. record { same_verb = refl; same_operands = refl; settings = refl; fits = (first (is_input input) _ h, second (is_input input) _ h) })
+    chosen verb.Read s (input ∷ text ∷ []) (is_input input && is_plain text) c (Read (packages_of s) input text) (λ h. record { same_verb = refl; same_operands = refl; settings = refl; fits = (first (is_input input) _ h, second (is_input input) _ h) })
+on_two verb.Find s pattern input c =
+    chosen verb.Find s (pattern ∷ input ∷ []) (is_plain pattern && is_input input) c (Find (packages_of s) pattern input) (λ h. record { same_verb = refl; same_operands = refl; settings = refl; fits = (first (is_plain pattern) _ h, second (is_plain pattern) _ h) })
 
 command_fits : (v : Verb) (s : SettingsValue) (operands : List (List ℕ)) (c : CommandValue) → command_with v s operands ≡ Some c → Fits v s operands c
 command_fits v s [] c h = cc
@@ -307,8 +325,10 @@ named word =
     (names_first word verb.Link _ _ (bytes_eq-Decides word (codes "link")).0
     (names_first word verb.Minimise _ _ (bytes_eq-Decides word (codes "minimise")).0
     (names_first word verb.Sample _ _ (bytes_eq-Decides word (codes "sample")).0
+    (names_first word verb.Read _ _ (bytes_eq-Decides word (codes "read")).0
+    (names_first word verb.Prove _ _ (bytes_eq-Decides word (codes "prove")).0
     (names_first word verb.Verify _ _ (bytes_eq-Decides word (codes "verify")).0
-    (names_first word verb.Read _ _ (bytes_eq-Decides word (codes "read")).0 (λ v h. cc)))))))
+    (names_first word verb.Find _ _ (bytes_eq-Decides word (codes "find")).0 (λ v h. cc)))))))))
 
 -- words that are a command's word and arguments
 writes_given : (v : Verb) (words : List (List ℕ)) (c : CommandValue) (a : Arguments) (b : Bool) → arguments words ≡ Some a → are_options v a.options ≡ b → cond b (command_with v (settings_of a.options) a.operands) None ≡ Some c → Writes (verb_word v ∷ words) c

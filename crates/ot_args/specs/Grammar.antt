@@ -7,13 +7,16 @@
 --   link [--packages DIR] FILE
 --   minimise [--packages DIR] INPUT
 --   sample [--article] N
---   verify LOG
 --   read [--packages DIR] INPUT TEXT
+--   prove [--packages DIR] INPUT
+--   verify LOG
+--   find [--packages DIR] PATTERN INPUT
 --
 -- The operands begin at the first word that names no option. DIR isn't empty; without it the folder is `packages`. Where `info`
 -- names no section, it asks for all three; `--uses` and `--readable` stand beside no section, nor beside each other. INPUT and LOG
 -- are `-`, or a name that doesn't begin with `-` and isn't empty; an INPUT that ends in `.thy` is a theory file's name, and FILE is
--- such an INPUT. TEXT doesn't begin with `-` and isn't empty. N is a number from 1 to 1,000 in decimal, without sign or leading zero.
+-- such an INPUT. TEXT and PATTERN don't begin with `-` and aren't empty. N is a number from 1 to 1,000 in decimal, without sign or
+-- leading zero.
 use Rattle.std.specs.Prelude.{◌≡◌, ◌≤◌, ◌↔◌, ℕ, zero, suc, Bool, true, false, not, ◌&&◌, ◌||◌, List, [], ◌∷◌, ◌++◌, map, codes, decimal, nat_eq, String, Option, None, Some, unwrap_or, Result, Ok, Err, if◌then◌else◌}
 use Rattle.std.specs.Global.{Global}
 use Rattle.std.specs.Option.{option_map, option_and_then}
@@ -52,8 +55,8 @@ pub record SettingsValue : Type 0 where
   pub readable : Bool
   pub article : Bool
 
--- a command: Check, Info, Uses, Readable, Link and Minimise have the folder of the packages and the input, Info has the sections
--- too; Read has the text behind them; a sample has its number, and Verify the log
+-- a command: Check, Info, Uses, Readable, Link, Minimise and Prove have the folder of the packages and the input, Info has the
+-- sections too; Read has the text behind them, and Find the pattern between them; a sample has its number, and Verify the log
 pub data CommandValue : Type 0 where
   Check : List ℕ → List ℕ → CommandValue
   Info : List ℕ → List ℕ → Sections → CommandValue
@@ -63,8 +66,10 @@ pub data CommandValue : Type 0 where
   Minimise : List ℕ → List ℕ → CommandValue
   Sample : ℕ → CommandValue
   SampleArticle : ℕ → CommandValue
-  Verify : List ℕ → CommandValue
   Read : List ℕ → List ℕ → List ℕ → CommandValue
+  Prove : List ℕ → List ℕ → CommandValue
+  Verify : List ℕ → CommandValue
+  Find : List ℕ → List ℕ → List ℕ → CommandValue
 
 -- ---- words
 
@@ -75,8 +80,10 @@ verb_word verb.Info = codes "info"
 verb_word verb.Link = codes "link"
 verb_word verb.Minimise = codes "minimise"
 verb_word verb.Sample = codes "sample"
-verb_word verb.Verify = codes "verify"
 verb_word verb.Read = codes "read"
+verb_word verb.Prove = codes "prove"
+verb_word verb.Verify = codes "verify"
+verb_word verb.Find = codes "find"
 
 -- the command that a word names
 abbrev pub verb_named : List ℕ → Option Verb
@@ -86,8 +93,10 @@ verb_named word =
     else if bytes_eq word (codes "link") then Some verb.Link
     else if bytes_eq word (codes "minimise") then Some verb.Minimise
     else if bytes_eq word (codes "sample") then Some verb.Sample
+    else if bytes_eq word (codes "read") then Some verb.Read
+    else if bytes_eq word (codes "prove") then Some verb.Prove
     else if bytes_eq word (codes "verify") then Some verb.Verify
-    else if bytes_eq word (codes "read") then Some verb.Read else None
+    else if bytes_eq word (codes "find") then Some verb.Find else None
 
 -- ---- options
 
@@ -113,8 +122,10 @@ options_of verb.Info =
 options_of verb.Link = packages_name ∷ []
 options_of verb.Minimise = packages_name ∷ []
 options_of verb.Sample = codes "--article" ∷ []
-options_of verb.Verify = []
 options_of verb.Read = packages_name ∷ []
+options_of verb.Prove = packages_name ∷ []
+options_of verb.Verify = []
+options_of verb.Find = packages_name ∷ []
 
 -- a command takes an option
 abbrev pub takes : Verb → OptionValue → Bool
@@ -180,9 +191,9 @@ shown s = if names_any s then s else record { assumptions = true; definitions = 
 abbrev pub is_input : List ℕ → Bool
 is_input text = not (bytes_eq text []) && (bytes_eq text (codes "-") || not (starts_with nat_eq text (codes "-")))
 
--- a text's name: a text that isn't empty and doesn't begin with `-`
-abbrev pub is_text : List ℕ → Bool
-is_text text = not (bytes_eq text []) && not (starts_with nat_eq text (codes "-"))
+-- a text's name, or a pattern: a text that isn't empty and doesn't begin with `-`
+abbrev pub is_plain : List ℕ → Bool
+is_plain text = not (bytes_eq text []) && not (starts_with nat_eq text (codes "-"))
 
 -- a theory file's name; any other file's name is an article's
 abbrev pub is_theory : List ℕ → Bool
@@ -250,12 +261,15 @@ command_on verb.Info s input = if is_input input then info s (packages_of s) inp
 command_on verb.Link s file = if is_input file && is_theory file then Some (Link (packages_of s) file) else None
 command_on verb.Minimise s input = if is_input input then Some (Minimise (packages_of s) input) else None
 command_on verb.Sample s number = option_map (sample s.article) (count_of number)
+command_on verb.Prove s input = if is_input input then Some (Prove (packages_of s) input) else None
 command_on verb.Verify s log = if is_input log then Some (Verify log) else None
 command_on verb.Read s operand = None
+command_on verb.Find s operand = None
 
 -- and its two operands
 abbrev pub command_on_two : Verb → SettingsValue → List ℕ → List ℕ → Option CommandValue
-command_on_two verb.Read s input text = if is_input input && is_text text then Some (Read (packages_of s) input text) else None
+command_on_two verb.Read s input text = if is_input input && is_plain text then Some (Read (packages_of s) input text) else None
+command_on_two verb.Find s pattern input = if is_plain pattern && is_input input then Some (Find (packages_of s) pattern input) else None
 command_on_two _ s first second = None
 
 -- the command of what its options ask for, and its operands
@@ -295,8 +309,10 @@ verb_of (Link _ _) = verb.Link
 verb_of (Minimise _ _) = verb.Minimise
 verb_of (Sample _) = verb.Sample
 verb_of (SampleArticle _) = verb.Sample
-verb_of (Verify _) = verb.Verify
 verb_of (Read _ _ _) = verb.Read
+verb_of (Prove _ _) = verb.Prove
+verb_of (Verify _) = verb.Verify
+verb_of (Find _ _ _) = verb.Find
 
 -- a command's operands
 abbrev pub operands_of : CommandValue → List (List ℕ)
@@ -308,8 +324,10 @@ operands_of (Link _ file) = file ∷ []
 operands_of (Minimise _ input) = input ∷ []
 operands_of (Sample n) = decimal n ∷ []
 operands_of (SampleArticle n) = decimal n ∷ []
-operands_of (Verify log) = log ∷ []
 operands_of (Read _ input text) = input ∷ text ∷ []
+operands_of (Prove _ input) = input ∷ []
+operands_of (Verify log) = log ∷ []
+operands_of (Find _ pattern input) = pattern ∷ input ∷ []
 
 -- the operands are such as the command may have
 abbrev pub FitsOperands : CommandValue → Type 0
@@ -321,8 +339,10 @@ FitsOperands (Link _ file) = (is_input file ≡ true) × (is_theory file ≡ tru
 FitsOperands (Minimise _ input) = is_input input ≡ true
 FitsOperands (Sample n) = (1 ≤ n) × (n ≤ 1000)
 FitsOperands (SampleArticle n) = (1 ≤ n) × (n ≤ 1000)
+FitsOperands (Read _ input text) = (is_input input ≡ true) × (is_plain text ≡ true)
+FitsOperands (Prove _ input) = is_input input ≡ true
 FitsOperands (Verify log) = is_input log ≡ true
-FitsOperands (Read _ input text) = (is_input input ≡ true) × (is_text text ≡ true)
+FitsOperands (Find _ pattern input) = (is_plain pattern ≡ true) × (is_input input ≡ true)
 
 -- the command has what its options ask for
 abbrev pub FitsSettings : SettingsValue → CommandValue → Type 0
@@ -334,8 +354,10 @@ FitsSettings s (Link packages _) = packages_of s ≡ packages
 FitsSettings s (Minimise packages _) = packages_of s ≡ packages
 FitsSettings s (Sample _) = s.article ≡ false
 FitsSettings s (SampleArticle _) = s.article ≡ true
-FitsSettings s (Verify _) = Unit
 FitsSettings s (Read packages _ _) = packages_of s ≡ packages
+FitsSettings s (Prove packages _) = packages_of s ≡ packages
+FitsSettings s (Verify _) = Unit
+FitsSettings s (Find packages _ _) = packages_of s ≡ packages
 
 -- the words are a command's word, options that it takes, and its operands, written out
 pub record Writes (words : List (List ℕ)) (c : CommandValue) : Type 0 where
@@ -365,8 +387,10 @@ command_value (code.Link packages file) = Link packages.now file.now
 command_value (code.Minimise packages input) = Minimise packages.now input.now
 command_value (code.Sample count) = Sample count
 command_value (code.SampleArticle count) = SampleArticle count
-command_value (code.Verify log) = Verify log.now
 command_value (code.Read packages input text) = Read packages.now input.now text.now
+command_value (code.Prove packages input) = Prove packages.now input.now
+command_value (code.Verify log) = Verify log.now
+command_value (code.Find packages pattern input) = Find packages.now pattern.now input.now
 
 -- what the code answers
 abbrev pub answer : Result Command Usage → Option CommandValue

@@ -1,7 +1,7 @@
 ghost use Rattle.std.specs.Prelude.{◌≡◌, ℕ, List, IfOk};
 ghost use Rattle.std.specs.Option.{option_map, option_and_then};
 ghost use Rattle.ot_args.specs.Grammar.{CommandValue, FitsOperands, IsRead, answer, arguments, command, command_of, command_on};
-ghost use Rattle.ot_args.specs.Grammar.{command_on_two, command_value, command_with, count_of, info, is_input, is_text, is_theory, packages_of, sample, texts_of};
+ghost use Rattle.ot_args.specs.Grammar.{command_on_two, command_value, command_with, count_of, info, is_input, is_plain, is_theory, packages_of, sample, texts_of};
 ghost use Rattle.ot_args.specs.Reading.{settings_value};
 
 use crate::arguments::Given;
@@ -53,15 +53,26 @@ pub enum Command<'a> {
     SampleArticle {
         count: u64,
     },
-    /// Checks a proof log, on standard input where it is `-`, else in a file.
-    Verify {
-        log: &'a str,
-    },
     /// Runs the input and reads the lines of a readable text under its notation.
     Read {
         packages: &'a str,
         input: &'a str,
         text: &'a str,
+    },
+    /// Runs the input and writes a proof log of its theorems.
+    Prove {
+        packages: &'a str,
+        input: &'a str,
+    },
+    /// Checks a proof log, on standard input where it is `-`, else in a file.
+    Verify {
+        log: &'a str,
+    },
+    /// Runs the input and searches it, and the packages that it requires, for a pattern.
+    Find {
+        packages: &'a str,
+        pattern: &'a str,
+        input: &'a str,
     },
 }
 
@@ -80,14 +91,17 @@ impl<'a> Command<'a> {
     /// link [--packages DIR] FILE
     /// minimise [--packages DIR] INPUT
     /// sample [--article] N
-    /// verify LOG
     /// read [--packages DIR] INPUT TEXT
+    /// prove [--packages DIR] INPUT
+    /// verify LOG
+    /// find [--packages DIR] PATTERN INPUT
     /// ```
     ///
     /// Options stand before the operands, in any order, each at most once. DIR isn't empty, and is `packages` where the words
     /// name no folder. `info` asks for all three sections where they name none; `--uses` and `--readable` stand beside none of
     /// them, nor beside each other. INPUT and LOG are `-`, or a name that isn't empty and doesn't begin with `-`; FILE is an
-    /// INPUT that ends in `.thy`. TEXT isn't empty and doesn't begin with `-`. N is a number from 1 to 1,000 in decimal, without sign or leading zero.
+    /// INPUT that ends in `.thy`. TEXT and PATTERN aren't empty and don't begin with `-`. N is a number from 1 to 1,000 in
+    /// decimal, without sign or leading zero.
     /// `Usage` comes exactly for words outside this grammar, which is the program's own. No memory is taken.
     pub fn read(words: &'a [String]) -> Result<Command<'a>, Usage>
         ensures value { answer result ≡ command_of (texts_of words.now) }
@@ -120,6 +134,7 @@ fn read_behind<'a>(verb: Verb, words: &'a [String]) -> Result<Command<'a>, Usage
 }
 
 /// The command of what its options ask for and its operands.
+#[tactic(auto, using(crate::proofs::Steps::few_operands, crate::proofs::Steps::many_operands))]
 fn command_with<'a>(
     verb: Verb,
     settings: Settings<'a>,
@@ -153,6 +168,7 @@ fn command_on<'a>(
         }),
         Verb::Minimise if is_input(input) => Ok(Command::Minimise { packages, input }),
         Verb::Sample => sample(settings.article, operand),
+        Verb::Prove if is_input(input) => Ok(Command::Prove { packages, input }),
         Verb::Verify if is_input(operand) => Ok(Command::Verify { log: operand }),
         _ => Err(Usage),
     }
@@ -169,10 +185,15 @@ fn command_on_two<'a>(
 {
     let packages = folder_of(settings);
     match verb {
-        Verb::Read if is_input(first) && is_text(second) => Ok(Command::Read {
+        Verb::Read if is_input(first) && is_plain(second) => Ok(Command::Read {
             packages,
             input: first,
             text: second,
+        }),
+        Verb::Find if is_plain(first) && is_input(second) => Ok(Command::Find {
+            packages,
+            pattern: first,
+            input: second,
         }),
         _ => Err(Usage),
     }
@@ -227,9 +248,9 @@ fn is_input(word: &str) -> bool
     }
 }
 
-/// Whether the word names a text: it isn't empty, and doesn't begin with `-`.
-fn is_text(word: &str) -> bool
-    ensures { result ≡ is_text word.now }
+/// Whether the word names a text, or is a pattern: it isn't empty, and doesn't begin with `-`.
+fn is_plain(word: &str) -> bool
+    ensures { result ≡ is_plain word.now }
 {
     !matches!(word.as_bytes(), [] | [b'-', ..])
 }

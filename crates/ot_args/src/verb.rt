@@ -13,8 +13,10 @@ pub enum Verb {
     Link,
     Minimise,
     Sample,
-    Verify,
     Read,
+    Prove,
+    Verify,
+    Find,
 }
 
 impl Verb {
@@ -36,10 +38,14 @@ impl Verb {
             Some(Verb::Minimise)
         } else if word == "sample" {
             Some(Verb::Sample)
-        } else if word == "verify" {
-            Some(Verb::Verify)
         } else if word == "read" {
             Some(Verb::Read)
+        } else if word == "prove" {
+            Some(Verb::Prove)
+        } else if word == "verify" {
+            Some(Verb::Verify)
+        } else if word == "find" {
+            Some(Verb::Find)
         } else {
             None
         }

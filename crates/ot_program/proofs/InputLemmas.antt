@@ -26,20 +26,38 @@ use Rattle.ot_program.specs.Verdicts.{End, Stopped, end_of, IsAnswer, IsOwnEnd, 
 
 -- ---- theory files
 
-pub limits_are : (l : Limits) → l ≡ record { article_bytes = 4294967296; theory_bytes = 1048576; package_depth = 16; summary_bytes = 67108864; written_bytes = 4294967296 } → l ≡ limits
+pub limits_are : (l : Limits)
+    → l
+    ≡ record {
+      article_bytes = 4294967296;
+      theory_bytes = 1048576;
+      package_depth = 16;
+      summary_bytes = 67108864;
+      written_bytes = 4294967296;
+    } → l ≡ limits
 unfolding limits
 limits_are l same = same
 
 -- a link with the limits of the program
-linked : (s : Session) (r : Result (Vec Export Global) LinkFault) (packages path : List ℕ) (folder : Folder) (l : Limits) → l ≡ limits → Comes s.kernel (ran_of s) r (link (record { folder = folder; packages = packages; limits = l }) path) → Comes s.kernel (ran_of s) r (theory_run packages path folder)
+linked : (s : Session) (r : Result (Vec Export Global) LinkFault) (packages path : List ℕ) (folder : Folder) (l : Limits)
+    → l ≡ limits → Comes s.kernel (ran_of s) r (link (record { folder = folder; packages = packages; limits = l }) path)
+    → Comes s.kernel (ran_of s) r (theory_run packages path folder)
 unfolding theory_run
-linked s r packages path folder l same comes = subst (λ (m : Limits). Comes s.kernel (ran_of s) r (link (record { folder = folder; packages = packages; limits = m }) path)) same comes
+linked s r packages path folder l same comes =
+    subst (λ (m : Limits). Comes s.kernel (ran_of s) r (link (record { folder = folder; packages = packages; limits = m }) path))
+    same comes
 
-pub theory_comes : (s : Session) (r : Result (Vec Export Global) LinkFault) (packages path : List ℕ) (folder : Option Folder) (l : Limits) → l ≡ limits → IfSome folder (λ files. Comes s.kernel (ran_of s) r (link (record { folder = files; packages = packages; limits = l }) path)) → IfSome folder (λ files. Comes s.kernel (ran_of s) r (theory_run packages path files))
+pub theory_comes : (s : Session) (r : Result (Vec Export Global) LinkFault)
+    (packages path : List ℕ) (folder : Option Folder) (l : Limits)
+    → l ≡ limits
+    → IfSome folder (λ files. Comes s.kernel (ran_of s) r
+    (link (record { folder = files; packages = packages; limits = l }) path))
+    → IfSome folder (λ files. Comes s.kernel (ran_of s) r (theory_run packages path files))
 theory_comes s r packages path None l same comes = tt
 theory_comes s r packages path (Some files) l same comes = linked s r packages path files l same comes
 
-comes_answer : (s : Session) (r : Result (Vec Export Global) LinkFault) (l : Linked Ran) → Comes s.kernel (ran_of s) r l → IfSome (end_of s r) (IsAnswer l.answer)
+comes_answer : (s : Session) (r : Result (Vec Export Global) LinkFault) (l : Linked Ran) → Comes s.kernel (ran_of s) r l
+    → IfSome (end_of s r) (IsAnswer l.answer)
 comes_answer s (Ok exports) l comes = comes
 comes_answer s (Err (faults.Article path line fault)) l comes = rw comes.1 comes.2
 comes_answer s (Err (faults.Theory path line fault)) l comes = comes
@@ -50,38 +68,56 @@ comes_answer s (Err (faults.ReadFault path)) l comes = tt
 comes_answer s (Err faults.Memory) l comes = tt
 
 -- the run of a theory file answers what is stated
-pub theory_answer : (s : Session) (r : Result (Vec Export Global) LinkFault) (packages path : List ℕ) (folder : Option Folder) → IfSome folder (λ files. Comes s.kernel (ran_of s) r (theory_run packages path files)) → IfSome folder (λ files. IfSome (end_of s r) (IsAnswer (theory_run packages path files).answer))
+pub theory_answer : (s : Session) (r : Result (Vec Export Global) LinkFault) (packages path : List ℕ) (folder : Option Folder)
+    → IfSome folder (λ files. Comes s.kernel (ran_of s) r (theory_run packages path files))
+    → IfSome folder (λ files. IfSome (end_of s r) (IsAnswer (theory_run packages path files).answer))
 theory_answer s r packages path None comes = tt
 theory_answer s r packages path (Some files) comes = comes_answer s r (theory_run packages path files) comes
 
 -- the faults of articles are no failures
-no_failure : (files : Option (List (List ℕ))) (at : Option (List ℕ)) (o : Option (Fault Name)) (path : List ℕ) (line : ℕ) → IfSome (option_map (λ f. Stopped (InArticle path line f)) o) (IsNeeded files at)
+no_failure : (files : Option (List (List ℕ))) (at : Option (List ℕ)) (o : Option (Fault Name)) (path : List ℕ) (line : ℕ)
+    → IfSome (option_map (λ f. Stopped (InArticle path line f)) o) (IsNeeded files at)
 no_failure files at None path line = tt
 no_failure files at (Some f) path line = tt
 
-read_paths : (s : Session) (packages path : List ℕ) (folder : Option Folder) (p : String Global) → IfSome folder (λ files. Comes s.kernel (ran_of s) (Err (faults.ReadFault p)) (theory_run packages path files)) → IfSome (option_map (λ files. (theory_run packages path files).paths) folder) (IsMember (string_bytes p))
+read_paths : (s : Session) (packages path : List ℕ) (folder : Option Folder) (p : String Global)
+    → IfSome folder (λ files. Comes s.kernel (ran_of s) (Err (faults.ReadFault p)) (theory_run packages path files))
+    → IfSome (option_map (λ files. (theory_run packages path files).paths) folder) (IsMember (string_bytes p))
 read_paths s packages path None p comes = tt
 read_paths s packages path (Some files) p comes = comes
 
 -- a failure of a theory file's run is at a file that it needs
-pub theory_needed : (s : Session) (r : Result (Vec Export Global) LinkFault) (packages path : List ℕ) (folder : Option Folder) (at : Option (List ℕ)) (m m' f f' : ℕ) → IfSome folder (λ files. Comes s.kernel (ran_of s) r (theory_run packages path files)) → IfErr r (λ e. HasLinkCause e m m' f f' at) → IfSome (end_of s r) (IsNeeded (option_map (λ files. (theory_run packages path files).paths) folder) at)
+pub theory_needed : (s : Session) (r : Result (Vec Export Global) LinkFault)
+    (packages path : List ℕ) (folder : Option Folder) (at : Option (List ℕ)) (m m' f f' : ℕ)
+    → IfSome folder (λ files. Comes s.kernel (ran_of s) r (theory_run packages path files))
+    → IfErr r (λ e. HasLinkCause e m m' f f' at)
+    → IfSome (end_of s r) (IsNeeded (option_map (λ files. (theory_run packages path files).paths) folder) at)
 theory_needed s (Ok exports) packages path folder at m m' f f' comes cause = tt
-theory_needed s (Err (faults.Article p line fault)) packages path folder at m m' f f' comes cause = no_failure _ at _ (string_bytes p) line
+theory_needed s (Err (faults.Article p line fault)) packages path folder at m m' f f' comes cause =
+    no_failure _ at _ (string_bytes p) line
 theory_needed s (Err (faults.Theory p line fault)) packages path folder at m m' f f' comes cause = tt
 theory_needed s (Err (faults.Structure p line fault)) packages path folder at m m' f f' comes cause = tt
 theory_needed s (Err (faults.TheoryTooLarge p)) packages path folder at m m' f f' comes cause = tt
 theory_needed s (Err (faults.NoFile p)) packages path folder at m m' f f' comes cause = tt
-theory_needed s (Err (faults.ReadFault p)) packages path folder at m m' f f' comes cause = (read_paths s packages path folder p comes, cause.1)
+theory_needed s (Err (faults.ReadFault p)) packages path folder at m m' f f' comes cause = (
+  read_paths s packages path folder p comes,
+  cause.1,
+)
 theory_needed s (Err faults.Memory) packages path folder at m m' f f' comes cause = tt
 
 -- a fault of an article is no missing file
-article_cause : (o : Option (Fault Name)) (path : List ℕ) (line : ℕ) (P Q : Type 0) → let ended : Option (End Ran Stop) = option_map (λ f. Stopped (InArticle path line f)) o in IfSome ended (HasCause stop_status P Q)
+article_cause : (o : Option (Fault Name)) (path : List ℕ) (line : ℕ) (P Q : Type 0)
+    → let ended : Option (End Ran Stop) =
+    option_map (λ f. Stopped (InArticle path line f)) o in
+    IfSome ended (HasCause stop_status P Q)
 article_cause None path line P Q = tt
 article_cause (Some f) path line P Q = λ is. absurd cc
 
-pub theory_cause : (s : Session) (r : Result (Vec Export Global) LinkFault) (at : Option (List ℕ)) (m m' f f' : ℕ) → IfErr r (λ e. HasLinkCause e m m' f f' at) → IfSome (end_of s r) (HasCause stop_status (Rose f f') (Rose m m'))
+pub theory_cause : (s : Session) (r : Result (Vec Export Global) LinkFault) (at : Option (List ℕ)) (m m' f f' : ℕ)
+    → IfErr r (λ e. HasLinkCause e m m' f f' at) → IfSome (end_of s r) (HasCause stop_status (Rose f f') (Rose m m'))
 theory_cause s (Ok exports) at m m' f f' cause = tt
-theory_cause s (Err (faults.Article p line fault)) at m m' f f' cause = article_cause _ (string_bytes p) line (Rose f f') (Rose m m')
+theory_cause s (Err (faults.Article p line fault)) at m m' f f' cause =
+    article_cause _ (string_bytes p) line (Rose f f') (Rose m m')
 theory_cause s (Err (faults.Theory p line fault)) at m m' f f' cause = λ is. absurd cc
 theory_cause s (Err (faults.Structure p line fault)) at m m' f f' cause = λ is. absurd cc
 theory_cause s (Err (faults.TheoryTooLarge p)) at m m' f f' cause = λ is. absurd cc
@@ -92,23 +128,30 @@ theory_cause s (Err faults.Memory) at m m' f f' cause = tt
 -- ---- an article on its own
 
 alone_bytes : (s : Session) (r : Result (Vec Export Global) LinkFault) (path bytes : List ℕ) (max : ℕ) → max ≡ article_limit
-    → Comes s.kernel (ran_of s) r (answered_by path (article_end path (run no_context (lines_of max bytes) start))) → IfSome (end_of s r) (IsAnswer (article_end path (outcome bytes)))
+    → Comes s.kernel (ran_of s) r (answered_by path (article_end path (run no_context (lines_of max bytes) start)))
+    → IfSome (end_of s r) (IsAnswer (article_end path (outcome bytes)))
 alone_bytes s r path bytes max limit comes =
-    comes_answer s r (answered_by path (article_end path (outcome bytes))) (subst (λ n. Comes s.kernel (ran_of s) r (answered_by path (article_end path (run no_context (lines_of n bytes) start)))) limit comes)
+    comes_answer s r (answered_by path (article_end path (outcome bytes)))
+    (subst (λ n. Comes s.kernel (ran_of s) r (answered_by path (article_end path (run no_context (lines_of n bytes) start))))
+    limit comes)
 
 -- it answers what is stated
-pub alone_answer : (s : Session) (r : Result (Vec Export Global) LinkFault) (path : List ℕ) (left : Option (List ℕ)) (max : ℕ) → max ≡ article_limit
-    → IfSome left (λ bytes. Comes s.kernel (ran_of s) r (answered_by path (article_end path (run no_context (lines_of max bytes) start))))
+pub alone_answer : (s : Session) (r : Result (Vec Export Global) LinkFault) (path : List ℕ) (left : Option (List ℕ)) (max : ℕ)
+    → max ≡ article_limit
+    → IfSome left (λ bytes. Comes s.kernel (ran_of s) r
+    (answered_by path (article_end path (run no_context (lines_of max bytes) start))))
     → IfSome left (λ bytes. IfSome (end_of s r) (IsAnswer (article_end path (outcome bytes))))
 alone_answer s r path None max limit comes = tt
 alone_answer s r path (Some bytes) max limit comes = alone_bytes s r path bytes max limit comes
 
-own_article : (o : Option (Fault Name)) (p path : List ℕ) (line : ℕ) → p ≡ path → let ended : Option (End Ran Stop) = option_map (λ f. Stopped (InArticle p line f)) o in IfSome ended (IsOwnEnd path)
+own_article : (o : Option (Fault Name)) (p path : List ℕ) (line : ℕ) → p ≡ path
+    → let ended : Option (End Ran Stop) = option_map (λ f. Stopped (InArticle p line f)) o in IfSome ended (IsOwnEnd path)
 own_article None p path line is = tt
 own_article (Some f) p path line is = is
 
 -- at its own path
-pub alone_own : (s : Session) (r : Result (Vec Export Global) LinkFault) (path : List ℕ) → IfErr r (IsOfArticle path) → IfSome (end_of s r) (IsOwnEnd path)
+pub alone_own : (s : Session) (r : Result (Vec Export Global) LinkFault) (path : List ℕ) → IfErr r (IsOfArticle path)
+    → IfSome (end_of s r) (IsOwnEnd path)
 alone_own s (Ok exports) path own = tt
 alone_own s (Err (faults.Article p line fault)) path own = own_article _ (string_bytes p) path line own
 alone_own s (Err (faults.Theory p line fault)) path own = absurd own
@@ -119,7 +162,8 @@ alone_own s (Err (faults.ReadFault p)) path own = own
 alone_own s (Err faults.Memory) path own = tt
 
 -- and fails only where its source does
-pub alone_cause : (s : Session) (r : Result (Vec Export Global) LinkFault) (path : List ℕ) (f f' : ℕ) → IfErr r (IsOfArticle path) → IfErr r (λ e. HasFailed e f f') → IfSome (end_of s r) (HasCause stop_status (Rose f f') ⊥)
+pub alone_cause : (s : Session) (r : Result (Vec Export Global) LinkFault) (path : List ℕ) (f f' : ℕ) → IfErr r (IsOfArticle path)
+    → IfErr r (λ e. HasFailed e f f') → IfSome (end_of s r) (HasCause stop_status (Rose f f') ⊥)
 alone_cause s (Ok exports) path f f' own cause = tt
 alone_cause s (Err (faults.Article p line fault)) path f f' own cause = article_cause _ (string_bytes p) line (Rose f f') ⊥
 alone_cause s (Err (faults.Theory p line fault)) path f f' own cause = absurd own
@@ -134,6 +178,7 @@ alone_cause s (Err faults.Memory) path f f' own cause = tt
 pub lawful_ends : (s : Session) (es : List Export) → IsLawfulSession s → AreLawfulOnce s es → IsLawfulEnds s es
 lawful_ends s es run once = record { run = run; exports = once.exports.lawful; stated = once.exports.stated; apart = once.apart }
 
-pub lawful_end : {E : Type 0} (s : Session) (r : Result (Vec Export Global) E) → IsLawfulSession s → IfOk r (λ es. AreLawfulOnce s es.items) → IfOk r (IsLawfulEnd s)
+pub lawful_end : {E : Type 0} (s : Session) (r : Result (Vec Export Global) E) → IsLawfulSession s
+    → IfOk r (λ es. AreLawfulOnce s es.items) → IfOk r (IsLawfulEnd s)
 lawful_end s (Ok es) run once = lawful_ends s es.items run once
 lawful_end s (Err e) run once = tt

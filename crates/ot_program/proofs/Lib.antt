@@ -7,5 +7,6 @@ pub mod SampleLemmas
 pub mod LogLemmas
 pub mod NotedLemmas
 pub mod ReadingLemmas
+pub mod FindingLemmas
 pub mod VerdictLemmas
 pub mod ReplyLemmas

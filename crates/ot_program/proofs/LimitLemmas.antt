@@ -4,8 +4,9 @@ use Rattle.std.specs.Prelude.{false, nat_le, MatchBool, Result, Ok, Err, IfOk}
 use Rattle.std.proofs.lemmas.Bool.{le-leb}
 use Rattle.std.proofs.lemmas.Bool.Decides.{nat_tests}
 use Rattle.ot_text.specs.Pages.{Appended}
-use Rattle.ot_program.specs.Reply.{summary_limit}
-use Rattle.ot_program.specs.Verdicts.{IsSaid}
+use Rattle.ot_link.specs.Blocks.{Ran}
+use Rattle.ot_program.specs.Reply.{summary_limit, written_limit, log_text}
+use Rattle.ot_program.specs.Verdicts.{IsSaid, LogEndsAs}
 use Rattle.ot_program.specs.declared.report.Verdict.{Verdict}
 use Rattle.ot_program.specs.declared.status.Status.TheVariants.{Accepted, Refused}
 
@@ -17,7 +18,16 @@ pub text_printed : (text line : List ℕ) (max : ℕ) (old : List ℕ) (v : Verd
     → v.status ≡ Accepted → Appended text max old v.text.items → IsLimited text line v
 text_printed text line max old v limit empty status printed =
     let within : length text ≤ summary_limit = rw (← limit) printed.within in
-    rw (le-leb (length text) summary_limit within) (record { status_is = status; text_is = printed.bytes ∙ ap (λ xs. xs ++ text) empty })
+    rw (le-leb (length text) summary_limit within)
+    (record { status_is = status; text_is = printed.bytes ∙ ap (λ xs. xs ++ text) empty })
+
+-- a proof log that was written so
+pub log_written : (path : List ℕ) (r : Ran) (max : ℕ) (old : List ℕ) (v : Verdict) → max ≡ written_limit → old ≡ []
+    → v.status ≡ Accepted → (v.text.items ≡ old ++ log_text r) × (length (log_text r) ≤ max) → LogEndsAs path r v
+log_written path r max old v limit empty status written =
+    let within : length (log_text r) ≤ written_limit = rw (← limit) written.1 in
+    rw (le-leb (length (log_text r)) written_limit within)
+    (record { status_is = status; text_is = written.0 ∙ ap (λ xs. xs ++ log_text r) empty })
 
 pub too_long : (n limit : ℕ) → limit < n → nat_le n limit ≡ false
 too_long n limit h = grind (arith, nat_tests)

@@ -47,16 +47,21 @@ theory_comes : (r : Result (Vec Name Global) LinkFault) (path : List ℕ) (folde
     → ((k : State) → Comes k (λ ns. ns.items) r (shown (record { folder = folder; packages = []; limits = l }) path))
     → (k : State) → Comes k (λ ns. ns.items) r (theory_shown path folder)
 unfolding theory_shown
-theory_comes r path folder l same comes k = subst (λ (m : Limits). Comes k (λ ns. ns.items) r (shown (record { folder = folder; packages = []; limits = m }) path)) same (comes k)
+theory_comes r path folder l same comes k =
+    subst (λ (m : Limits). Comes k (λ ns. ns.items) r (shown (record { folder = folder; packages = []; limits = m }) path))
+    same (comes k)
 
 told_comes : (r : Result (Vec Name Global) LinkFault) (path : List ℕ) (folder : Option Folder) (l : Limits) → l ≡ limits
-    → IfSome folder (λ files. (k : State) → Comes k (λ ns. ns.items) r (shown (record { folder = files; packages = []; limits = l }) path))
+    → IfSome folder (λ files. (k : State)
+    → Comes k (λ ns. ns.items) r (shown (record { folder = files; packages = []; limits = l }) path))
     → IfSome (option_map (theory_shown path) folder) (λ x. (k : State) → Comes k (λ ns. ns.items) r x)
 told_comes r path None l same comes = tt
 told_comes r path (Some files) l same comes = theory_comes r path files l same comes
 
-pub shown_comes : (r : Result (Vec Name Global) LinkFault) (path : List ℕ) (folder : Option Folder) (l : Limits) → l ≡ limits → is_theory path ≡ true
-    → IfSome folder (λ files. (k : State) → Comes k (λ ns. ns.items) r (shown (record { folder = files; packages = []; limits = l }) path))
+pub shown_comes : (r : Result (Vec Name Global) LinkFault) (path : List ℕ) (folder : Option Folder) (l : Limits) → l ≡ limits
+    → is_theory path ≡ true
+    → IfSome folder (λ files. (k : State)
+    → Comes k (λ ns. ns.items) r (shown (record { folder = files; packages = []; limits = l }) path))
     → IfSome (shown_at path folder) (λ x. (k : State) → Comes k (λ ns. ns.items) r x)
 shown_comes r path folder l same theory comes = rw theory (told_comes r path folder l same comes)
 
@@ -73,7 +78,8 @@ no_standard path theory = go (is_standard path) refl where
 -- ---- the end of the run
 
 -- after what is shown
-pub ends : (k : State) (names : Vec Name Global) (xs : Option (Linked (List Name))) (ran : Option (Linked Ran)) (o : Option (End Ran Stop))
+pub ends : (k : State) (names : Vec Name Global) (xs : Option (Linked (List Name)))
+    (ran : Option (Linked Ran)) (o : Option (End Ran Stop))
     → IfSome xs (λ x. (k : State) → Comes k (λ (ns : Vec Name Global). ns.items) (Ok names) x)
     → IfSome o (λ e. IfSome (option_map (λ l. l.answer) ran) (λ answer. IsAnswer answer e))
     → IfSome (option_map (noted_end names.items) o) (λ e. IfSome (noted_told xs ran) (λ answer. IsAnswer answer e))
@@ -85,7 +91,8 @@ ends k names (Some x) (Some l) (Some (Stopped s)) shows ended = rw (shows k, end
 ends k names (Some x) (Some l) (Some (Failed path)) shows ended = tt
 
 -- by a stop of what is shown
-stop_told : (xs : Option (Linked (List Name))) (ran : Option (Linked Ran)) (s : Stop) → IfSome xs (λ x. x.answer ≡ Err s) → IfSome (noted_told xs ran) (λ answer. answer ≡ Err s)
+stop_told : (xs : Option (Linked (List Name))) (ran : Option (Linked Ran)) (s : Stop) → IfSome xs (λ x. x.answer ≡ Err s)
+    → IfSome (noted_told xs ran) (λ answer. answer ≡ Err s)
 stop_told None ran s is = tt
 stop_told (Some x) None s is = tt
 stop_told (Some x) (Some l) s is = rw is refl
@@ -116,12 +123,14 @@ stops k (faults.ReadFault path) (Some x) ran comes = unsaid (noted_told (Some x)
 stops k faults.Memory (Some x) ran comes = tt
 
 -- a stop comes to the same whatever is shown
-same_article : (ns : List Name) (path : List ℕ) (line : ℕ) (o : Option (Fault Name)) → let ended : Option (End Ran Stop) = option_map (λ f. Stopped (InArticle path line f)) o in
+same_article : (ns : List Name) (path : List ℕ) (line : ℕ) (o : Option (Fault Name))
+    → let ended : Option (End Ran Stop) = option_map (λ f. Stopped (InArticle path line f)) o in
     option_map (noted_end ns) ended ≡ option_map (noted_end []) ended
 same_article ns path line None = refl
 same_article ns path line (Some f) = refl
 
-pub same_stop : (ns : List Name) (k : State) (e : LinkFault) → option_map (noted_end ns) (end_at k e) ≡ option_map (noted_end []) (end_at k e)
+pub same_stop : (ns : List Name) (k : State) (e : LinkFault)
+    → option_map (noted_end ns) (end_at k e) ≡ option_map (noted_end []) (end_at k e)
 same_stop ns k (faults.Article path line fault) = same_article ns (string_bytes path) line _
 same_stop ns k (faults.Theory path line fault) = refl
 same_stop ns k (faults.Structure path line fault) = refl
@@ -132,66 +141,89 @@ same_stop ns k faults.Memory = refl
 
 -- ---- its place
 
-later_member : (p : List ℕ) (xs : Option (Linked (List Name))) (paths : Option (List (List ℕ))) → IfSome paths (IsMember p) → IfSome (opened_first xs paths) (IsMember p)
+later_member : (p : List ℕ) (xs : Option (Linked (List Name))) (paths : Option (List (List ℕ))) → IfSome paths (IsMember p)
+    → IfSome (opened_first xs paths) (IsMember p)
 later_member p None paths is = tt
 later_member p (Some x) None is = tt
 later_member p (Some x) (Some ps) is = IsMember-right p x.paths ps is
 
-first_member : (p : List ℕ) (xs : Option (Linked (List Name))) (paths : Option (List (List ℕ))) → IfSome xs (λ x. IsMember p x.paths) → IfSome (opened_first xs paths) (IsMember p)
+first_member : (p : List ℕ) (xs : Option (Linked (List Name))) (paths : Option (List (List ℕ)))
+    → IfSome xs (λ x. IsMember p x.paths) → IfSome (opened_first xs paths) (IsMember p)
 first_member p None paths is = tt
 first_member p (Some x) None is = tt
 first_member p (Some x) (Some ps) is = IsMember-left p x.paths ps is
 
-later_path : (b : Bool) (path p : List ℕ) (xs : Option (Linked (List Name))) (paths : Option (List (List ℕ))) (at : Option (List ℕ))
+later_path : (b : Bool) (path p : List ℕ) (xs : Option (Linked (List Name)))
+    (paths : Option (List (List ℕ))) (at : Option (List ℕ))
     → MatchBool b (p ≡ path) (IfSome paths (IsMember p) × IfSome at (λ asked. p ≡ asked))
     → MatchBool b (p ≡ path) (IfSome (opened_first xs paths) (IsMember p) × IfSome at (λ asked. p ≡ asked))
 later_path true path p xs paths at is = is
 later_path false path p xs paths at is = (later_member p xs paths is.0, is.1)
 
 first_path : (b : Bool) (path p : List ℕ) (paths : Option (List (List ℕ))) (at : Option (List ℕ)) → b ≡ false
-    → IfSome paths (IsMember p) × IfSome at (λ asked. p ≡ asked) → MatchBool b (p ≡ path) (IfSome paths (IsMember p) × IfSome at (λ asked. p ≡ asked))
+    → IfSome paths (IsMember p) × IfSome at (λ asked. p ≡ asked)
+    → MatchBool b (p ≡ path) (IfSome paths (IsMember p) × IfSome at (λ asked. p ≡ asked))
 first_path true path p paths at file is = cc
 first_path false path p paths at file is = is
 
 -- in the run
-pub places : (names : List Name) (packages path : List ℕ) (view : View) (folder : Option Folder) (at : Option (List ℕ)) (o : Option (End Ran Stop))
-    → IfSome o (IsPlace (RunInput packages path view) folder at) → IfSome (option_map (noted_end names) o) (IsPlace (ShowReadable packages path) folder at)
+pub places : (names : List Name) (packages path : List ℕ) (view : View)
+    (folder : Option Folder) (at : Option (List ℕ)) (o : Option (End Ran Stop))
+    → IfSome o (IsPlace (RunInput packages path view) folder at)
+    → IfSome (option_map (noted_end names) o) (IsPlace (ShowReadable packages path) folder at)
 places names packages path view folder at None place = tt
 places names packages path view folder at (Some (Finished r)) place = tt
 places names packages path view folder at (Some (Stopped s)) place = place
-places names packages path view folder at (Some (Failed p)) place = later_path (is_standard path) path p (shown_at path folder) (opened_at packages path folder) at place
+places names packages path view folder at (Some (Failed p)) place =
+    later_path (is_standard path) path p (shown_at path folder) (opened_at packages path folder) at place
 
 -- or before it
 theory_stop : (path : List ℕ) (s : Stop) → is_theory path ≡ true → IsInputStop path s
 theory_stop path s theory = rw theory tt
 
-article_place : (packages path : List ℕ) (folder : Option Folder) (at : Option (List ℕ)) (p : List ℕ) (line : ℕ) (o : Option (Fault Name)) → is_theory path ≡ true
+article_place : (packages path : List ℕ) (folder : Option Folder)
+    (at : Option (List ℕ)) (p : List ℕ) (line : ℕ) (o : Option (Fault Name))
+    → is_theory path ≡ true
     → let e : Option (End Ran Stop) = option_map (λ f. Stopped (InArticle p line f)) o in
     IfSome (option_map (noted_end []) e) (IsPlace (ShowReadable packages path) folder at)
 article_place packages path folder at p line None theory = tt
 article_place packages path folder at p line (Some f) theory = theory_stop path (InArticle p line f) theory
 
-read_member : (k : State) (p : String Global) (xs : Option (Linked (List Name))) → IfSome xs (λ x. (k : State) → Comes k (λ (ns : Vec Name Global). ns.items) (Err (faults.ReadFault p)) x) → IfSome xs (λ x. IsMember (string_bytes p) x.paths)
+read_member : (k : State) (p : String Global) (xs : Option (Linked (List Name)))
+    → IfSome xs (λ x. (k : State) → Comes k (λ (ns : Vec Name Global). ns.items) (Err (faults.ReadFault p)) x)
+    → IfSome xs (λ x. IsMember (string_bytes p) x.paths)
 read_member k p None comes = tt
 read_member k p (Some x) comes = comes k
 
-pub stop_places : (k : State) (e : LinkFault) (packages path : List ℕ) (folder : Option Folder) (at : Option (List ℕ)) (m m' f f' : ℕ) → is_theory path ≡ true
+pub stop_places : (k : State) (e : LinkFault) (packages path : List ℕ)
+    (folder : Option Folder) (at : Option (List ℕ)) (m m' f f' : ℕ)
+    → is_theory path ≡ true
     → IfSome (shown_at path folder) (λ x. (k : State) → Comes k (λ (ns : Vec Name Global). ns.items) (Err e) x)
     → HasLinkCause e m m' f f' at
     → IfSome (option_map (noted_end []) (end_at k e)) (IsPlace (ShowReadable packages path) folder at)
-stop_places k (faults.Article p line fault) packages path folder at m m' f f' theory comes cause = article_place packages path folder at (string_bytes p) line _ theory
-stop_places k (faults.Theory p line fault) packages path folder at m m' f f' theory comes cause = theory_stop path (InTheory (string_bytes p) line fault) theory
-stop_places k (faults.Structure p line fault) packages path folder at m m' f f' theory comes cause = theory_stop path (InStructure (string_bytes p) line fault) theory
-stop_places k (faults.TheoryTooLarge p) packages path folder at m m' f f' theory comes cause = theory_stop path (TooLarge (string_bytes p)) theory
-stop_places k (faults.NoFile p) packages path folder at m m' f f' theory comes cause = theory_stop path (Missing (string_bytes p)) theory
+stop_places k (faults.Article p line fault) packages path folder at m m' f f' theory comes cause =
+    article_place packages path folder at (string_bytes p) line _ theory
+stop_places k (faults.Theory p line fault) packages path folder at m m' f f' theory comes cause =
+    theory_stop path (InTheory (string_bytes p) line fault) theory
+stop_places k (faults.Structure p line fault) packages path folder at m m' f f' theory comes cause =
+    theory_stop path (InStructure (string_bytes p) line fault) theory
+stop_places k (faults.TheoryTooLarge p) packages path folder at m m' f f' theory comes cause =
+    theory_stop path (TooLarge (string_bytes p)) theory
+stop_places k (faults.NoFile p) packages path folder at m m' f f' theory comes cause =
+    theory_stop path (Missing (string_bytes p)) theory
 stop_places k (faults.ReadFault p) packages path folder at m m' f f' theory comes cause =
-    first_path (is_standard path) path (string_bytes p) (opened_first (shown_at path folder) (opened_at packages path folder)) at (no_standard path theory)
-    (first_member (string_bytes p) (shown_at path folder) (opened_at packages path folder) (read_member k p (shown_at path folder) comes), cause.1)
+    first_path (is_standard path) path (string_bytes p)
+    (opened_first (shown_at path folder) (opened_at packages path folder)) at (no_standard path theory) (
+      first_member (string_bytes p) (shown_at path folder)
+          (opened_at packages path folder) (read_member k p (shown_at path folder) comes),
+      cause.1,
+    )
 stop_places k faults.Memory packages path folder at m m' f f' theory comes cause = tt
 
 -- ---- its cause
 
-pub causes : (names : List Name) (P Q P' Q' : Type 0) (o : Option (End Ran Stop)) → (P → P') → (Q → Q') → IfSome o (HasCause stop_status P Q)
+pub causes : (names : List Name) (P Q P' Q' : Type 0) (o : Option (End Ran Stop)) → (P → P') → (Q → Q')
+    → IfSome o (HasCause stop_status P Q)
     → IfSome (option_map (noted_end names) o) (HasCause stop_status P' Q')
 causes names P Q P' Q' None failed missed cause = tt
 causes names P Q P' Q' (Some (Finished r)) failed missed cause = tt
@@ -199,17 +231,21 @@ causes names P Q P' Q' (Some (Stopped s)) failed missed cause = λ is. missed (c
 causes names P Q P' Q' (Some (Failed p)) failed missed cause = failed cause
 
 -- of a stop before the run
-pub stop_causes : (s : Session) (e : LinkFault) (path : List ℕ) (at : Option (List ℕ)) (m m' f f' i j : ℕ) → is_theory path ≡ true → HasLinkCause e m m' f f' at
+pub stop_causes : (s : Session) (e : LinkFault) (path : List ℕ) (at : Option (List ℕ)) (m m' f f' i j : ℕ) → is_theory path ≡ true
+    → HasLinkCause e m m' f f' at
     → IfSome (option_map (noted_end []) (end_at s.kernel e)) (HasCause stop_status (FailedAt path i j f f') (Rose m m'))
 stop_causes s e path at m m' f f' i j theory cause =
-    causes [] (Rose f f') (Rose m m') (FailedAt path i j f f') (Rose m m') (end_at s.kernel e) (λ r. rw (no_standard path theory) r) (λ r. r) (theory_cause s (Err e) at m m' f f' cause)
+    causes [] (Rose f f') (Rose m m') (FailedAt path i j f f') (Rose m m') (end_at s.kernel e)
+    (λ r. rw (no_standard path theory) r) (λ r. r) (theory_cause s (Err e) at m m' f f' cause)
 
 -- the path that was asked for last
-pub lasts : (P : Type 0) (names : List Name) (o : Option (End Ran Stop)) → IfSome o (λ _. P) → IfSome (option_map (noted_end names) o) (λ _. P)
+pub lasts : (P : Type 0) (names : List Name) (o : Option (End Ran Stop)) → IfSome o (λ _. P)
+    → IfSome (option_map (noted_end names) o) (λ _. P)
 lasts P names None last = tt
 lasts P names (Some e) last = last
 
-pub stop_last : {X : Type 0} (path : List ℕ) (folder : Option Folder) (at : Option (List ℕ)) (o : Option X) → is_theory path ≡ true → IfSome o (λ _. LastInput path folder at)
+pub stop_last : {X : Type 0} (path : List ℕ) (folder : Option Folder) (at : Option (List ℕ)) (o : Option X)
+    → is_theory path ≡ true → IfSome o (λ _. LastInput path folder at)
 stop_last path folder at None theory = tt
 stop_last path folder at (Some x) theory = rw (no_standard path theory, theory) tt
 
@@ -218,11 +254,13 @@ pub rose_later : (a b c : ℕ) → a ≤ b → Rose b c → Rose a c
 rose_later a b c h r =
     let first : min (a + 1) 18446744073709551615 ≤ a + 1 = min-le_left (a + 1) 18446744073709551615 in
     let next : min (a + 1) 18446744073709551615 ≤ b + 1 = omega arith in
-    let most : min (a + 1) 18446744073709551615 ≤ min (b + 1) 18446744073709551615 = le-min next (min-le_right (a + 1) 18446744073709551615) in
+    let most : min (a + 1) 18446744073709551615 ≤ min (b + 1) 18446744073709551615 =
+    le-min next (min-le_right (a + 1) 18446744073709551615) in
     let later : min (b + 1) 18446744073709551615 ≤ c = r in
     omega arith
 
-pub failed_later : (path : List ℕ) (i j a b c : ℕ) → a ≤ b → MatchBool (is_standard path) (Rose i j) (Rose b c) → MatchBool (is_standard path) (Rose i j) (Rose a c)
+pub failed_later : (path : List ℕ) (i j a b c : ℕ) → a ≤ b → MatchBool (is_standard path) (Rose i j) (Rose b c)
+    → MatchBool (is_standard path) (Rose i j) (Rose a c)
 failed_later path i j a b c h r = go (is_standard path) r where
   go : (t : Bool) → MatchBool t (Rose i j) (Rose b c) → MatchBool t (Rose i j) (Rose a c)
   go true r = r
@@ -231,26 +269,37 @@ failed_later path i j a b c h r = go (is_standard path) r where
 -- ---- its verdict
 
 -- on a stop
-stop_verdict_on : (packages path : List ℕ) (names : List Name) (v : Verdict) (o : Option (End Ran Stop)) → IsSomeAnd o (IsStopVerdict v) → IsVerdictOf (ShowReadable packages path) (option_map (noted_end names) o) v
+stop_verdict_on : (packages path : List ℕ) (names : List Name) (v : Verdict) (o : Option (End Ran Stop))
+    → IsSomeAnd o (IsStopVerdict v) → IsVerdictOf (ShowReadable packages path) (option_map (noted_end names) o) v
 stop_verdict_on packages path names v None said = said
 stop_verdict_on packages path names v (Some (Finished r)) said = absurd said
 stop_verdict_on packages path names v (Some (Stopped s)) said = said
 stop_verdict_on packages path names v (Some (Failed p)) said = said
 
-pub stop_verdict : {E : Type 0} (packages path : List ℕ) (names : List Name) (a : Result Verdict E) (o : Option (End Ran Stop)) → IfOk a (λ v. IsSomeAnd o (IsStopVerdict v))
+pub stop_verdict : {E : Type 0} (packages path : List ℕ) (names : List Name) (a : Result Verdict E) (o : Option (End Ran Stop))
+    → IfOk a (λ v. IsSomeAnd o (IsStopVerdict v))
     → IfOk a (IsVerdictOf (ShowReadable packages path) (option_map (noted_end names) o))
 stop_verdict packages path names (Err e) o said = tt
 stop_verdict packages path names (Ok v) o said = stop_verdict_on packages path names v o said
 
 -- on a run that ended
-pub end_verdict : {E : Type 0} (packages path : List ℕ) (n : Noted) (a : Result Verdict E) → IfOk a (ReadableEndsAs path n) → OnOk a (nat_le (length (readable n)) summary_limit ≡ true → AreReadBack n)
-    → IsProved (run_lists n.ran) → OneSequent → OneSequentInFront → IfOk a (IsVerdictOf (ShowReadable packages path) (Some (Finished n)))
+pub end_verdict : {E : Type 0} (packages path : List ℕ) (n : Noted) (a : Result Verdict E) → IfOk a (ReadableEndsAs path n)
+    → OnOk a (nat_le (length (readable n)) summary_limit ≡ true → AreReadBack n)
+    → IsProved (run_lists n.ran) → OneSequent → OneSequentInFront
+    → IfOk a (IsVerdictOf (ShowReadable packages path) (Some (Finished n)))
 end_verdict packages path n (Err e) said back proved one front = tt
-end_verdict packages path n (Ok v) said back proved one front = record { ends = said; proved = proved; promised = back; one_text = one; one_in_front = front }
+end_verdict packages path n (Ok v) said back proved one front = record {
+  ends = said;
+  proved = proved;
+  promised = back;
+  one_text = one;
+  one_in_front = front;
+}
 
 -- ---- its text
 
-module _ (names : List Name) (s : Session) (seen : State) (es : List Export) (ths : List ℕ) (r : IsRun s) (same : seen ≡ s.kernel) (are : ths ≡ map (λ e. e.th) es) where
+module _ (names : List Name) (s : Session) (seen : State) (es : List Export) (ths : List ℕ)
+    (r : IsRun s) (same : seen ≡ s.kernel) (are : ths ≡ map (λ e. e.th) es) where
   exports : map (theorem_at seen) ths ≡ exports_of (ran_from s es)
   exports = (λ i. map (theorem_at (same i)) (are i)) ∙ map-map (theorem_at s.kernel) (λ e. e.th) es ∙ sym (exports_are s es)
 
@@ -267,47 +316,62 @@ module _ (names : List Name) (s : Session) (seen : State) (es : List Export) (th
   text_is : summary_at seen (hidden_at seen names ths) ths ≡ readable (noted_from names s es)
   text_is = λ i. readable_summary (hidden_in_run names (assumptions i) (exports i) (definitions i)) (assumptions i) (exports i)
 
-  pub read_back : ReadBack (hidden_at seen names ths) seen.assumptions (map (theorem_at seen) ths) → AreReadBack (noted_from names s es)
+  pub read_back : ReadBack (hidden_at seen names ths) seen.assumptions (map (theorem_at seen) ths)
+      → AreReadBack (noted_from names s es)
   read_back back =
-      subst (λ (l : List (Sequent Name) × List (Sequent Name) × List (Definition Name)). ReadBack (hidden_in_run names l.0 l.1 l.2) l.0 l.1)
+      subst (λ (l : List (Sequent Name) × List (Sequent Name) × List (Definition Name)).
+      ReadBack (hidden_in_run names l.0 l.1 l.2) l.0 l.1)
       (λ i. (assumptions i, exports i, definitions i)) back
 
   -- where it was printed it is accepted
   pub printed : (path : List ℕ) (max : ℕ) (old : List ℕ) (v : Verdict) → max ≡ summary_limit → old ≡ [] → v.status ≡ Accepted
-      → Appended (summary_at seen (hidden_at seen names ths) ths) max old v.text.items → ReadableEndsAs path (noted_from names s es) v
+      → Appended (summary_at seen (hidden_at seen names ths) ths) max old v.text.items
+      → ReadableEndsAs path (noted_from names s es) v
   printed path max old v limit empty status put =
-      text_printed (readable (noted_from names s es)) (large_line path) max old v limit empty status (subst (λ (t : List ℕ). Appended t max old v.text.items) text_is put)
+      text_printed (readable (noted_from names s es)) (large_line path) max old v limit
+      empty status (subst (λ (t : List ℕ). Appended t max old v.text.items) text_is put)
 
   -- and where its bytes are past the limit it is refused
-  pub refused : {E : Type 0} (path : List ℕ) (max : ℕ) (a : Result Verdict E) → max ≡ summary_limit → max < length (summary_at seen (hidden_at seen names ths) ths)
+  pub refused : {E : Type 0} (path : List ℕ) (max : ℕ) (a : Result Verdict E) → max ≡ summary_limit
+      → max < length (summary_at seen (hidden_at seen names ths) ths)
       → IfOk a (λ v. IsSaid v Refused (large_line path)) → IfOk a (ReadableEndsAs path (noted_from names s es))
   refused path max a limit past said =
-      text_too_large (readable (noted_from names s es)) (large_line path) max a limit (subst (λ (t : List ℕ). max < length t) text_is past) said
+      text_too_large (readable (noted_from names s es)) (large_line path)
+      max a limit (subst (λ (t : List ℕ). max < length t) text_is past) said
 
   -- and then nothing is promised
-  pub unpromised : {E : Type 0} (max : ℕ) (a : Result Verdict E) → max ≡ summary_limit → max < length (summary_at seen (hidden_at seen names ths) ths)
+  pub unpromised : {E : Type 0} (max : ℕ) (a : Result Verdict E) → max ≡ summary_limit
+      → max < length (summary_at seen (hidden_at seen names ths) ths)
       → OnOk a (nat_le (length (readable (noted_from names s es))) summary_limit ≡ true → AreReadBack (noted_from names s es))
   unpromised max (Err e) limit past = tt
   unpromised max (Ok v) limit past = λ fit. absurd (not_both _ (subst (λ (t : List ℕ). max < length t) text_is past) fit) where
     not_both : (n : ℕ) → max < n → nat_le n summary_limit ≡ true → ⊥
-    not_both n h fit = let k : nat_le n summary_limit ≡ false = too_long n summary_limit (omega arith) in let e : true ≡ false = sym fit ∙ k in cc
+    not_both n h fit =
+        let k : nat_le n summary_limit ≡ false =
+        too_long n summary_limit (omega arith) in
+        let e : true ≡ false = sym fit ∙ k in cc
 
 -- ---- the devices
 
-pub leaves : {F S : Type 0} (path : List ℕ) (f g h : F) (i j : S) → (is_theory path ≡ true) ⊎ (g ≡ f) → LeavesOther path g h i j → LeavesOther path f h i j
+pub leaves : {F S : Type 0} (path : List ℕ) (f g h : F) (i j : S) → (is_theory path ≡ true) ⊎ (g ≡ f) → LeavesOther path g h i j
+    → LeavesOther path f h i j
 leaves path f g h i j (inl theory) other = rw (no_standard path theory) (rw (no_standard path theory) at other)
 leaves path f g h i j (inr same) other = subst (λ x. LeavesOther path x h i j) same other
 
-pub closes : {F : Type 0} (left : F → Option (List ℕ)) (f g h : F) → (g ≡ f) ⊎ (left g ≡ Some []) → (h ≡ g) ⊎ (left h ≡ Some []) → (h ≡ f) ⊎ (left h ≡ Some [])
+closes : {F : Type 0} (left : F → Option (List ℕ)) (f g h : F) → (g ≡ f) ⊎ (left g ≡ Some []) → (h ≡ g) ⊎ (left h ≡ Some [])
+    → (h ≡ f) ⊎ (left h ≡ Some [])
 closes left f g h (inl a) (inl b) = inl (b ∙ a)
 closes left f g h (inr a) (inl b) = inr (ap left b ∙ a)
 closes left f g h first (inr b) = inr b
 
-pub keeps : {F : Type 0} (folder : F → Option Folder) (faults misses : F → ℕ) (f g h : F) → KeepsFiles folder faults misses f g → KeepsFiles folder faults misses g h → KeepsFiles folder faults misses f h
-keeps folder faults misses f g h a b = record {
+pub keeps : {F : Type 0} (folder : F → Option Folder) (faults misses : F → ℕ) (left : F → Option (List ℕ)) (f g h : F)
+    → KeepsFiles folder faults misses left f g → KeepsFiles folder faults misses left g h
+    → KeepsFiles folder faults misses left f h
+keeps folder faults misses left f g h a b = record {
   same_folder = b.same_folder ∙ a.same_folder;
   later_faults = later (faults f) (faults g) (faults h) a.later_faults b.later_faults;
   later_misses = later (misses f) (misses g) (misses h) a.later_misses b.later_misses;
+  closed = closes left f g h a.closed b.closed;
 } where
   later : (x y z : ℕ) → x ≤ y → y ≤ z → x ≤ z
   later x y z p q = omega arith

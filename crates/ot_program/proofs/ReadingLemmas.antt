@@ -5,7 +5,7 @@ use Rattle.std.specs.Global.{Global}
 use Rattle.std.proofs.lemmas.Bool.{le-leb}
 use Rattle.std.specs.Option.{option_map, option_and_then}
 use Rattle.ot_plain.specs.Names.{Name}
-use Rattle.ot_plain.specs.Trees.{Sequent, Symbol}
+use Rattle.ot_plain.specs.Trees.{Tm, Sequent, Symbol}
 use Rattle.ot_io.specs.Folder.{Folder, GivesFile, path_asked, bytes_at}
 use Rattle.ot_args.specs.Grammar.{is_theory}
 use Rattle.ot_kernel.specs.State.{State}
@@ -21,9 +21,10 @@ use Rattle.ot_theory.specs.Lines.{LineText}
 use Rattle.ot_forms.specs.Words.{IsNotation}
 use Rattle.ot_pretty.specs.Summary.{hidden_at, IsHiddenAt}
 use Rattle.ot_pretty.proofs.SameSymbols.{alike-at, stated-notation}
-use Rattle.ot_read.specs.Lines.{lines_read}
-use Rattle.ot_read.specs.Laws.{LinesReadByForms, TextsReadByForms, AreRead, StandFor}
-use Rattle.ot_read.proofs.Alike.{lines-alike}
+use Rattle.ot_forms.specs.Refusals.{ReadsAsTerm}
+use Rattle.ot_read.specs.Lines.{lines_read, term_read}
+use Rattle.ot_read.specs.Laws.{TermsReadByForms, LinesReadByForms, TextsReadByForms, AreRead, StandFor}
+use Rattle.ot_read.proofs.Alike.{term-alike, lines-alike}
 use Rattle.ot_program.specs.Reply.{ShowReadable, ReadLines, Noted, Readings, ReadStop, InInput, TextTooLarge, notation, run_lists, is_standard, text_limit, text_in, read_in, read_behind, stop_status, read_status}
 use Rattle.ot_program.specs.Answer.{IsProved, LeavesOther, LeavesAlone, LastInput, LastOf}
 use Rattle.ot_program.specs.Verdicts.{End, Finished, Stopped, Failed, IsAnswer, IsPlace, HasCause, noted_from, noted_end, stop_end, read_end_of, IsStopVerdict, IsVerdictOf, IsPrintedAs}
@@ -41,7 +42,8 @@ untold None = tt
 untold (Some x) = tt
 
 -- behind a run that ended
-pub behind : (text : List ℕ) (folder : Option Folder) (told : Option (Result Noted Stop)) (n : Noted) (o : Option (End Readings ReadStop))
+pub behind : (text : List ℕ) (folder : Option Folder)
+    (told : Option (Result Noted Stop)) (n : Noted) (o : Option (End Readings ReadStop))
     → IfSome told (λ answer. answer ≡ Ok n) → IfSome folder (λ files. IfSome o (IsAnswer (read_in n text files)))
     → IfSome o (λ e. IfSome (option_and_then (read_behind text folder) told) (λ answer. IsAnswer answer e))
 behind text folder None n o ran read = untold o
@@ -49,14 +51,16 @@ behind text None (Some answer) n o ran read = rw ran (untold o)
 behind text (Some files) (Some answer) n o ran read = rw ran read
 
 -- and behind one that stopped, or failed
-input_stop : (text : List ℕ) (folder : Option Folder) (told : Option (Result Noted Stop)) (s : Stop) → IfSome told (λ answer. answer ≡ Err s)
+input_stop : (text : List ℕ) (folder : Option Folder) (told : Option (Result Noted Stop)) (s : Stop)
+    → IfSome told (λ answer. answer ≡ Err s)
     → IfSome (option_and_then (read_behind text folder) told) (λ answer. answer ≡ Err (InInput s))
 input_stop text folder None s is = tt
 input_stop text folder (Some answer) s is = rw is refl
 
 pub stop_behind : (text : List ℕ) (folder : Option Folder) (told : Option (Result Noted Stop)) (o : Option (End Ran Stop))
     → IfSome (option_map (noted_end []) o) (λ e. IfSome told (λ answer. IsAnswer answer e))
-    → IfSome (option_and_then stop_end o) (λ e. IfSome (option_and_then (read_behind text folder) told) (λ answer. IsAnswer answer e))
+    → IfSome (option_and_then stop_end o) (λ e. IfSome
+    (option_and_then (read_behind text folder) told) (λ answer. IsAnswer answer e))
 stop_behind text folder told None ended = tt
 stop_behind text folder told (Some (Finished r)) ended = tt
 stop_behind text folder told (Some (Stopped s)) ended = input_stop text folder told s ended
@@ -71,7 +75,9 @@ asked_text (Some files) text = go (bytes_at files text) where
   go None = tt
   go (Some bytes) = refl
 
-pub text_place : (packages path text : List ℕ) (folder : Option Folder) (at : Option (List ℕ)) (n : Noted) (r : Result LinesRead ReadingRefusal) → at ≡ path_asked folder text
+pub text_place : (packages path text : List ℕ) (folder : Option Folder)
+    (at : Option (List ℕ)) (n : Noted) (r : Result LinesRead ReadingRefusal)
+    → at ≡ path_asked folder text
     → IfSome (read_end_of text n r) (IsPlace (ReadLines packages path text) folder at)
 text_place packages path text folder at n (Ok read) last = tt
 text_place packages path text folder at n (Err (readings.At line column fault)) last = tt
@@ -81,7 +87,8 @@ text_place packages path text folder at n (Err readings.ReadFault) last = inr (r
 text_place packages path text folder at n (Err readings.Memory) last = tt
 
 pub input_place : (packages path text : List ℕ) (folder : Option Folder) (at : Option (List ℕ)) (o : Option (End Ran Stop))
-    → IfSome (option_map (noted_end []) o) (IsPlace (ShowReadable packages path) folder at) → IfSome (option_and_then stop_end o) (IsPlace (ReadLines packages path text) folder at)
+    → IfSome (option_map (noted_end []) o) (IsPlace (ShowReadable packages path) folder at)
+    → IfSome (option_and_then stop_end o) (IsPlace (ReadLines packages path text) folder at)
 input_place packages path text folder at None place = tt
 input_place packages path text folder at (Some (Finished r)) place = tt
 input_place packages path text folder at (Some (Stopped s)) place = place
@@ -89,13 +96,16 @@ input_place packages path text folder at (Some (Failed failed)) place = inl plac
 
 -- ---- its cause
 
-pub text_cause : (P Q P' Q' : Type 0) (o : Option (End Readings ReadStop)) → (P → P') → (Q → Q') → IfSome o (HasCause read_status P Q) → IfSome o (HasCause read_status P' Q')
+pub text_cause : (P Q P' Q' : Type 0) (o : Option (End Readings ReadStop)) → (P → P') → (Q → Q')
+    → IfSome o (HasCause read_status P Q) → IfSome o (HasCause read_status P' Q')
 text_cause P Q P' Q' None failed missed cause = tt
 text_cause P Q P' Q' (Some (Finished r)) failed missed cause = tt
 text_cause P Q P' Q' (Some (Stopped s)) failed missed cause = λ is. missed (cause is)
 text_cause P Q P' Q' (Some (Failed p)) failed missed cause = failed cause
 
-pub input_cause : (P Q P' : Type 0) (o : Option (End Ran Stop)) → (P → P') → IfSome (option_map (noted_end []) o) (HasCause stop_status P Q) → IfSome (option_and_then stop_end o) (HasCause read_status P' Q)
+pub input_cause : (P Q P' : Type 0) (o : Option (End Ran Stop)) → (P → P')
+    → IfSome (option_map (noted_end []) o) (HasCause stop_status P Q)
+    → IfSome (option_and_then stop_end o) (HasCause read_status P' Q)
 input_cause P Q P' None failed cause = tt
 input_cause P Q P' (Some (Finished r)) failed cause = tt
 input_cause P Q P' (Some (Stopped s)) failed cause = cause
@@ -103,21 +113,25 @@ input_cause P Q P' (Some (Failed p)) failed cause = failed cause
 
 -- ---- the path that was asked for last
 
-pub text_last : {X : Type 0} (path text : List ℕ) (folder : Option Folder) (at : Option (List ℕ)) (o : Option X) → at ≡ path_asked folder text → IfSome o (λ _. LastOf path text folder at)
+pub text_last : {X : Type 0} (path text : List ℕ) (folder : Option Folder) (at : Option (List ℕ)) (o : Option X)
+    → at ≡ path_asked folder text → IfSome o (λ _. LastOf path text folder at)
 text_last path text folder at None last = tt
 text_last path text folder at (Some x) last = go (is_standard path || is_theory path) where
   go : (b : Bool) → MatchBool b (Unit {0}) ((at ≡ path_asked folder path) ⊎ (at ≡ path_asked folder text))
   go true = tt
   go false = inr last
 
-input_last_of : (path text : List ℕ) (folder : Option Folder) (at : Option (List ℕ)) → LastInput path folder at → LastOf path text folder at
+input_last_of : (path text : List ℕ) (folder : Option Folder) (at : Option (List ℕ)) → LastInput path folder at
+    → LastOf path text folder at
 input_last_of path text folder at last = go (is_standard path || is_theory path) last where
-  go : (b : Bool) → MatchBool b (Unit {0}) (at ≡ path_asked folder path) → MatchBool b (Unit {0}) ((at ≡ path_asked folder path) ⊎ (at ≡ path_asked folder text))
+  go : (b : Bool) → MatchBool b (Unit {0}) (at ≡ path_asked folder path)
+      → MatchBool b (Unit {0}) ((at ≡ path_asked folder path) ⊎ (at ≡ path_asked folder text))
   go true h = tt
   go false h = inl h
 
 pub input_last : (path text : List ℕ) (folder : Option Folder) (at : Option (List ℕ)) (o : Option (End Ran Stop))
-    → IfSome (option_map (noted_end []) o) (λ _. LastInput path folder at) → IfSome (option_and_then stop_end o) (λ _. LastOf path text folder at)
+    → IfSome (option_map (noted_end []) o) (λ _. LastInput path folder at)
+    → IfSome (option_and_then stop_end o) (λ _. LastOf path text folder at)
 input_last path text folder at None last = tt
 input_last path text folder at (Some (Finished r)) last = tt
 input_last path text folder at (Some (Stopped s)) last = input_last_of path text folder at last
@@ -125,26 +139,37 @@ input_last path text folder at (Some (Failed p)) last = input_last_of path text 
 
 -- ---- its verdict
 
-input_verdict_on : (packages path text : List ℕ) (v : Verdict) (o : Option (End Ran Stop)) → IsSomeAnd o (IsStopVerdict v) → IsVerdictOf (ReadLines packages path text) (option_and_then stop_end o) v
+input_verdict_on : (packages path text : List ℕ) (v : Verdict) (o : Option (End Ran Stop)) → IsSomeAnd o (IsStopVerdict v)
+    → IsVerdictOf (ReadLines packages path text) (option_and_then stop_end o) v
 input_verdict_on packages path text v None said = said
 input_verdict_on packages path text v (Some (Finished r)) said = absurd said
 input_verdict_on packages path text v (Some (Stopped s)) said = said
 input_verdict_on packages path text v (Some (Failed p)) said = said
 
-pub input_verdict : {E : Type 0} (packages path text : List ℕ) (a : Result Verdict E) (o : Option (End Ran Stop)) → IfOk a (λ v. IsSomeAnd o (IsStopVerdict v))
+pub input_verdict : {E : Type 0} (packages path text : List ℕ) (a : Result Verdict E) (o : Option (End Ran Stop))
+    → IfOk a (λ v. IsSomeAnd o (IsStopVerdict v))
     → IfOk a (IsVerdictOf (ReadLines packages path text) (option_and_then stop_end o))
 input_verdict packages path text (Err e) o said = tt
 input_verdict packages path text (Ok v) o said = input_verdict_on packages path text v o said
 
 -- on lines that were read
-pub lines_verdict : {E : Type 0} (packages path text : List ℕ) (r : Readings) (a : Result Verdict E) → IfOk a (IsPrintedAs path r.sequents) → IsProved (run_lists r.noted.ran)
-    → StandFor (notation r.noted) r.lines r.sequents → OneSequent → OneSequentInFront → IfOk a (IsVerdictOf (ReadLines packages path text) (Some (Finished r)))
+pub lines_verdict : {E : Type 0} (packages path text : List ℕ) (r : Readings) (a : Result Verdict E)
+    → IfOk a (IsPrintedAs path r.sequents) → IsProved (run_lists r.noted.ran)
+    → StandFor (notation r.noted) r.lines r.sequents → OneSequent → OneSequentInFront
+    → IfOk a (IsVerdictOf (ReadLines packages path text) (Some (Finished r)))
 lines_verdict packages path text r (Err e) said proved stand one front = tt
-lines_verdict packages path text r (Ok v) said proved stand one front = record { ends = said; proved = proved; promised = λ fit. stand; one_text = one; one_in_front = front }
+lines_verdict packages path text r (Ok v) said proved stand one front = record {
+  ends = said;
+  proved = proved;
+  promised = λ fit. stand;
+  one_text = one;
+  one_in_front = front;
+}
 
 -- ---- the devices
 
-pub leaves_alone : {F S : Type 0} (packages path text : List ℕ) (f g h : F) (i j : S) → LeavesOther path f g i j → LeavesAlone (ReadLines packages path text) f h i j
+pub leaves_alone : {F S : Type 0} (packages path text : List ℕ) (f g h : F) (i j : S) → LeavesOther path f g i j
+    → LeavesAlone (ReadLines packages path text) f h i j
 leaves_alone packages path text f g h i j other = go (is_standard path) other where
   go : (b : Bool) → MatchBool b (g ≡ f) (j ≡ i) → MatchBool b (Unit {0}) (j ≡ i)
   go true h = tt
@@ -152,7 +177,8 @@ leaves_alone packages path text f g h i j other = go (is_standard path) other wh
 
 -- ---- the lines under the notation of a run
 
-module _ (names : List Name) (s : Session) (seen : State) (es : List Export) (ths : List ℕ) (r : IsRun s) (same : seen ≡ s.kernel) (are : ths ≡ map (λ e. e.th) es)
+module _ (names : List Name) (s : Session) (seen : State) (es : List Export)
+    (ths : List ℕ) (r : IsRun s) (same : seen ≡ s.kernel) (are : ths ≡ map (λ e. e.th) es)
     (hidden : List (Symbol Name)) (is : IsHiddenAt seen names ths hidden) (nt : IsNotation hidden) where
   abbrev stated : List (Symbol Name)
   stated = notation (noted_from names s es)
@@ -163,16 +189,31 @@ module _ (names : List Name) (s : Session) (seen : State) (es : List Export) (th
   -- whichever order the code's symbols have
   pub same_lines : LinesReadByForms → (ls : List LineText) → lines_read hidden ls ≡ lines_read stated ls
   same_lines forms ls =
-      lines-alike hidden (hidden_at seen names ths) (alike-at seen names ths hidden is) nt (stated-notation seen names ths hidden is nt) forms ls
+      lines-alike hidden (hidden_at seen names ths) (alike-at seen names ths hidden is)
+      nt (stated-notation seen names ths hidden is nt) forms ls
       ∙ ap (λ h. lines_read h ls) is_stated
 
-  pub they_stand : TextsReadByForms → (ls : List LineText) (qs : List (Sequent Name)) → lines_read stated ls ≡ Ok qs → StandFor stated ls qs
-  they_stand texts ls qs e = subst (AreRead stated ls) e (texts stated (subst IsNotation is_stated (stated-notation seen names ths hidden is nt)) ls)
+  pub they_stand : TextsReadByForms → (ls : List LineText) (qs : List (Sequent Name)) → lines_read stated ls ≡ Ok qs
+      → StandFor stated ls qs
+  they_stand texts ls qs e =
+      subst (AreRead stated ls) e (texts stated (subst IsNotation is_stated (stated-notation seen names ths hidden is nt)) ls)
+
+  -- and of a text of one term
+  pub same_term : TermsReadByForms → (text : List ℕ) → term_read hidden text ≡ term_read stated text
+  same_term forms text =
+      term-alike hidden (hidden_at seen names ths) (alike-at seen names ths hidden is)
+      nt (stated-notation seen names ths hidden is nt) forms text
+      ∙ ap (λ h. term_read h text) is_stated
+
+  pub term_stands : TermsReadByForms → (text : List ℕ) (p : Tm Name) → term_read stated text ≡ Ok p → ReadsAsTerm stated text p
+  term_stands forms text p e =
+      ((forms stated (subst IsNotation is_stated (stated-notation seen names ths hidden is nt)) text).stands p).0 e
 
 -- each list of sequents that was read stands for the lines
 pub all_stand : {E : Type 0} (hidden : List (Symbol Name)) (ls : List LineText) (a : Result (Vec Readable Global) E)
     → ((qs : List (Sequent Name)) → lines_read hidden ls ≡ Ok qs → StandFor hidden ls qs)
-    → IfOk a (λ read. lines_read hidden ls ≡ Ok (map sequent_of read.items)) → IfOk a (λ read. StandFor hidden ls (map sequent_of read.items))
+    → IfOk a (λ read. lines_read hidden ls ≡ Ok (map sequent_of read.items))
+    → IfOk a (λ read. StandFor hidden ls (map sequent_of read.items))
 all_stand hidden ls (Ok read) stand is = stand (map sequent_of read.items) is
 all_stand hidden ls (Err e) stand is = tt
 
@@ -190,15 +231,18 @@ take_within (suc n) [] = omega arith
 take_within (suc n) (x ∷ xs) = let h = take_within n xs in omega (arith, h)
 
 module _ (text : List ℕ) where
-  fits_in : (files : Folder) (bytes all : List ℕ) → bytes_at files text ≡ Some all → bytes ≡ take (text_limit + 1) all → length bytes ≤ text_limit → text_in text files ≡ Ok bytes
+  fits_in : (files : Folder) (bytes all : List ℕ) → bytes_at files text ≡ Some all → bytes ≡ take (text_limit + 1) all
+      → length bytes ≤ text_limit → text_in text files ≡ Ok bytes
   fits_in files bytes all has is short =
       let one : text_limit + 1 ≡ suc text_limit = omega arith in
       let taken : bytes ≡ take (suc text_limit) all = is ∙ ap (λ n. take n all) one in
       let whole : bytes ≡ all = taken ∙ short_take text_limit all (subst (λ (x : List ℕ). length x ≤ text_limit) taken short) in
-      let within : nat_le (length all) text_limit ≡ true = le-leb (length all) text_limit (subst (λ (x : List ℕ). length x ≤ text_limit) whole short) in
+      let within : nat_le (length all) text_limit ≡ true =
+      le-leb (length all) text_limit (subst (λ (x : List ℕ). length x ≤ text_limit) whole short) in
       rw (has, within) (ap Ok (sym whole))
 
-  too_large_in : (files : Folder) (bytes all : List ℕ) → bytes_at files text ≡ Some all → bytes ≡ take (text_limit + 1) all → text_limit < length bytes → text_in text files ≡ Err TextTooLarge
+  too_large_in : (files : Folder) (bytes all : List ℕ) → bytes_at files text ≡ Some all → bytes ≡ take (text_limit + 1) all
+      → text_limit < length bytes → text_in text files ≡ Err TextTooLarge
   too_large_in files bytes all has is long =
       let most = take_within (text_limit + 1) all in
       let size = ap length is in
@@ -206,14 +250,18 @@ module _ (text : List ℕ) where
       rw (has, past) refl
 
   -- of a file that was opened
-  pub text_fits : (folder : Option Folder) (left : Option (List ℕ)) (bytes : List ℕ) → IfSome folder (λ files. GivesFile files text left) → IfSome left (λ all. bytes ≡ take (text_limit + 1) all)
+  pub text_fits : (folder : Option Folder) (left : Option (List ℕ)) (bytes : List ℕ)
+      → IfSome folder (λ files. GivesFile files text left) → IfSome left (λ all. bytes ≡ take (text_limit + 1) all)
       → length bytes ≤ text_limit → IfSome folder (λ files. text_in text files ≡ Ok bytes)
   text_fits None left bytes gives is short = tt
   text_fits (Some files) left bytes gives is short =
-      fits_in files bytes gives.0 gives.1 (subst (λ (l : Option (List ℕ)). IfSome l (λ all. bytes ≡ take (text_limit + 1) all)) gives.2 is) short
+      fits_in files bytes gives.0 gives.1
+      (subst (λ (l : Option (List ℕ)). IfSome l (λ all. bytes ≡ take (text_limit + 1) all)) gives.2 is) short
 
-  pub text_too_long : (folder : Option Folder) (left : Option (List ℕ)) (bytes : List ℕ) → IfSome folder (λ files. GivesFile files text left) → IfSome left (λ all. bytes ≡ take (text_limit + 1) all)
+  pub text_too_long : (folder : Option Folder) (left : Option (List ℕ)) (bytes : List ℕ)
+      → IfSome folder (λ files. GivesFile files text left) → IfSome left (λ all. bytes ≡ take (text_limit + 1) all)
       → text_limit < length bytes → IfSome folder (λ files. text_in text files ≡ Err TextTooLarge)
   text_too_long None left bytes gives is long = tt
   text_too_long (Some files) left bytes gives is long =
-      too_large_in files bytes gives.0 gives.1 (subst (λ (l : Option (List ℕ)). IfSome l (λ all. bytes ≡ take (text_limit + 1) all)) gives.2 is) long
+      too_large_in files bytes gives.0 gives.1
+      (subst (λ (l : Option (List ℕ)). IfSome l (λ all. bytes ≡ take (text_limit + 1) all)) gives.2 is) long

@@ -19,17 +19,27 @@ use Rattle.ot_program.specs.declared.report.Verdict.{Verdict}
 use Rattle.ot_program.specs.declared.status.Status.TheVariants.{Accepted}
 
 -- a sample whose run ended
-pub sample_ended : {E : Type 0} (n : ℕ) (r : Ran) (a : Result Verdict E) → IfOk a (EndsAs (RunSample n) r) → OnOk a (article_fits r ≡ true → IsRewritten r)
+pub sample_ended : {E : Type 0} (n : ℕ) (r : Ran) (a : Result Verdict E) → IfOk a (EndsAs (RunSample n) r)
+    → OnOk a (article_fits r ≡ true → IsRewritten r)
     → IsProved (run_lists r) → OneSequent → OneSequentInFront → IfOk a (IsVerdictOf (RunSample n) (Some (Finished r)))
 sample_ended n r (Err e) ends rewritten proved one front = tt
-sample_ended n r (Ok v) ends rewritten proved one front = record { ends = ends; proved = proved; promised = rewritten; one_text = one; one_in_front = front }
+sample_ended n r (Ok v) ends rewritten proved one front = record {
+  ends = ends;
+  proved = proved;
+  promised = rewritten;
+  one_text = one;
+  one_in_front = front;
+}
 
 -- its written article, as a text that is within the limit
 pub written_text : (r : Ran) (o : Option (Vec ℕ Global)) (text : Vec ℕ Global) → o ≡ Some text
-    → IfSome o (λ t. (article_fits r ≡ true) × (t.items ≡ article_text r)) → (article_fits r ≡ true) × (text.items ≡ article_text r)
-written_text r o text is some = subst (λ (x : Option (Vec ℕ Global)). IfSome x (λ t. (article_fits r ≡ true) × (t.items ≡ article_text r))) is some
+    → IfSome o (λ t. (article_fits r ≡ true) × (t.items ≡ article_text r))
+    → (article_fits r ≡ true) × (text.items ≡ article_text r)
+written_text r o text is some =
+    subst (λ (x : Option (Vec ℕ Global)). IfSome x (λ t. (article_fits r ≡ true) × (t.items ≡ article_text r))) is some
 
-pub sample_within : (n : ℕ) (r : Ran) (v : Verdict) → article_fits r ≡ true → v.status ≡ Accepted → v.text.items ≡ sample_line n r → EndsAs (RunSample n) r v
+pub sample_within : (n : ℕ) (r : Ran) (v : Verdict) → article_fits r ≡ true → v.status ≡ Accepted → v.text.items ≡ sample_line n r
+    → EndsAs (RunSample n) r v
 sample_within n r v fit status text = rw fit (record { status_is = status; text_is = text })
 
 -- the run of its article ends as its bytes say
@@ -52,12 +62,29 @@ sample_place n folder at (Some (Finished r)) own cause = tt
 sample_place n folder at (Some (Stopped s)) own cause = own
 sample_place n folder at (Some (Failed path)) own cause = never cause
 
-pub not_failed : {E : Type 0} (a : Result Verdict E) (Q : Verdict → Type 0) → IfOk a (λ v. Q v → Rose 0 0) → IfOk a (λ v. ¬ Q v)
-not_failed (Ok v) Q h = λ q. never (h q)
-not_failed (Err e) Q h = tt
+pub sample_cause : (o : Option (End Ran Stop)) → IfSome o (HasCause stop_status (Rose 0 0) ⊥)
+    → IfSome o (HasCause stop_status ⊥ ⊥)
+sample_cause None cause = tt
+sample_cause (Some (Finished r)) cause = tt
+sample_cause (Some (Stopped s)) cause = cause
+sample_cause (Some (Failed path)) cause = never cause
+
+pub unasked : (o : Option (End Ran Stop)) → IfSome o (λ _. Unit {0})
+unasked None = tt
+unasked (Some e) = tt
 
 -- a sample that is made alone
-pub sample_made : (n : ℕ) (folder : Option Folder) (input at : Option (List ℕ)) (v : Verdict) → IsSaid v Accepted (sample n) → OneSequent → OneSequentInFront → AcceptedLists names [] []
+pub sample_made : (n : ℕ) (folder : Option Folder) (input at : Option (List ℕ)) (v : Verdict) → IsSaid v Accepted (sample n)
+    → OneSequent → OneSequentInFront → AcceptedLists names [] []
     → Says v.status (MakeSample n) folder input at v.text.items
 sample_made n folder input at v said one front none =
-    rw said.status_is (record { made = tt; ended = refl; proved = record { accepted = none; theorems = All-nil (IsTheorem names [] []) }; promised = tt; one_text = one; one_in_front = front; fits_is = refl; text_is = said.text_is })
+    rw said.status_is (record {
+      made = tt;
+      ended = refl;
+      proved = record { accepted = none; theorems = All-nil (IsTheorem names [] []) };
+      promised = tt;
+      one_text = one;
+      one_in_front = front;
+      fits_is = refl;
+      text_is = said.text_is;
+    })

@@ -1,5 +1,5 @@
 -- How the program's status and texts stand to the stated reply.
-use Rattle.std.specs.Prelude.{◌≡◌, ◌⊎◌, ℕ, List, true, false, ◌||◌, Option, Ok, Err, MatchBool, IfSome, IsSomeAnd, ◌≤◌}
+use Rattle.std.specs.Prelude.{◌≡◌, ◌⊎◌, ℕ, List, [], true, false, ◌||◌, Option, Some, Ok, Err, MatchBool, IfSome, IsSomeAnd, ◌≤◌}
 use Rattle.std.specs.List.{All}
 use Rattle.std.specs.Io.KnownBytes.{Appends}
 use Rattle.ot_plain.specs.Naming.{names}
@@ -14,14 +14,20 @@ use Rattle.ot_link.specs.Stops.{Stop, InArticle, InTheory, InStructure, TooLarge
 use Rattle.ot_link.specs.Blocks.{Ran}
 use Rattle.ot_text.specs.Laws.{OneSequent, OneSequentInFront}
 use Rattle.ot_minimise.specs.Minimised.{IsMinimised}
+use Rattle.ot_proof_log.specs.Checked.{IsLogOf}
 use Rattle.ot_uses.specs.Used.{support_of}
 use Rattle.ot_uses.specs.Suffices.{IsSupported}
 use Rattle.ot_pretty.specs.Summary.{ReadBack}
 use Rattle.ot_read.specs.Laws.{StandFor}
+use Rattle.ot_forms.specs.Refusals.{ReadsAsTerm}
+use Rattle.ot_blocks.specs.Paths.{package_path}
+use Rattle.ot_repo.specs.Required.{required}
+use Rattle.ot_repo.specs.Laws.{IsWalked}
+use Rattle.ot_find.specs.Matches.{AreMatches, exports_of as all_exports}
 use Rattle.ot_program.specs.declared.task.View.{View}
-use Rattle.ot_program.specs.declared.task.View.TheVariants.{Counts, Summary, Uses, Article}
+use Rattle.ot_program.specs.declared.task.View.TheVariants.{Counts, Summary, Uses, Article, Log}
 use Rattle.ot_program.specs.Texts.{usage_line, read_fault_line, write_fault_line, memory_line}
-use Rattle.ot_program.specs.Reply.{Reply, TaskValue, RunInput, RunSample, MakeSample, CheckLog, ShowReadable, ReadLines, ReadStop, InInput, sample_path, is_standard, Noted, notation, assumptions_of, exports_of, Product, Halt, Told, result_of, opened, text_of, fits, Lists, lists_of, halt_status, halt_line, over_line, written_limit, article_text}
+use Rattle.ot_program.specs.Reply.{Reply, TaskValue, RunInput, RunSample, MakeSample, CheckLog, ShowReadable, ReadLines, FindPattern, ReadStop, InInput, FindStop, InRequired, InRun, InPattern, Searched, limits, sample_path, is_standard, Noted, notation, assumptions_of, exports_of, sources, found, theory_run, Product, Halt, Told, result_of, opened, text_of, fits, Lists, lists_of, run_lists, halt_status, halt_line, over_line, article_limit, written_limit, article_text, log_text}
 use Rattle.ot_program.specs.declared.status.Status.{Status}
 use Rattle.ot_program.specs.declared.status.Status.TheVariants.{Accepted, Refused, Usage, NoFile, ReadFault, WriteFault, Memory}
 
@@ -67,6 +73,11 @@ pub record IsProved (l : Lists) : Type 0 where
 abbrev pub IsRewritten : Ran → Type 0
 IsRewritten r = IsMinimised written_limit r.run r.exports (article_text r)
 
+-- the check of the proof log of a run ends: with its exports as results, with the definitions that they need in their order, and
+-- with the assumptions that they need
+abbrev pub IsLogged : Ran → Type 0
+IsLogged r = IsLogOf article_limit r.run r.exports (log_text r)
+
 -- each theorem is derivable from what it rests on alone
 abbrev pub AreSupported : Ran → Type 0
 AreSupported r = All (λ e. IsSupported (support_of r.run e)) r.exports
@@ -75,12 +86,20 @@ AreSupported r = All (λ e. IsSupported (support_of r.run e)) r.exports
 abbrev pub AreReadBack : Noted → Type 0
 AreReadBack n = ReadBack (notation n) (assumptions_of n.ran) (exports_of n.ran)
 
+-- the pattern was read by the forms; what is found is exactly what it matches among the exports of the packages and of the
+-- input, in order, with the maps; and the theorems of each package are proved
+pub record IsSearch (pattern path : List ℕ) (s : Searched) : Type 0 where
+  pub reads : ReadsAsTerm (notation s.noted) pattern s.pattern
+  pub matches_are : AreMatches s.pattern (all_exports (sources path s)) (found path s)
+  pub proved : All (λ p. IsProved (run_lists p.ran)) s.packages
+
 -- what a view, and what a task, promises of the run besides
 abbrev pub IsPromisedIn : View → Ran → Type 0
 IsPromisedIn Counts r = Unit {0}
 IsPromisedIn (Summary sections) r = Unit {0}
 IsPromisedIn Uses r = AreSupported r
 IsPromisedIn Article r = IsRewritten r
+IsPromisedIn Log r = IsLogged r
 
 abbrev pub IsPromisedBy : (t : TaskValue) → Product t → Type 0
 IsPromisedBy (RunInput packages path view) r = IsPromisedIn view r
@@ -89,10 +108,12 @@ IsPromisedBy (MakeSample n) x = Unit {0}
 IsPromisedBy (CheckLog path) p = Unit {0}
 IsPromisedBy (ShowReadable packages path) n = AreReadBack n
 IsPromisedBy (ReadLines packages path text) r = StandFor (notation r.noted) r.lines r.sequents
+IsPromisedBy (FindPattern packages pattern path) s = IsSearch pattern path s
 
 -- it is what the task prints of its end, whose theorems are proved; a theorem's own assumptions and definitions suffice for it
--- where they are printed, readable text reads back, lines stand for the sequents that are printed of them, and an article that is
--- written does what it is written for; and a text is that of one sequent, whatever stands behind it
+-- where they are printed, readable text reads back, lines stand for the sequents that are printed of them, matches are exactly
+-- those, an article that is written does what it is written for, and the check of a log that is written ends with the run's
+-- theorems; and a text is that of one sequent, whatever stands behind it
 pub record IsReport (t : TaskValue) (told : Told t) (text : List ℕ) : Type 0 where
   pub made : Product t
   pub ended : IfSome told (λ answer. answer ≡ Ok made)
@@ -120,6 +141,12 @@ abbrev pub IsReadStop : List ℕ → ReadStop → Type 0
 IsReadStop path (InInput stop) = IsInputStop path stop
 IsReadStop path _ = Unit {0}
 
+-- a theory file alone requires packages, and a pattern has stops of its own
+abbrev pub IsFindStop : List ℕ → FindStop → Type 0
+IsFindStop path (InRequired refusal) = is_theory path ≡ true
+IsFindStop path (InRun stop) = IsInputStop path stop
+IsFindStop path (InPattern refused) = Unit {0}
+
 -- a log's is in that log
 abbrev pub IsOwnHalt : (t : TaskValue) → Halt t → Type 0
 IsOwnHalt (RunInput packages path view) stop = IsInputStop path stop
@@ -128,6 +155,7 @@ IsOwnHalt (MakeSample n) stop = Unit {0}
 IsOwnHalt (CheckLog path) stop = Unit {0}
 IsOwnHalt (ShowReadable packages path) stop = IsInputStop path stop
 IsOwnHalt (ReadLines packages path text) stop = IsReadStop path stop
+IsOwnHalt (FindPattern packages pattern path) stop = IsFindStop path stop
 
 -- it is the line of what stopped the task
 pub record IsStopLine (status : Status) (t : TaskValue) (told : Told t) (line : List ℕ) : Type 0 where
@@ -146,17 +174,32 @@ pub record IsLargeLine (t : TaskValue) (told : Told t) (line : List ℕ) : Type 
 
 -- the path is that of an input which is read: `-`, or a file that is needed, which was the last to be asked for
 abbrev pub IsReadPath : List ℕ → Option (List (List ℕ)) → Option (List ℕ) → List ℕ → Type 0
-IsReadPath path files at failed = MatchBool (is_standard path) (failed ≡ path) (IfSome files (IsMember failed) × IfSome at (λ asked. failed ≡ asked))
+IsReadPath path files at failed =
+    MatchBool (is_standard path) (failed ≡ path) (IfSome files (IsMember failed) × IfSome at (λ asked. failed ≡ asked))
+
+-- a file that a search needs besides: one of the walk over what a theory file requires, or one that the run of a package needs
+pub data IsSearchFile (packages path : List ℕ) (folder : Folder) : List ℕ → Type 0 where
+  OfWalk : (file : List ℕ) → IsWalked folder limits.theory_bytes packages path file → IsSearchFile packages path folder file
+  OfPackage : (file full : List ℕ) (fulls : List (List ℕ)) → required folder limits.theory_bytes packages path ≡ Ok fulls
+      → IsMember full fulls
+      → IsMember file (theory_run packages (package_path packages full) folder).paths → IsSearchFile packages path folder file
 
 -- and a text is a file, whatever the input is
 abbrev pub IsFailedPath : TaskValue → Option Folder → Option (List ℕ) → List ℕ → Type 0
-IsFailedPath (RunInput packages path view) folder at failed = IsReadPath path (opened (RunInput packages path view) folder) at failed
+IsFailedPath (RunInput packages path view) folder at failed =
+    IsReadPath path (opened (RunInput packages path view) folder) at failed
 IsFailedPath (RunSample n) folder at failed = IsReadPath sample_path (opened (RunSample n) folder) at failed
 IsFailedPath (MakeSample n) folder at failed = IsReadPath sample_path (opened (MakeSample n) folder) at failed
 IsFailedPath (CheckLog path) folder at failed = IsReadPath path (opened (CheckLog path) folder) at failed
-IsFailedPath (ShowReadable packages path) folder at failed = IsReadPath path (opened (ShowReadable packages path) folder) at failed
+IsFailedPath (ShowReadable packages path) folder at failed =
+    IsReadPath path (opened (ShowReadable packages path) folder) at failed
 IsFailedPath (ReadLines packages path text) folder at failed =
-    IsReadPath path (opened (ReadLines packages path text) folder) at failed ⊎ ((failed ≡ text) × IfSome at (λ asked. failed ≡ asked))
+    IsReadPath path (opened (ReadLines packages path text) folder) at failed
+    ⊎ ((failed ≡ text) × IfSome at (λ asked. failed ≡ asked))
+IsFailedPath (FindPattern packages pattern path) folder at failed =
+    IsReadPath path (opened (FindPattern packages pattern path) folder) at failed
+    ⊎ ((is_theory path ≡ true) × IfSome folder (λ files. IsSearchFile packages path files failed)
+    × IfSome at (λ asked. failed ≡ asked))
 
 -- it is the line for an input that failed
 pub record IsFailureLine (t : TaskValue) (folder : Option Folder) (at : Option (List ℕ)) (line : List ℕ) : Type 0 where
@@ -167,7 +210,8 @@ pub record IsFailureLine (t : TaskValue) (folder : Option Folder) (at : Option (
 -- what a text says with which a task has this status
 abbrev pub Says : Status → TaskValue → Option Folder → Option (List ℕ) → Option (List ℕ) → List ℕ → Type 0
 Says Accepted t folder input at text = IsReport t (result_of t folder input) text
-Says Refused t folder input at line = IsStopLine Refused t (result_of t folder input) line ⊎ IsLargeLine t (result_of t folder input) line
+Says Refused t folder input at line =
+    IsStopLine Refused t (result_of t folder input) line ⊎ IsLargeLine t (result_of t folder input) line
 Says NoFile t folder input at line = IsStopLine NoFile t (result_of t folder input) line
 Says ReadFault t folder input at line = IsFailureLine t folder at line
 Says Usage t folder input at line = ⊥
@@ -194,7 +238,8 @@ pub record Prints (status : Status) (t : TaskValue) (told : Told t) (old new : O
 
 -- a sink's bytes grew by a line, or by a front of it where the sink's count of failures rose
 abbrev pub WritesLine : {E : Type 0} → (E → Option (List ℕ)) → (E → ℕ) → E → E → List ℕ → Type 0
-WritesLine written faults old new line = Appends (written old) (written new) line ⊎ (Rose (faults old) (faults new) × AppendsFront (written old) (written new) line)
+WritesLine written faults old new line =
+    Appends (written old) (written new) line ⊎ (Rose (faults old) (faults new) × AppendsFront (written old) (written new) line)
 
 -- the line on standard error that goes with a status
 abbrev pub IsLine : Status → Option TaskValue → Option Folder → Option (List ℕ) → Option (List ℕ) → List ℕ → Type 0
@@ -207,7 +252,8 @@ IsLine WriteFault t folder input at line = line ≡ write_fault_line
 IsLine Memory t folder input at line = line ≡ memory_line
 
 -- one such line was written
-pub record WritesSome {E : Type 0} (IsOne : List ℕ → Type 0) (written : E → Option (List ℕ)) (faults : E → ℕ) (old new : E) : Type 0 where
+pub record WritesSome {E : Type 0} (IsOne : List ℕ → Type 0)
+    (written : E → Option (List ℕ)) (faults : E → ℕ) (old new : E) : Type 0 where
   pub line : List ℕ
   pub is_one : IsOne line
   pub writes : WritesLine written faults old new line
@@ -225,7 +271,9 @@ FailedIn (RunSample n) before now files_before files_now = FailedAt sample_path 
 FailedIn (MakeSample n) before now files_before files_now = FailedAt sample_path before now files_before files_now
 FailedIn (CheckLog path) before now files_before files_now = FailedAt path before now files_before files_now
 FailedIn (ShowReadable packages path) before now files_before files_now = FailedAt path before now files_before files_now
-FailedIn (ReadLines packages path text) before now files_before files_now = FailedAt path before now files_before files_now ⊎ Rose files_before files_now
+FailedIn (ReadLines packages path text) before now files_before files_now =
+    FailedAt path before now files_before files_now ⊎ Rose files_before files_now
+FailedIn (FindPattern packages pattern path) before now files_before files_now = FailedAt path before now files_before files_now
 
 -- the files are left alone where the input is standard input, and standard input where it is a file
 abbrev pub LeavesOther : {F S : Type 0} → List ℕ → F → F → S → S → Type 0
@@ -241,7 +289,9 @@ LeavesAlone (RunSample n) files files_now input input_now = LeavesBoth files fil
 LeavesAlone (MakeSample n) files files_now input input_now = LeavesBoth files files_now input input_now
 LeavesAlone (CheckLog path) files files_now input input_now = LeavesOther path files files_now input input_now
 LeavesAlone (ShowReadable packages path) files files_now input input_now = LeavesOther path files files_now input input_now
-LeavesAlone (ReadLines packages path text) files files_now input input_now = MatchBool (is_standard path) (Unit {0}) (input_now ≡ input)
+LeavesAlone (ReadLines packages path text) files files_now input input_now =
+    MatchBool (is_standard path) (Unit {0}) (input_now ≡ input)
+LeavesAlone (FindPattern packages pattern path) files files_now input input_now = LeavesOther path files files_now input input_now
 
 -- the path that was asked for last is the article's, where it is a file and the folder is told and has it
 abbrev pub LastInput : List ℕ → Option Folder → Option (List ℕ) → Type 0
@@ -249,7 +299,8 @@ LastInput path folder at = MatchBool (is_standard path || is_theory path) (Unit 
 
 -- or that of a text
 abbrev pub LastOf : (path text : List ℕ) → Option Folder → Option (List ℕ) → Type 0
-LastOf path text folder at = MatchBool (is_standard path || is_theory path) (Unit {0}) ((at ≡ path_asked folder path) ⊎ (at ≡ path_asked folder text))
+LastOf path text folder at =
+    MatchBool (is_standard path || is_theory path) (Unit {0}) ((at ≡ path_asked folder path) ⊎ (at ≡ path_asked folder text))
 
 -- or the log's
 abbrev pub LastPath : TaskValue → Option Folder → Option (List ℕ) → Type 0
@@ -259,15 +310,19 @@ LastPath (MakeSample n) folder at = Unit {0}
 LastPath (CheckLog path) folder at = MatchBool (is_standard path) (Unit {0}) (at ≡ path_asked folder path)
 LastPath (ShowReadable packages path) folder at = LastInput path folder at
 LastPath (ReadLines packages path text) folder at = LastOf path text folder at
+LastPath (FindPattern packages pattern path) folder at = LastInput path folder at
 
--- the files stay what they are, and their counts never fall
-pub record KeepsFiles {F : Type 0} (folder : F → Option Folder) (faults misses : F → ℕ) (old new : F) : Type 0 where
+-- the files stay what they are, their counts never fall, and none stays open
+pub record KeepsFiles {F : Type 0} (folder : F → Option Folder) (faults misses : F → ℕ)
+    (left : F → Option (List ℕ)) (old new : F) : Type 0 where
   pub same_folder : folder new ≡ folder old
   pub later_faults : faults old ≤ faults new
   pub later_misses : misses old ≤ misses new
+  pub closed : (new ≡ old) ⊎ (left new ≡ Some [])
 
 -- a source that isn't files stays so, and its count of failures never falls
-pub record KeepsSource {S : Type 0} (folder : S → Option Folder) (faults misses : S → ℕ) (at : S → Option (List ℕ)) (old new : S) : Type 0 where
+pub record KeepsSource {S : Type 0} (folder : S → Option Folder)
+    (faults misses : S → ℕ) (at : S → Option (List ℕ)) (old new : S) : Type 0 where
   pub same_folder : folder new ≡ folder old
   pub same_misses : misses new ≡ misses old
   pub same_at : at new ≡ at old

@@ -5,12 +5,14 @@ use Rattle.std.specs.Option.{option_map, option_and_then}
 use Rattle.std.specs.Fmt.{decimal}
 use Rattle.std.specs.Str.{bytes_eq}
 use Rattle.ot_plain.specs.Names.{Name}
-use Rattle.ot_plain.specs.Trees.{Sequent, Definition, Symbol}
+use Rattle.ot_plain.specs.Trees.{Tm, Sequent, Definition, Symbol}
 use Rattle.ot_plain.specs.Answers.{◌>>=◌, some_or, unless}
 use Rattle.ot_plain.specs.declared.limits.Limits.{Limits}
 use Rattle.ot_io.specs.Folder.{Folder, bytes_at}
-use Rattle.ot_args.specs.Grammar.{CommandValue, Check, Info, Uses as InfoUses, Readable as InfoReadable, Link, Minimise, Sample, SampleArticle, Verify, Read, command_of, is_theory}
+use Rattle.ot_args.specs.Grammar.{CommandValue, Check, Info, Uses as InfoUses, Readable as InfoReadable, Link, Minimise, Sample, SampleArticle, Verify, Read, Prove, Find, command_of, is_theory}
 use Rattle.ot_args.specs.declared.sections.Sections.{Sections}
+use Rattle.ot_blocks.specs.Paths.{package_path}
+use Rattle.ot_repo.specs.Required.{Refusal, Missing as NotThere, required}
 use Rattle.ot_scan.specs.Lines.{lines_of}
 use Rattle.ot_theory.specs.Lines.{LineText, lines_of as text_lines}
 use Rattle.ot_machine.specs.States.{State, no_context, fresh_article, fresh_run}
@@ -20,20 +22,23 @@ use Rattle.ot_link.specs.Blocks.{Ran, article_end}
 use Rattle.ot_link.specs.Link.{link}
 use Rattle.ot_link.specs.Shown.{shown}
 use Rattle.ot_minimise.specs.Minimised.{minimised}
+use Rattle.ot_proof_log.specs.Checked.{run_log}
 use Rattle.ot_sample.specs.Sample.{sample}
 use Rattle.ot_print.specs.Texts.{summary_text}
 use Rattle.ot_uses.specs.Texts.{uses_text}
 use Rattle.ot_pretty.specs.Summary.{hidden_in_run, readable_summary}
-use Rattle.ot_read.specs.Lines.{RefusedLine, lines_read, sequent_lines}
+use Rattle.ot_read.specs.Lines.{RefusedLine, at_line, term_read, lines_read, sequent_lines}
+use Rattle.ot_find.specs.Matches.{Source, Found, matches}
+use Rattle.ot_find.specs.Texts.{find_text}
 use Rattle.ot_records.specs.Tokens.{LogFault}
 use Rattle.ot_records.specs.Check.{Outcome as LogOutcome, Ends, Stops}
 use Rattle.ot_verify.specs.Reading.{log_check}
 use Rattle.ot_verify.specs.Verifying.{Proved, proved_by, proved_text}
-use Rattle.ot_program.specs.Texts.{stop_line, log_line, column_line, missing_line, large_line, large_article_line, large_text_line, usage_line}
+use Rattle.ot_program.specs.Texts.{stop_line, required_line, log_line, column_line, missing_line, large_line, large_article_line, large_log_line, large_text_line, usage_line}
 use Rattle.ot_program.specs.declared.status.Status.{Status}
 use Rattle.ot_program.specs.declared.status.Status.TheVariants.{Accepted, Refused, Usage, NoFile}
 use Rattle.ot_program.specs.declared.task.View.{View}
-use Rattle.ot_program.specs.declared.task.View.TheVariants.{Counts, Summary, Uses, Article}
+use Rattle.ot_program.specs.declared.task.View.TheVariants.{Counts, Summary, Uses, Article, Log}
 
 -- a text on standard output, one on standard error, and how the program ends
 pub record Reply : Type 0 where
@@ -55,19 +60,25 @@ summary_limit = 67108864
 abbrev pub text_limit : ℕ
 text_limit = 1048576
 
--- the most bytes of a written article
+-- the most bytes of a written article, and of a proof log that is written
 abbrev pub written_limit : ℕ
 written_limit = 4294967296
 
 -- the limits of the program
 unfoldable pub limits : Limits
-limits = record { article_bytes = article_limit; theory_bytes = 1048576; package_depth = 16; summary_bytes = summary_limit; written_bytes = written_limit }
+limits = record {
+  article_bytes = article_limit;
+  theory_bytes = 1048576;
+  package_depth = 16;
+  summary_bytes = summary_limit;
+  written_bytes = written_limit;
+}
 
 -- ---- what a command does
 
 -- it runs an input, with packages from a folder, and prints what the run came to in one view; it makes the sample article of
 -- a size, and runs it, or makes it alone; it checks the log of a path; or it runs an input and prints what the run came to in
--- readable form
+-- readable form, or reads the lines of a text, or searches the run, and the packages that it requires, for a pattern
 pub data TaskValue : Type 0 where
   RunInput : List ℕ → List ℕ → View → TaskValue
   RunSample : ℕ → TaskValue
@@ -75,6 +86,7 @@ pub data TaskValue : Type 0 where
   CheckLog : List ℕ → TaskValue
   ShowReadable : List ℕ → List ℕ → TaskValue
   ReadLines : (packages path text : List ℕ) → TaskValue
+  FindPattern : (packages pattern path : List ℕ) → TaskValue
 
 abbrev pub task : CommandValue → TaskValue
 task (Check packages path) = RunInput packages path Counts
@@ -82,11 +94,13 @@ task (Info packages path sections) = RunInput packages path (Summary sections)
 task (InfoUses packages path) = RunInput packages path Uses
 task (Link packages path) = RunInput packages path Article
 task (Minimise packages path) = RunInput packages path Article
+task (Prove packages path) = RunInput packages path Log
 task (Sample n) = RunSample n
 task (SampleArticle n) = MakeSample n
 task (Verify path) = CheckLog path
 task (InfoReadable packages path) = ShowReadable packages path
 task (Read packages path text) = ReadLines packages path text
+task (Find packages pattern path) = FindPattern packages pattern path
 
 -- what words ask for, none where they are no command
 abbrev pub task_of : List (List ℕ) → Option TaskValue
@@ -104,6 +118,7 @@ input_of (MakeSample n) = sample_path
 input_of (CheckLog path) = path
 input_of (ShowReadable packages path) = path
 input_of (ReadLines packages path text) = path
+input_of (FindPattern packages pattern path) = path
 
 -- `-` is standard input; any other name is a file's
 abbrev pub is_standard : List ℕ → Bool
@@ -125,7 +140,10 @@ standard_run path bytes = answered (article_end path (outcome bytes))
 
 -- the run of an article file
 abbrev pub article_run : List ℕ → Folder → Linked Ran
-article_run path folder = record { paths = path ∷ []; answer = some_or (Missing path) (bytes_at folder path) >>= λ bytes. article_end path (outcome bytes) }
+article_run path folder = record {
+  paths = path ∷ [];
+  answer = some_or (Missing path) (bytes_at folder path) >>= λ bytes. article_end path (outcome bytes);
+}
 
 -- the run of a theory file, with packages from the folder of this name
 unfoldable pub theory_run : List ℕ → List ℕ → Folder → Linked Ran
@@ -233,6 +251,71 @@ read_behind text folder (Err stop) = Some (Err (InInput stop))
 abbrev pub read_at : (packages path text : List ℕ) → Option Folder → Option (List ℕ) → Option (Result Readings ReadStop)
 read_at packages path text folder input = option_and_then (read_behind text folder) (noted_at packages path folder input)
 
+-- ---- the search for a pattern
+
+-- a required package by its full name, run alone
+pub record PackageRun : Type 0 where
+  pub name : List ℕ
+  pub ran : Ran
+
+-- what is searched: the run of the input with its notation, the term that the pattern stands for under it, and the runs of the
+-- required packages
+pub record Searched : Type 0 where
+  pub noted : Noted
+  pub pattern : Tm Name
+  pub packages : List PackageRun
+
+-- why nothing is: what the input requires is refused; a run stops; or the pattern is refused
+pub data FindStop : Type 0 where
+  InRequired : Refusal → FindStop
+  InRun : Stop → FindStop
+  InPattern : RefusedLine → FindStop
+
+-- a stop as one of the search
+abbrev pub stops_as : {A E F : Type 0} → (E → F) → Result A E → Result A F
+stops_as f (Ok x) = Ok x
+stops_as f (Err e) = Err (f e)
+
+-- the runs of packages, one after another, each alone
+abbrev pub package_runs : List ℕ → Folder → List (List ℕ) → Result (List PackageRun) Stop
+package_runs packages folder [] = Ok []
+package_runs packages folder (full ∷ fulls) =
+    (theory_run packages (package_path packages full) folder).answer >>= λ ran.
+    package_runs packages folder fulls >>= λ more.
+    Ok (record { name = full; ran = ran } ∷ more)
+
+-- what is required comes first, then the run of the input, the pattern under its notation, and the runs of the packages
+abbrev pub search : (pattern : List ℕ) → Result (List (List ℕ)) Refusal → Result Noted Stop
+    → (List (List ℕ) → Result (List PackageRun) Stop) → Result Searched FindStop
+search pattern fulls ran runs =
+    stops_as InRequired fulls >>= λ fs.
+    stops_as InRun ran >>= λ n.
+    stops_as InPattern (at_line 1 (term_read (notation n) pattern)) >>= λ p.
+    stops_as InRun (runs fs) >>= λ ps.
+    Ok (record { noted = n; pattern = p; packages = ps })
+
+-- a theory file may require packages
+abbrev pub search_theory : (packages pattern path : List ℕ) → Folder → Result Searched FindStop
+search_theory packages pattern path folder =
+    search pattern (required folder limits.theory_bytes packages path)
+    (noted (theory_shown path folder).answer (theory_run packages path folder).answer) (package_runs packages folder)
+
+-- an article requires none
+abbrev pub find_at : (packages pattern path : List ℕ) → Option Folder → Option (List ℕ) → Option (Result Searched FindStop)
+find_at packages pattern path folder input =
+    if is_theory path then option_map (search_theory packages pattern path) folder
+    else option_map (λ ran. search pattern (Ok []) ran (λ fulls. Ok [])) (noted_at packages path folder input)
+
+-- the required packages in their order, and the input last
+abbrev pub sources : (path : List ℕ) → Searched → List Source
+sources path s =
+    map (λ p. record { name = p.name; exports = exports_of p.ran }) s.packages
+    ++ record { name = path; exports = exports_of s.noted.ran } ∷ []
+
+-- their exports that the pattern matches
+abbrev pub found : (path : List ℕ) → Searched → List Found
+found path s = matches s.pattern (sources path s)
+
 -- ---- the check of a log
 
 -- why a log isn't accepted: its first fault with the line, or that it isn't there
@@ -267,6 +350,7 @@ Product (MakeSample n) = Unit {0}
 Product (CheckLog path) = Proved
 Product (ShowReadable packages path) = Noted
 Product (ReadLines packages path text) = Readings
+Product (FindPattern packages pattern path) = Searched
 
 -- what stops it: a fault of the run, or of the log
 abbrev pub Halt : TaskValue → Type 0
@@ -276,6 +360,7 @@ Halt (MakeSample n) = ⊥
 Halt (CheckLog path) = LogStop
 Halt (ShowReadable packages path) = Stop
 Halt (ReadLines packages path text) = ReadStop
+Halt (FindPattern packages pattern path) = FindStop
 
 -- how it ends, as far as that is told
 abbrev pub Told : TaskValue → Type 0
@@ -288,6 +373,7 @@ result_of (MakeSample n) folder input = Some (Ok tt)
 result_of (CheckLog path) folder input = check_at path folder input
 result_of (ShowReadable packages path) folder input = noted_at packages path folder input
 result_of (ReadLines packages path text) folder input = read_at packages path text folder input
+result_of (FindPattern packages pattern path) folder input = find_at packages pattern path folder input
 
 -- the paths of the files that it needs, in order, as far as they are told
 abbrev pub opened : TaskValue → Option Folder → Option (List (List ℕ))
@@ -297,13 +383,15 @@ opened (MakeSample n) folder = Some []
 opened (CheckLog path) folder = Some (if is_standard path then [] else path ∷ [])
 opened (ShowReadable packages path) folder = opened_first (shown_at path folder) (opened_at packages path folder)
 opened (ReadLines packages path text) folder = opened_first (shown_at path folder) (opened_at packages path folder)
+opened (FindPattern packages pattern path) folder = opened_first (shown_at path folder) (opened_at packages path folder)
 
 -- ---- what is printed of a run
 
 -- how many theorems, assumptions and definitions there are
 abbrev pub line_of_counts : ℕ → ℕ → ℕ → List ℕ
 line_of_counts theorems assumptions definitions =
-    concat (codes "accepted: " ∷ decimal theorems ∷ codes " theorems, " ∷ decimal assumptions ∷ codes " assumptions, " ∷ decimal definitions ∷ codes " definitions\n" ∷ [])
+    concat (codes "accepted: " ∷ decimal theorems ∷ codes " theorems, " ∷ decimal assumptions ∷ codes " assumptions, "
+    ∷ decimal definitions ∷ codes " definitions\n" ∷ [])
 
 -- the counts of a run's exports, assumptions and definitions
 abbrev pub count_line : Ran → List ℕ
@@ -328,12 +416,20 @@ article_text r = minimised r.run r.exports
 abbrev pub article_fits : Ran → Bool
 article_fits r = nat_le (length (article_text r)) written_limit
 
+-- the proof log of its exports
+abbrev pub log_text : Ran → List ℕ
+log_text r = run_log r.run r.exports
+
+abbrev pub log_fits : Ran → Bool
+log_fits r = nat_le (length (log_text r)) written_limit
+
 -- the part that is printed of a run
 abbrev pub run_text : View → Ran → List ℕ
 run_text Counts r = count_line r
 run_text (Summary sections) r = summary sections r
 run_text Uses r = uses r
 run_text Article r = article_text r
+run_text Log r = log_text r
 
 -- whether it is within the limit, which all but the counts have
 abbrev pub run_fits : View → Ran → Bool
@@ -341,6 +437,7 @@ run_fits Counts r = true
 run_fits (Summary sections) r = nat_le (length (summary sections r)) summary_limit
 run_fits Uses r = nat_le (length (uses r)) summary_limit
 run_fits Article r = article_fits r
+run_fits Log r = log_fits r
 
 -- the line that says that it is past the limit
 abbrev pub view_large : View → List ℕ → List ℕ
@@ -348,6 +445,7 @@ view_large Counts path = large_line path
 view_large (Summary sections) path = large_line path
 view_large Uses path = large_line path
 view_large Article path = large_article_line path
+view_large Log path = large_log_line path
 
 -- how many lines a text has, each with its newline
 abbrev pub line_count : List ℕ → ℕ
@@ -357,14 +455,18 @@ line_count = count_by (λ b. b == 10)
 -- the lines of its written article
 abbrev pub sample_front : (size lines theorems : ℕ) → List ℕ
 sample_front size lines theorems =
-    concat (codes "sample " ∷ decimal size ∷ codes ": " ∷ decimal lines ∷ codes " lines, " ∷ decimal theorems ∷ codes " theorems, " ∷ [])
+    concat
+    (codes "sample " ∷ decimal size ∷ codes ": " ∷ decimal lines ∷ codes " lines, " ∷ decimal theorems ∷ codes " theorems, " ∷ [])
 
 abbrev pub sample_back : (assumptions definitions minimised : ℕ) → List ℕ
 sample_back assumptions definitions minimised =
-    concat (decimal assumptions ∷ codes " assumptions, " ∷ decimal definitions ∷ codes " definitions; minimised " ∷ decimal minimised ∷ codes " lines\n" ∷ [])
+    concat (decimal assumptions ∷ codes " assumptions, " ∷ decimal definitions ∷ codes " definitions; minimised "
+    ∷ decimal minimised ∷ codes " lines\n" ∷ [])
 
 abbrev pub sample_line : ℕ → Ran → List ℕ
-sample_line n r = sample_front n (line_count (sample n)) (length r.exports) ++ sample_back (length r.run.assumptions) (length r.run.definitions) (line_count (article_text r))
+sample_line n r =
+    sample_front n (line_count (sample n)) (length r.exports)
+    ++ sample_back (length r.run.assumptions) (length r.run.definitions) (line_count (article_text r))
 
 -- ---- what a task prints
 
@@ -376,6 +478,7 @@ text_of (MakeSample n) x = sample n
 text_of (CheckLog path) p = proved_text p
 text_of (ShowReadable packages path) n = readable n
 text_of (ReadLines packages path text) r = sequent_lines r.sequents
+text_of (FindPattern packages pattern path) s = find_text (found path s)
 
 -- whether it is within the limit
 abbrev pub fits : (t : TaskValue) → Product t → Bool
@@ -385,6 +488,7 @@ fits (MakeSample n) x = true
 fits (CheckLog path) p = nat_le (length (proved_text p)) summary_limit
 fits (ShowReadable packages path) n = nat_le (length (readable n)) summary_limit
 fits (ReadLines packages path text) r = nat_le (length (sequent_lines r.sequents)) summary_limit
+fits (FindPattern packages pattern path) s = nat_le (length (find_text (found path s))) summary_limit
 
 -- the assumptions, the definitions and the theorems of which it prints
 pub record Lists : Type 0 where
@@ -405,6 +509,7 @@ lists_of (MakeSample n) x = record { assumptions = []; definitions = []; theorem
 lists_of (CheckLog path) p = log_lists p
 lists_of (ShowReadable packages path) n = run_lists n.ran
 lists_of (ReadLines packages path text) r = run_lists r.noted.ran
+lists_of (FindPattern packages pattern path) s = run_lists s.noted.ran
 
 -- ---- the reply
 
@@ -434,6 +539,17 @@ read_status NoText = NoFile
 read_status TextTooLarge = Refused
 read_status (InLine refused) = Refused
 
+-- of what the input requires
+abbrev pub required_status : Refusal → Status
+required_status (NotThere path) = NoFile
+required_status _ = Refused
+
+-- of a search
+abbrev pub find_status : FindStop → Status
+find_status (InRequired refusal) = required_status refusal
+find_status (InRun stop) = stop_status stop
+find_status (InPattern refused) = Refused
+
 abbrev pub halt_status : (t : TaskValue) → Halt t → Status
 halt_status (RunInput packages path view) stop = stop_status stop
 halt_status (RunSample n) stop = stop_status stop
@@ -441,6 +557,7 @@ halt_status (MakeSample n) stop = Refused
 halt_status (CheckLog path) stop = log_status stop
 halt_status (ShowReadable packages path) stop = stop_status stop
 halt_status (ReadLines packages path text) stop = read_status stop
+halt_status (FindPattern packages pattern path) stop = find_status stop
 
 -- the line for what stops a log's check
 abbrev pub log_stop_line : List ℕ → LogStop → List ℕ
@@ -454,6 +571,16 @@ read_stop_line text NoText = missing_line text
 read_stop_line text TextTooLarge = large_text_line text
 read_stop_line text (InLine refused) = column_line text refused.line refused.column refused.fault
 
+-- what stands for the path of a pattern, which is one line
+abbrev pub pattern_path : List ℕ
+pattern_path = codes "pattern"
+
+-- the line for what stops a search
+abbrev pub find_line : FindStop → List ℕ
+find_line (InRequired refusal) = required_line refusal
+find_line (InRun stop) = stop_line stop
+find_line (InPattern refused) = column_line pattern_path refused.line refused.column refused.fault
+
 abbrev pub halt_line : (t : TaskValue) → Halt t → List ℕ
 halt_line (RunInput packages path view) stop = stop_line stop
 halt_line (RunSample n) stop = stop_line stop
@@ -461,6 +588,7 @@ halt_line (MakeSample n) stop = []
 halt_line (CheckLog path) stop = log_stop_line path stop
 halt_line (ShowReadable packages path) stop = stop_line stop
 halt_line (ReadLines packages path text) stop = read_stop_line text stop
+halt_line (FindPattern packages pattern path) stop = find_line stop
 
 -- the line that says that the text of a task is past its limit
 abbrev pub over_line : TaskValue → List ℕ
@@ -470,6 +598,7 @@ over_line (MakeSample n) = large_article_line sample_path
 over_line (CheckLog path) = large_line path
 over_line (ShowReadable packages path) = large_line path
 over_line (ReadLines packages path text) = large_line path
+over_line (FindPattern packages pattern path) = large_line path
 
 -- a task that ended is accepted, with what it prints; a text past the limit is refused
 abbrev pub reply_to_end : (t : TaskValue) → Product t → Reply

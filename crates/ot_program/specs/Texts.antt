@@ -12,6 +12,8 @@ use Rattle.ot_blocks.specs.declared.fault.StructureFault.{StructureFault}
 use Rattle.ot_blocks.specs.declared.fault.StructureFault.TheVariants as structure
 use Rattle.ot_forms.specs.declared.fault.TextFault.{TextFault}
 use Rattle.ot_forms.specs.declared.fault.TextFault.TheVariants as readable
+use Rattle.ot_repo.specs.Required.{Refusal}
+use Rattle.ot_repo.specs.Required as repo
 use Rattle.ot_link.specs.Stops.{Stop, InArticle, InTheory, InStructure, TooLarge, Missing}
 use Rattle.ot_records.specs.Tokens.{LogFault}
 use Rattle.ot_records.specs.Tokens as log
@@ -126,7 +128,8 @@ readable_text readable.TooDeep = codes "nested deeper than 4096"
 -- the line for such a fault at a column of a line of the text of a path
 abbrev pub column_line : List ℕ → (number column : ℕ) → TextFault → List ℕ
 column_line path number column fault =
-    concat (codes "opentheory: " ∷ path ∷ codes ":" ∷ decimal number ∷ codes ":" ∷ decimal column ∷ codes ": " ∷ readable_text fault ∷ codes "\n" ∷ [])
+    concat (codes "opentheory: " ∷ path ∷ codes ":" ∷ decimal number ∷ codes ":" ∷ decimal column ∷ codes ": "
+    ∷ readable_text fault ∷ codes "\n" ∷ [])
 
 -- the line for a readable text that is too large
 abbrev pub large_text_line : List ℕ → List ℕ
@@ -140,6 +143,10 @@ large_line path = line_of path (codes "summary larger than 67108864 bytes")
 abbrev pub large_article_line : List ℕ → List ℕ
 large_article_line path = line_of path (codes "written article larger than 4294967296 bytes")
 
+-- and for a proof log that is written
+abbrev pub large_log_line : List ℕ → List ℕ
+large_log_line path = line_of path (codes "proof log larger than 4294967296 bytes")
+
 -- the line for a file that isn't there
 abbrev pub missing_line : List ℕ → List ℕ
 missing_line path = line_of path (codes "no such file")
@@ -152,13 +159,24 @@ stop_line (InStructure path number fault) = line_at path number (structure_text 
 stop_line (TooLarge path) = line_of path (codes "theory longer than 1048576 bytes")
 stop_line (Missing path) = missing_line path
 
+-- the line for packages that are refused so
+abbrev pub required_line : Refusal → List ℕ
+required_line (repo.Theory path number fault) = line_at path number (theory_text fault)
+required_line (repo.TheoryTooLarge path) = line_of path (codes "theory longer than 1048576 bytes")
+required_line (repo.IndexTooLarge path) = line_of path (codes "package list longer than 1048576 bytes")
+required_line (repo.BadIndex path number) = line_at path number (codes "bad package name")
+required_line (repo.NotInstalled path number) = line_at path number (codes "required package not installed")
+required_line (repo.RequiresCycle path number) = line_at path number (codes "requires cycle")
+required_line (repo.Missing path) = missing_line path
+
 -- the line for an input that failed
 abbrev pub read_fault_line : List ℕ → List ℕ
 read_fault_line path = line_of path (codes "read fault")
 
 -- the line for words that are no command
 abbrev pub usage_line : List ℕ
-usage_line = codes "usage: opentheory check|info|link|minimise [--packages DIR] INPUT; info also takes --assumptions --definitions --theorems; opentheory sample [--article] N; opentheory info --uses INPUT; opentheory info --readable INPUT; opentheory read INPUT TEXT; opentheory verify LOG\n"
+usage_line =
+    codes "usage: opentheory check|info|link|minimise [--packages DIR] INPUT; info also takes --assumptions --definitions --theorems; opentheory sample [--article] N; opentheory info --uses INPUT; opentheory info --readable INPUT; opentheory read INPUT TEXT; opentheory prove INPUT; opentheory verify LOG; opentheory find PATTERN INPUT\n"
 
 abbrev pub write_fault_line : List ℕ
 write_fault_line = codes "opentheory: write fault\n"

@@ -1,13 +1,22 @@
 -- What the parts of the program come to. Only contracts of private functions speak of it.
-use Rattle.std.specs.Prelude.{◌≡◌, ◌⊎◌, ◌≤◌, ℕ, true, List, [], map, length, nat_le, Option, Some, None, Result, Ok, Err, Vec, MatchBool, IfSome, IsSomeAnd, string_bytes}
+use Rattle.std.specs.Prelude.{◌≡◌, ◌≢◌, ◌⊎◌, ◌≤◌, ◌++◌, ℕ, true, false, List, [], map, length, nat_le, Option, Some, None, Result, Ok, Err, Vec, MatchBool, IfSome, IsSomeAnd, string_bytes}
 use Rattle.std.specs.Global.{Global}
 use Rattle.std.specs.Option.{option_map}
+use Rattle.std.specs.List.{All}
 use Rattle.ot_plain.specs.Lists.{IsMember}
+use Rattle.ot_plain.specs.declared.memory.Memory.{Memory as NoMemory}
 use Rattle.ot_plain.specs.Names.{Name}
-use Rattle.ot_plain.specs.Trees.{Sequent}
+use Rattle.ot_plain.specs.Trees.{Tm, Sequent}
 use Rattle.ot_args.specs.declared.sections.Sections.{Sections}
 use Rattle.ot_args.specs.declared.command.Usage as words
+use Rattle.ot_args.specs.Grammar.{is_theory}
 use Rattle.ot_io.specs.Folder.{Folder}
+use Rattle.ot_blocks.specs.Paths.{package_path}
+use Rattle.ot_repo.specs.Required.{Refusal, required}
+use Rattle.ot_repo.specs.Required as repo
+use Rattle.ot_repo.specs.declared.fault.RepoFault.{RepoFault}
+use Rattle.ot_repo.specs.declared.fault.RepoFault.TheVariants as repos
+use Rattle.ot_repo.specs.Laws.{IsWalked}
 use Rattle.ot_kernel.specs.State as kernel
 use Rattle.ot_machine.specs.Faults.{fault_of}
 use Rattle.ot_machine.specs.declared.machine.Export.{Export}
@@ -19,12 +28,16 @@ use Rattle.ot_machine.specs.declared.session.Session.{Session}
 use Rattle.ot_link.specs.declared.fault.LinkFault.{LinkFault}
 use Rattle.ot_link.specs.declared.fault.LinkFault.TheVariants as faults
 use Rattle.ot_text.specs.Laws.{OneSequent, OneSequentInFront}
-use Rattle.ot_read.specs.Lines.{sequent_lines}
+use Rattle.ot_forms.specs.Refusals.{ReadsAsTerm}
+use Rattle.ot_read.specs.Lines.{at_line, term_read, sequent_lines}
+use Rattle.ot_find.specs.Matches.{Source, Found, matches, matches_in}
+use Rattle.ot_find.specs.Texts.{HasFound, find_text}
+use Rattle.ot_find.specs.declared.search.Search.{Search}
 use Rattle.ot_verify.specs.Taking.{fault_of as log_fault_of}
 use Rattle.ot_verify.specs.Verifying.{Proved}
-use Rattle.ot_program.specs.Texts.{stop_line, large_line, large_article_line, read_fault_line, write_fault_line}
-use Rattle.ot_program.specs.Reply.{Reply, accepted, fails, TaskValue, RunInput, RunSample, MakeSample, CheckLog, ShowReadable, ReadLines, LogStop, InLog, NoLog, ReadStop, InInput, NoText, TextTooLarge, InLine, Readings, Noted, readable, Product, Halt, result_of, text_of, fits, article_text, article_fits, lists_of, summary, uses, summary_limit, over_line, stop_status, halt_status, halt_line}
-use Rattle.ot_program.specs.Answer.{IsProved, IsPromisedBy, IsOwnStop, IsOwnHalt, IsFailedPath}
+use Rattle.ot_program.specs.Texts.{stop_line, required_line, column_line, large_line, large_article_line, large_log_line, read_fault_line, write_fault_line}
+use Rattle.ot_program.specs.Reply.{Reply, accepted, fails, TaskValue, RunInput, RunSample, MakeSample, CheckLog, ShowReadable, ReadLines, FindPattern, LogStop, InLog, NoLog, ReadStop, InInput, NoText, TextTooLarge, InLine, Readings, PackageRun, Searched, package_runs, find_at, found, limits, theory_run, noted_at, notation, exports_of, run_lists, pattern_path, required_status, find_status, find_line, Noted, readable, Product, Halt, result_of, text_of, fits, article_text, article_fits, log_text, log_fits, lists_of, summary, uses, summary_limit, over_line, stop_status, halt_status, halt_line}
+use Rattle.ot_program.specs.Answer.{IsProved, IsPromisedBy, IsSearch, IsOwnStop, IsInputStop, IsFindStop, IsOwnHalt, IsFailedPath, LastPath, Says}
 use Rattle.ot_program.specs.declared.status.Status.{Status}
 use Rattle.ot_program.specs.declared.status.Status.TheVariants.{Accepted, Refused, Usage, NoFile, ReadFault, WriteFault, Memory}
 use Rattle.ot_program.specs.declared.report.Counts.{Counts}
@@ -38,6 +51,8 @@ use Rattle.ot_program.specs.declared.noted.NotedRun.{NotedRun}
 use Rattle.ot_program.specs.declared.reading.LinesRead.{LinesRead}
 use Rattle.ot_program.specs.declared.reading.ReadingRefusal.{ReadingRefusal}
 use Rattle.ot_program.specs.declared.reading.ReadingRefusal.TheVariants as readings
+use Rattle.ot_program.specs.declared.finding.Ending.{Ending}
+use Rattle.ot_program.specs.declared.finding.Ending.TheVariants as endings
 use Rattle.ot_program.specs.declared.log.LogRefusal.{LogRefusal}
 use Rattle.ot_program.specs.declared.log.LogRefusal.TheVariants as refusals
 
@@ -55,6 +70,7 @@ task_value (code.MakeSample count) = MakeSample count
 task_value (code.CheckLog path) = CheckLog path.now
 task_value (code.ShowReadable packages path) = ShowReadable packages.now path.now
 task_value (code.ReadLines packages path text) = ReadLines packages.now path.now text.now
+task_value (code.FindPattern packages pattern path) = FindPattern packages.now pattern.now path.now
 
 -- a sample is of a size that is made
 abbrev pub IsSized : TaskValue → Type 0
@@ -64,6 +80,7 @@ IsSized (MakeSample n) = n ≤ 1000
 IsSized (CheckLog path) = Unit {0}
 IsSized (ShowReadable packages path) = Unit {0}
 IsSized (ReadLines packages path text) = Unit {0}
+IsSized (FindPattern packages pattern path) = Unit {0}
 
 -- what the code answers
 abbrev pub task_answer : Result Task words.Usage → Option TaskValue
@@ -94,7 +111,8 @@ pub record AreCounts (r : Ran) (counts : Counts) : Type 0 where
 
 -- the end that a fault tells, by the kernel's names; none where memory ran out
 abbrev pub end_at : kernel.State → LinkFault → Option (End Ran Stop)
-end_at k (faults.Article path line fault) = option_map (λ f. Stopped (InArticle (string_bytes path) line f)) (fault_of (kernel.name_at k) fault)
+end_at k (faults.Article path line fault) =
+    option_map (λ f. Stopped (InArticle (string_bytes path) line f)) (fault_of (kernel.name_at k) fault)
 end_at k (faults.Theory path line fault) = Some (Stopped (InTheory (string_bytes path) line fault))
 end_at k (faults.Structure path line fault) = Some (Stopped (InStructure (string_bytes path) line fault))
 end_at k (faults.TheoryTooLarge path) = Some (Stopped (TooLarge (string_bytes path)))
@@ -146,8 +164,10 @@ IsTextCause readings.Memory FailureRose MissRose = Unit {0}
 
 -- the end that the reading of the text of a path tells; none where memory ran out
 abbrev pub read_end_of : List ℕ → Noted → Result LinesRead ReadingRefusal → Option (End Readings ReadStop)
-read_end_of text n (Ok r) = Some (Finished (record { noted = n; lines = lines_of r.bytes.items; sequents = map sequent_of r.sequents.items }))
-read_end_of text n (Err (readings.At line column fault)) = Some (Stopped (InLine (record { line = line; column = column; fault = fault })))
+read_end_of text n (Ok r) =
+    Some (Finished (record { noted = n; lines = lines_of r.bytes.items; sequents = map sequent_of r.sequents.items }))
+read_end_of text n (Err (readings.At line column fault)) =
+    Some (Stopped (InLine (record { line = line; column = column; fault = fault })))
 read_end_of text n (Err readings.TooLarge) = Some (Stopped TextTooLarge)
 read_end_of text n (Err readings.NoFile) = Some (Stopped NoText)
 read_end_of text n (Err readings.ReadFault) = Some (Failed text)
@@ -208,23 +228,34 @@ EndsAs t x v = MatchBool (fits t x) (IsSaid v Accepted (text_of t x)) (IsSaid v 
 
 -- the sections of a run's summary, where the input has this path
 abbrev pub SummaryEndsAs : List ℕ → Sections → Ran → Verdict → Type 0
-SummaryEndsAs path sections r v = MatchBool (nat_le (length (summary sections r)) summary_limit) (IsSaid v Accepted (summary sections r)) (IsSaid v Refused (large_line path))
+SummaryEndsAs path sections r v =
+    MatchBool (nat_le (length (summary sections r)) summary_limit)
+    (IsSaid v Accepted (summary sections r)) (IsSaid v Refused (large_line path))
 
 -- what each of its theorems rests on
 abbrev pub UsesEndsAs : List ℕ → Ran → Verdict → Type 0
-UsesEndsAs path r v = MatchBool (nat_le (length (uses r)) summary_limit) (IsSaid v Accepted (uses r)) (IsSaid v Refused (large_line path))
+UsesEndsAs path r v =
+    MatchBool (nat_le (length (uses r)) summary_limit) (IsSaid v Accepted (uses r)) (IsSaid v Refused (large_line path))
 
 -- its assumptions and theorems in readable form
 abbrev pub ReadableEndsAs : List ℕ → Noted → Verdict → Type 0
-ReadableEndsAs path n v = MatchBool (nat_le (length (readable n)) summary_limit) (IsSaid v Accepted (readable n)) (IsSaid v Refused (large_line path))
+ReadableEndsAs path n v =
+    MatchBool (nat_le (length (readable n)) summary_limit) (IsSaid v Accepted (readable n)) (IsSaid v Refused (large_line path))
 
 -- the sequents that lines stand for
 abbrev pub IsPrintedAs : List ℕ → List (Sequent Name) → Verdict → Type 0
-IsPrintedAs path qs v = MatchBool (nat_le (length (sequent_lines qs)) summary_limit) (IsSaid v Accepted (sequent_lines qs)) (IsSaid v Refused (large_line path))
+IsPrintedAs path qs v =
+    MatchBool (nat_le (length (sequent_lines qs)) summary_limit)
+    (IsSaid v Accepted (sequent_lines qs)) (IsSaid v Refused (large_line path))
 
 -- the written article of its exports
 abbrev pub ArticleEndsAs : List ℕ → Ran → Verdict → Type 0
-ArticleEndsAs path r v = MatchBool (article_fits r) (IsSaid v Accepted (article_text r)) (IsSaid v Refused (large_article_line path))
+ArticleEndsAs path r v =
+    MatchBool (article_fits r) (IsSaid v Accepted (article_text r)) (IsSaid v Refused (large_article_line path))
+
+-- the proof log of its exports
+abbrev pub LogEndsAs : List ℕ → Ran → Verdict → Type 0
+LogEndsAs path r v = MatchBool (log_fits r) (IsSaid v Accepted (log_text r)) (IsSaid v Refused (large_log_line path))
 
 -- the run of a session, and its exports, are lawful
 abbrev pub IsLawfulEnds : Session → List Export → Type 0
@@ -257,6 +288,14 @@ IsVerdictOn t v (Failed path) = IsSaid v ReadFault (read_fault_line path)
 abbrev pub IsVerdictOf : (t : TaskValue) → Option (End (Product t) (Halt t)) → Verdict → Type 0
 IsVerdictOf t told v = IsSomeAnd told (IsVerdictOn t v)
 
+-- the verdict on a task: its text says how that ended, a missing file or a failure was counted, and the last path is its own
+pub record IsTaskVerdict (t : TaskValue) (folder : Option Folder) (input last : Option (List ℕ))
+    (FailureRose MissRose : Type 0) (v : Verdict) : Type 0 where
+  pub says : Says v.status t folder input last v.text.items
+  pub missing : v.status ≡ NoFile → MissRose
+  pub read : v.status ≡ ReadFault → FailureRose
+  pub at : LastPath t folder last
+
 -- the reply that a status and a text make; an input that failed has none
 abbrev pub IsReplyOf : Status → List ℕ → Reply → Type 0
 IsReplyOf Accepted text reply = reply ≡ accepted text
@@ -266,6 +305,157 @@ IsReplyOf ReadFault line reply = Unit {0}
 IsReplyOf Usage line reply = ⊥
 IsReplyOf WriteFault line reply = ⊥
 IsReplyOf Memory line reply = ⊥
+
+-- ---- the search for a pattern
+
+-- a part of a task ended it with this verdict: at a stop that is answered, as far as that is told, or at a file that failed
+pub data HasEnded {A S : Type 0} (told : Option (Result A S)) (status : S → Status) (line : S → List ℕ)
+    (Own : S → Type 0) (Failing : List ℕ → Type 0) (FailureRose MissRose : Type 0) (v : Verdict) : Type 0 where
+  AtStop : (s : S) → IsSaid v (status s) (line s) → IfSome told (λ answer. answer ≡ Err s) → Own s
+      → (status s ≡ NoFile → MissRose)
+      → HasEnded told status line Own Failing FailureRose MissRose v
+  AtFailure : (path : List ℕ) → IsSaid v ReadFault (read_fault_line path) → Failing path → FailureRose
+      → HasEnded told status line Own Failing FailureRose MissRose v
+
+-- an ending by a verdict, where there was memory for it
+abbrev pub ending_of : Result Verdict NoMemory → Ending
+ending_of (Ok v) = endings.Said v
+ending_of (Err memory) = endings.Memory
+
+-- where memory ran out nothing is said
+abbrev pub IfEnded : (Verdict → Type 0) → Ending → Type 0
+IfEnded P (endings.Said v) = P v
+IfEnded P endings.Memory = Unit {0}
+
+-- a file was the last to be asked for, as far as that is told
+abbrev pub IsLastAsked : Option (List ℕ) → List ℕ → Type 0
+IsLastAsked at file = IfSome at (λ asked. file ≡ asked)
+
+-- the verdict on a walk over packages that was refused so; none where memory ran out
+abbrev pub IsWalkVerdict : RepoFault → Verdict → Type 0
+IsWalkVerdict (repos.Theory path line fault) v = IsSaid v Refused (required_line (repo.Theory (string_bytes path) line fault))
+IsWalkVerdict (repos.TheoryTooLarge path) v = IsSaid v Refused (required_line (repo.TheoryTooLarge (string_bytes path)))
+IsWalkVerdict (repos.IndexTooLarge path) v = IsSaid v Refused (required_line (repo.IndexTooLarge (string_bytes path)))
+IsWalkVerdict (repos.BadIndex path line) v = IsSaid v Refused (required_line (repo.BadIndex (string_bytes path) line))
+IsWalkVerdict (repos.NotInstalled path line) v = IsSaid v Refused (required_line (repo.NotInstalled (string_bytes path) line))
+IsWalkVerdict (repos.RequiresCycle path line) v = IsSaid v Refused (required_line (repo.RequiresCycle (string_bytes path) line))
+IsWalkVerdict (repos.NoFile path) v = IsSaid v NoFile (required_line (repo.Missing (string_bytes path)))
+IsWalkVerdict (repos.ReadFault path) v = IsSaid v ReadFault (read_fault_line (string_bytes path))
+IsWalkVerdict repos.Memory v = ⊥
+
+-- the packages that an input requires, over the files that are told
+abbrev pub required_in : (packages path : List ℕ) → Option Folder → Option (Result (List (List ℕ)) Refusal)
+required_in packages path folder = option_map (λ files. required files limits.theory_bytes packages path) folder
+
+-- these are they; an article requires none
+abbrev pub AreRequired : (packages path : List ℕ) → Option Folder → List (List ℕ) → Type 0
+AreRequired packages path folder fulls =
+    ((is_theory path ≡ true) × IfSome (required_in packages path folder) (λ answer. answer ≡ Ok fulls))
+    ⊎ ((is_theory path ≡ false) × (fulls ≡ []))
+
+-- a file that the walk over them needs was the last to be asked for
+abbrev pub IsWalkFile : (packages path : List ℕ) → Option Folder → Option (List ℕ) → List ℕ → Type 0
+IsWalkFile packages path folder at file =
+    IfSome folder (λ files. IsWalked files limits.theory_bytes packages path file) × IsLastAsked at file
+
+-- the walk over them ended the task
+abbrev pub HasEndedWalk : (packages path : List ℕ) → Option Folder → Option (List ℕ) → (FailureRose MissRose : Type 0) → Verdict
+    → Type 0
+HasEndedWalk packages path folder at =
+    HasEnded (required_in packages path folder) required_status required_line (λ refusal. is_theory path ≡ true)
+    (λ file. (is_theory path ≡ true) × IsWalkFile packages path folder at file)
+
+-- the run of the input ended it
+abbrev pub HasEndedInput : (packages path : List ℕ) → Option Folder → (input at : Option (List ℕ))
+    → (FailureRose MissRose : Type 0) → Verdict → Type 0
+HasEndedInput packages path folder input at =
+    HasEnded (noted_at packages path folder input) stop_status stop_line
+    (IsInputStop path) (IsFailedPath (ShowReadable packages path) folder at)
+
+-- the pattern did
+abbrev pub HasEndedPattern : Noted → (pattern : List ℕ) → Verdict → Type 0
+HasEndedPattern n pattern =
+    HasEnded (Some (at_line 1 (term_read (notation n) pattern))) (λ refused. Refused)
+    (λ refused. column_line pattern_path refused.line refused.column refused.fault) (λ refused. Unit {0}) (λ file. ⊥) ⊥ ⊥
+
+-- the term that a pattern stands for
+pub record IsPattern (n : Noted) (pattern : List ℕ) (p : Tm Name) : Type 0 where
+  pub is_read : term_read (notation n) pattern ≡ Ok p
+  pub reads : ReadsAsTerm (notation n) pattern p
+
+-- the runs of packages, over the files that are told
+abbrev pub runs_in : (packages : List ℕ) → Option Folder → List (List ℕ) → Option (Result (List PackageRun) Stop)
+runs_in packages folder fulls = option_map (λ files. package_runs packages files fulls) folder
+
+-- a file that the run of one of them needs was the last to be asked for
+pub record IsRunFile (packages : List ℕ) (fulls : List (List ℕ))
+    (folder : Option Folder) (at : Option (List ℕ)) (file : List ℕ) : Type 0 where
+  pub full : List ℕ
+  pub among : IsMember full fulls
+  pub opened : IfSome folder (λ files. IsMember file (theory_run packages (package_path packages full) files).paths)
+  pub last : IsLastAsked at file
+
+-- the run of one of them ended the task
+abbrev pub HasEndedRuns : (packages : List ℕ) (fulls : List (List ℕ)) → Option Folder → Option (List ℕ)
+    → (FailureRose MissRose : Type 0) → Verdict → Type 0
+HasEndedRuns packages fulls folder at =
+    HasEnded (runs_in packages folder fulls) stop_status stop_line (λ stop. fulls ≢ []) (IsRunFile packages fulls folder at)
+
+-- the run of a package by its full name ended the task
+abbrev pub HasEndedRun : (packages full : List ℕ) → Option Folder → Option (List ℕ) → (FailureRose MissRose : Type 0) → Verdict
+    → Type 0
+HasEndedRun packages full folder at =
+    HasEnded (option_map (λ files. (theory_run packages (package_path packages full) files).answer) folder)
+    stop_status stop_line (λ stop. Unit {0})
+    (λ file. IfSome folder (λ files. IsMember file (theory_run packages (package_path packages full) files).paths)
+    × IsLastAsked at file)
+
+-- a search has found these matches, and has this limit
+pub record HasMatches (search : Search) (fs : List Found) : Type 0 where
+  pub has : HasFound search fs
+  pub max_is : search.max ≡ summary_limit
+
+-- a package was run, its theorems are proved, and those that the pattern matches were added to what was found
+pub record IsSearched (packages full : List ℕ) (folder : Option Folder) (pattern : Tm Name) (old new : Search) : Type 0 where
+  pub ran : Ran
+  pub ran_is : IfSome folder (λ files. (theory_run packages (package_path packages full) files).answer ≡ Ok ran)
+  pub proved : IsProved (run_lists ran)
+  pub found_more : (fs : List Found) → HasMatches old fs → HasMatches new (fs ++ matches_in pattern full (exports_of ran))
+
+-- the source that a package is
+abbrev pub source_of : PackageRun → Source
+source_of p = record { name = p.name; exports = exports_of p.ran }
+
+-- the packages were run, their theorems are proved, and those that the pattern matches were added to what was found
+pub record AreSearched (packages : List ℕ) (fulls : List (List ℕ))
+    (folder : Option Folder) (pattern : Tm Name) (old new : Search) : Type 0 where
+  pub runs : List PackageRun
+  pub runs_are : IfSome (runs_in packages folder fulls) (λ answer. answer ≡ Ok runs)
+  pub each : map (λ p. p.name) runs ≡ fulls
+  pub proved : All (λ p. IsProved (run_lists p.ran)) runs
+  pub found_more : (fs : List Found) → HasMatches old fs → HasMatches new (fs ++ matches pattern (map source_of runs))
+
+-- a search came to its end
+pub record HasSearched (packages pattern path : List ℕ) (folder : Option Folder)
+    (input : Option (List ℕ)) (search : Search) : Type 0 where
+  pub made : Searched
+  pub ended : IfSome (find_at packages pattern path folder input) (λ answer. answer ≡ Ok made)
+  pub proved : IsProved (run_lists made.noted.ran)
+  pub promised : IsSearch pattern path made
+  pub found : HasMatches search (found path made)
+
+-- or ended at a stop or a failure
+abbrev pub HasEndedSearch : (packages pattern path : List ℕ) → Option Folder → (input at : Option (List ℕ))
+    → (FailureRose MissRose : Type 0) → Verdict → Type 0
+HasEndedSearch packages pattern path folder input at =
+    HasEnded (find_at packages pattern path folder input) find_status find_line
+    (IsFindStop path) (IsFailedPath (FindPattern packages pattern path) folder at)
+
+-- the text of matches is printed
+abbrev pub FoundEndsAs : (path : List ℕ) → List Found → Verdict → Type 0
+FoundEndsAs path fs v =
+    MatchBool (nat_le (length (find_text fs)) summary_limit)
+    (IsSaid v Accepted (find_text fs)) (IsSaid v Refused (large_line path))
 
 -- ---- how the program ends
 

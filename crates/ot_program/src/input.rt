@@ -1,4 +1,4 @@
-ghost use Rattle.std.specs.Prelude.{◌≡◌, ◌⊎◌, [], Some, IfOk, IfErr, IfSome, string_bytes};
+ghost use Rattle.std.specs.Prelude.{◌≡◌, [], Some, IfOk, IfErr, IfSome, string_bytes};
 ghost use Rattle.std.specs.Option.{option_map};
 ghost use Rattle.ot_io.specs.Causes.{Rose};
 ghost use Rattle.ot_io.specs.Folder.{path_asked};
@@ -39,12 +39,12 @@ pub fn run_input<F: Files, S: Source>(
     ensures lawful { IfOk result (IsLawfulEnd session.new) }
     ensures symbols { IfErr result (NamesSymbolIn session.new.kernel) }
     ensures cause { IfSome (end_of session.new result)
-        (HasCause stop_status (FailedAt job.entry.path.now (S.faults input.old) (S.faults input.new) (F.faults files.old) (F.faults files.new))
+        (HasCause stop_status (FailedAt job.entry.path.now (S.faults input.old)
+        (S.faults input.new) (F.faults files.old) (F.faults files.new))
         (Rose (F.misses files.old) (F.misses files.new))) }
-    ensures files { KeepsFiles F.folder F.faults F.misses files.old files.new }
+    ensures files { KeepsFiles F.folder F.faults F.misses F.left files.old files.new }
     ensures source { KeepsSource S.folder S.faults S.misses S.at input.old input.new }
     ensures other { LeavesOther job.entry.path.now files.old files.new input.old input.new }
-    ensures closed { (files.new ≡ files.old) ⊎ (F.left files.new ≡ Some []) }
     ensures at { IfSome (end_of session.new result) (λ _. LastPath (job_task job.entry) (F.folder files.old) (F.at files.new)) }
 {
     let path = job.path;
@@ -66,7 +66,8 @@ fn run_standard<S: Source>(
 ) -> Result<Vec<Export>, LinkFault>
     requires session { IsRun session.old }
     requires fresh { run_of session.old ≡ fresh_run }
-    ensures end { IfSome (S.left input.old) (λ bytes. IfSome (end_of session.new result) (IsAnswer (article_end path.now (outcome bytes)))) }
+    ensures end { IfSome (S.left input.old) (λ bytes. IfSome (end_of session.new result)
+        (IsAnswer (article_end path.now (outcome bytes)))) }
     ensures own { IfSome (end_of session.new result) (IsOwnEnd path.now) }
     ensures session { IsRun session.new }
     ensures exports { IfOk result (AreExportsIn session.new) }
@@ -80,7 +81,7 @@ fn run_standard<S: Source>(
 }
 
 /// Runs a theory file over packages in a folder, with the limits of the program.
-fn run_theory<F: Files>(
+pub fn run_theory<F: Files>(
     alloc: Global,
     session: &mut Session,
     packages: &str,
@@ -89,16 +90,18 @@ fn run_theory<F: Files>(
 ) -> Result<Vec<Export>, LinkFault>
     requires session { IsRun session.old }
     requires fresh { run_of session.old ≡ fresh_run }
-    ensures end { IfSome (F.folder files.old) (λ folder. IfSome (end_of session.new result) (IsAnswer (theory_run packages.now path.now folder).answer)) }
+    ensures end { IfSome (F.folder files.old) (λ folder. IfSome (end_of session.new result)
+        (IsAnswer (theory_run packages.now path.now folder).answer)) }
     ensures needed { IfSome (end_of session.new result)
-        (IsNeeded (option_map (λ folder. (theory_run packages.now path.now folder).paths) (F.folder files.old)) (F.at files.new)) }
+        (IsNeeded (option_map (λ folder. (theory_run packages.now path.now folder).paths) (F.folder files.old))
+        (F.at files.new)) }
     ensures session { IsRun session.new }
     ensures exports { IfOk result (AreExportsIn session.new) }
     ensures lawful { IfOk result (IsLawfulEnd session.new) }
     ensures symbols { IfErr result (NamesSymbolIn session.new.kernel) }
     ensures cause { IfSome (end_of session.new result)
         (HasCause stop_status (Rose (F.faults files.old) (F.faults files.new)) (Rose (F.misses files.old) (F.misses files.new))) }
-    ensures files { KeepsFiles F.folder F.faults F.misses files.old files.new }
+    ensures files { KeepsFiles F.folder F.faults F.misses F.left files.old files.new }
     ensures closed { F.left files.new ≡ Some [] }
 {
     let limits = Limits::standard();
@@ -114,7 +117,8 @@ fn run_file<F: Files>(
 ) -> Result<Vec<Export>, LinkFault>
     requires session { IsRun session.old }
     requires fresh { run_of session.old ≡ fresh_run }
-    ensures end { IfSome (F.folder files.old) (λ folder. IfSome (end_of session.new result) (IsAnswer (article_run path.now folder).answer)) }
+    ensures end { IfSome (F.folder files.old) (λ folder. IfSome
+        (end_of session.new result) (IsAnswer (article_run path.now folder).answer)) }
     ensures own { IfSome (end_of session.new result) (IsOwnEnd path.now) }
     ensures session { IsRun session.new }
     ensures exports { IfOk result (AreExportsIn session.new) }
@@ -122,8 +126,7 @@ fn run_file<F: Files>(
     ensures symbols { IfErr result (NamesSymbolIn session.new.kernel) }
     ensures cause { IfSome (end_of session.new result)
         (HasCause stop_status (Rose (F.faults files.old) (F.faults files.new)) (Rose (F.misses files.old) (F.misses files.new))) }
-    ensures files { KeepsFiles F.folder F.faults F.misses files.old files.new }
-    ensures closed { (files.new ≡ files.old) ⊎ (F.left files.new ≡ Some []) }
+    ensures files { KeepsFiles F.folder F.faults F.misses F.left files.old files.new }
     ensures at { IfSome (end_of session.new result) (λ _. F.at files.new ≡ path_asked (F.folder files.old) path.now) }
 {
     let name = String::from_str(alloc, path)?;
@@ -148,13 +151,15 @@ pub fn run_article<S: Source>(
 ) -> Result<Vec<Export>, LinkFault>
     requires session { IsRun session.old }
     requires fresh { run_of session.old ≡ fresh_run }
-    ensures end { IfSome (S.left source.old) (λ bytes. IfSome (end_of session.new result) (IsAnswer (article_end (string_bytes path) (outcome bytes)))) }
+    ensures end { IfSome (S.left source.old) (λ bytes. IfSome (end_of session.new result)
+        (IsAnswer (article_end (string_bytes path) (outcome bytes)))) }
     ensures own { IfSome (end_of session.new result) (IsOwnEnd (string_bytes path)) }
     ensures session { IsRun session.new }
     ensures exports { IfOk result (AreExportsIn session.new) }
     ensures lawful { IfOk result (IsLawfulEnd session.new) }
     ensures symbols { IfErr result (NamesSymbolIn session.new.kernel) }
-    ensures cause { IfSome (end_of session.new result) (HasCause stop_status (Rose (S.faults source.old) (S.faults source.new)) ⊥) }
+    ensures cause { IfSome (end_of session.new result)
+        (HasCause stop_status (Rose (S.faults source.old) (S.faults source.new)) ⊥) }
     ensures source { KeepsSource S.folder S.faults S.misses S.at source.old source.new }
 {
     let limits = Limits::standard();

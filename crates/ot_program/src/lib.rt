@@ -1,6 +1,7 @@
 //! The program: what it does with its words, over any files, source and sinks.
 #![tactic(auto)]
 
+mod finding;
 mod input;
 mod log;
 mod noted;

@@ -1,5 +1,5 @@
 //! The check of the log of a path.
-ghost use Rattle.std.specs.Prelude.{◌≡◌, ◌⊎◌, ℕ, List, [], Some, IfOk, IfSome};
+ghost use Rattle.std.specs.Prelude.{◌≡◌, ℕ, List, IfOk, IfSome};
 ghost use Rattle.ot_io.specs.Causes.{Rose};
 ghost use Rattle.ot_io.specs.Folder.{path_asked};
 ghost use Rattle.ot_verify.specs.Verifying.{AreProved};
@@ -39,10 +39,9 @@ pub fn check_log<F: Files, S: Source>(
     ensures cause { IfSome (log_end_of path.now result) (HasCause log_status
         (FailedAt path.now (S.faults input.old) (S.faults input.new) (F.faults files.old) (F.faults files.new))
         (Rose (F.misses files.old) (F.misses files.new))) }
-    ensures files { KeepsFiles F.folder F.faults F.misses files.old files.new }
+    ensures files { KeepsFiles F.folder F.faults F.misses F.left files.old files.new }
     ensures source { KeepsSource S.folder S.faults S.misses S.at input.old input.new }
     ensures other { LeavesOther path.now files.old files.new input.old input.new }
-    ensures closed { (files.new ≡ files.old) ⊎ (F.left files.new ≡ Some []) }
     ensures at { IfSome (log_end_of path.now result) (λ _. LastPath (CheckLog path.now) (F.folder files.old) (F.at files.new)) }
 {
     if path == STANDARD {
@@ -54,12 +53,12 @@ pub fn check_log<F: Files, S: Source>(
 
 /// Opens the file of a path, checks its log and closes it.
 fn check_file<F: Files>(alloc: Global, path: &str, files: &mut F) -> Result<Verified, LogRefusal>
-    ensures end { IfSome (F.folder files.old) (λ folder. IfSome (log_end_of path.now result) (IsAnswer (check_file path.now folder))) }
+    ensures end { IfSome (F.folder files.old) (λ folder.
+        IfSome (log_end_of path.now result) (IsAnswer (check_file path.now folder))) }
     ensures proved { IfOk result AreProved }
     ensures cause { IfSome (log_end_of path.now result)
         (HasCause log_status (Rose (F.faults files.old) (F.faults files.new)) (Rose (F.misses files.old) (F.misses files.new))) }
-    ensures files { KeepsFiles F.folder F.faults F.misses files.old files.new }
-    ensures closed { (files.new ≡ files.old) ⊎ (F.left files.new ≡ Some []) }
+    ensures files { KeepsFiles F.folder F.faults F.misses F.left files.old files.new }
     ensures at { F.at files.new ≡ path_asked (F.folder files.old) path.now }
 {
     match files.open_file(path) {
@@ -75,9 +74,11 @@ fn check_file<F: Files>(alloc: Global, path: &str, files: &mut F) -> Result<Veri
 
 /// Checks the log that a source has left, whatever its path.
 fn check_source<S: Source>(alloc: Global, source: &mut S) -> Result<Verified, LogRefusal>
-    ensures end { (path : List ℕ) → IfSome (S.left source.old) (λ bytes. IfSome (log_end_of path result) (IsAnswer (check_bytes bytes))) }
+    ensures end { (path : List ℕ)
+        → IfSome (S.left source.old) (λ bytes. IfSome (log_end_of path result) (IsAnswer (check_bytes bytes))) }
     ensures proved { IfOk result AreProved }
-    ensures cause { (path : List ℕ) → IfSome (log_end_of path result) (HasCause log_status (Rose (S.faults source.old) (S.faults source.new)) ⊥) }
+    ensures cause { (path : List ℕ)
+        → IfSome (log_end_of path result) (HasCause log_status (Rose (S.faults source.old) (S.faults source.new)) ⊥) }
     ensures source { KeepsSource S.folder S.faults S.misses S.at source.old source.new }
 {
     let limit = Limits::standard().article_bytes;

@@ -1,5 +1,5 @@
 //! The run of an input, with the namespaces that it shows.
-ghost use Rattle.std.specs.Prelude.{◌≡◌, ◌⊎◌, true, [], Some, IfOk, IfErr, IfSome};
+ghost use Rattle.std.specs.Prelude.{◌≡◌, ◌⊎◌, true, IfOk, IfErr, IfSome};
 ghost use Rattle.std.specs.List.{All};
 ghost use Rattle.ot_io.specs.Causes.{Rose};
 ghost use Rattle.ot_kernel.specs.State.{State};
@@ -38,19 +38,21 @@ pub fn run_noted<F: Files, S: Source>(
 ) -> Result<NotedRun, LinkFault>
     requires session { IsRun session.old }
     requires fresh { run_of session.old ≡ fresh_run }
-    ensures end { IfSome (noted_end_of session.new result) (IsEnd (ShowReadable packages.now path.now) (F.folder files.old) (S.left input.old)) }
-    ensures place { IfSome (noted_end_of session.new result) (IsPlace (ShowReadable packages.now path.now) (F.folder files.old) (F.at files.new)) }
+    ensures end { IfSome (noted_end_of session.new result)
+        (IsEnd (ShowReadable packages.now path.now) (F.folder files.old) (S.left input.old)) }
+    ensures place { IfSome (noted_end_of session.new result)
+        (IsPlace (ShowReadable packages.now path.now) (F.folder files.old) (F.at files.new)) }
     ensures session { IsRun session.new }
     ensures exports { IfOk result (λ r. All (IsExportIn session.new) r.exports.items) }
     ensures lawful { IfOk result (λ r. IsLawfulEnds session.new r.exports.items) }
     ensures symbols { IfErr result (NamesSymbolIn session.new.kernel) }
     ensures cause { IfSome (noted_end_of session.new result)
-        (HasCause stop_status (FailedAt path.now (S.faults input.old) (S.faults input.new) (F.faults files.old) (F.faults files.new))
+        (HasCause stop_status (FailedAt path.now (S.faults input.old)
+        (S.faults input.new) (F.faults files.old) (F.faults files.new))
         (Rose (F.misses files.old) (F.misses files.new))) }
-    ensures files { KeepsFiles F.folder F.faults F.misses files.old files.new }
+    ensures files { KeepsFiles F.folder F.faults F.misses F.left files.old files.new }
     ensures source { KeepsSource S.folder S.faults S.misses S.at input.old input.new }
     ensures other { LeavesOther path.now files.old files.new input.old input.new }
-    ensures closed { (files.new ≡ files.old) ⊎ (F.left files.new ≡ Some []) }
     ensures at { IfSome (noted_end_of session.new result) (λ _. LastInput path.now (F.folder files.old) (F.at files.new)) }
 {
     match shown_names(alloc, path, files) {
@@ -74,10 +76,10 @@ fn shown_names<F: Files>(alloc: Global, path: &str, files: &mut F) -> Result<Vec
     ensures comes { IfSome (shown_at path.now (F.folder files.old)) (λ l. (k : State) → Comes k (λ names. names.items) result l) }
     ensures theory { IfErr result (λ _. is_theory path.now ≡ true) }
     ensures symbols { IfErr result (λ e. (k : State) → NamesSymbolIn k e) }
-    ensures cause { IfErr result (λ e. HasLinkCause e (F.misses files.old) (F.misses files.new) (F.faults files.old) (F.faults files.new) (F.at files.new)) }
-    ensures files { KeepsFiles F.folder F.faults F.misses files.old files.new }
+    ensures cause { IfErr result (λ e. HasLinkCause e (F.misses files.old)
+        (F.misses files.new) (F.faults files.old) (F.faults files.new) (F.at files.new)) }
+    ensures files { KeepsFiles F.folder F.faults F.misses F.left files.old files.new }
     ensures other { (is_theory path.now ≡ true) ⊎ (files.new ≡ files.old) }
-    ensures closed { (files.new ≡ files.old) ⊎ (F.left files.new ≡ Some []) }
 {
     if is_theory(path) {
         let limits = Limits::standard();

@@ -1,12 +1,13 @@
-ghost use Rattle.std.specs.Prelude.{◌≡◌, ◌≢◌, ◌↔◌, ◌⊎◌, ◌≤◌, [], None, Some, Err, IfOk, IfSome, IsSomeAnd, OnOk, OnErr};
+ghost use Rattle.std.specs.Prelude.{◌≡◌, ◌≢◌, ◌↔◌, ◌⊎◌, ◌≤◌, None, Err, IfOk, IfSome, IsSomeAnd, OnOk, OnErr};
 ghost use Rattle.std.specs.Io.KnownBytes.{Appends};
 ghost use Rattle.ot_io.specs.Causes.{Rose, HasCause};
 ghost use Rattle.ot_io.specs.Sinks.{FlushesAll, AppendsFront};
 ghost use Rattle.ot_args.specs.Grammar.{texts_of, command_of};
 ghost use Rattle.ot_program.specs.Reply.{task_of, result_of, answer};
-ghost use Rattle.ot_program.specs.Answer.{MatchesReply, IsSilent, IsVerdict, IsLine, Says, Prints, Writes, WritesLine, WritesSome, FailedIn, LeavesAlone, LastPath, KeepsFiles, KeepsSource};
-ghost use Rattle.ot_program.specs.Verdicts.{task_value, IsSized, Ends, error_line};
+ghost use Rattle.ot_program.specs.Answer.{MatchesReply, IsSilent, IsVerdict, IsLine, Prints, Writes, WritesLine, WritesSome, FailedIn, LeavesAlone, LastPath, KeepsFiles, KeepsSource};
+ghost use Rattle.ot_program.specs.Verdicts.{task_value, IsSized, IsTaskVerdict, Ends, error_line};
 
+use crate::finding::{Query, run_finding};
 use crate::input::run_input;
 use crate::log::check_log;
 use crate::noted::run_noted;
@@ -26,17 +27,19 @@ use std::alloc::Global;
 /// All that the program does with the command's words, without the program's name. `check` runs an input and reports how
 /// many theorems, assumptions and definitions it has; `info` reports which, and with `--readable` in a form that reads back. `-`
 /// is an article on `input`, a name that ends in `.thy` a theory file over packages in a folder, and any other name an article
-/// file. `read` runs an input, and prints the sequents that the lines of a readable text stand for. `link` and `minimise` run an
-/// input and write an article of its exports that has what they need and nothing else; `sample` makes an article of a size, runs
-/// it and rewrites it. `verify` checks a proof log, on `input` for `-` and else in a file, and reports what it proves. The text is
-/// made whole, then written to `out` and flushed; each status but `Accepted` has its line on `err`. Whether `err` takes it changes
-/// no status.
+/// file. `read` runs an input, and prints the sequents that the lines of a readable text stand for. `find` runs an input and the
+/// packages that it requires, and prints those of their exports whose conclusion a pattern matches. `link` and `minimise` run an
+/// input and write an article of its exports that has what they need and nothing else, and `prove` writes a proof log of them;
+/// `sample` makes an article of a size, runs it and rewrites it. `verify` checks a proof log, on `input` for `-` and else in a
+/// file, and reports what it proves. The text is made whole, then written to `out` and flushed; each status but `Accepted` has its
+/// line on `err`. Whether `err` takes it changes no status.
 ///
 /// - `Accepted`: the run or the log ended, and all of the text was written and flushed.
 /// - `Refused`: the run stopped, at the first fault and its line by the article format or the theory file format, in the file
 ///   that the line names; or the log has a fault, the first at that line; or a line of the readable text is refused, the first at
-///   that line and column, or the text has more than 1,048,576 bytes; or what would be printed has more than 67,108,864 bytes, or
-///   the written article more than 4,294,967,296.
+///   that line and column, or the text has more than 1,048,576 bytes; or what a theory file requires is refused, or a pattern, at
+///   its column; or what would be printed has more than 67,108,864 bytes, or the written article or the proof log more than
+///   4,294,967,296.
 /// - `Usage`: exactly for words that are no command. It takes no memory and reads nothing.
 /// - `NoFile`: only where a file was missing in this call.
 /// - `ReadFault`: only where what the command reads failed in this call: `input` for `-`, else `files`, at a file that the
@@ -86,11 +89,10 @@ pub fn run<F: Files, S: Source, O: Sink, E: Sink>(
         → (result ≡ Status.Memory) ⊎ (result ≡ reply.status)) }
 
     // What becomes of the devices: counts never fall, the input that isn't asked for is left alone, no file stays open.
-    ensures files { KeepsFiles F.folder F.faults F.misses files.old files.new }
+    ensures files { KeepsFiles F.folder F.faults F.misses F.left files.old files.new }
     ensures source { KeepsSource S.folder S.faults S.misses S.at input.old input.new }
     ensures sinks { (O.faults out.old ≤ O.faults out.new) × (E.faults err.old ≤ E.faults err.new) }
     ensures other { IfSome (task_of (texts_of words.now)) (λ t. LeavesAlone t files.old files.new input.old input.new) }
-    ensures closed { (files.new ≡ files.old) ⊎ (F.left files.new ≡ Some []) }
     ensures at { (result ≡ Status.NoFile) ⊎ (result ≡ Status.ReadFault)
         → IfSome (task_of (texts_of words.now)) (λ t. LastPath t (F.folder files.old) (F.at files.new)) }
 {
@@ -117,15 +119,12 @@ fn run_task<F: Files, S: Source>(
     input: &mut S,
 ) -> Result<Verdict, Memory>
     requires { IsSized (task_value task) }
-    ensures says { IfOk result (λ v. Says v.status (task_value task.entry) (F.folder files.old) (S.left input.old) (F.at files.new) v.text.items) }
-    ensures missing { IfOk result (λ v. v.status ≡ Status.NoFile → Rose (F.misses files.old) (F.misses files.new)) }
-    ensures read { IfOk result (λ v. v.status ≡ Status.ReadFault → FailedIn (task_value task.entry)
-        (S.faults input.old) (S.faults input.new) (F.faults files.old) (F.faults files.new)) }
-    ensures files { KeepsFiles F.folder F.faults F.misses files.old files.new }
+    ensures verdict { IfOk result (IsTaskVerdict (task_value task.entry) (F.folder files.old) (S.left input.old) (F.at files.new)
+        (FailedIn (task_value task.entry) (S.faults input.old) (S.faults input.new) (F.faults files.old) (F.faults files.new))
+        (Rose (F.misses files.old) (F.misses files.new))) }
+    ensures files { KeepsFiles F.folder F.faults F.misses F.left files.old files.new }
     ensures source { KeepsSource S.folder S.faults S.misses S.at input.old input.new }
     ensures other { LeavesAlone (task_value task.entry) files.old files.new input.old input.new }
-    ensures closed { (files.new ≡ files.old) ⊎ (F.left files.new ≡ Some []) }
-    ensures at { IfOk result (λ v. LastPath (task_value task.entry) (F.folder files.old) (F.at files.new)) }
 {
     match task {
         Task::RunInput(job) => {
@@ -149,6 +148,18 @@ fn run_task<F: Files, S: Source>(
             path,
             text,
         } => run_reading(alloc, packages, path, text, files, input),
+        Task::FindPattern {
+            packages,
+            pattern,
+            path,
+        } => {
+            let query = Query {
+                packages,
+                pattern,
+                path,
+            };
+            run_finding(alloc, query, files, input)
+        }
     }
 }
 

@@ -41,7 +41,8 @@ fn summary(alloc: Global, path: &str, session: &Session, run: &NotedRun) -> Resu
     requires session { IsRun session.now }
     requires exports { All (IsExportIn session.now) run.now.exports.items }
     ensures ends { IfOk result (ReadableEndsAs path.now (noted_from run.now.names.items session.now run.now.exports.items)) }
-    ensures read_back { OnOk result (nat_le (length (readable (noted_from run.now.names.items session.now run.now.exports.items))) summary_limit ≡ true
+    ensures read_back { OnOk result
+        (nat_le (length (readable (noted_from run.now.names.items session.now run.now.exports.items))) summary_limit ≡ true
         → AreReadBack (noted_from run.now.names.items session.now run.now.exports.items)) }
 {
     let theorems = theorems_of(alloc, &run.exports)?;

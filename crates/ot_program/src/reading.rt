@@ -1,5 +1,5 @@
 //! The lines of a readable text, read under the notation of a run.
-ghost use Rattle.std.specs.Prelude.{◌≡◌, ◌⊎◌, ℕ, List, [], Some, Ok, map, IfOk, IfErr, IfSome};
+ghost use Rattle.std.specs.Prelude.{◌≡◌, ℕ, List, Ok, map, IfOk, IfErr, IfSome};
 ghost use Rattle.std.specs.List.{All};
 ghost use Rattle.ot_io.specs.Causes.{Rose};
 ghost use Rattle.ot_io.specs.Folder.{path_asked};
@@ -9,14 +9,13 @@ ghost use Rattle.ot_theory.specs.Lines.{lines_of};
 ghost use Rattle.ot_read.specs.Laws.{StandFor};
 ghost use Rattle.ot_read.specs.Lines.{lines_read, IsLineRefusal};
 ghost use Rattle.ot_program.specs.Reply.{ReadLines, notation, read_in, read_status, text_in};
-ghost use Rattle.ot_program.specs.Answer.{Says, FailedIn, LeavesAlone, LastOf, KeepsFiles, KeepsSource};
-ghost use Rattle.ot_program.specs.Verdicts.{noted_of, read_end_of, IsAnswer, HasCause, IsVerdictOf, IsTextRefusal, IsTextCause, IsPrintedAs};
+ghost use Rattle.ot_program.specs.Answer.{FailedIn, LeavesAlone, KeepsFiles, KeepsSource};
+ghost use Rattle.ot_program.specs.Verdicts.{noted_of, read_end_of, IsAnswer, HasCause, IsVerdictOf, IsTextRefusal, IsTextCause, IsPrintedAs, IsTaskVerdict};
 
 use crate::noted::{NotedRun, run_noted};
 use crate::report::{
     Verdict, accepted, failed, missing, proved, refused, stopped, theorems_of, too_large,
 };
-use crate::status::Status;
 use crate::texts::{column_line, line_of};
 use ot_io::{Files, OpenFault, ReadFault, Source, read_front};
 use ot_machine::Session;
@@ -65,15 +64,13 @@ pub fn run_reading<F: Files, S: Source>(
     files: &mut F,
     input: &mut S,
 ) -> Result<Verdict, Memory>
-    ensures says { IfOk result (λ v. Says v.status (ReadLines packages.now path.now text.now) (F.folder files.old) (S.left input.old) (F.at files.new) v.text.items) }
-    ensures missing { IfOk result (λ v. v.status ≡ Status.NoFile → Rose (F.misses files.old) (F.misses files.new)) }
-    ensures read { IfOk result (λ v. v.status ≡ Status.ReadFault → FailedIn (ReadLines packages.now path.now text.now)
-        (S.faults input.old) (S.faults input.new) (F.faults files.old) (F.faults files.new)) }
-    ensures files { KeepsFiles F.folder F.faults F.misses files.old files.new }
+    ensures verdict { let t = ReadLines packages.now path.now text.now in
+        IfOk result (IsTaskVerdict t (F.folder files.old) (S.left input.old) (F.at files.new)
+        (FailedIn t (S.faults input.old) (S.faults input.new) (F.faults files.old) (F.faults files.new))
+        (Rose (F.misses files.old) (F.misses files.new))) }
+    ensures files { KeepsFiles F.folder F.faults F.misses F.left files.old files.new }
     ensures source { KeepsSource S.folder S.faults S.misses S.at input.old input.new }
     ensures other { LeavesAlone (ReadLines packages.now path.now text.now) files.old files.new input.old input.new }
-    ensures closed { (files.new ≡ files.old) ⊎ (F.left files.new ≡ Some []) }
-    ensures at { IfOk result (λ v. LastOf path.now text.now (F.folder files.old) (F.at files.new)) }
 {
     let mut session = Session::new(alloc)?;
     match run_noted(alloc, &mut session, packages, path, files, input) {
@@ -96,12 +93,13 @@ fn read_text<F: Files>(
     requires session { IsRun session.now }
     requires exports { All (IsExportIn session.now) run.now.exports.items }
     ensures end { IfSome (F.folder files.old) (λ folder.
-        IfSome (read_end_of text.now (noted_of session.now run.now) result) (IsAnswer (read_in (noted_of session.now run.now) text.now folder))) }
-    ensures stand { IfOk result (λ r. StandFor (notation (noted_of session.now run.now)) (lines_of r.bytes.items) (map sequent_of r.sequents.items)) }
+        IfSome (read_end_of text.now (noted_of session.now run.now) result)
+        (IsAnswer (read_in (noted_of session.now run.now) text.now folder))) }
+    ensures stand { IfOk result (λ r. StandFor (notation (noted_of session.now run.now))
+        (lines_of r.bytes.items) (map sequent_of r.sequents.items)) }
     ensures cause { IfSome (read_end_of text.now (noted_of session.now run.now) result)
         (HasCause read_status (Rose (F.faults files.old) (F.faults files.new)) (Rose (F.misses files.old) (F.misses files.new))) }
-    ensures files { KeepsFiles F.folder F.faults F.misses files.old files.new }
-    ensures closed { (files.new ≡ files.old) ⊎ (F.left files.new ≡ Some []) }
+    ensures files { KeepsFiles F.folder F.faults F.misses F.left files.old files.new }
     ensures at { F.at files.new ≡ path_asked (F.folder files.old) text.now }
 {
     match bytes_of(alloc, text, files) {
@@ -128,9 +126,9 @@ fn read_text<F: Files>(
 fn bytes_of<F: Files>(alloc: Global, text: &str, files: &mut F) -> Result<Vec<u8>, ReadingRefusal>
     ensures ok { IfSome (F.folder files.old) (λ folder. IfOk result (λ bytes. text_in text.now folder ≡ Ok bytes.items)) }
     ensures refused { IfSome (F.folder files.old) (λ folder. IfErr result (IsTextRefusal (text_in text.now folder))) }
-    ensures cause { IfErr result (λ e. IsTextCause e (Rose (F.faults files.old) (F.faults files.new)) (Rose (F.misses files.old) (F.misses files.new))) }
-    ensures files { KeepsFiles F.folder F.faults F.misses files.old files.new }
-    ensures closed { (files.new ≡ files.old) ⊎ (F.left files.new ≡ Some []) }
+    ensures cause { IfErr result
+        (λ e. IsTextCause e (Rose (F.faults files.old) (F.faults files.new)) (Rose (F.misses files.old) (F.misses files.new))) }
+    ensures files { KeepsFiles F.folder F.faults F.misses F.left files.old files.new }
     ensures at { F.at files.new ≡ path_asked (F.folder files.old) text.now }
 {
     match files.open_file(text) {
@@ -163,8 +161,10 @@ fn read_bytes(
 ) -> Result<Vec<Readable>, LineRefusal>
     requires session { IsRun session.now }
     requires exports { All (IsExportIn session.now) run.now.exports.items }
-    ensures ok { IfOk result (λ read. lines_read (notation (noted_of session.now run.now)) (lines_of text.now) ≡ Ok (map sequent_of read.items)) }
-    ensures stand { IfOk result (λ read. StandFor (notation (noted_of session.now run.now)) (lines_of text.now) (map sequent_of read.items)) }
+    ensures ok { IfOk result (λ read. lines_read (notation (noted_of session.now run.now)) (lines_of text.now)
+        ≡ Ok (map sequent_of read.items)) }
+    ensures stand { IfOk result (λ read. StandFor (notation (noted_of session.now run.now))
+        (lines_of text.now) (map sequent_of read.items)) }
     ensures refused { IfErr result (IsLineRefusal (lines_read (notation (noted_of session.now run.now)) (lines_of text.now))) }
 {
     let Ok(theorems) = theorems_of(alloc, &run.exports) else {
@@ -189,8 +189,11 @@ fn reading_verdict(
 ) -> Result<Verdict, Memory>
     requires session { IsRun session.now }
     requires exports { All (IsExportIn session.now) run.now.exports.items }
-    requires stand { IfOk read (λ r. StandFor (notation (noted_of session.now run.now)) (lines_of r.bytes.items) (map sequent_of r.sequents.items)) }
-    ensures { (packages : List ℕ) → IfOk result (IsVerdictOf (ReadLines packages path.now text.now) (read_end_of text.now (noted_of session.now run.now) read)) }
+    requires stand { IfOk read (λ r. StandFor (notation (noted_of session.now run.now))
+        (lines_of r.bytes.items) (map sequent_of r.sequents.items)) }
+    ensures { (packages : List ℕ)
+        → IfOk result (IsVerdictOf (ReadLines packages path.now text.now)
+        (read_end_of text.now (noted_of session.now run.now) read)) }
 {
     match read {
         Ok(lines) => {

@@ -7,10 +7,10 @@ ghost use Rattle.ot_verify.specs.Verifying.{AreProved};
 ghost use Rattle.ot_plain.specs.Naming.{names};
 ghost use Rattle.ot_plain.specs.Hol.{Accepted as AcceptedLists};
 ghost use Rattle.ot_sample.specs.Sample.{sample};
-ghost use Rattle.ot_program.specs.Reply.{RunSample, CheckLog, line_of_counts, sample_front, sample_back, line_count, article_text, article_fits, run_fits, run_lists};
-ghost use Rattle.ot_program.specs.Texts.{large_line, large_article_line, missing_line, read_fault_line};
-ghost use Rattle.ot_program.specs.Answer.{IsProved, IsRewritten, IsPromisedIn, AreSupported};
-ghost use Rattle.ot_program.specs.Verdicts.{job_task, ran_from, AreCounts, end_at, end_of, log_end_of, IsVerdictOf, IsStopVerdict, IsSaid, EndsAs, SummaryEndsAs, UsesEndsAs, ArticleEndsAs, IsLawfulEnd, IsLawfulEnds};
+ghost use Rattle.ot_program.specs.Reply.{RunSample, CheckLog, line_of_counts, sample_front, sample_back, line_count, article_text, article_fits, log_fits, run_fits, run_lists};
+ghost use Rattle.ot_program.specs.Texts.{large_line, large_article_line, large_log_line, missing_line, read_fault_line};
+ghost use Rattle.ot_program.specs.Answer.{IsProved, IsRewritten, IsLogged, IsPromisedIn, AreSupported};
+ghost use Rattle.ot_program.specs.Verdicts.{job_task, ran_from, AreCounts, end_at, end_of, log_end_of, IsVerdictOf, IsStopVerdict, IsSaid, EndsAs, SummaryEndsAs, UsesEndsAs, ArticleEndsAs, LogEndsAs, IsLawfulEnd, IsLawfulEnds};
 
 use crate::log::LogRefusal;
 use crate::sample::SAMPLE;
@@ -21,6 +21,7 @@ use ot_args::Sections;
 use ot_kernel::{Kernel, ThmId};
 use ot_laws::growth_law;
 use ot_link::LinkFault;
+use ot_log::{LogRefusal as WriterRefusal, write_log};
 use ot_machine::{Export, Session};
 use ot_minimise::minimise;
 use ot_plain::{Limits, Memory};
@@ -178,13 +179,15 @@ fn ended(
     requires exports { All (IsExportIn session.now) exports.now }
     requires lawful { IsLawfulEnds session.now exports.now }
     ensures ends { IfOk result (EndsAs (job_task job.entry) (ran_from session.now exports.now)) }
-    ensures promised { OnOk result (let r = ran_from session.now exports.now in run_fits job.entry.view r ≡ true → IsPromisedIn job.entry.view r) }
+    ensures promised { OnOk result (let r = ran_from session.now exports.now in
+        run_fits job.entry.view r ≡ true → IsPromisedIn job.entry.view r) }
 {
     match job.view {
         View::Counts => Ok(accepted(count_line(alloc, counts_of(session, exports))?)),
         View::Summary(sections) => summary(alloc, job.path, sections, session, exports),
         View::Uses => uses(alloc, job.path, session, exports),
         View::Article => written(alloc, job.path, session, exports),
+        View::Log => logged(alloc, job.path, session, exports),
     }
 }
 
@@ -301,7 +304,8 @@ fn article_of(
     requires exports { All (IsExportIn session.now) exports.now }
     requires lawful { IsLawfulEnds session.now exports.now }
     ensures rewritten { OnOk result (let r = ran_from session.now exports.now in article_fits r ≡ true → IsRewritten r) }
-    ensures some { IfOk result (λ o. IfSome o (λ text. (article_fits (ran_from session.now exports.now) ≡ true) × (text.items ≡ article_text (ran_from session.now exports.now)))) }
+    ensures some { IfOk result (λ o. IfSome o (λ text. (article_fits (ran_from session.now exports.now) ≡ true)
+        × (text.items ≡ article_text (ran_from session.now exports.now)))) }
     ensures none { IfOk result (λ o. IfNone o (article_fits (ran_from session.now exports.now) ≡ false)) }
 {
     let limit = Limits::standard().written_bytes;
@@ -318,6 +322,36 @@ fn large_article(alloc: Global, path: &str) -> Result<Verdict, Memory>
     ensures { IfOk result (λ v. IsSaid v Status.Refused (large_article_line path.now)) }
 {
     let line = line_of(alloc, path, "written article larger than 4294967296 bytes")?;
+    Ok(refused(line))
+}
+
+/// The proof log of a run's exports, or the line for one that is too large.
+fn logged(
+    alloc: Global,
+    path: &str,
+    session: &Session,
+    exports: &[Export],
+) -> Result<Verdict, Memory>
+    requires session { IsRun session.now }
+    requires exports { All (IsExportIn session.now) exports.now }
+    requires lawful { IsLawfulEnds session.now exports.now }
+    ensures ends { IfOk result (LogEndsAs path.now (ran_from session.now exports.now)) }
+    ensures logged { OnOk result (let r = ran_from session.now exports.now in log_fits r ≡ true → IsLogged r) }
+{
+    let limit = Limits::standard().written_bytes;
+    let mut text = Vec::new(alloc);
+    match write_log(alloc, session, exports, limit, &mut text) {
+        Ok(()) => Ok(accepted(text)),
+        Err(WriterRefusal::TooLarge) => Ok(large_log(alloc, path)?),
+        Err(WriterRefusal::Memory) => Err(Memory),
+    }
+}
+
+/// That the proof log of the input of a path is too large.
+fn large_log(alloc: Global, path: &str) -> Result<Verdict, Memory>
+    ensures { IfOk result (λ v. IsSaid v Status.Refused (large_log_line path.now)) }
+{
+    let line = line_of(alloc, path, "proof log larger than 4294967296 bytes")?;
     Ok(refused(line))
 }
 

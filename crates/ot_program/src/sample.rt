@@ -1,8 +1,9 @@
 //! The sample: an article of a size that is made, run and rewritten.
-ghost use Rattle.std.specs.Prelude.{◌≡◌, ◌≢◌, ◌≤◌, ℕ, List, Option, IfOk};
+ghost use Rattle.std.specs.Prelude.{◌≡◌, ◌≤◌, ℕ, List, Option, IfOk};
 ghost use Rattle.ot_io.specs.Folder.{Folder};
 ghost use Rattle.ot_program.specs.Reply.{RunSample, MakeSample};
 ghost use Rattle.ot_program.specs.Answer.{Says};
+ghost use Rattle.ot_program.specs.Verdicts.{IsTaskVerdict};
 
 use crate::input::run_article;
 use crate::report::{Verdict, made_verdict, sample_verdict};
@@ -19,9 +20,8 @@ pub const SAMPLE: &str = "sample";
 /// Makes the sample article of a size, 1 to 1,000, runs it and rewrites it. It reads nothing.
 pub fn run_sample(alloc: Global, size: u64) -> Result<Verdict, Memory>
     requires { size ≤ 1000 }
-    ensures says { (folder : Option Folder) (input at : Option (List ℕ)) → IfOk result (λ v. Says v.status (RunSample size) folder input at v.text.items) }
-    ensures missing { IfOk result (λ v. v.status ≢ Status.NoFile) }
-    ensures read { IfOk result (λ v. v.status ≢ Status.ReadFault) }
+    ensures { (folder : Option Folder) (input at : Option (List ℕ))
+        → IfOk result (IsTaskVerdict (RunSample size) folder input at ⊥ ⊥) }
 {
     let mut made = Vec::new(alloc);
     sample_article(size, &mut made)?;
@@ -34,7 +34,8 @@ pub fn run_sample(alloc: Global, size: u64) -> Result<Verdict, Memory>
 /// Makes the sample article of a size, 1 to 1,000.
 pub fn make_sample(alloc: Global, size: u64) -> Result<Verdict, Memory>
     requires { size ≤ 1000 }
-    ensures says { (folder : Option Folder) (input at : Option (List ℕ)) → IfOk result (λ v. Says v.status (MakeSample size) folder input at v.text.items) }
+    ensures says { (folder : Option Folder) (input at : Option (List ℕ))
+        → IfOk result (λ v. Says v.status (MakeSample size) folder input at v.text.items) }
     ensures accepted { IfOk result (λ v. v.status ≡ Status.Accepted) }
 {
     let mut made = Vec::new(alloc);

@@ -17,6 +17,8 @@ pub enum View {
     Uses,
     /// The written article of its exports.
     Article,
+    /// The proof log of its exports.
+    Log,
 }
 
 /// An input to run: the folder of its theory packages, its path, and what is printed of the run.
@@ -48,6 +50,12 @@ pub enum Task<'a> {
         packages: &'a str,
         path: &'a str,
         text: &'a str,
+    },
+    /// Runs the input of a path, and the packages from a folder that it requires, and searches them for a pattern.
+    FindPattern {
+        packages: &'a str,
+        pattern: &'a str,
+        path: &'a str,
     },
 }
 
@@ -91,6 +99,11 @@ impl<'a> Task<'a> {
                 path: input,
                 view: View::Article,
             }),
+            Command::Prove { packages, input } => Task::RunInput(Job {
+                packages,
+                path: input,
+                view: View::Log,
+            }),
             Command::Sample { count } => Task::RunSample(count),
             Command::SampleArticle { count } => Task::MakeSample(count),
             Command::Verify { log } => Task::CheckLog(log),
@@ -106,6 +119,15 @@ impl<'a> Task<'a> {
                 packages,
                 path: input,
                 text,
+            },
+            Command::Find {
+                packages,
+                pattern,
+                input,
+            } => Task::FindPattern {
+                packages,
+                pattern,
+                path: input,
             },
         }
     }

@@ -21,7 +21,7 @@ use std::alloc::Global;
 
 /// The line for words that are no command.
 pub const USAGE: &[u8] =
-    b"usage: opentheory check|info|link|minimise [--packages DIR] INPUT; info also takes --assumptions --definitions --theorems; opentheory sample [--article] N; opentheory info --uses INPUT; opentheory info --readable INPUT; opentheory read INPUT TEXT; opentheory verify LOG\n";
+    b"usage: opentheory check|info|link|minimise [--packages DIR] INPUT; info also takes --assumptions --definitions --theorems; opentheory sample [--article] N; opentheory info --uses INPUT; opentheory info --readable INPUT; opentheory read INPUT TEXT; opentheory prove INPUT; opentheory verify LOG; opentheory find PATTERN INPUT\n";
 
 /// The line for an output that failed.
 pub const WRITE_FAULT: &[u8] = b"opentheory: write fault\n";
@@ -129,7 +129,8 @@ pub fn fault_line(
 ) -> Result<Vec<u8>, Memory>
     requires symbol { IsSymbolIn kernel.now fault }
     requires apart { fault ≢ Fault.Memory }
-    ensures { IfOk result (λ line. IsSomeAnd (fault_of (name_at kernel.now) fault) (λ f. line.items ≡ fault_line path.now number f)) }
+    ensures { IfOk result (λ line. IsSomeAnd (fault_of (name_at kernel.now) fault)
+        (λ f. line.items ≡ fault_line path.now number f)) }
 {
     let mut line = line_start(alloc, path, number)?;
     add_fault(alloc, kernel, fault, &mut line)?;
@@ -227,7 +228,8 @@ fn add_about(
     out: &mut Vec<u8>,
 ) -> Result<(), Memory>
     requires { symbol.name < length kernel.now.names }
-    ensures { OnOk result (out.new.items ≡ out.old.items ++ (before.now ++ symbol_text (map_symbol (name_at kernel.now) (symbol_of symbol)) ++ after.now)) }
+    ensures { OnOk result (out.new.items
+        ≡ out.old.items ++ (before.now ++ symbol_text (map_symbol (name_at kernel.now) (symbol_of symbol)) ++ after.now)) }
 {
     add(out, before)?;
     add_symbol(kernel, symbol, out)?;
@@ -236,7 +238,8 @@ fn add_about(
 
 /// Appends that another kind is wanted than was found.
 fn add_kinds(wanted: Kind, found: Kind, out: &mut Vec<u8>) -> Result<(), Memory>
-    ensures { OnOk result (out.new.items ≡ out.old.items ++ (codes "wanted " ++ kind_text wanted ++ codes ", found " ++ kind_text found)) }
+    ensures { OnOk result (out.new.items
+        ≡ out.old.items ++ (codes "wanted " ++ kind_text wanted ++ codes ", found " ++ kind_text found)) }
 {
     add(out, "wanted ")?;
     add(out, kind_text(wanted))?;

@@ -274,11 +274,51 @@ const COMMANDS: &[(&[&str], Command<'static>)] = &[
             text: "t.thy",
         },
     ),
+    (
+        &["prove", "-"],
+        Command::Prove {
+            packages: "packages",
+            input: "-",
+        },
+    ),
+    (
+        &["prove", "--packages", "p", "t.thy"],
+        Command::Prove {
+            packages: "p",
+            input: "t.thy",
+        },
+    ),
+    (
+        &["find", "(p : bool)", "-"],
+        Command::Find {
+            packages: "packages",
+            pattern: "(p : bool)",
+            input: "-",
+        },
+    ),
+    (
+        &["find", "--packages", "p", " x", "t.thy"],
+        Command::Find {
+            packages: "p",
+            pattern: " x",
+            input: "t.thy",
+        },
+    ),
 ];
 
 /// Lines that are no command.
 const REFUSED: &[&[&str]] = &[
     &[],
+    &["prove"],
+    &["prove", ""],
+    &["prove", "-x"],
+    &["prove", "a.art", "b.art"],
+    &["prove", "--theorems", "a.art"],
+    &["find", "(p : bool)"],
+    &["find", "", "a.art"],
+    &["find", "-", "a.art"],
+    &["find", "--uses", "(p : bool)", "a.art"],
+    &["find", "(p : bool)", "--packages", "p", "a.art"],
     &["check"],
     &["check", ""],
     &["check", "-x"],
@@ -378,7 +418,7 @@ const REFUSED: &[&[&str]] = &[
     &["verify", "--theorems", "a"],
     &["verify", "--article", "a"],
     &["Verify", "a"],
-    &["prove", "a"],
+    &["proof", "a"],
     &["read"],
     &["read", "a"],
     &["read", "a", ""],

@@ -7,7 +7,7 @@ pub type Entry = (&'static str, &'static [u8], &'static [u8]);
 pub const EQUATION: &[u8] =
     b"6\nversion\n\"->\"\ntypeOp\n0\ndef\npop\n\"bool\"\ntypeOp\nnil\nopType\n1\ndef\npop\n0\nref\n1\nref\n1\nref\nnil\ncons\ncons\nopType\n2\ndef\npop\n0\nref\n1\nref\n2\nref\nnil\ncons\ncons\nopType\n3\ndef\npop\n\"=\"\nconst\n4\ndef\npop\n\"A\"\nvarType\n5\ndef\npop\n4\nref\n0\nref\n2\nref\n0\nref\n2\nref\n1\nref\nnil\ncons\ncons\nopType\nnil\ncons\ncons\nopType\nconstTerm\n\"x\"\n1\nref\nvar\n6\ndef\n6\nref\nvarTerm\nabsTerm\n7\ndef\nappTerm\n7\nref\nappTerm\n8\ndef\npop\n";
 
-const PROVES_IT: &[u8] = b"7\nref\nrefl\nnil\n8\nref\nthm\n";
+pub const PROVES_IT: &[u8] = b"7\nref\nrefl\nnil\n8\nref\nthm\n";
 
 const TAKES_IT: &[u8] = b"nil\n8\nref\naxiom\nnil\n8\nref\nthm\n";
 
@@ -23,7 +23,7 @@ const BOTH_WAYS: &[u8] =
     b"6\nversion\n\"->\"\ntypeOp\n0\ndef\npop\n\"bool\"\ntypeOp\nnil\nopType\n1\ndef\npop\n0\nref\n1\nref\n1\nref\nnil\ncons\ncons\nopType\n2\ndef\npop\n0\nref\n1\nref\n2\nref\nnil\ncons\ncons\nopType\n3\ndef\npop\n\"=\"\nconst\n4\ndef\npop\n\"A\"\nvarType\n5\ndef\npop\n\"p\"\n1\nref\nvar\nvarTerm\n6\ndef\npop\n\"q\"\n1\nref\nvar\nvarTerm\n7\ndef\npop\n4\nref\n3\nref\nconstTerm\n8\ndef\npop\n8\nref\n6\nref\nappTerm\n7\nref\nappTerm\n9\ndef\npop\n8\nref\n7\nref\nappTerm\n6\nref\nappTerm\n10\ndef\npop\n";
 
 /// A constant "Y" between p and q of type bool, as an axiom, and its symmetry.
-const SYMMETRY: &[u8] =
+pub const SYMMETRY: &[u8] =
     b"6\nversion\n\"->\"\ntypeOp\n0\ndef\npop\n\"bool\"\ntypeOp\nnil\nopType\n1\ndef\npop\n0\nref\n1\nref\n1\nref\nnil\ncons\ncons\nopType\n2\ndef\npop\n0\nref\n1\nref\n2\nref\nnil\ncons\ncons\nopType\n3\ndef\npop\n\"=\"\nconst\n4\ndef\npop\n\"A\"\nvarType\n5\ndef\npop\n\"p\"\n1\nref\nvar\nvarTerm\n6\ndef\npop\n\"q\"\n1\nref\nvar\nvarTerm\n7\ndef\npop\n\"Y\"\nconst\n3\nref\nconstTerm\n6\nref\nappTerm\n7\nref\nappTerm\n8\ndef\npop\nnil\n8\nref\naxiom\nsym\npop\nnil\n8\nref\naxiom\nnil\n8\nref\nthm\n";
 
 /// `one` proves what `two` takes; `two` imports it, or doesn't, or only `main` does.

@@ -5,7 +5,8 @@ use Rattle.ot_program.proofs.input.run_article.Goals as goal
 
 pub returns-clause-end : goal.returns-clause-end
 returns-clause-end g c =
-    alone_answer c.run_alone.new.session c.run_alone.result (string_bytes c.args.path) (g.S.Source.left c.args.source.now) c.standard-limits.result.article_bytes
+    alone_answer c.run_alone.new.session c.run_alone.result (string_bytes c.args.path)
+    (g.S.Source.left c.args.source.now) c.standard-limits.result.article_bytes
     (ap (λ l. l.article_bytes) c.standard-limits.ensures) c.run_alone.ensures.ends
 
 pub returns-clause-own : goal.returns-clause-own
@@ -13,7 +14,9 @@ returns-clause-own g c = alone_own c.run_alone.new.session c.run_alone.result (s
 
 pub returns-clause-cause : goal.returns-clause-cause
 returns-clause-cause g c =
-    alone_cause c.run_alone.new.session c.run_alone.result (string_bytes c.args.path) (g.S.Source.faults c.args.source.now) (g.S.Source.faults c.run_alone.new.source) c.run_alone.ensures.own c.run_alone.ensures.cause
+    alone_cause c.run_alone.new.session c.run_alone.result (string_bytes c.args.path) (g.S.Source.faults c.args.source.now)
+    (g.S.Source.faults c.run_alone.new.source) c.run_alone.ensures.own c.run_alone.ensures.cause
 
 pub returns-clause-lawful : goal.returns-clause-lawful
-returns-clause-lawful g c = lawful_end c.run_alone.new.session c.run_alone.result c.run_alone.ensures.lawful c.run_alone.ensures.lawful_exports
+returns-clause-lawful g c =
+    lawful_end c.run_alone.new.session c.run_alone.result c.run_alone.ensures.lawful c.run_alone.ensures.lawful_exports

@@ -11,7 +11,7 @@ use Rattle.ot_machine.specs.declared.machine.Export.{Export}
 use Rattle.ot_program.specs.Reply.{ShowReadable, Noted, run_at, shown_at}
 use Rattle.ot_program.specs.Verdicts.{End, end_of, noted_end, IsEnd, IsPlace}
 use Rattle.ot_program.specs.declared.task.View.TheVariants.{Counts}
-use Rattle.ot_program.proofs.NotedLemmas.{ends, stops, places, stop_places, same_stop}
+use Rattle.ot_program.proofs.NotedLemmas.{ends, stops, places, stop_places, same_stop, keeps}
 use Rattle.ot_program.proofs.noted.run_noted.Goals as goal
 
 -- ---- the run ended
@@ -23,10 +23,19 @@ returns-in-Ok-run_input-clause-end g c =
     let path = c.args.path.now in
     let packages = c.args.packages.now in
     let s = c.run_input.new.session in
-    let P : Result (Vec Export Global) LinkFault → Type 0 = λ r. IfSome (option_map (noted_end c.in-Ok.names.items) (end_of s r)) (IsEnd (ShowReadable packages path) folder left) in
-    let shows = subst (λ (r : Result (Vec Name Global) LinkFault). IfSome (shown_at path folder) (λ l. (k : State) → Comes k (λ names. names.items) r l)) c.in-Ok.is c.shown_names.ensures.comes in
+    let P : Result (Vec Export Global) LinkFault → Type 0 =
+    λ r. IfSome (option_map (noted_end c.in-Ok.names.items) (end_of s r)) (IsEnd (ShowReadable packages path) folder left) in
+    let shows = subst (λ (r : Result (Vec Name Global) LinkFault). IfSome
+    (shown_at path folder) (λ l. (k : State) → Comes k (λ names. names.items) r l))
+    c.in-Ok.is c.shown_names.ensures.comes in
     let ended = rw c.shown_names.ensures.files.same_folder at c.run_input.ensures.end in
-    subst P c.in-Ok-run_input.is (ends s.kernel c.in-Ok.names (shown_at path folder) (run_at packages path folder left) (end_of s c.run_input.result) shows ended)
+    subst P c.in-Ok-run_input.is (ends s.kernel c.in-Ok.names (shown_at path folder)
+    (run_at packages path folder left) (end_of s c.run_input.result) shows ended)
+
+pub returns-in-Ok-run_input-clause-files : goal.returns-in-Ok-run_input-clause-files
+returns-in-Ok-run_input-clause-files g c =
+    keeps g.F.Source.folder g.F.Source.faults g.F.Source.misses g.F.Source.left c.args.files.now c.shown_names.new.files
+    c.run_input.new.files c.shown_names.ensures.files c.run_input.ensures.files
 
 -- ---- or stopped
 
@@ -39,10 +48,13 @@ returns-in-Err-run_input-clause-end g c =
     let s = c.run_input.new.session in
     let Q : Option (End Noted Stop) → Type 0 = λ o. IfSome o (IsEnd (ShowReadable packages path) folder left) in
     let P : Result (Vec Export Global) LinkFault → Type 0 = λ r. Q (option_map (noted_end c.in-Ok.names.items) (end_of s r)) in
-    let shows = subst (λ (r : Result (Vec Name Global) LinkFault). IfSome (shown_at path folder) (λ l. (k : State) → Comes k (λ names. names.items) r l)) c.in-Ok.is c.shown_names.ensures.comes in
+    let shows = subst (λ (r : Result (Vec Name Global) LinkFault). IfSome
+    (shown_at path folder) (λ l. (k : State) → Comes k (λ names. names.items) r l))
+    c.in-Ok.is c.shown_names.ensures.comes in
     let ended = rw c.shown_names.ensures.files.same_folder at c.run_input.ensures.end in
     subst Q (same_stop c.in-Ok.names.items s.kernel c.in-Err-run_input.stop)
-    (subst P c.in-Err-run_input.is (ends s.kernel c.in-Ok.names (shown_at path folder) (run_at packages path folder left) (end_of s c.run_input.result) shows ended))
+    (subst P c.in-Err-run_input.is (ends s.kernel c.in-Ok.names (shown_at path folder)
+    (run_at packages path folder left) (end_of s c.run_input.result) shows ended))
 
 pub returns-in-Err-run_input-clause-place : goal.returns-in-Err-run_input-clause-place
 returns-in-Err-run_input-clause-place g c =
@@ -55,7 +67,13 @@ returns-in-Err-run_input-clause-place g c =
     let P : Result (Vec Export Global) LinkFault → Type 0 = λ r. Q (option_map (noted_end c.in-Ok.names.items) (end_of s r)) in
     let placed = rw c.shown_names.ensures.files.same_folder at c.run_input.ensures.place in
     subst Q (same_stop c.in-Ok.names.items s.kernel c.in-Err-run_input.stop)
-    (subst P c.in-Err-run_input.is (places c.in-Ok.names.items packages path Counts folder at (end_of s c.run_input.result) placed))
+    (subst P c.in-Err-run_input.is (places c.in-Ok.names.items packages
+    path Counts folder at (end_of s c.run_input.result) placed))
+
+pub returns-in-Err-run_input-clause-files : goal.returns-in-Err-run_input-clause-files
+returns-in-Err-run_input-clause-files g c =
+    keeps g.F.Source.folder g.F.Source.faults g.F.Source.misses g.F.Source.left c.args.files.now c.shown_names.new.files
+    c.run_input.new.files c.shown_names.ensures.files c.run_input.ensures.files
 
 -- ---- where what it shows stops it
 
@@ -64,16 +82,21 @@ returns-in-Err-clause-end g c =
     let folder = g.F.Source.folder c.args.files.now in
     let left = g.S.Source.left c.args.input.now in
     let path = c.args.path.now in
-    let comes = subst (λ (r : Result (Vec Name Global) LinkFault). IfSome (shown_at path folder) (λ l. (k : State) → Comes k (λ names. names.items) r l)) c.in-Err.is c.shown_names.ensures.comes in
+    let comes = subst (λ (r : Result (Vec Name Global) LinkFault). IfSome
+    (shown_at path folder) (λ l. (k : State) → Comes k (λ names. names.items) r l))
+    c.in-Err.is c.shown_names.ensures.comes in
     stops c.args.session.now.kernel c.in-Err.stop (shown_at path folder) (run_at c.args.packages.now path folder left) comes
 
 pub returns-in-Err-clause-place : goal.returns-in-Err-clause-place
 returns-in-Err-clause-place g c =
     let folder = g.F.Source.folder c.args.files.now in
     let path = c.args.path.now in
-    let comes = subst (λ (r : Result (Vec Name Global) LinkFault). IfSome (shown_at path folder) (λ l. (k : State) → Comes k (λ names. names.items) r l)) c.in-Err.is c.shown_names.ensures.comes in
+    let comes = subst (λ (r : Result (Vec Name Global) LinkFault). IfSome
+    (shown_at path folder) (λ l. (k : State) → Comes k (λ names. names.items) r l))
+    c.in-Err.is c.shown_names.ensures.comes in
     stop_places c.args.session.now.kernel c.in-Err.stop c.args.packages.now path folder (g.F.Source.at c.shown_names.new.files)
-    (g.F.Source.misses c.args.files.now) (g.F.Source.misses c.shown_names.new.files) (g.F.Source.faults c.args.files.now) (g.F.Source.faults c.shown_names.new.files) c.in-Err.ensures.theory comes c.in-Err.ensures.cause
+    (g.F.Source.misses c.args.files.now) (g.F.Source.misses c.shown_names.new.files) (g.F.Source.faults c.args.files.now)
+    (g.F.Source.faults c.shown_names.new.files) c.in-Err.ensures.theory comes c.in-Err.ensures.cause
 
 pub returns-in-Err-clause-symbols : goal.returns-in-Err-clause-symbols
 returns-in-Err-clause-symbols g c = c.in-Err.ensures.symbols c.args.session.now.kernel

@@ -5,9 +5,11 @@ use Rattle.ot_program.proofs.readable.readable_verdict.Goals as goal
 
 pub returns-in-Ok : goal.returns-in-Ok
 returns-in-Ok c = λ packages.
-    rw c.in-Ok.is (end_verdict packages c.args.path.now (noted_of c.args.session.now c.in-Ok.noted) c.summary.result c.summary.ensures.ends c.summary.ensures.read_back
+    rw c.in-Ok.is (end_verdict packages c.args.path.now (noted_of c.args.session.now c.in-Ok.noted)
+    c.summary.result c.summary.ensures.ends c.summary.ensures.read_back
     (rw c.deref.ensures.value at c.proved.ensures.proved) c.proved.ensures.one_text c.proved.ensures.one_in_front)
 
 pub returns-in-Err : goal.returns-in-Err
 returns-in-Err c = λ packages.
-    rw c.in-Err.is (stop_verdict packages c.args.path.now [] c.stopped.result (end_at c.args.session.now.kernel c.in-Err.stop) (rw c.kernel.ensures at c.stopped.ensures))
+    rw c.in-Err.is (stop_verdict packages c.args.path.now [] c.stopped.result
+    (end_at c.args.session.now.kernel c.in-Err.stop) (rw c.kernel.ensures at c.stopped.ensures))

@@ -12,4 +12,5 @@ returns-in_ok-line-in-Some-clause-ends c =
     sample_within c.args.size r c.accepted.result written.0 c.accepted.ensures.status_is
     (c.accepted.ensures.text_is ∙ c.in_ok-line-in-Some.ensures
     ∙ (λ i. sample_front c.args.size ((c.line_count.ensures ∙ ap line_count c.requires.made) i) (counts.theorems i)
-    ++ sample_back (counts.assumptions i) (counts.definitions i) ((c.line_count-in-Some.ensures ∙ ap line_count (c.deref.ensures.value ∙ written.1)) i)))
+    ++ sample_back (counts.assumptions i) (counts.definitions i)
+    ((c.line_count-in-Some.ensures ∙ ap line_count (c.deref.ensures.value ∙ written.1)) i)))

@@ -1,35 +1,30 @@
 use Rattle.std.proofs.Common.{◌≡◌, ◌∙◌, ◌++◌, List, ℕ, ap, subst}
 use Rattle.std.specs.Prelude.{IfSome}
-use Rattle.ot_io.specs.Causes.{Rose}
 use Rattle.ot_link.specs.Blocks.{article_end}
 use Rattle.ot_sample.specs.Sample.{sample}
 use Rattle.ot_program.specs.Reply.{RunSample, sample_path, outcome}
 use Rattle.ot_program.specs.Verdicts.{end_of, IsAnswer, IsOwnEnd}
-use Rattle.ot_program.specs.declared.status.Status.TheVariants.{ReadFault}
-use Rattle.ot_program.proofs.SampleLemmas.{sample_end, sample_place, not_failed}
-use Rattle.ot_program.proofs.VerdictLemmas.{says, missing, failed}
+use Rattle.ot_program.proofs.SampleLemmas.{sample_end, sample_place, sample_cause, unasked}
+use Rattle.ot_program.proofs.VerdictLemmas.{task_verdict}
 use Rattle.ot_program.proofs.sample.run_sample.Goals as goal
 
 pub sample_verdict-requires-clause-made : goal.sample_verdict-requires-clause-made
 sample_verdict-requires-clause-made c =
     c.deref-2.ensures.value ∙ c.in_ok-sample_article.ensures.ok ∙ ap (λ xs. xs ++ sample c.args.size) c.new-made.ensures.items
 
-pub returns-clause-says : goal.returns-clause-says
-returns-clause-says c = λ folder input at.
+pub returns : goal.returns
+returns c = λ folder input at.
     let o = end_of c.run_article-ran.new.session c.run_article-ran.result in
     let made : c.new-2.result.left.now ≡ sample c.args.size =
-    c.new-2.ensures ∙ c.deref.ensures.value ∙ c.in_ok-sample_article.ensures.ok ∙ ap (λ xs. xs ++ sample c.args.size) c.new-made.ensures.items in
-    let ended = subst (λ (path : List ℕ). IfSome o (IsAnswer (article_end path (outcome c.new-2.result.left.now)))) c.in_ok-path.ensures.ok c.run_article-ran.ensures.end in
+    c.new-2.ensures
+    ∙ c.deref.ensures.value
+    ∙ c.in_ok-sample_article.ensures.ok
+    ∙ ap (λ xs. xs ++ sample c.args.size) c.new-made.ensures.items in
+    let ended = subst (λ (path : List ℕ). IfSome o (IsAnswer (article_end path (outcome c.new-2.result.left.now))))
+    c.in_ok-path.ensures.ok c.run_article-ran.ensures.end in
     let told = subst (λ (bytes : List ℕ). IfSome o (IsAnswer (article_end sample_path (outcome bytes)))) made ended in
     let own = subst (λ (path : List ℕ). IfSome o (IsOwnEnd path)) c.in_ok-path.ensures.ok c.run_article-ran.ensures.own in
-    says (RunSample c.args.size) folder input at o c.sample_verdict.result c.sample_verdict.ensures
-    (sample_end c.args.size folder input o told) (sample_place c.args.size folder at o own c.run_article-ran.ensures.cause)
-
-pub returns-clause-missing : goal.returns-clause-missing
-returns-clause-missing c =
-    missing (Rose 0 0) ⊥ (RunSample c.args.size) (end_of c.run_article-ran.new.session c.run_article-ran.result) c.sample_verdict.result c.sample_verdict.ensures c.run_article-ran.ensures.cause
-
-pub returns-clause-read : goal.returns-clause-read
-returns-clause-read c =
-    not_failed c.sample_verdict.result (λ v. v.status ≡ ReadFault)
-    (failed (Rose 0 0) ⊥ (RunSample c.args.size) (end_of c.run_article-ran.new.session c.run_article-ran.result) c.sample_verdict.result c.sample_verdict.ensures c.run_article-ran.ensures.cause)
+    let cause = c.run_article-ran.ensures.cause in
+    task_verdict ⊥ ⊥ (RunSample c.args.size) folder input at o c.sample_verdict.result c.sample_verdict.ensures
+    (sample_end c.args.size folder input o told) (sample_place c.args.size folder at o own cause)
+    (sample_cause o cause) (unasked o)

@@ -1,0 +1,70 @@
+use Rattle.std.proofs.Common.{◌≡◌, ◌∙◌, ◌++◌, List, ap, subst}
+use Rattle.std.specs.Global.{Global}
+use Rattle.std.specs.Option.{option_map}
+use Rattle.std.specs.Prelude.{Result, Vec, IfSome, IsSomeAnd}
+use Rattle.ot_plain.specs.PlainTrees.{term_of_tree}
+use Rattle.ot_io.specs.Causes.{Rose}
+use Rattle.ot_blocks.specs.Paths.{package_path}
+use Rattle.ot_find.specs.Matches.{Found, matches_in}
+use Rattle.ot_link.specs.declared.fault.LinkFault.{LinkFault}
+use Rattle.ot_machine.specs.declared.machine.Export.{Export}
+use Rattle.ot_program.specs.Reply.{theory_run, exports_of, stop_status}
+use Rattle.ot_program.specs.Verdicts.{end_at, end_of, ran_from, IsAnswer, IsNeeded, HasCause, HasMatches, HasEndedRun, IsSearched, IsStopVerdict}
+use Rattle.ot_program.proofs.FindingLemmas.{ends_by, err_ended, on_ok_more, path_answer, run_ended}
+use Rattle.ot_program.proofs.finding.search_package.Goals as goal
+
+pub returns-in-Ok-clause-ended : goal.returns-in-Ok-clause-ended
+returns-in-Ok-clause-ended g c =
+    let P : Type 0 = Rose (g.F.Source.faults c.args.files.now) (g.F.Source.faults c.run_theory.new.files) in
+    let Q : Type 0 = Rose (g.F.Source.misses c.args.files.now) (g.F.Source.misses c.run_theory.new.files) in
+    err_ended (λ v. ⊥) (HasEndedRun c.args.packages.now c.args.full.now
+    (g.F.Source.folder c.args.files.now) (g.F.Source.at c.run_theory.new.files) P Q)
+    c.search_exports.result
+    (λ v none. absurd none) c.search_exports.ensures.ended
+
+pub returns-in-Ok-clause-searched : goal.returns-in-Ok-clause-searched
+returns-in-Ok-clause-searched g c =
+    let packages = c.args.packages.now in
+    let full = c.args.full.now in
+    let folder = g.F.Source.folder c.args.files.now in
+    let s = c.run_theory.new.session in
+    let pattern = term_of_tree c.args.pattern.now in
+    let ran = ran_from s c.in-Ok.exports.items in
+    let same : c.deref.result.now ≡ package_path packages full =
+    c.deref.ensures ∙ c.in_ok-path.ensures ∙ ap (package_path packages) c.as_bytes.ensures.value in
+    let ended = path_answer packages folder (end_of s c.run_theory.result)
+    c.deref.result.now (package_path packages full) same c.run_theory.ensures.end in
+    let ran_is = subst (λ (r : Result (Vec Export Global) LinkFault). IfSome folder
+    (λ files. IfSome (end_of s r) (IsAnswer (theory_run packages (package_path packages full) files).answer)))
+    c.in-Ok.is ended in
+    let proved = rw c.deref-in-Ok.ensures.value at c.search_exports.ensures.proved in
+    let found = rw c.deref-in-Ok.ensures.value at c.search_exports.ensures.found in
+    on_ok_more ((fs : List Found) → HasMatches c.args.search.now fs
+    → HasMatches c.search_exports.new.search (fs ++ matches_in pattern full (exports_of ran)))
+    (IsSearched packages full folder pattern c.args.search.now c.search_exports.new.search) c.search_exports.result
+    (λ more. record { ran = ran; ran_is = ran_is; proved = proved; found_more = more }) found
+
+pub returns-clause-ended : goal.returns-clause-ended
+returns-clause-ended g c =
+    let packages = c.args.packages.now in
+    let full = c.args.full.now in
+    let path = c.deref.result.now in
+    let folder = g.F.Source.folder c.args.files.now in
+    let at = g.F.Source.at c.run_theory.new.files in
+    let P : Type 0 = Rose (g.F.Source.faults c.args.files.now) (g.F.Source.faults c.run_theory.new.files) in
+    let Q : Type 0 = Rose (g.F.Source.misses c.args.files.now) (g.F.Source.misses c.run_theory.new.files) in
+    let s = c.run_theory.new.session in
+    let o = end_at s.kernel c.in-Err.stop in
+    let same : path ≡ package_path packages full =
+    c.deref.ensures ∙ c.in_ok-path.ensures ∙ ap (package_path packages) c.as_bytes.ensures.value in
+    let ended = subst (λ (r : Result (Vec Export Global) LinkFault). IfSome folder
+    (λ files. IfSome (end_of s r) (IsAnswer (theory_run packages path files).answer)))
+    c.in-Err.is c.run_theory.ensures.end in
+    let needed = subst (λ (r : Result (Vec Export Global) LinkFault). IfSome (end_of s r)
+    (IsNeeded (option_map (λ files. (theory_run packages path files).paths) folder) at))
+    c.in-Err.is c.run_theory.ensures.needed in
+    let caused = subst (λ (r : Result (Vec Export Global) LinkFault). IfSome (end_of s r) (HasCause stop_status P Q))
+    c.in-Err.is c.run_theory.ensures.cause in
+    rw c.ending_of.ensures (ends_by (λ v. IsSomeAnd o (IsStopVerdict v))
+    (HasEndedRun packages full folder at P Q) c.stopped.result
+    (run_ended packages folder path full at P Q o same ended needed caused) (rw c.kernel.ensures at c.stopped.ensures))
