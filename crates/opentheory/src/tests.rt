@@ -16,6 +16,7 @@ use ot_io::{MemFiles, MemSink, MemSource};
 use ot_program::{Status, run};
 use repetitions::{DOUBLED, REPEATED, Repeated, TOO_LARGE};
 use std::alloc::Global;
+use std::process::Abort;
 use std::test::Fail;
 use tables::{ARTICLES, FAULTS, FIRST, NONE, ONE, PARTS, SUMMARIES};
 use theories::{
@@ -35,13 +36,18 @@ struct Answer {
 }
 
 impl Answer {
-    /// What stands on the sink that belongs to the status.
-    fn said(&self) -> &[u8] {
+    /// Whether the status is this, and this text stands on the sink that belongs to it, and nothing on the other.
+    fn is(&self, status: Status, text: &[u8]) -> bool {
         if self.status == Status::Accepted {
-            &self.out
+            self.stands(status, text, b"")
         } else {
-            &self.err
+            self.stands(status, b"", text)
         }
+    }
+
+    /// Whether the status is this, and these texts stand on the sinks.
+    fn stands(&self, status: Status, out: &[u8], err: &[u8]) -> bool {
+        self.status == status && self.out.as_slice() == out && self.err.as_slice() == err
     }
 }
 
@@ -73,6 +79,18 @@ fn answered(alloc: Global, words: &[&str], article: &[u8], outside: Outside) -> 
     answered_over(alloc, words, files, article, outside)
 }
 
+/// Whether the program answers these words over an article so.
+fn answers(
+    alloc: Global,
+    words: &[&str],
+    article: &[u8],
+    status: Status,
+    text: &[u8],
+) -> Result<bool, Fail> {
+    let answer = answered(alloc, words, article, FINE)?;
+    Ok(answer.is(status, text))
+}
+
 /// One file with this path and these bytes.
 fn one_file(alloc: Global, path: &str, bytes: &[u8]) -> Result<Vec<(String, Vec<u8>)>, Fail>
     ensures { IfOk result (λ files. IsTrue (has_distinct_paths (folder_of files.items))) }
@@ -98,21 +116,72 @@ fn answered_over(
     requires write { 1 ≤ outside.write.0 }
     requires say { 1 ≤ outside.say.0 }
 {
+    let mut devices = devices_of(alloc, files, article, outside)?;
+    answered_on(alloc, words, &mut devices)
+}
+
+/// The devices of a run. They have an owner of their own, so that no refusal in a run has to drop them.
+#[derive(Drop)]
+struct Devices {
+    files: MemFiles,
+    input: MemSource,
+    out: MemSink,
+    err: MemSink,
+}
+
+fn devices_of(
+    alloc: Global,
+    files: Vec<(String, Vec<u8>)>,
+    article: &[u8],
+    outside: Outside,
+) -> Result<Devices, Fail>
+    requires paths { IsTrue (has_distinct_paths (folder_of files.items)) }
+    requires read { 1 ≤ outside.read.0 }
+    requires write { 1 ≤ outside.write.0 }
+    requires say { 1 ≤ outside.say.0 }
+{
+    let fail = Vec::from_slice(alloc, &[outside.read.1])?;
+    let files = MemFiles::new(files, outside.read.0, fail);
+    let input = source(alloc, article, outside.read)?;
+    let out = sink(alloc, outside.write)?;
+    let err = sink(alloc, outside.say)?;
+    Ok(Devices {
+        files,
+        input,
+        out,
+        err,
+    })
+}
+
+fn answered_on(alloc: Global, words: &[&str], devices: &mut Devices) -> Result<Answer, Fail> {
+    let words = texts_of(alloc, words)?;
+    let status = status_on(alloc, &words, devices);
+    answer_of(alloc, status, devices.out.text(), devices.err.text())
+}
+
+fn texts_of(alloc: Global, words: &[&str]) -> Result<Vec<String>, Fail> {
     let mut texts = Vec::new(alloc);
     for word in words {
         texts.push(String::from_str(alloc, word)?)?;
     }
-    let fail = Vec::from_slice(alloc, &[outside.read.1])?;
-    let mut files = MemFiles::new(files, outside.read.0, fail);
-    let mut input = source(alloc, article, outside.read)?;
-    let mut out = sink(alloc, outside.write)?;
-    let mut err = sink(alloc, outside.say)?;
-    let status = run(alloc, &texts, &mut files, &mut input, &mut out, &mut err);
-    Ok(Answer {
-        status,
-        out: Vec::from_slice(alloc, out.text())?,
-        err: Vec::from_slice(alloc, err.text())?,
-    })
+    Ok(texts)
+}
+
+fn status_on(alloc: Global, words: &[String], devices: &mut Devices) -> Status {
+    run(
+        alloc,
+        words,
+        &mut devices.files,
+        &mut devices.input,
+        &mut devices.out,
+        &mut devices.err,
+    )
+}
+
+fn answer_of(alloc: Global, status: Status, out: &[u8], err: &[u8]) -> Result<Answer, Fail> {
+    let out = Vec::from_slice(alloc, out)?;
+    let err = Vec::from_slice(alloc, err)?;
+    Ok(Answer { status, out, err })
 }
 
 /// The files of a table; each has its text in two parts.
@@ -147,7 +216,7 @@ fn says(
         ..FINE
     };
     let answer = answered_over(alloc, words, files, b"", outside)?;
-    Ok(answer.status == status && answer.said() == text)
+    Ok(answer.is(status, text))
 }
 
 fn source(alloc: Global, article: &[u8], calls: (usize, u64)) -> Result<MemSource, Fail>
@@ -189,10 +258,10 @@ fn articles(rt: HostRuntime) -> Result<(), Fail> {
     for (text, status, line) in ARTICLES {
         let mut article = Vec::new(rt.alloc());
         add_lines(&mut article, text)?;
-        let answer = answered(rt.alloc(), &["check", "-"], &article, FINE)?;
-        assert_eq!(rt; answer.said(), line, "{text:?}");
-        assert_eq!(rt; answer.status, status, "{text:?}");
-        assert_eq!(rt; answer.out.len() + answer.err.len(), line.len(), "{text:?}");
+        assert!(rt;
+            answers(rt.alloc(), &["check", "-"], &article, status, line)?,
+            "{text:?}"
+        );
     }
     Ok(())
 }
@@ -201,9 +270,10 @@ fn articles(rt: HostRuntime) -> Result<(), Fail> {
 fn articles_in_parts(rt: HostRuntime) -> Result<(), Fail> {
     for (parts, status, line) in PARTS {
         let article = joined(rt.alloc(), parts)?;
-        let answer = answered(rt.alloc(), &["check", "-"], &article, FINE)?;
-        assert_eq!(rt; answer.said(), line, "{parts:?}");
-        assert_eq!(rt; answer.status, status, "{parts:?}");
+        assert!(rt;
+            answers(rt.alloc(), &["check", "-"], &article, status, line)?,
+            "{parts:?}"
+        );
     }
     Ok(())
 }
@@ -214,26 +284,28 @@ fn summaries(rt: HostRuntime) -> Result<(), Fail> {
         let article = joined(rt.alloc(), parts)?;
         let mut words: Vec<&str> = vec![in rt.alloc(); "info"]?;
         words.extend_from_slice(operands)?;
-        let answer = answered(rt.alloc(), &words, &article, FINE)?;
-        assert_eq!(rt; answer.said(), summary, "{parts:?}");
-        assert_eq!(rt; answer.status, Status::Accepted, "{parts:?}");
+        assert!(rt;
+            answers(rt.alloc(), &words, &article, Status::Accepted, summary)?,
+            "{parts:?}"
+        );
     }
     Ok(())
+}
+
+/// Whether the commands of a text are refused so behind the version.
+fn is_refused(alloc: Global, text: &[u8], fault: &[u8]) -> Result<bool, Fail> {
+    let version: &[u8] = b"6 version";
+    let article = joined(alloc, &[version, text])?;
+    let mut line = Vec::from_slice(alloc, b"opentheory: a.art:")?;
+    line.extend_from_slice(fault)?;
+    line.push(b'\n')?;
+    answers(alloc, &["check", "a.art"], &article, Status::Refused, &line)
 }
 
 #[test]
 fn faults(rt: HostRuntime) -> Result<(), Fail> {
     for (text, fault) in FAULTS {
-        let mut article = Vec::new(rt.alloc());
-        add_lines(&mut article, b"6 version")?;
-        add_lines(&mut article, text)?;
-        let mut line = Vec::from_slice(rt.alloc(), b"opentheory: a.art:")?;
-        line.extend_from_slice(fault)?;
-        line.push(b'\n')?;
-        let answer = answered(rt.alloc(), &["check", "a.art"], &article, FINE)?;
-        assert_eq!(rt; answer.err.as_slice(), line.as_slice(), "{text:?}");
-        assert_eq!(rt; answer.status, Status::Refused, "{text:?}");
-        assert!(rt; answer.out.is_empty(), "{text:?}");
+        assert!(rt; is_refused(rt.alloc(), text, fault)?, "{text:?}");
     }
     Ok(())
 }
@@ -246,8 +318,7 @@ fn says_repeated(alloc: Global, row: &Repeated) -> Result<bool, Fail> {
         add_lines(&mut article, again)?;
     }
     add_lines(&mut article, last)?;
-    let answer = answered(alloc, &[command, "-"], &article, FINE)?;
-    Ok(answer.status == status && answer.said() == line)
+    answers(alloc, &[command, "-"], &article, status, line)
 }
 
 #[test]
@@ -330,22 +401,36 @@ fn theory_files(rt: HostRuntime) -> Result<(), Fail> {
     Ok(())
 }
 
+/// Whether the article of these parts is written as this text.
+fn is_written(alloc: Global, parts: &[&[u8]], text: &[u8]) -> Result<bool, Fail> {
+    let article = joined(alloc, parts)?;
+    let lines = joined(alloc, &[text])?;
+    answers(
+        alloc,
+        &["minimise", "-"],
+        &article,
+        Status::Accepted,
+        &lines,
+    )
+}
+
 /// An article that is written has what its exports need and nothing else, and proves the same.
 #[test]
 fn minimised(rt: HostRuntime) -> Result<(), Fail> {
     for (parts, text) in WRITTEN {
-        let article = joined(rt.alloc(), parts)?;
-        let mut lines = Vec::new(rt.alloc());
-        add_lines(&mut lines, text)?;
-        let answer = answered(rt.alloc(), &["minimise", "-"], &article, FINE)?;
-        assert_eq!(rt; answer.said(), lines.as_slice(), "{parts:?}");
-        assert_eq!(rt; answer.status, Status::Accepted, "{parts:?}");
+        assert!(rt; is_written(rt.alloc(), parts, text)?, "{parts:?}");
     }
-    let mut lean = Vec::new(rt.alloc());
-    add_lines(&mut lean, LEAN)?;
-    assert_eq!(rt; lean.len(), 97);
-    let answer = answered(rt.alloc(), &["check", "a.art"], &lean, FINE)?;
-    assert_eq!(rt; answer.said(), ONE);
+    let lean = joined(rt.alloc(), &[LEAN])?;
+    assert!(rt; lean.len() == 97);
+    assert!(rt;
+        answers(
+            rt.alloc(),
+            &["check", "a.art"],
+            &lean,
+            Status::Accepted,
+            ONE
+        )?
+    );
     Ok(())
 }
 
@@ -368,16 +453,19 @@ fn linked(rt: HostRuntime) -> Result<(), Fail> {
 #[test]
 fn samples(rt: HostRuntime) -> Result<(), Fail> {
     for (size, line) in SAMPLES {
-        let answer = answered(rt.alloc(), &["sample", size], b"", FINE)?;
-        assert_eq!(rt; answer.said(), line, "{size}");
-        assert_eq!(rt; answer.status, Status::Accepted, "{size}");
+        assert!(rt;
+            answers(rt.alloc(), &["sample", size], b"", Status::Accepted, line)?,
+            "{size}"
+        );
     }
     let made = answered(rt.alloc(), &["sample", "--article", "200"], b"", FINE)?;
-    let checked = answered(rt.alloc(), &["check", "-"], &made.out, FINE)?;
-    assert_eq!(rt; checked.said(), ONE);
-    let shown = answered(rt.alloc(), &["info", "-"], &made.out, FINE)?;
-    assert_eq!(rt; shown.said(), TOO_LARGE.6);
-    assert_eq!(rt; shown.status, Status::Refused);
+    check_sample(&rt, rt.alloc(), &made.out)
+}
+
+fn check_sample(rt: &impl Abort, alloc: Global, article: &[u8]) -> Result<(), Fail> {
+    assert!(rt; answers(alloc, &["check", "-"], article, Status::Accepted, ONE)?);
+    let line = TOO_LARGE.6;
+    assert!(rt; answers(alloc, &["info", "-"], article, Status::Refused, line)?);
     Ok(())
 }
 
@@ -424,14 +512,20 @@ fn long_names(rt: HostRuntime) -> Result<(), Fail> {
         ),
     ];
     for (letters, status, line) in rows {
-        let mut article = Vec::from_slice(rt.alloc(), b"6\nversion\n\"")?;
-        article.extend_from_slice(&vec![in rt.alloc(); b'x'; letters]?)?;
-        article.push(b'"')?;
-        let answer = answered(rt.alloc(), &["check", "-"], &article, FINE)?;
-        assert_eq!(rt; answer.said(), line, "{letters} letters");
-        assert_eq!(rt; answer.status, status, "{letters} letters");
+        assert!(rt;
+            has_long_name(rt.alloc(), letters, status, line)?,
+            "{letters} letters"
+        );
     }
     Ok(())
+}
+
+fn has_long_name(alloc: Global, letters: usize, status: Status, line: &[u8]) -> Result<bool, Fail> {
+    let letters = vec![in alloc; b'x'; letters]?;
+    let mut article = Vec::from_slice(alloc, b"6\nversion\n\"")?;
+    article.extend_from_slice(&letters)?;
+    article.push(b'"')?;
+    answers(alloc, &["check", "-"], &article, status, line)
 }
 
 const USAGE: &[u8] =
@@ -459,10 +553,10 @@ const OTHER_WORDS: [&[&str]; 15] = [
 #[test]
 fn other_words(rt: HostRuntime) -> Result<(), Fail> {
     for words in OTHER_WORDS {
-        let answer = answered(rt.alloc(), words, FIRST, FINE)?;
-        assert_eq!(rt; answer.status, Status::Usage, "{words:?}");
-        assert_eq!(rt; answer.err.as_slice(), USAGE, "{words:?}");
-        assert!(rt; answer.out.is_empty(), "{words:?}");
+        assert!(rt;
+            answers(rt.alloc(), words, FIRST, Status::Usage, USAGE)?,
+            "{words:?}"
+        );
     }
     Ok(())
 }
@@ -573,9 +667,7 @@ fn outsides(rt: HostRuntime) -> Result<(), Fail> {
         assert!(rt; outside.read.0 > 0 && outside.write.0 > 0 && outside.say.0 > 0);
         let article = &FIRST[..FIRST.len() - cut.min(1)];
         let answer = answered(rt.alloc(), words, article, outside)?;
-        assert_eq!(rt; answer.status, status, "{words:?}");
-        assert_eq!(rt; answer.out.as_slice(), out, "{words:?}");
-        assert_eq!(rt; answer.err.as_slice(), err, "{words:?}");
+        assert!(rt; answer.stands(status, out, err), "{words:?}");
     }
     Ok(())
 }

@@ -49,7 +49,7 @@ fn names_of_bound_variables(rt: HostRuntime) -> Result<(), Fail> {
         ([x, y, z], [y, z, z], false),
     ];
     for (left, right, same) in table {
-        assert_eq!(rt; compare(rt.alloc(), left, right)?, same);
+        assert!(rt; compare(rt.alloc(), left, right)? == same);
     }
     Ok(())
 }
@@ -100,11 +100,8 @@ fn compare_doubled(
 #[test]
 fn shared_parts(rt: HostRuntime) -> Result<(), Fail> {
     let (f, g, x, y) = (NameId::EQUALS, NameId::BOOL, NameId::A, NameId::R);
-    assert_eq!(rt; compare_doubled(rt.alloc(), (f, x), (f, x))?, (true, true));
-    assert_eq!(rt; compare_doubled(rt.alloc(), (f, x), (f, y))?, (false, true));
-    assert_eq!(rt;
-        compare_doubled(rt.alloc(), (f, x), (g, x))?,
-        (false, false)
-    );
+    assert!(rt; compare_doubled(rt.alloc(), (f, x), (f, x))? == (true, true));
+    assert!(rt; compare_doubled(rt.alloc(), (f, x), (f, y))? == (false, true));
+    assert!(rt; compare_doubled(rt.alloc(), (f, x), (g, x))? == (false, false));
     Ok(())
 }

@@ -25,8 +25,8 @@ fn writes_up_to_a_fault(rt: HostRuntime) -> Result<(), Fail> {
     for (room, piece, call, answer, count) in cases {
         let fail = Vec::from_slice(rt.alloc(), &[call])?;
         let mut sink = MemSink::new(rt.alloc(), room, piece, fail)?;
-        assert_eq!(rt; write_whole(&mut sink, SUMMARY), answer);
-        assert_eq!(rt; sink.text(), &SUMMARY[..count]);
+        assert!(rt; write_whole(&mut sink, SUMMARY) == answer);
+        assert!(rt; sink.text() == &SUMMARY[..count]);
     }
     Ok(())
 }
@@ -35,10 +35,10 @@ fn writes_up_to_a_fault(rt: HostRuntime) -> Result<(), Fail> {
 fn flushes_but_at_a_listed_call(rt: HostRuntime) -> Result<(), Fail> {
     let fail = Vec::from_slice(rt.alloc(), &[2])?;
     let mut sink = MemSink::new(rt.alloc(), 64, 64, fail)?;
-    assert_eq!(rt; write_whole(&mut sink, SUMMARY), Ok(()));
-    assert_eq!(rt; sink.flush(), Err(Failed));
-    assert_eq!(rt; sink.flush(), Ok(()));
-    assert_eq!(rt; sink.text(), SUMMARY);
+    assert!(rt; write_whole(&mut sink, SUMMARY) == Ok(()));
+    assert!(rt; sink.flush() == Err(Failed));
+    assert!(rt; sink.flush() == Ok(()));
+    assert!(rt; sink.text() == SUMMARY);
     Ok(())
 }
 
@@ -49,12 +49,12 @@ fn reads_on_after_a_fault(rt: HostRuntime) -> Result<(), Fail> {
     let mut source = MemSource::new(bytes, 1, fail);
     let mut buffer = [0; 8];
     for byte in &ARTICLE[..35] {
-        assert_eq!(rt; source.read(&mut buffer), Ok(1));
-        assert_eq!(rt; buffer[0], *byte);
+        assert!(rt; source.read(&mut buffer) == Ok(1));
+        assert!(rt; buffer[0] == *byte);
     }
-    assert_eq!(rt; source.read(&mut buffer), Err(Failed));
-    assert_eq!(rt; source.read(&mut buffer), Ok(1));
-    assert_eq!(rt; buffer[0], ARTICLE[35]);
+    assert!(rt; source.read(&mut buffer) == Err(Failed));
+    assert!(rt; source.read(&mut buffer) == Ok(1));
+    assert!(rt; buffer[0] == ARTICLE[35]);
     Ok(())
 }
 
@@ -62,15 +62,15 @@ const FILES: [Entry; 2] = [("a.art", b"nil", b""), ("b.art", b"pop", b"")];
 
 fn check_files(rt: &impl Abort, files: &mut MemFiles) {
     let mut buffer = [0; 8];
-    assert_eq!(rt; files.open_file("c.art"), Err(OpenFault::Missing));
-    assert_eq!(rt; files.open_file("b.art"), Ok(()));
-    assert_eq!(rt; files.open_file("a.art"), Err(OpenFault::Failed));
-    assert_eq!(rt; files.read(&mut buffer), Ok(0));
-    assert_eq!(rt; files.open_file("b.art"), Ok(()));
-    assert_eq!(rt; files.read(&mut buffer), Ok(2));
-    assert_eq!(rt; &buffer[..2], b"po".as_slice());
+    assert!(rt; files.open_file("c.art") == Err(OpenFault::Missing));
+    assert!(rt; files.open_file("b.art") == Ok(()));
+    assert!(rt; files.open_file("a.art") == Err(OpenFault::Failed));
+    assert!(rt; files.read(&mut buffer) == Ok(0));
+    assert!(rt; files.open_file("b.art") == Ok(()));
+    assert!(rt; files.read(&mut buffer) == Ok(2));
+    assert!(rt; &buffer[..2] == b"po".as_slice());
     files.close();
-    assert_eq!(rt; files.read(&mut buffer), Ok(0));
+    assert!(rt; files.read(&mut buffer) == Ok(0));
 }
 
 #[test]
@@ -106,21 +106,15 @@ impl Write for Broken {
 fn passes_on_what_readers_and_writers_do(rt: HostRuntime) -> Result<(), Fail> {
     let mut buffer = [0; 8];
     let mut source = StdSource::new(b"nil\n".as_slice());
-    assert_eq!(rt; Source::read(&mut source, &mut buffer), Ok(4));
-    assert_eq!(rt; &buffer[..4], b"nil\n".as_slice());
-    assert_eq!(rt; Source::read(&mut source, &mut buffer), Ok(0));
+    assert!(rt; Source::read(&mut source, &mut buffer) == Ok(4));
+    assert!(rt; &buffer[..4] == b"nil\n".as_slice());
+    assert!(rt; Source::read(&mut source, &mut buffer) == Ok(0));
     let mut sink = StdSink::new(Vec::new(rt.alloc()));
-    assert_eq!(rt; write_whole(&mut sink, SUMMARY), Ok(()));
-    assert_eq!(rt; Sink::flush(&mut sink), Ok(()));
-    assert_eq!(rt;
-        Source::read(&mut StdSource::new(Broken), &mut buffer),
-        Err(Failed)
-    );
-    assert_eq!(rt;
-        Sink::write(&mut StdSink::new(Broken), SUMMARY),
-        Err(Failed)
-    );
-    assert_eq!(rt; Sink::flush(&mut StdSink::new(Broken)), Err(Failed));
+    assert!(rt; write_whole(&mut sink, SUMMARY) == Ok(()));
+    assert!(rt; Sink::flush(&mut sink) == Ok(()));
+    assert!(rt; Source::read(&mut StdSource::new(Broken), &mut buffer) == Err(Failed));
+    assert!(rt; Sink::write(&mut StdSink::new(Broken), SUMMARY) == Err(Failed));
+    assert!(rt; Sink::flush(&mut StdSink::new(Broken)) == Err(Failed));
     Ok(())
 }
 
@@ -143,19 +137,18 @@ fn tells_missing_files_from_failures(rt: HostRuntime) -> Result<(), Fail> {
         ("a\0.art", Err(OpenFault::Failed)),
     ];
     for (path, answer) in cases {
-        assert_eq!(rt; files.open_file(path), answer, "{path:?}");
-        assert_eq!(rt; Source::read(&mut files, &mut buffer), Ok(0));
+        assert!(rt; files.open_file(path) == answer, "{path:?}");
+        assert!(rt; Source::read(&mut files, &mut buffer) == Ok(0));
     }
-    assert_eq!(rt; files.open_file("/"), Ok(()));
-    assert_eq!(rt;
-        Source::read(&mut files, &mut buffer),
-        Err(Failed),
+    assert!(rt; files.open_file("/") == Ok(()));
+    assert!(rt;
+        Source::read(&mut files, &mut buffer) == Err(Failed),
         "a folder"
     );
     files.close();
-    assert_eq!(rt; Source::read(&mut files, &mut buffer), Ok(0));
+    assert!(rt; Source::read(&mut files, &mut buffer) == Ok(0));
     buffer = [1; 8];
-    assert_eq!(rt; read_from(&mut files, "/dev/zero", &mut buffer), Ok(8));
-    assert_eq!(rt; buffer, [0; 8]);
+    assert!(rt; read_from(&mut files, "/dev/zero", &mut buffer) == Ok(8));
+    assert!(rt; buffer == [0; 8]);
     Ok(())
 }

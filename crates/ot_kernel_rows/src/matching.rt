@@ -86,19 +86,56 @@ fn check_places(rt: &impl Abort, alloc: Global, kernel: &mut Kernel) -> Result<(
     };
     let a = kernel.var(v)?;
     let identity = kernel.abs(v, a)?;
-    let any = variable(alloc, b"x", type_variable(alloc, b"A")?)?;
-    let inner = abstraction(
-        alloc,
-        boolean(alloc)?,
-        variable(alloc, b"x", boolean(alloc)?)?,
-    )?;
-    let same = abstraction(alloc, type_variable(alloc, b"A")?, Tm::Bound(0))?;
-    assert_eq!(rt; matches(alloc, kernel, &any, a)?, Some((1, 1)));
-    assert_eq!(rt; matches(alloc, kernel, &any, identity)?, Some((1, 1)));
+    let patterns = make_patterns(alloc)?;
+    check_patterns(rt, alloc, kernel, &patterns, a, identity)
+}
+
+/// Any term, an abstraction whose body is a variable, and the identity of any type.
+#[derive(Drop)]
+struct Patterns {
+    any: Tm,
+    inner: Tm,
+    same: Tm,
+}
+
+fn make_any(alloc: Global) -> Result<Tm, AllocError> {
+    variable(alloc, b"x", type_variable(alloc, b"A")?)
+}
+
+fn make_inner(alloc: Global) -> Result<Tm, AllocError> {
+    let body = variable(alloc, b"x", boolean(alloc)?)?;
+    let ty = boolean(alloc)?;
+    abstraction(alloc, ty, body)
+}
+
+fn make_same(alloc: Global) -> Result<Tm, AllocError> {
+    abstraction(alloc, type_variable(alloc, b"A")?, Tm::Bound(0))
+}
+
+fn make_patterns(alloc: Global) -> Result<Patterns, AllocError> {
+    let any = make_any(alloc)?;
+    let inner = make_inner(alloc)?;
+    let same = make_same(alloc)?;
+    Ok(Patterns { any, inner, same })
+}
+
+fn check_patterns(
+    rt: &impl Abort,
+    alloc: Global,
+    kernel: &Kernel,
+    patterns: &Patterns,
+    a: TermId,
+    identity: TermId,
+) -> Result<(), Fail>
+    requires a { a < length kernel.now.terms }
+    requires identity { identity < length kernel.now.terms }
+{
+    assert!(rt; matches(alloc, kernel, &patterns.any, a)? == Some((1, 1)));
+    assert!(rt; matches(alloc, kernel, &patterns.any, identity)? == Some((1, 1)));
     // A variable takes no bound place.
-    assert_eq!(rt; matches(alloc, kernel, &inner, identity)?, None);
-    assert_eq!(rt; matches(alloc, kernel, &same, identity)?, Some((1, 0)));
-    assert_eq!(rt; matches(alloc, kernel, &same, a)?, None);
+    assert!(rt; matches(alloc, kernel, &patterns.inner, identity)? == None);
+    assert!(rt; matches(alloc, kernel, &patterns.same, identity)? == Some((1, 0)));
+    assert!(rt; matches(alloc, kernel, &patterns.same, a)? == None);
     Ok(())
 }
 
@@ -174,12 +211,7 @@ fn check_shared(rt: &impl Abort, alloc: Global, kernel: &mut Kernel) -> Result<(
     let part = kernel.app(f, left)?;
     let alike = kernel.app(part, right)?;
     let apart = kernel.app(part, start)?;
-    let one = of_two(alloc, b"y", b"y")?;
-    let two = of_two(alloc, b"y", b"z")?;
-    assert_eq!(rt; matches(alloc, kernel, &one, alike)?, Some((1, 2)));
-    assert_eq!(rt; matches(alloc, kernel, &two, alike)?, Some((1, 3)));
-    assert_eq!(rt; matches(alloc, kernel, &one, apart)?, None);
-    assert_eq!(rt; matches(alloc, kernel, &two, apart)?, Some((1, 3)));
+    check_of_two(rt, alloc, kernel, alike, apart)?;
     let bound = kernel.abs(v, alike)?;
     let kept = kernel.abs(
         VarKey {
@@ -188,9 +220,47 @@ fn check_shared(rt: &impl Abort, alloc: Global, kernel: &mut Kernel) -> Result<(
         },
         alike,
     )?;
+    check_around(rt, alloc, kernel, bound, kept)
+}
+
+fn check_of_two(
+    rt: &impl Abort,
+    alloc: Global,
+    kernel: &Kernel,
+    alike: TermId,
+    apart: TermId,
+) -> Result<(), Fail>
+    requires alike { alike < length kernel.now.terms }
+    requires apart { apart < length kernel.now.terms }
+{
+    let one = of_two(alloc, b"y", b"y")?;
+    assert!(rt; matches(alloc, kernel, &one, alike)? == Some((1, 2)));
+    assert!(rt; matches(alloc, kernel, &one, apart)? == None);
+    let two = of_two(alloc, b"y", b"z")?;
+    assert!(rt; matches(alloc, kernel, &two, alike)? == Some((1, 3)));
+    assert!(rt; matches(alloc, kernel, &two, apart)? == Some((1, 3)));
+    Ok(())
+}
+
+/// An abstraction of any type whose body is a variable.
+fn make_around(alloc: Global) -> Result<Tm, AllocError> {
     let body = variable(alloc, b"y", type_variable(alloc, b"A")?)?;
-    let around = abstraction(alloc, type_variable(alloc, b"B")?, body)?;
-    assert_eq!(rt; matches(alloc, kernel, &around, bound)?, None);
-    assert_eq!(rt; matches(alloc, kernel, &around, kept)?, Some((2, 1)));
+    let ty = type_variable(alloc, b"B")?;
+    abstraction(alloc, ty, body)
+}
+
+fn check_around(
+    rt: &impl Abort,
+    alloc: Global,
+    kernel: &Kernel,
+    bound: TermId,
+    kept: TermId,
+) -> Result<(), Fail>
+    requires bound { bound < length kernel.now.terms }
+    requires kept { kept < length kernel.now.terms }
+{
+    let around = make_around(alloc)?;
+    assert!(rt; matches(alloc, kernel, &around, bound)? == None);
+    assert!(rt; matches(alloc, kernel, &around, kept)? == Some((2, 1)));
     Ok(())
 }

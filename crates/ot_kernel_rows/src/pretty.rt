@@ -32,7 +32,7 @@ fn check_truth(
     let same = kernel.refl(identity)?;
     let equation = kernel.concl(same);
     let th = kernel.define_const(name, equation)?;
-    assert_eq!(rt; append(alloc, kernel, th, out)?, 4);
+    assert!(rt; append(alloc, kernel, th, out)? == 4);
     assert!(rt; is_refused(alloc, kernel, th, 67)?);
     Ok(())
 }
@@ -84,7 +84,7 @@ fn check_applied(
     let half = kernel.app(f, a)?;
     let whole = kernel.app(half, r)?;
     let th = kernel.assume(whole)?;
-    assert_eq!(rt; append(alloc, kernel, th, out)?, symbols);
+    assert!(rt; append(alloc, kernel, th, out)? == symbols);
     Ok(())
 }
 
@@ -141,6 +141,6 @@ fn check_texts(
     check_truth(rt, alloc, kernel, out)?;
     check_applied(rt, alloc, kernel, Some(b"\"Data.Bool./\\\\\""), 5, out)?;
     check_applied(rt, alloc, kernel, None, 4, out)?;
-    assert_eq!(rt; out.as_slice(), TEXTS);
+    assert!(rt; out.as_slice() == TEXTS);
     Ok(())
 }

@@ -31,7 +31,7 @@ fn check_texts(rt: &impl Abort, alloc: Global, kernel: &mut Kernel) -> Result<()
     let mut out = Vec::new(alloc);
     summary_text(alloc, kernel, &[], ALL, 42, &mut out)?;
     let answer = summary_text(alloc, kernel, &[], ALL, 41, &mut out);
-    assert_eq!(rt; answer, Err(PrintFault::TooLarge));
+    assert!(rt; answer == Err(PrintFault::TooLarge));
     let boolean = kernel.type_op(NameId::BOOL, &[])?;
     type_text(kernel, boolean, 6, &mut out)?;
     out.push(b'\n')?;
@@ -45,6 +45,6 @@ fn check_texts(rt: &impl Abort, alloc: Global, kernel: &mut Kernel) -> Result<()
     sequent_text(alloc, kernel, th, 24, &mut out)?;
     let wanted: &[u8] =
         b"assumptions: 0\ndefinitions: 0\ntheorems: 0\n\"bool\"\n\"a\":\"bool\"\n\"a\":\"bool\" |- \"a\":\"bool\"";
-    assert_eq!(rt; out.as_slice(), wanted);
+    assert!(rt; out.as_slice() == wanted);
     Ok(())
 }

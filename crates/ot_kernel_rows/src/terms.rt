@@ -134,7 +134,7 @@ fn refuses(rt: &impl Abort, terms: &mut Terms, f: TermId, x: TermId, refused: Te
     ensures types { length terms.old.types ≤ length terms.new.types }
     ensures terms { length terms.old.terms ≤ length terms.new.terms }
 {
-    assert_eq!(rt; app(terms, f, x), Err(refused));
+    assert!(rt; app(terms, f, x) == Err(refused));
 }
 
 fn check_refusals(rt: &impl Abort, terms: &mut Terms, t: &Twelve)
@@ -173,11 +173,8 @@ fn check_equations(
     ensures terms { length terms.old.terms ≤ length terms.new.terms }
 {
     let equal = equation(terms, t.x, t.y)?;
-    assert_eq!(rt; terms.as_eq(equal), Some((t.x, t.y)));
-    assert_eq!(rt;
-        equation(terms, t.x, t.other_x),
-        Err(TermFault::ArgumentType)
-    );
+    assert!(rt; terms.as_eq(equal) == Some((t.x, t.y)));
+    assert!(rt; equation(terms, t.x, t.other_x) == Err(TermFault::ArgumentType));
     let z = var(terms, NameId::A, s.r)?;
     let partly = app(terms, t.test, t.x)?;
     let mixed = app(terms, partly, z)?;
@@ -185,14 +182,14 @@ fn check_equations(
     let no_test = constant(terms, NameId::EQUALS, s.binary)?;
     let left = app(terms, no_test, t.x)?;
     let no_equation = app(terms, left, t.y)?;
-    assert_eq!(rt; terms.as_eq(t.x), None);
-    assert_eq!(rt; terms.as_eq(t.test), None);
-    assert_eq!(rt; terms.as_eq(partly), None);
-    assert_eq!(rt; terms.as_eq(mixed), None);
-    assert_eq!(rt; terms.as_eq(at_bool), None);
-    assert_eq!(rt; terms.as_eq(no_test), None);
-    assert_eq!(rt; terms.as_eq(left), None);
-    assert_eq!(rt; terms.as_eq(no_equation), None);
+    assert!(rt; terms.as_eq(t.x) == None);
+    assert!(rt; terms.as_eq(t.test) == None);
+    assert!(rt; terms.as_eq(partly) == None);
+    assert!(rt; terms.as_eq(mixed) == None);
+    assert!(rt; terms.as_eq(at_bool) == None);
+    assert!(rt; terms.as_eq(no_test) == None);
+    assert!(rt; terms.as_eq(left) == None);
+    assert!(rt; terms.as_eq(no_equation) == None);
     Ok(())
 }
 
@@ -206,7 +203,7 @@ fn check_vars(
 ) -> Result<(), TermFault>
     requires { id < length terms.now.terms }
 {
-    assert_eq!(rt; terms.free_vars(alloc, id)?.as_slice(), wanted);
+    assert!(rt; terms.free_vars(alloc, id)?.as_slice() == wanted);
     Ok(())
 }
 
@@ -247,14 +244,10 @@ fn check_kept(
 ) -> Result<(), TermFault>
     requires { kept < length terms.now.terms }
 {
-    assert_eq!(rt;
-        terms.free_named(alloc, NameId::A, kept)?.as_slice(),
-        [key(NameId::A, s.truth)].as_slice()
+    assert!(rt;
+        terms.free_named(alloc, NameId::A, kept)?.as_slice() == [key(NameId::A, s.truth)].as_slice()
     );
-    assert_eq!(rt;
-        terms.type_vars(alloc, kept)?.as_slice(),
-        [NameId::A].as_slice()
-    );
+    assert!(rt; terms.type_vars(alloc, kept)?.as_slice() == [NameId::A].as_slice());
     Ok(())
 }
 
@@ -294,10 +287,7 @@ fn check_shared(rt: &impl Abort, alloc: Global, terms: &mut Terms) -> Result<(),
     let g = var(terms, NameId::R, s.binary)?;
     let shared = doubled(terms, 1000, g, c)?;
     check_vars(rt, alloc, terms, shared, &[key(NameId::R, s.binary)])?;
-    assert_eq!(rt;
-        terms.type_vars(alloc, shared)?.as_slice(),
-        [NameId::A].as_slice()
-    );
+    assert!(rt; terms.type_vars(alloc, shared)?.as_slice() == [NameId::A].as_slice());
     let wanted = [
         Symbol {
             kind: SymbolKind::Con,
@@ -308,7 +298,7 @@ fn check_shared(rt: &impl Abort, alloc: Global, terms: &mut Terms) -> Result<(),
             name: NameId::ARROW,
         },
     ];
-    assert_eq!(rt; terms.symbols(alloc, shared)?.as_slice(), wanted.as_slice());
+    assert!(rt; terms.symbols(alloc, shared)?.as_slice() == wanted.as_slice());
     Ok(())
 }
 
@@ -354,11 +344,11 @@ fn check_deep(
     let next = var(other, NameId::BOOL, s.a)?;
     let s = make_sorts(terms)?;
     let Deep { f, x, deep } = make_deep(terms, &s)?;
-    assert_eq!(rt; terms.free_vars(alloc, deep)?.len(), 2);
-    assert_eq!(rt; app(terms, f, deep), Err(TermFault::Nesting));
-    assert_eq!(rt; abs(terms, NameId::A, s.a, deep), Err(TableFault::Nesting));
-    assert_eq!(rt; var(terms, NameId::BOOL, s.a)?, next);
-    assert_eq!(rt; equation(terms, deep, x), Err(TermFault::Nesting));
+    assert!(rt; terms.free_vars(alloc, deep)?.len() == 2);
+    assert!(rt; app(terms, f, deep) == Err(TermFault::Nesting));
+    assert!(rt; abs(terms, NameId::A, s.a, deep) == Err(TableFault::Nesting));
+    assert!(rt; var(terms, NameId::BOOL, s.a)? == next);
+    assert!(rt; equation(terms, deep, x) == Err(TermFault::Nesting));
     Ok(())
 }
 
@@ -377,7 +367,7 @@ fn check_refused(rt: &impl Abort, terms: &mut Terms, other: &mut Terms) -> Resul
     let s = make_sorts(terms)?;
     let t = make_twelve(terms, &s)?;
     check_refusals(rt, terms, &t);
-    assert_eq!(rt; var(terms, NameId::BOOL, s.a)?, next);
+    assert!(rt; var(terms, NameId::BOOL, s.a)? == next);
     Ok(())
 }
 

@@ -136,8 +136,8 @@ fn check_node(rt: &impl Abort, types: &Types, id: TypeId, a: TypeId, r: TypeId)
     requires { id < length types.now }
 {
     if let TypeNode::Op(name, args) = types.node(id) {
-        assert_eq!(rt; *name, NameId::ARROW);
-        assert_eq!(rt; args.as_slice(), [a, r].as_slice());
+        assert!(rt; *name == NameId::ARROW);
+        assert!(rt; args.as_slice() == [a, r].as_slice());
     } else {
         panic!(rt; "a variable");
     }
@@ -150,10 +150,10 @@ fn check_parts(rt: &impl Abort, types: &Types, s: &Seven)
     requires named_a { s.now.named_a < length types.now }
 {
     check_node(rt, types, s.there, s.a, s.r);
-    assert_eq!(rt; types.as_fun(s.there), Some((s.a, s.r)));
-    assert_eq!(rt; types.as_fun(s.a), None);
-    assert_eq!(rt; types.as_fun(s.one), None);
-    assert_eq!(rt; types.as_fun(s.named_a), None);
+    assert!(rt; types.as_fun(s.there) == Some((s.a, s.r)));
+    assert!(rt; types.as_fun(s.a) == None);
+    assert!(rt; types.as_fun(s.one) == None);
+    assert!(rt; types.as_fun(s.named_a) == None);
 }
 
 fn check_instances(
@@ -169,10 +169,10 @@ fn check_instances(
     requires one { s.now.one < length types.old }
     requires named_a { s.now.named_a < length types.old }
 {
-    assert_eq!(rt; inst(alloc, types, s.r, s.a, s.there)?, s.back);
-    assert_eq!(rt; inst(alloc, types, s.truth, s.a, s.named_a)?, s.named_a);
+    assert!(rt; inst(alloc, types, s.r, s.a, s.there)? == s.back);
+    assert!(rt; inst(alloc, types, s.truth, s.a, s.named_a)? == s.named_a);
     let wanted = single(types, NameId::ARROW, s.there)?;
-    assert_eq!(rt; inst(alloc, types, s.there, s.a, s.one)?, wanted);
+    assert!(rt; inst(alloc, types, s.there, s.a, s.one)? == wanted);
     Ok(())
 }
 
@@ -221,11 +221,8 @@ fn check_shared(rt: &impl Abort, alloc: Global, types: &mut Types) -> Result<(),
     let truth = boolean(types)?;
     let shared = doubled(types, 1000, a)?;
     let wanted = doubled(types, 1000, truth)?;
-    assert_eq!(rt; inst(alloc, types, truth, a, shared)?, wanted);
-    assert_eq!(rt;
-        types.vars(alloc, shared)?.as_slice(),
-        [NameId::A].as_slice()
-    );
+    assert!(rt; inst(alloc, types, truth, a, shared)? == wanted);
+    assert!(rt; types.vars(alloc, shared)?.as_slice() == [NameId::A].as_slice());
     assert!(rt; types.vars(alloc, wanted)?.is_empty());
     Ok(())
 }
@@ -243,13 +240,13 @@ fn check_deep(
     let a = type_var(types, NameId::A)?;
     let deep = nested(types, 4095, a)?;
     let refused = single(types, NameId::EQUALS, deep);
-    assert_eq!(rt; refused, Err(TableFault::Nesting));
-    assert_eq!(rt; boolean(types)?, boolean(other)?);
+    assert!(rt; refused == Err(TableFault::Nesting));
+    assert!(rt; boolean(types)? == boolean(other)?);
     let truth = boolean(types)?;
     inst(alloc, types, truth, a, deep)?;
     let pair = fun(types, truth, truth)?;
     let refused = inst(alloc, types, pair, a, deep);
-    assert_eq!(rt; refused, Err(TableFault::Nesting));
+    assert!(rt; refused == Err(TableFault::Nesting));
     Ok(())
 }
 

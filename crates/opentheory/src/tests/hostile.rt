@@ -1,7 +1,9 @@
 //! Devices that fail at each of their calls in turn, and malformed input.
 use super::tables::{FIRST, NONE, ONE};
 use super::theories::{Entry, IMPORTS, PACKAGE_CYCLE, SELF};
-use super::{FINE, OTHER_WORDS, Outside, answered, answered_over, files_of, one_file, says};
+use super::{
+    Answer, FINE, OTHER_WORDS, Outside, answered, answered_over, answers, files_of, one_file, says,
+};
 use ot_program::Status;
 use std::alloc::Global;
 use std::test::Fail;
@@ -17,6 +19,11 @@ const FAILING_WRITES: [(u64, usize); 7] = [
     (7, 51),
 ];
 
+/// Whether the write failed, and a front of the line of this length stands.
+fn has_front(answer: &Answer, count: usize) -> bool {
+    answer.status == Status::WriteFault && answer.out.len() == count && ONE.starts_with(&answer.out)
+}
+
 #[test]
 fn failing_sinks(rt: HostRuntime) -> Result<(), Fail> {
     let alloc = rt.alloc();
@@ -26,25 +33,21 @@ fn failing_sinks(rt: HostRuntime) -> Result<(), Fail> {
             ..FINE
         };
         let answer = answered(alloc, &["check", "-"], FIRST, outside)?;
-        assert_eq!(rt; answer.status, Status::WriteFault, "call {call}");
-        assert_eq!(rt; answer.out.len(), count, "call {call}");
-        assert!(rt; ONE.starts_with(&answer.out), "call {call}");
+        assert!(rt; has_front(&answer, count), "call {call}");
     }
     let last = Outside {
         write: (10, 8),
         ..FINE
     };
     let answer = answered(alloc, &["check", "-"], FIRST, last)?;
-    assert_eq!(rt; answer.status, Status::Accepted);
-    assert_eq!(rt; answer.out.as_slice(), ONE);
+    assert!(rt; answer.is(Status::Accepted, ONE));
     for words in OTHER_WORDS {
         let outside = Outside {
             say: (1024, 1),
             ..FINE
         };
         let answer = answered(alloc, words, FIRST, outside)?;
-        assert_eq!(rt; answer.status, Status::Usage, "{words:?}");
-        assert!(rt; answer.err.is_empty(), "{words:?}");
+        assert!(rt; answer.is(Status::Usage, b""), "{words:?}");
     }
     Ok(())
 }
@@ -59,19 +62,17 @@ fn failing_sources(rt: HostRuntime) -> Result<(), Fail> {
             ..FINE
         };
         let answer = answered(alloc, &["check", "-"], FIRST, outside)?;
-        assert_eq!(rt; answer.status, Status::ReadFault, "call {call}");
-        assert_eq!(rt;
-            answer.err.as_slice(),
-            b"opentheory: -: read fault\n".as_slice()
+        assert!(rt;
+            answer.is(Status::ReadFault, b"opentheory: -: read fault\n"),
+            "call {call}"
         );
-        assert!(rt; answer.out.is_empty(), "call {call}");
     }
     let last = Outside {
         read: (1, 91),
         ..FINE
     };
     let answer = answered(alloc, &["check", "-"], FIRST, last)?;
-    assert_eq!(rt; answer.status, Status::Accepted);
+    assert!(rt; answer.is(Status::Accepted, ONE));
     Ok(())
 }
 
@@ -100,13 +101,9 @@ fn answers_failing(alloc: Global, call: u64) -> Result<bool, Fail> {
     match in_use(&IMPORTS, call) {
         Some(path) => {
             let line = format!(in alloc; "opentheory: {path}: read fault\n")?;
-            Ok(
-                answer.status == Status::ReadFault
-                    && answer.err.as_slice() == line.as_bytes()
-                    && answer.out.is_empty(),
-            )
+            Ok(answer.is(Status::ReadFault, line.as_bytes()))
         }
-        None => Ok(answer.status == Status::Accepted && answer.said() == ONE),
+        None => Ok(answer.is(Status::Accepted, ONE)),
     }
 }
 
@@ -120,6 +117,14 @@ fn failing_files(rt: HostRuntime) -> Result<(), Fail> {
     }
     assert!(rt; false, "no run without a failing call");
     Ok(())
+}
+
+/// Whether a theory file of so many newlines is refused so.
+fn is_refused(alloc: Global, length: usize, text: &[u8]) -> Result<bool, Fail> {
+    let lines = vec![in alloc; b'\n'; length]?;
+    let files = one_file(alloc, "b.thy", &lines)?;
+    let answer = answered_over(alloc, &["check", "b.thy"], files, b"", FINE)?;
+    Ok(answer.is(Status::Refused, text))
 }
 
 #[test]
@@ -136,9 +141,10 @@ fn malformed(rt: HostRuntime) -> Result<(), Fail> {
         (88, Status::Accepted, ONE),
     ];
     for (count, status, text) in cuts {
-        let answer = answered(alloc, &["check", "-"], &FIRST[..count], FINE)?;
-        assert_eq!(rt; answer.status, status, "{count} bytes");
-        assert_eq!(rt; answer.said(), text, "{count} bytes");
+        assert!(rt;
+            answers(alloc, &["check", "-"], &FIRST[..count], status, text)?,
+            "{count} bytes"
+        );
     }
     // How many newlines a theory file has, and what is answered.
     let lengths: [(usize, &[u8]); 2] = [
@@ -149,11 +155,7 @@ fn malformed(rt: HostRuntime) -> Result<(), Fail> {
         ),
     ];
     for (length, text) in lengths {
-        let lines = vec![in alloc; b'\n'; length]?;
-        let files = one_file(alloc, "b.thy", &lines)?;
-        let answer = answered_over(alloc, &["check", "b.thy"], files, b"", FINE)?;
-        assert_eq!(rt; answer.status, Status::Refused, "{length} newlines");
-        assert_eq!(rt; answer.said(), text, "{length} newlines");
+        assert!(rt; is_refused(alloc, length, text)?, "{length} newlines");
     }
     assert!(rt;
         says(

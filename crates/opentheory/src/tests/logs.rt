@@ -1,6 +1,6 @@
 //! Proof logs.
 use super::tables::{FIRST, SUMMARIES};
-use super::{FINE, Outside, add_lines, answered, joined};
+use super::{FINE, Outside, answered, answers, joined};
 use ot_program::Status;
 use std::alloc::Global;
 use std::test::Fail;
@@ -68,12 +68,8 @@ const ROWS: [(&[&str], &[u8], Status, &[u8]); 10] = [
 #[test]
 fn logs(rt: HostRuntime) -> Result<(), Fail> {
     for (words, text, status, said) in ROWS {
-        let mut log = Vec::new(rt.alloc());
-        add_lines(&mut log, text)?;
-        let answer = answered(rt.alloc(), words, &log, FINE)?;
-        assert_eq!(rt; answer.said(), said, "{text:?}");
-        assert_eq!(rt; answer.status, status, "{text:?}");
-        assert_eq!(rt; answer.out.len() + answer.err.len(), said.len(), "{text:?}");
+        let log = joined(rt.alloc(), &[text])?;
+        assert!(rt; answers(rt.alloc(), words, &log, status, said)?, "{text:?}");
     }
     Ok(())
 }
@@ -85,8 +81,8 @@ const NEEDED: [usize; 7] = [2, 4, 11, 14, 17, 18, 20];
 fn proves(alloc: Global, parts: &[&[u8]], summary: &[u8]) -> Result<bool, Fail> {
     let article = joined(alloc, parts)?;
     let log = answered(alloc, &["prove", "-"], &article, FINE)?;
-    let checked = answered(alloc, &["verify", "-"], &log.out, FINE)?;
-    Ok(log.status == Status::Accepted && checked.said() == summary)
+    let is_proof = answers(alloc, &["verify", "-"], &log.out, Status::Accepted, summary)?;
+    Ok(log.status == Status::Accepted && is_proof)
 }
 
 /// The log that is written of an article proves what the article does.
@@ -161,16 +157,17 @@ const WRITTEN: [(&[u8], &[u8]); 12] = [
     ),
 ];
 
+/// Whether this log is written of an article.
+fn is_written(alloc: Global, text: &[u8], log: &[u8]) -> Result<bool, Fail> {
+    let article = joined(alloc, &[text])?;
+    let wanted = joined(alloc, &[log])?;
+    answers(alloc, &["prove", "-"], &article, Status::Accepted, &wanted)
+}
+
 #[test]
 fn written_logs(rt: HostRuntime) -> Result<(), Fail> {
     for (text, log) in WRITTEN {
-        let mut article = Vec::new(rt.alloc());
-        add_lines(&mut article, text)?;
-        let mut wanted = Vec::new(rt.alloc());
-        add_lines(&mut wanted, log)?;
-        let answer = answered(rt.alloc(), &["prove", "-"], &article, FINE)?;
-        assert_eq!(rt; answer.said(), wanted.as_slice(), "{text:?}");
-        assert_eq!(rt; answer.status, Status::Accepted, "{text:?}");
+        assert!(rt; is_written(rt.alloc(), text, log)?, "{text:?}");
     }
     Ok(())
 }
@@ -178,9 +175,16 @@ fn written_logs(rt: HostRuntime) -> Result<(), Fail> {
 /// An article that is refused has no log.
 #[test]
 fn refused_proofs(rt: HostRuntime) -> Result<(), Fail> {
-    let answer = answered(rt.alloc(), &["prove", "-"], b"nil\nhdTl\n", FINE)?;
-    assert_eq!(rt; answer.said(), b"opentheory: -:2: empty list\n".as_slice());
-    assert_eq!(rt; answer.status, Status::Refused);
+    let line: &[u8] = b"opentheory: -:2: empty list\n";
+    assert!(rt;
+        answers(
+            rt.alloc(),
+            &["prove", "-"],
+            b"nil\nhdTl\n",
+            Status::Refused,
+            line
+        )?
+    );
     Ok(())
 }
 
@@ -195,13 +199,10 @@ fn failing_logs(rt: HostRuntime) -> Result<(), Fail> {
         read: (1, 20),
         ..FINE
     };
-    let mut log = Vec::new(rt.alloc());
-    add_lines(&mut log, LOG)?;
+    let log = joined(rt.alloc(), &[LOG])?;
     for (path, line) in rows {
         let answer = answered(rt.alloc(), &["verify", path], &log, outside)?;
-        assert_eq!(rt; answer.status, Status::ReadFault, "{path}");
-        assert_eq!(rt; answer.err.as_slice(), line, "{path}");
-        assert!(rt; answer.out.is_empty(), "{path}");
+        assert!(rt; answer.is(Status::ReadFault, line), "{path}");
     }
     Ok(())
 }
