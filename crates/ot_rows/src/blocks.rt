@@ -33,10 +33,10 @@ fn plans(rt: HostRuntime) {
         match parse(rt.alloc(), text) {
             Ok(theory) => match plan_blocks(rt.alloc(), &theory.blocks) {
                 Ok(plan) => {
-                    assert_eq!(rt; plan.order.as_slice(), order);
-                    assert_eq!(rt; plan.imports.len(), imports.len());
+                    assert!(rt; plan.order.as_slice() == order);
+                    assert!(rt; plan.imports.len() == imports.len());
                     for (found, wanted) in plan.imports.iter().zip(imports) {
-                        assert_eq!(rt; found.as_slice(), *wanted);
+                        assert!(rt; found.as_slice() == *wanted);
                     }
                 }
                 Err(_) => assert!(rt; false),
@@ -83,7 +83,7 @@ fn faults(rt: HostRuntime) {
         match parse(rt.alloc(), text) {
             Ok(theory) => match plan_blocks(rt.alloc(), &theory.blocks) {
                 Ok(_) => assert!(rt; false),
-                Err(found) => assert_eq!(rt; found, PlanFault::At { line, fault }),
+                Err(found) => assert!(rt; found == PlanFault::At { line, fault }),
             },
             Err(_) => assert!(rt; false),
         }
@@ -113,7 +113,7 @@ const FULL_NAMES: [(&[u8], bool); 16] = [
 #[test]
 fn full_names(rt: HostRuntime) {
     for (full, is_full_name) in FULL_NAMES {
-        assert_eq!(rt; is_package(full), is_full_name);
+        assert!(rt; is_package(full) == is_full_name);
     }
 }
 
@@ -130,7 +130,7 @@ fn packages(rt: HostRuntime) {
     for (folder, full, wanted) in PACKAGES {
         if is_package(full) {
             match package_path(rt.alloc(), folder, full) {
-                Ok(path) => assert_eq!(rt; path.as_str(), wanted),
+                Ok(path) => assert!(rt; path.as_str() == wanted),
                 Err(_) => assert!(rt; false),
             }
         } else {
@@ -151,12 +151,12 @@ const ARTICLES: [(&str, &str); 4] = [
 fn articles(rt: HostRuntime) {
     for (theory_path, wanted) in ARTICLES {
         match article_path(rt.alloc(), theory_path, b"\"eq.art\"") {
-            Ok(path) => assert_eq!(rt; path.as_str(), wanted),
+            Ok(path) => assert!(rt; path.as_str() == wanted),
             Err(_) => assert!(rt; false),
         }
     }
     match article_path(rt.alloc(), "w.thy", b"\"gone.art\"") {
-        Ok(path) => assert_eq!(rt; path.as_str(), "gone.art"),
+        Ok(path) => assert!(rt; path.as_str() == "gone.art"),
         Err(_) => assert!(rt; false),
     }
 }

@@ -82,12 +82,9 @@ fn one_after_another(rt: HostRuntime) -> Result<(), Fail> {
     let alloc = rt.alloc();
     for (inner, outer, name, wanted) in ROWS {
         let identity = Interp::new(alloc);
-        assert_eq!(rt;
-            [identity.constant(name), identity.type_op(name)],
-            [name; 2]
-        );
-        assert_eq!(rt; by_both(alloc, inner, outer, name, false)?, [wanted, name]);
-        assert_eq!(rt; by_both(alloc, inner, outer, name, true)?, [name, wanted]);
+        assert!(rt; [identity.constant(name), identity.type_op(name)] == [name; 2]);
+        assert!(rt; by_both(alloc, inner, outer, name, false)? == [wanted, name]);
+        assert!(rt; by_both(alloc, inner, outer, name, true)? == [name, wanted]);
     }
     Ok(())
 }

@@ -15,16 +15,16 @@ fn table(rt: HostRuntime) -> Result<(), Fail> {
 
 fn types(rt: &impl Abort, alloc: Global, nodes: &mut Nodes) -> Result<(), Fail> {
     let (letter, a) = variable(rt, alloc, nodes)?;
-    assert_eq!(rt; variable(rt, alloc, nodes)?.0, letter);
+    assert!(rt; variable(rt, alloc, nodes)?.0 == letter);
     let boolean = nodes.boolean()?;
     let predicate = fun(rt, nodes, a, boolean)?;
-    assert_eq!(rt; fun(rt, nodes, a, boolean)?, predicate);
-    assert_ne!(rt; fun(rt, nodes, boolean, a)?, predicate);
+    assert!(rt; fun(rt, nodes, a, boolean)? == predicate);
+    assert!(rt; fun(rt, nodes, boolean, a)? != predicate);
     assert!(rt; nodes.has_type(predicate));
-    assert_eq!(rt; nodes.as_fun(predicate), Some((a, boolean)));
-    assert_eq!(rt; nodes.type_depth(predicate), 2);
+    assert!(rt; nodes.as_fun(predicate) == Some((a, boolean)));
+    assert!(rt; nodes.type_depth(predicate) == 2);
     assert!(rt; nodes.has_type(boolean));
-    assert_eq!(rt; nodes.as_fun(boolean), None);
+    assert!(rt; nodes.as_fun(boolean) == None);
     Ok(())
 }
 
@@ -35,20 +35,20 @@ fn terms(rt: &impl Abort, alloc: Global, nodes: &mut Nodes) -> Result<(), Fail> 
     let x = free(rt, nodes, letter, a)?;
     let p = free(rt, nodes, letter, predicate)?;
     let applied = app(rt, nodes, p, x)?;
-    assert_eq!(rt; typed(rt, alloc, nodes, applied)?, Some(boolean));
+    assert!(rt; typed(rt, alloc, nodes, applied)? == Some(boolean));
     let turned = app(rt, nodes, x, p)?;
-    assert_eq!(rt; typed(rt, alloc, nodes, turned)?, None);
+    assert!(rt; typed(rt, alloc, nodes, turned)? == None);
     // The variable of that name and type alone is closed; then the place is opened again.
     let closed = close(rt, alloc, nodes, letter, a, applied)?;
     let place = nodes.bound(0)?;
-    assert_eq!(rt; closed, app(rt, nodes, p, place)?);
-    assert_eq!(rt; open(rt, alloc, nodes, x, closed)?, applied);
-    assert_eq!(rt; typed(rt, alloc, nodes, closed)?, None);
+    assert!(rt; closed == app(rt, nodes, p, place)?);
+    assert!(rt; open(rt, alloc, nodes, x, closed)? == applied);
+    assert!(rt; typed(rt, alloc, nodes, closed)? == None);
     let whole = abs(rt, nodes, a, closed)?;
-    assert_eq!(rt; typed(rt, alloc, nodes, whole)?, Some(predicate));
+    assert!(rt; typed(rt, alloc, nodes, whole)? == Some(predicate));
     assert!(rt; nodes.has_term(whole));
-    assert_eq!(rt; nodes.term_depth(whole), 3);
-    assert_eq!(rt; nodes.loose(whole), 0);
+    assert!(rt; nodes.term_depth(whole) == 3);
+    assert!(rt; nodes.loose(whole) == 0);
     assert!(rt; nodes.has_free(whole));
     Ok(())
 }

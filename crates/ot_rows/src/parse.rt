@@ -37,15 +37,34 @@ fn application(alloc: Global, f: Tm, x: Tm) -> Result<Tm, AllocError> {
     Ok(Tm::App(f, Box::new(alloc, x)?))
 }
 
-// p = p, and `\y. y` applied to it, under p twice.
+// A term applied to p.
+fn applied(alloc: Global, f: Tm) -> Result<Tm, AllocError> {
+    let p = variable(alloc)?;
+    application(alloc, f, p)
+}
+
+// `\y. y`
+fn identity(alloc: Global) -> Result<Tm, AllocError> {
+    let place = Box::new(alloc, Tm::Bound(0))?;
+    Ok(Tm::Abs(boolean(alloc)?, place))
+}
+
+// `\y. y` applied to p = p.
+fn conclusion(alloc: Global) -> Result<Tm, AllocError> {
+    let half = applied(alloc, equality(alloc)?)?;
+    let whole = applied(alloc, half)?;
+    let f = identity(alloc)?;
+    application(alloc, f, whole)
+}
+
+// That conclusion, under p twice.
 fn sequent(alloc: Global) -> Result<Readable, AllocError> {
     let mut hyps = Vec::new(alloc);
-    hyps.push(variable(alloc)?)?;
-    hyps.push(variable(alloc)?)?;
-    let half = application(alloc, equality(alloc)?, variable(alloc)?)?;
-    let whole = application(alloc, half, variable(alloc)?)?;
-    let identity = Tm::Abs(boolean(alloc)?, Box::new(alloc, Tm::Bound(0))?);
-    let concl = application(alloc, identity, whole)?;
+    for _ in 0..2 {
+        let p = variable(alloc)?;
+        hyps.push(p)?;
+    }
+    let concl = conclusion(alloc)?;
     Ok(Readable { hyps, concl })
 }
 
@@ -59,25 +78,39 @@ fn check_texts(rt: &impl Abort, alloc: Global, read: &Readable) -> Result<(), Fa
     let mut out = Vec::new(alloc);
     plain_text(alloc, read, 55, &mut out)?;
     let wanted: &[u8] = b"\"p\":\"bool\" |- ((\\\"bool\". #0) (\"p\":\"bool\" = \"p\":\"bool\"))";
-    assert_eq!(rt; out.as_slice(), wanted);
-    assert_eq!(rt;
-        plain_text(alloc, read, 54, &mut out),
-        Err(PlainFault::TooLarge)
-    );
+    assert!(rt; out.as_slice() == wanted);
+    assert!(rt; plain_text(alloc, read, 54, &mut out) == Err(PlainFault::TooLarge));
     Ok(())
 }
 
-/// The notation that shows `Data.Bool`, over a few symbols.
-fn test_notation(alloc: Global) -> Result<Notation, Fail> {
-    let mut shown = Vec::new(alloc);
-    shown.push(Name::read(alloc, b"\"Data.Bool\"")?)?;
+/// A few symbols: what each is, and its quoted name.
+const SYMBOLS: [(WordKind, &[u8]); 5] = [
+    (WordKind::Con, b"\"Data.Bool.T\""),
+    (WordKind::Con, b"\"Data.Bool./\\\\\""),
+    (WordKind::Con, b"\"Data.Bool.==>\""),
+    (WordKind::TyOp, b"\"bool\""),
+    (WordKind::TyOp, b"\"Data.Bool.pair\""),
+];
+
+fn symbols_of(rt: &impl Abort, alloc: Global) -> Result<Vec<(WordKind, Name)>, Fail> {
     let mut symbols = Vec::new(alloc);
-    symbols.push((WordKind::Con, Name::read(alloc, b"\"Data.Bool.T\"")?))?;
-    symbols.push((WordKind::Con, Name::read(alloc, b"\"Data.Bool./\\\\\"")?))?;
-    symbols.push((WordKind::Con, Name::read(alloc, b"\"Data.Bool.==>\"")?))?;
-    symbols.push((WordKind::TyOp, Name::read(alloc, b"\"bool\"")?))?;
-    symbols.push((WordKind::TyOp, Name::read(alloc, b"\"Data.Bool.pair\"")?))?;
-    Ok(Notation::new(alloc, &shown, &symbols)?)
+    for (kind, quoted) in SYMBOLS {
+        assert!(rt; !quoted.is_empty() && quoted[0] == b'"');
+        let name = Name::read(alloc, quoted)?;
+        symbols.push((kind, name))?;
+    }
+    Ok(symbols)
+}
+
+/// The notation that shows `Data.Bool`, over these symbols.
+fn notation_of(alloc: Global, symbols: &[(WordKind, Name)]) -> Result<Notation, Fail> {
+    let shown = [Name::read(alloc, b"\"Data.Bool\"")?];
+    Ok(Notation::new(alloc, &shown, symbols)?)
+}
+
+fn test_notation(rt: &impl Abort, alloc: Global) -> Result<Notation, Fail> {
+    let symbols = symbols_of(rt, alloc)?;
+    notation_of(alloc, &symbols)
 }
 
 /// Lines, and the column and fault of each; 0 where it is read.
@@ -172,19 +205,19 @@ const LINES: [(&[u8], u64, TextFault); 54] = [
 
 #[test]
 fn lines_and_their_refusals(rt: HostRuntime) -> Result<(), Fail> {
-    let notation = test_notation(rt.alloc())?;
+    let notation = test_notation(&rt, rt.alloc())?;
     check_lines(&rt, rt.alloc(), &notation)
 }
 
 #[test]
 fn many_open(rt: HostRuntime) -> Result<(), Fail> {
-    let notation = test_notation(rt.alloc())?;
+    let notation = test_notation(&rt, rt.alloc())?;
     check_many_open(&rt, rt.alloc(), &notation)
 }
 
 #[test]
 fn deep(rt: HostRuntime) -> Result<(), Fail> {
-    let notation = test_notation(rt.alloc())?;
+    let notation = test_notation(&rt, rt.alloc())?;
     check_deep(&rt, rt.alloc(), &notation)
 }
 
@@ -199,8 +232,8 @@ fn answer_of(read: Result<Readable, ReadRefusal>) -> (u64, TextFault) {
 fn check_lines(rt: &impl Abort, alloc: Global, notation: &Notation) -> Result<(), Fail> {
     for (line, wanted, fault) in LINES {
         let answer = answer_of(read_sequent(alloc, notation, line));
-        assert_eq!(rt; answer.0, wanted, "line {line:?}");
-        assert_eq!(rt; answer.1, fault);
+        assert!(rt; answer.0 == wanted, "line {line:?}");
+        assert!(rt; answer.1 == fault);
     }
     Ok(())
 }
@@ -220,8 +253,8 @@ fn check_many_open(rt: &impl Abort, alloc: Global, notation: &Notation) -> Resul
             line.push(b'(')?;
         }
         let answer = answer_of(read_sequent(alloc, notation, &line));
-        assert_eq!(rt; answer.0, wanted);
-        assert_eq!(rt; answer.1, fault);
+        assert!(rt; answer.0 == wanted);
+        assert!(rt; answer.1 == fault);
     }
     Ok(())
 }
@@ -247,8 +280,8 @@ fn check_deep(rt: &impl Abort, alloc: Global, notation: &Notation) -> Result<(),
             Err(ReadRefusal::At { column, fault }) => (column, fault),
             Err(ReadRefusal::Memory) => (1000, TextFault::Syntax),
         };
-        assert_eq!(rt; answer.0, column);
-        assert_eq!(rt; answer.1, TextFault::TooDeep);
+        assert!(rt; answer.0 == column);
+        assert!(rt; answer.1 == TextFault::TooDeep);
     }
     match read_term(alloc, notation, b"(\\x0 : bool . (x0 : bool))")? {
         Tm::Abs(_, body) => match Box::into_inner(body) {

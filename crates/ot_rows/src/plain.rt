@@ -36,21 +36,21 @@ fn names_and_their_spellings(rt: HostRuntime) -> Result<(), Fail> {
     for (quoted, components, spelling) in NAMES {
         assert!(rt; !quoted.is_empty() && quoted[0] == b'"');
         let name = Name::read(rt.alloc(), quoted)?;
-        assert_eq!(rt; name.components().len(), components.len());
+        assert!(rt; name.components().len() == components.len());
         for (component, wanted) in name.components().iter().zip(components) {
-            assert_eq!(rt; component.as_slice(), *wanted);
+            assert!(rt; component.as_slice() == *wanted);
         }
         let mut out = Vec::new(rt.alloc());
         out.push(b'x')?;
         name.spell(&mut out)?;
-        assert_eq!(rt; out.len(), spelling.len() + 1);
-        assert_eq!(rt; &out[1..], spelling);
+        assert!(rt; out.len() == spelling.len() + 1);
+        assert!(rt; &out[1..] == spelling);
     }
     for (quoted, fault) in FAULTS {
         assert!(rt; !quoted.is_empty() && quoted[0] == b'"');
         match Name::read(rt.alloc(), quoted) {
             Ok(_) => assert!(rt; false),
-            Err(answer) => assert_eq!(rt; answer, fault),
+            Err(answer) => assert!(rt; answer == fault),
         }
     }
     Ok(())
@@ -69,6 +69,6 @@ fn command_words(rt: HostRuntime) {
         (b"", None),
     ];
     for (text, wanted) in rows {
-        assert_eq!(rt; Cmd::find(text), wanted);
+        assert!(rt; Cmd::find(text) == wanted);
     }
 }

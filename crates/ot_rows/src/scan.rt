@@ -70,14 +70,14 @@ fn check_lines(
             number: *number,
             text,
         };
-        assert_eq!(rt; lines.next(source), Ok(Some(line)));
+        assert!(rt; lines.next(source) == Ok(Some(line)));
     }
     let end = match end {
         Ok(()) => Ok(None),
         Err(fault) => Err(fault),
     };
-    assert_eq!(rt; lines.next(source), end);
-    assert_eq!(rt; lines.next(source), end);
+    assert!(rt; lines.next(source) == end);
+    assert!(rt; lines.next(source) == end);
 }
 
 #[test]
@@ -165,7 +165,7 @@ fn check_answers(rt: &impl Abort, source: &mut MemSource, max_bytes: u64, answer
     assert!(rt; max_bytes < 100_000);
     let mut lines = Lines::new(max_bytes);
     for answer in answers {
-        assert_eq!(rt; answer_of(lines.next(source)), answer);
+        assert!(rt; answer_of(lines.next(source)) == answer);
     }
 }
 
@@ -197,7 +197,7 @@ fn check_faults(rt: &impl Abort, source: &mut MemSource) {
             Ok(None) => Ok(None),
             Err(fault) => Err(fault),
         };
-        assert_eq!(rt; lines.next(source), wanted);
+        assert!(rt; lines.next(source) == wanted);
     }
 }
 
@@ -243,6 +243,6 @@ fn words(rt: HostRuntime) {
     ];
     for (text, wanted) in rows {
         assert!(rt; !text.is_empty());
-        assert_eq!(rt; command(text), wanted);
+        assert!(rt; command(text) == wanted);
     }
 }

@@ -26,17 +26,31 @@ fn definition(rt: &impl Abort, trace: &mut Trace, name: NameId) -> Result<[StepI
     Ok([name, constant, nil, definition, theorem])
 }
 
+fn operand(rt: &impl Abort, trace: &Trace, id: StepId, place: usize) -> StepId {
+    assert!(rt; has(trace, id));
+    trace.operand(id, place)
+}
+
+fn has_operands(rt: &impl Abort, trace: &Trace, id: StepId, wanted: &[StepId]) -> bool {
+    assert!(rt; has(trace, id));
+    trace.step(id).operands() == wanted
+}
+
+// The theorem of a definition, by its place.
+fn outcome(rt: &impl Abort, trace: &Trace, place: u8, definition: StepId) -> Option<StepId> {
+    assert!(rt; has(trace, definition));
+    trace.find(&Step::Outcome(place, definition))
+}
+
 fn check_steps(rt: &impl Abort, trace: &Trace, ids: [StepId; 5]) {
     let [name, _, nil, definition, theorem] = ids;
     assert!(rt; has(trace, name));
-    assert!(rt; has(trace, definition));
-    assert!(rt; has(trace, theorem));
-    assert_eq!(rt; trace.operand(definition, 0), name);
-    assert_eq!(rt; trace.operand(definition, 1), nil);
-    assert_eq!(rt; trace.operand(theorem, 0), theorem);
-    assert_eq!(rt; trace.step(definition).operands(), [name, nil].as_slice());
-    assert_eq!(rt; trace.find(&Step::Outcome(1, definition)), Some(theorem));
-    assert_eq!(rt; trace.find(&Step::Outcome(2, definition)), None);
+    assert!(rt; operand(rt, trace, definition, 0) == name);
+    assert!(rt; operand(rt, trace, definition, 1) == nil);
+    assert!(rt; operand(rt, trace, theorem, 0) == theorem);
+    assert!(rt; has_operands(rt, trace, definition, &[name, nil]));
+    assert!(rt; outcome(rt, trace, 1, definition) == Some(theorem));
+    assert!(rt; outcome(rt, trace, 2, definition) == None);
 }
 
 // What the root leads to, and how often each step is used.
@@ -52,9 +66,9 @@ fn check_walk(
     assert!(rt; has(trace, definition));
     assert!(rt; has(trace, root));
     let marks = reach(alloc, trace, &[root], &[definition])?;
-    assert_eq!(rt; marks.as_slice(), marked.as_slice());
+    assert!(rt; marks.as_slice() == marked.as_slice());
     let counts = uses(alloc, trace, &[root], marks.as_slice())?;
-    assert_eq!(rt; counts.as_slice(), used.as_slice());
+    assert!(rt; counts.as_slice() == used.as_slice());
     Ok(())
 }
 
@@ -62,8 +76,8 @@ fn check_walk(
 fn check(rt: &impl Abort, alloc: Global, trace: &mut Trace) -> Result<(), Fail> {
     let first = definition(rt, trace, NameId::A)?;
     let again = definition(rt, trace, NameId::A)?;
-    assert_eq!(rt; again, first);
-    assert_eq!(rt; trace.count(), 5);
+    assert!(rt; again == first);
+    assert!(rt; trace.count() == 5);
     check_steps(rt, trace, first);
     let [_, constant, _, definition, theorem] = first;
     check_walk(
