@@ -1,7 +1,7 @@
 use std::alloc::{AllocError, AllocFailed};
 
 /// What is wrong with the blocks of a theory file, by the theory file format.
-#[derive(Clone, Copy, Debug, PartialEq, Eq)]
+#[derive(Clone, Copy, PartialEq, Eq)]
 pub enum StructureFault {
     /// An `import:` of a block that isn't there.
     UnknownImport,
@@ -16,7 +16,7 @@ pub enum StructureFault {
 }
 
 /// Why blocks have no plan.
-#[derive(Clone, Copy, Debug, PartialEq, Eq)]
+#[derive(Clone, Copy, PartialEq, Eq)]
 pub enum PlanFault {
     /// The first fault, and its line.
     At { line: u64, fault: StructureFault },

@@ -12,7 +12,7 @@ use std::alloc::{AllocError, Global};
 use std::collections::HashMap;
 
 /// What the blocks of a theory file ask for. A block is named by its place in the file.
-#[derive(Debug, Drop)]
+#[derive(Drop)]
 pub struct Plan {
     /// The blocks that each block imports, in the order of the lines; also of those that don't run.
     pub imports: Vec<Vec<usize>>,

@@ -7,14 +7,14 @@ use crate::fault::{PlanFault, StructureFault};
 use std::alloc::Global;
 
 /// An import: the number of its line, and the place of the block that it names.
-#[derive(Clone, Copy, Debug, PartialEq, Eq)]
+#[derive(Clone, Copy)]
 pub(crate) struct Import {
     pub line: u64,
     pub block: usize,
 }
 
 /// How far the walk is with a block.
-#[derive(Clone, Copy, Debug, PartialEq, Eq)]
+#[derive(Clone, Copy)]
 pub(crate) enum Mark {
     New,
     Open,
@@ -22,7 +22,7 @@ pub(crate) enum Mark {
 }
 
 /// A block on the path, and the place of its next import.
-#[derive(Clone, Copy, Debug, PartialEq, Eq)]
+#[derive(Clone, Copy)]
 pub(crate) struct Frame {
     pub block: usize,
     pub next: usize,

@@ -3,7 +3,7 @@ use ot_type::TypeId;
 use std::marker::Model;
 
 /// The number of a nameless term in its table.
-#[derive(Clone, Copy, Debug, PartialEq, Eq, Hash)]
+#[derive(Clone, Copy, PartialEq, Eq, Hash)]
 pub struct ClassId(pub(crate) usize);
 
 impl Model for ClassId {
@@ -17,14 +17,14 @@ impl Model for ClassId {
 }
 
 /// A variable, by the numbers of its name and its type.
-#[derive(Clone, Copy, Debug, PartialEq, Eq, Hash)]
+#[derive(Clone, Copy, PartialEq, Eq, Hash)]
 pub struct Key {
     pub name: NameId,
     pub ty: TypeId,
 }
 
 // A nameless term, its parts by number.
-#[derive(Clone, Copy, Debug, PartialEq, Eq, Hash)]
+#[derive(Clone, Copy, PartialEq, Eq, Hash)]
 pub(crate) enum ClassNode {
     // A free variable.
     Free(Key),

@@ -18,7 +18,7 @@ use std::marker::Model;
 /// What stands beside a node. No free variable has a name with a greater number than `newest`, and the tree is `closed`
 /// exactly where none is free. `size` is how many nodes the tree has, as far as a `u32` goes; how long a call takes depends
 /// on it, and no answer does.
-#[derive(Clone, Copy, Debug)]
+#[derive(Clone, Copy)]
 struct Beside {
     newest: NameId,
     closed: bool,

@@ -4,7 +4,7 @@ ghost use Rattle.ot_io.specs.Folder.{path_asked, bytes_at, GivesFile, HasOpenCau
 use crate::source::Source;
 
 /// Why no file was opened.
-#[derive(Clone, Copy, Debug, PartialEq, Eq)]
+#[derive(Clone, Copy, PartialEq, Eq)]
 pub enum OpenFault {
     /// There is no such file.
     Missing,

@@ -5,7 +5,7 @@ use crate::source::{Failed, Source};
 use std::alloc::Global;
 
 /// Why the front of a source isn't read.
-#[derive(Clone, Copy, Debug, PartialEq, Eq)]
+#[derive(Clone, Copy)]
 pub enum ReadFault {
     /// The source failed.
     Failed,

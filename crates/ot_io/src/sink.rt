@@ -41,7 +41,7 @@ pub trait Sink {
 }
 
 /// The sink failed while bytes were written to it.
-#[derive(Clone, Copy, Debug, PartialEq, Eq)]
+#[derive(Clone, Copy, PartialEq, Eq)]
 pub struct WriteFault;
 
 /// Writes all the bytes, in order. It takes no memory.

@@ -5,7 +5,7 @@ ghost use Rattle.ot_io.specs.Causes.{HasCause};
 ghost use Rattle.ot_io.specs.Folder.{Folder};
 
 /// The device failed in this call.
-#[derive(Clone, Copy, Debug, PartialEq, Eq)]
+#[derive(Clone, Copy, PartialEq, Eq)]
 pub struct Failed;
 
 /// A stream of bytes, perhaps those of a file.

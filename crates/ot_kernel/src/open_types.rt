@@ -27,7 +27,7 @@ use std::alloc::Global;
 
 /// The theorems of a type operator, and the two that follow for variables in the place of their
 /// binders.
-#[derive(Clone, Copy, Debug, PartialEq, Eq)]
+#[derive(Clone, Copy)]
 pub struct Type5 {
     /// The first theorem: abs (rep a) is a.
     pub abs_th: ThmId,

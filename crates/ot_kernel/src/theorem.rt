@@ -45,7 +45,7 @@ impl Theorem {
 }
 
 /// The number of a theorem in its kernel.
-#[derive(Clone, Copy, Debug, PartialEq, Eq)]
+#[derive(Clone, Copy)]
 pub struct ThmId(pub(crate) usize);
 
 impl Model for ThmId {

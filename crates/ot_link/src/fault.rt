@@ -5,7 +5,7 @@ use ot_theory::TheoryFault;
 use std::alloc::{AllocError, AllocFailed};
 
 /// Why a link isn't run to its end. A path is that of the file at fault.
-#[derive(Debug, Drop)]
+#[derive(Drop)]
 pub enum LinkFault {
     /// The first fault of an article, which is never want of memory.
     Article {

@@ -15,7 +15,7 @@ use ot_words::Made;
 use std::alloc::Global;
 
 /// Where the theorem of a step is: its number in the log, and its place among the statements.
-#[derive(Clone, Copy, Debug)]
+#[derive(Clone, Copy)]
 pub(crate) struct Place {
     pub(crate) number: usize,
     pub(crate) at: usize,

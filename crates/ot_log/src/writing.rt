@@ -22,7 +22,7 @@ use ot_write::{Roots, needed_steps};
 use std::alloc::Global;
 
 /// Why a log isn't written.
-#[derive(Clone, Copy, Debug, PartialEq, Eq)]
+#[derive(Clone, Copy)]
 pub enum LogRefusal {
     /// It has more bytes than the limit allows.
     TooLarge,

@@ -17,7 +17,7 @@ use ot_trace::StepId;
 use std::alloc::Global;
 
 /// A theorem that comes from another article, and the step that made it.
-#[derive(Clone, Copy, Debug, PartialEq, Eq)]
+#[derive(Clone, Copy)]
 pub struct Given {
     pub th: ThmId,
     pub step: StepId,

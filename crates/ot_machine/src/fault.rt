@@ -11,7 +11,7 @@ use ot_type::TableFault;
 use std::alloc::{AllocError, AllocFailed};
 
 /// Why a command is refused, by the rules of the article format.
-#[derive(Clone, Copy, Debug, PartialEq, Eq)]
+#[derive(Clone, Copy, PartialEq, Eq)]
 pub enum Fault {
     LineTooLong,
     ArticleTooLong,
@@ -149,7 +149,7 @@ impl From<WordFault> for Fault {
 }
 
 /// How the run of an article ends that isn't accepted.
-#[derive(Clone, Copy, Debug, PartialEq, Eq)]
+#[derive(Clone, Copy)]
 pub enum ArticleFault {
     /// The first fault, with its line. It is never want of memory.
     At { line: u64, fault: Fault },

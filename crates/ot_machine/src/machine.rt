@@ -26,7 +26,7 @@ use ot_trace::StepId;
 use std::alloc::Global;
 
 /// A theorem that an article exports, and the steps that made it, its list of hypotheses and its conclusion.
-#[derive(Clone, Copy, Debug, PartialEq, Eq)]
+#[derive(Clone, Copy)]
 pub struct Export {
     pub th: ThmId,
     pub theorem: StepId,
@@ -35,7 +35,7 @@ pub struct Export {
 }
 
 /// The version of an article: open as long as it may be 5 or 6.
-#[derive(Clone, Copy, Debug, PartialEq, Eq)]
+#[derive(Clone, Copy)]
 pub(crate) enum Version {
     Open,
     Five,

@@ -7,14 +7,14 @@ use ot_trace::StepId;
 use ot_type::TypeId;
 
 /// A list of objects: the empty one, or a cell of the machine.
-#[derive(Clone, Copy, Debug, PartialEq, Eq)]
+#[derive(Clone, Copy)]
 pub enum List {
     Nil,
     Cell(usize),
 }
 
 /// What stands on the stack: a small value, whatever it stands for.
-#[derive(Clone, Copy, Debug, PartialEq, Eq)]
+#[derive(Clone, Copy)]
 pub enum Object {
     Number(i64),
     Name(NameId),
@@ -28,14 +28,14 @@ pub enum Object {
 }
 
 /// An object, and the step that made it. A number alone may have none: it has its own when a command takes it as an operand.
-#[derive(Clone, Copy, Debug, PartialEq, Eq)]
+#[derive(Clone, Copy)]
 pub struct Entry {
     pub object: Object,
     pub step: Option<StepId>,
 }
 
 /// A list that isn't empty, with its nesting.
-#[derive(Clone, Copy, Debug, PartialEq, Eq)]
+#[derive(Clone, Copy)]
 pub struct Cell {
     pub head: Object,
     pub tail: List,
@@ -67,7 +67,7 @@ impl Object {
 }
 
 /// A command, its name by number.
-#[derive(Clone, Copy, Debug, PartialEq, Eq)]
+#[derive(Clone, Copy, PartialEq, Eq)]
 pub enum Command {
     Numeral(i64),
     Named(NameId),

@@ -16,7 +16,7 @@ use ot_plain::NameId;
 use ot_term::VarKey;
 
 /// What a list that is read as a whole has to be.
-#[derive(Clone, Copy, Debug, PartialEq, Eq)]
+#[derive(Clone, Copy)]
 pub(crate) enum ListForm {
     Substitution,
     Definition,

@@ -16,7 +16,7 @@ use std::alloc::Global;
 /// What stands for the variables of a pattern: a type for each type variable, and a term for each
 /// free variable after the types, with the variable's name and type. Each is in the order in which the
 /// pattern has them first.
-#[derive(Debug, Drop)]
+#[derive(Drop)]
 pub struct Match {
     pub types: Vec<(Name, TypeId)>,
     pub vars: Vec<(Name, TypeId, TermId)>,

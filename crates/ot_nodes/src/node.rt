@@ -3,7 +3,7 @@ use smallvec::SmallVec;
 use std::marker::Model;
 
 /// The number of a name in its table.
-#[derive(Clone, Copy, Debug, PartialEq, Eq, Hash)]
+#[derive(Clone, Copy, PartialEq, Eq, Hash)]
 pub struct NameId(pub(crate) usize);
 
 impl Model for NameId {
@@ -28,7 +28,7 @@ impl NameId {
 }
 
 /// The number of a type in its table.
-#[derive(Clone, Copy, Debug, Default, PartialEq, Eq, Hash)]
+#[derive(Clone, Copy, Default, PartialEq, Eq, Hash)]
 pub struct TypeId(pub(crate) usize);
 
 impl Model for TypeId {
@@ -42,7 +42,7 @@ impl Model for TypeId {
 }
 
 /// The number of a nameless term in its table.
-#[derive(Clone, Copy, Debug, PartialEq, Eq, PartialOrd, Ord, Hash)]
+#[derive(Clone, Copy, PartialEq, Eq, PartialOrd, Ord, Hash)]
 pub struct TermId(pub(crate) usize);
 
 impl Model for TermId {
@@ -56,7 +56,7 @@ impl Model for TermId {
 }
 
 /// A type, its parts by number.
-#[derive(Debug, PartialEq, Eq, Hash, Drop)]
+#[derive(PartialEq, Eq, Hash, Drop)]
 pub enum TypeNode {
     /// The type variable of a name.
     Var(NameId),
@@ -65,14 +65,14 @@ pub enum TypeNode {
 }
 
 /// A variable, its name and type by number.
-#[derive(Clone, Copy, Debug, PartialEq, Eq, Hash)]
+#[derive(Clone, Copy, PartialEq, Eq, Hash)]
 pub struct VariableNode {
     pub name: NameId,
     pub ty: TypeId,
 }
 
 /// A nameless term, its parts by number.
-#[derive(Clone, Copy, Debug, PartialEq, Eq, Hash)]
+#[derive(Clone, Copy, PartialEq, Eq, Hash)]
 pub enum TermNode {
     /// A free variable.
     Free(VariableNode),
@@ -87,7 +87,7 @@ pub enum TermNode {
 }
 
 // What has a number.
-#[derive(Debug, PartialEq, Eq, Hash, Drop)]
+#[derive(PartialEq, Eq, Hash, Drop)]
 pub(crate) enum Node {
     Name(Name),
     Ty(TypeNode),

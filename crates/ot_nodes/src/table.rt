@@ -24,7 +24,7 @@ pub use typing::{DEPTH_LIMIT, Typed, Typings};
 
 /// What stands beside a node: its depth; and of a term how many abstractions have to stand around
 /// it, and whether a variable is free in it.
-#[derive(Clone, Copy, Debug)]
+#[derive(Clone, Copy)]
 pub(crate) struct Beside {
     depth: u64,
     loose: u64,

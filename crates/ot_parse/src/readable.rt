@@ -1,7 +1,7 @@
 use ot_plain::Tm;
 
 /// A sequent that was read: its hypotheses, each once, and its conclusion.
-#[derive(Debug, Drop)]
+#[derive(Drop)]
 pub struct Readable {
     pub hyps: Vec<Tm>,
     pub concl: Tm,

@@ -1,5 +1,5 @@
 /// What an object of the machine is.
-#[derive(Clone, Copy, Debug, PartialEq, Eq)]
+#[derive(Clone, Copy, PartialEq, Eq)]
 pub enum Kind {
     Num,
     Name,

@@ -13,7 +13,7 @@ use std::hash::{Hash, Hasher};
 use std::marker::Model;
 
 /// A name: a non-empty list of components, the base name last.
-#[derive(Debug, Drop)]
+#[derive(Drop)]
 pub struct Name {
     pub(crate) components: Vec<Vec<u8>>,
 }

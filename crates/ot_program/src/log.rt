@@ -14,7 +14,7 @@ use ot_verify::{LogFault, Verified, VerifyFault, verify};
 use std::alloc::Global;
 
 /// Why the log of a path isn't accepted.
-#[derive(Clone, Copy, Debug, PartialEq, Eq)]
+#[derive(Clone, Copy)]
 pub enum LogRefusal {
     /// It is refused at this line.
     At { line: u64, fault: LogFault },

@@ -36,7 +36,7 @@ pub struct LinesRead {
 }
 
 /// Why the lines of a text aren't read.
-#[derive(Clone, Copy, Debug, PartialEq, Eq)]
+#[derive(Clone, Copy)]
 pub enum ReadingRefusal {
     /// The first line that is refused, and its column, both from 1.
     At {

@@ -192,7 +192,7 @@ fn ended(
 }
 
 /// How many theorems, assumptions and definitions a run came to.
-#[derive(Clone, Copy, Debug, PartialEq, Eq)]
+#[derive(Clone, Copy)]
 pub struct Counts {
     pub theorems: usize,
     pub assumptions: usize,

@@ -7,7 +7,7 @@ ghost use Rattle.ot_program.specs.Verdicts.{task_answer, task_value, IsSized};
 use ot_args::{Command, Sections, Usage};
 
 /// What is printed of a run.
-#[derive(Clone, Copy, Debug, PartialEq, Eq)]
+#[derive(Clone, Copy)]
 pub enum View {
     /// How many theorems, assumptions and definitions there are.
     Counts,
@@ -22,7 +22,7 @@ pub enum View {
 }
 
 /// An input to run: the folder of its theory packages, its path, and what is printed of the run.
-#[derive(Clone, Copy, Debug, PartialEq, Eq)]
+#[derive(Clone, Copy)]
 pub struct Job<'a> {
     pub packages: &'a str,
     pub path: &'a str,
@@ -30,7 +30,7 @@ pub struct Job<'a> {
 }
 
 /// What a command does.
-#[derive(Clone, Copy, Debug, PartialEq, Eq)]
+#[derive(Clone, Copy)]
 pub enum Task<'a> {
     /// Runs an input.
     RunInput(Job<'a>),

@@ -10,7 +10,7 @@ use ot_theory::next_line;
 use std::alloc::Global;
 
 /// Why the lines of a text aren't read.
-#[derive(Clone, Copy, Debug, PartialEq, Eq)]
+#[derive(Clone, Copy)]
 pub enum LineRefusal {
     /// The first line that is refused, by its number, and its column, both from 1.
     At {

@@ -3,7 +3,7 @@ use ot_theory::TheoryFault;
 use std::alloc::{AllocError, AllocFailed};
 
 /// Why the required packages aren't told. A path is that of the file at fault.
-#[derive(Debug, Drop)]
+#[derive(Drop)]
 pub enum RepoFault {
     /// The first fault of a theory file's grammar.
     Theory {

@@ -18,7 +18,7 @@ use std::alloc::Global;
 use std::collections::HashMap;
 
 /// How far the walk is with a package that it has met.
-#[derive(Clone, Copy, Debug, PartialEq, Eq)]
+#[derive(Clone, Copy)]
 pub(crate) enum Mark {
     Open,
     Done,

@@ -74,7 +74,7 @@ pub struct Kept {
 }
 
 // The hypotheses of a sequent in the order of their numbers, each once, and its conclusion.
-#[derive(Debug, PartialEq, Eq, Hash, Drop)]
+#[derive(PartialEq, Eq, Hash, Drop)]
 pub(crate) struct Key {
     hyps: Vec<TermId>,
     concl: TermId,

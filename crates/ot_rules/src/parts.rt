@@ -12,7 +12,7 @@ use ot_plain::Memory;
 use std::alloc::Global;
 
 /// What may occur in a type or a term.
-#[derive(Clone, Copy, Debug, PartialEq, Eq, Hash)]
+#[derive(Clone, Copy, PartialEq, Eq, Hash)]
 pub enum Mark {
     /// A type variable.
     TypeVar(NameId),

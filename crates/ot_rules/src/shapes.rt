@@ -11,7 +11,7 @@ ghost use Rattle.ot_rules.specs.Shapes.{IsApp, equals_at, IsEquals, IsRelation, 
 use ot_nodes::{NameId, Nodes, TermId, TermNode, TypeId, TypeNode};
 
 /// An equation: the type of its sides, and the two sides.
-#[derive(Clone, Copy, Debug)]
+#[derive(Clone, Copy)]
 pub struct Sides {
     pub ty: TypeId,
     pub left: TermId,

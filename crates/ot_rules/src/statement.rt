@@ -16,7 +16,7 @@ pub struct Statement {
 }
 
 /// Why a step gives no sequent.
-#[derive(Clone, Copy, Debug, PartialEq, Eq)]
+#[derive(Clone, Copy)]
 pub enum StepFault {
     /// The step doesn't follow.
     BadStep,

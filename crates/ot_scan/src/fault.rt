@@ -4,7 +4,7 @@ ghost use Rattle.ot_scan.specs.declared.fault.ScanFault.TheVariants.{ReadFault};
 use ot_io::Failed;
 
 /// Why the next line of an article can't be given.
-#[derive(Clone, Copy, Debug, PartialEq, Eq)]
+#[derive(Clone, Copy, PartialEq, Eq)]
 pub enum ScanFault {
     /// The source failed.
     ReadFault,

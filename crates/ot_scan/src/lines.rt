@@ -17,7 +17,7 @@ use std::marker::Model;
 const CAPACITY: usize = 65536;
 
 /// A line that holds a command.
-#[derive(Clone, Copy, Debug, PartialEq, Eq)]
+#[derive(Clone, Copy, PartialEq, Eq)]
 pub struct Line<'a> {
     /// Counted from 1.
     pub number: u64,

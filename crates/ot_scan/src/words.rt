@@ -7,7 +7,7 @@ ghost use Rattle.ot_scan.specs.Words.{word, answer, number, number_word, positiv
 use ot_plain::{Cmd, Name};
 
 /// What a line says.
-#[derive(Clone, Copy, Debug, PartialEq, Eq)]
+#[derive(Clone, Copy, PartialEq, Eq)]
 pub enum Word<'a> {
     Number(i64),
     /// A quoted text that spells a name, with its quotes.
@@ -16,7 +16,7 @@ pub enum Word<'a> {
 }
 
 /// Why a text is no word.
-#[derive(Clone, Copy, Debug, PartialEq, Eq)]
+#[derive(Clone, Copy, PartialEq, Eq)]
 pub enum WordFault {
     /// None of the command words.
     UnknownCommand,

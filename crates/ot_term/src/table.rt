@@ -24,7 +24,7 @@ use std::alloc::Global;
 use std::marker::Model;
 
 /// What stands beside a node: the number of its type, its depth, and the number of its nameless form.
-#[derive(Clone, Copy, Debug)]
+#[derive(Clone, Copy)]
 struct Beside {
     ty: TypeId,
     depth: u32,

@@ -4,7 +4,7 @@ use ot_type::{TableFault, TypeId};
 use std::marker::Model;
 
 /// The number of a term in its table.
-#[derive(Clone, Copy, Debug, PartialEq, Eq, PartialOrd, Ord, Hash)]
+#[derive(Clone, Copy, PartialEq, Eq, PartialOrd, Ord, Hash)]
 pub struct TermId(pub(crate) usize);
 
 impl Model for TermId {
@@ -18,14 +18,14 @@ impl Model for TermId {
 }
 
 /// A variable: a name with a type. Two variables with one name and two types are two variables.
-#[derive(Clone, Copy, Debug, PartialEq, Eq, Hash)]
+#[derive(Clone, Copy, PartialEq, Eq, Hash)]
 pub struct VarKey {
     pub name: NameId,
     pub ty: TypeId,
 }
 
 /// A term, its parts by number.
-#[derive(Clone, Copy, Debug, PartialEq, Eq, Hash)]
+#[derive(Clone, Copy, PartialEq, Eq, Hash)]
 pub enum TermNode {
     /// A variable.
     Var(VarKey),

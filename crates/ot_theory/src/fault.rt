@@ -6,7 +6,7 @@ use ot_plain::Memory as NoMemory;
 use std::alloc::AllocFailed;
 
 /// What is wrong with a line of a theory file, by the theory file format.
-#[derive(Clone, Copy, Debug, PartialEq, Eq)]
+#[derive(Clone, Copy, PartialEq, Eq)]
 pub enum TheoryFault {
     /// No statement, opening or closing; or an `import:` of no identifier, or an `article:` of no
     /// quoted path.
@@ -26,7 +26,7 @@ pub enum TheoryFault {
 }
 
 /// Why a text gave no theory.
-#[derive(Clone, Copy, Debug, PartialEq, Eq)]
+#[derive(Clone, Copy, PartialEq, Eq)]
 pub enum TheoryError {
     /// The first fault. Lines are counted from 1; line 0 is that of an empty text.
     At { line: u64, fault: TheoryFault },
@@ -34,7 +34,7 @@ pub enum TheoryError {
 }
 
 /// Why a line was refused.
-#[derive(Clone, Copy, Debug, PartialEq, Eq)]
+#[derive(Clone, Copy)]
 pub(crate) enum Refusal {
     Fault(TheoryFault),
     Memory,

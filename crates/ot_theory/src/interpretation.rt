@@ -6,7 +6,7 @@ use crate::quoted::quoted_front;
 use ot_lines::trimmed_front;
 
 /// The kind of a symbol.
-#[derive(Clone, Copy, Debug, PartialEq, Eq)]
+#[derive(Clone, Copy, PartialEq, Eq)]
 pub enum SymbolWord {
     Con,
     TyOp,

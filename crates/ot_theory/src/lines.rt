@@ -5,7 +5,7 @@ ghost use Rattle.ot_theory.specs.Lines.{TakesLine, lines_at, line_count};
 use ot_lines::{is_skipped, piece_len, trimmed};
 
 /// A line that isn't passed over, trimmed.
-#[derive(Clone, Copy, Debug)]
+#[derive(Clone, Copy)]
 pub struct Line<'a> {
     /// Counted from 1.
     pub number: u64,

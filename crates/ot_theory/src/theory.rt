@@ -9,7 +9,7 @@ use crate::reading::Reading;
 use std::alloc::Global;
 
 /// A statement, which outside a block is a tag.
-#[derive(Clone, Copy, Debug)]
+#[derive(Clone, Copy)]
 pub struct Tag<'a> {
     /// The number of its line, counted from 1.
     pub line: u64,
@@ -19,7 +19,7 @@ pub struct Tag<'a> {
 }
 
 /// A block.
-#[derive(Debug, Drop)]
+#[derive(Drop)]
 pub struct Block<'a> {
     /// The number of the line that opens it.
     pub line: u64,
@@ -29,7 +29,7 @@ pub struct Block<'a> {
 }
 
 /// A theory file. Its slices are parts of the file's text.
-#[derive(Debug, Drop)]
+#[derive(Drop)]
 pub struct Theory<'a> {
     /// The statements outside the blocks, in the order of their lines.
     pub tags: Vec<Tag<'a>>,

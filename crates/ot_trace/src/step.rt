@@ -5,7 +5,7 @@ use ot_plain::{Cmd, NameId};
 use smallvec::SmallVec;
 
 /// How an object was made, with the parts by number.
-#[derive(Debug, PartialEq, Eq, Hash, Drop)]
+#[derive(PartialEq, Eq, Hash, Drop)]
 pub enum Step {
     /// A number.
     Number(i64),

@@ -3,7 +3,7 @@ use ot_plain::NameId;
 use smallvec::SmallVec;
 
 /// A type, its arguments by number.
-#[derive(Debug, PartialEq, Eq, Hash, Drop)]
+#[derive(PartialEq, Eq, Hash, Drop)]
 pub enum TypeNode {
     /// The type variable of a name.
     Var(NameId),

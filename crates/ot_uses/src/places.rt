@@ -8,7 +8,7 @@ use ot_trace::StepId;
 use std::alloc::Global;
 
 /// What a theorem rests on: places in the session's list of assumptions and in its list of definitions, in rising order.
-#[derive(Debug, Drop)]
+#[derive(Drop)]
 pub struct Uses {
     pub assumptions: Vec<usize>,
     pub definitions: Vec<usize>,

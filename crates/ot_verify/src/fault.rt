@@ -5,7 +5,7 @@ use ot_plain::Memory;
 use std::alloc::{AllocError, AllocFailed};
 
 /// Why a log is refused.
-#[derive(Clone, Copy, Debug, PartialEq, Eq)]
+#[derive(Clone, Copy, PartialEq, Eq)]
 pub enum LogFault {
     LineTooLong,
     LogTooLong,
@@ -19,7 +19,7 @@ pub enum LogFault {
 }
 
 /// Why a log isn't accepted.
-#[derive(Clone, Copy, Debug, PartialEq, Eq)]
+#[derive(Clone, Copy)]
 pub enum VerifyFault {
     /// The log is refused at this line.
     At { line: u64, fault: LogFault },
@@ -30,7 +30,7 @@ pub enum VerifyFault {
 }
 
 /// Why there is no text of what a log proves.
-#[derive(Clone, Copy, Debug, PartialEq, Eq)]
+#[derive(Clone, Copy, PartialEq, Eq)]
 pub enum VerifiedText {
     /// The text has more bytes than the limit allows.
     TooLarge,

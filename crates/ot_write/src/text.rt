@@ -10,7 +10,7 @@ use ot_plain::{Cmd, Memory, Name};
 use std::alloc::Global;
 
 /// Why an article isn't written.
-#[derive(Clone, Copy, Debug, PartialEq, Eq)]
+#[derive(Clone, Copy)]
 pub enum WriteRefusal {
     /// It has more bytes than the limit allows.
     TooLarge,

@@ -13,7 +13,7 @@ use ot_plain::Memory;
 pub(super) const SMALL: u32 = 32;
 
 // A number under some abstractions.
-#[derive(Clone, Copy, Debug, PartialEq, Eq, Hash)]
+#[derive(Clone, Copy, PartialEq, Eq, Hash)]
 pub(super) struct Place {
     depth: usize,
     id: ClassId,

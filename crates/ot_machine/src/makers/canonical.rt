@@ -27,14 +27,14 @@ use ot_type::{TypeId, TypeNode};
 use std::alloc::Global;
 
 /// A binder around a part of a term, with the step of the variable that stands for it.
-#[derive(Clone, Copy, Debug, PartialEq, Eq, Hash)]
+#[derive(Clone, Copy, PartialEq, Eq, Hash)]
 pub(crate) struct Binder {
     pub variable: VarKey,
     pub step: StepId,
 }
 
 /// A part of a term under so many abstractions, with those of the binders around it whose variables are free in it.
-#[derive(Debug, PartialEq, Eq, Hash, Drop)]
+#[derive(PartialEq, Eq, Hash, Drop)]
 pub(crate) struct Part {
     pub id: TermId,
     pub depth: usize,

@@ -25,7 +25,7 @@ use ot_term::{TermId, VarKey};
 use ot_trace::StepId;
 
 /// A constant that was defined: its step, and its theorem with the step of that.
-#[derive(Clone, Copy, Debug, PartialEq, Eq)]
+#[derive(Clone, Copy)]
 pub(crate) struct DefinedConstant {
     pub symbol: StepId,
     pub theorem: ThmId,
@@ -34,7 +34,7 @@ pub(crate) struct DefinedConstant {
 
 /// A type operator that was defined: the steps of the operator and of the two constants, and the two theorems with their
 /// steps.
-#[derive(Clone, Copy, Debug, PartialEq, Eq)]
+#[derive(Clone, Copy)]
 pub(crate) struct DefinedOperator {
     pub op: StepId,
     pub abs: StepId,
@@ -46,7 +46,7 @@ pub(crate) struct DefinedOperator {
 }
 
 /// The steps of a type operator, of its two constants, and of its definition.
-#[derive(Clone, Copy, Debug, PartialEq, Eq)]
+#[derive(Clone, Copy)]
 pub(crate) struct OperatorSteps {
     pub op: StepId,
     pub abs: StepId,

@@ -14,7 +14,7 @@ use ot_plain::Memory;
 use ot_term::{TermId, TermNode, VarKey};
 
 /// A variable that is looked for in a term.
-#[derive(Debug, PartialEq, Eq, Hash, Drop)]
+#[derive(PartialEq, Eq, Hash, Drop)]
 pub(crate) struct Occurrence {
     pub term: TermId,
     pub variable: VarKey,

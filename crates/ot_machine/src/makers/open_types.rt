@@ -27,7 +27,7 @@ use ot_term::TermNode;
 use ot_trace::StepId;
 
 /// The steps of the two constants of a type operator, and of the equality of its old type, as terms.
-#[derive(Clone, Copy, Debug, PartialEq, Eq)]
+#[derive(Clone, Copy)]
 pub(crate) struct OpenConstants {
     pub abs: StepId,
     pub rep: StepId,

@@ -28,7 +28,7 @@ pub enum Change {
 }
 
 // A term under some abstractions.
-#[derive(Clone, Copy, Debug, PartialEq, Eq, Hash)]
+#[derive(Clone, Copy, PartialEq, Eq, Hash)]
 pub(crate) struct Place {
     depth: u64,
     id: TermId,

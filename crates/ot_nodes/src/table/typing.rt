@@ -18,14 +18,14 @@ use std::alloc::Global;
 pub const DEPTH_LIMIT: u64 = 4128;
 
 /// The type of a term, and whether the type of each part is within the nesting limit.
-#[derive(Clone, Copy, Debug)]
+#[derive(Clone, Copy)]
 pub struct Typed {
     pub ty: TypeId,
     pub within: bool,
 }
 
 // A term under binders of these types, the innermost first.
-#[derive(Debug, PartialEq, Eq, Hash, Drop)]
+#[derive(PartialEq, Eq, Hash, Drop)]
 pub(crate) struct Scope {
     id: TermId,
     binders: SmallVec<TypeId, 4>,
