@@ -12,7 +12,7 @@ use crate::verb::Verb;
 
 /// What the words of the command line ask for. An input is `-` for an article on standard input, a
 /// theory file's name or an article file's, and the theory packages are in a folder.
-#[derive(Clone, Copy, Debug, PartialEq, Eq)]
+#[derive(Clone, Copy)]
 pub enum Command<'a> {
     /// Runs the input.
     Check {
@@ -77,7 +77,7 @@ pub enum Command<'a> {
 }
 
 /// The words are no command.
-#[derive(Clone, Copy, Debug, PartialEq, Eq)]
+#[derive(Clone, Copy)]
 pub struct Usage;
 
 impl<'a> Command<'a> {
@@ -252,7 +252,11 @@ fn is_input(word: &str) -> bool
 fn is_plain(word: &str) -> bool
     ensures { result ≡ is_plain word.now }
 {
-    !matches!(word.as_bytes(), [] | [b'-', ..])
+    match word.as_bytes() {
+        [] => false,
+        [b'-', ..] => false,
+        [_, ..] => true,
+    }
 }
 
 /// Whether an input is a theory file: its name ends in `.thy`.

@@ -2,7 +2,7 @@ ghost use Rattle.std.specs.Prelude.{◌≡◌};
 ghost use Rattle.ot_args.specs.Grammar.{names_any, shown};
 
 /// The sections of a summary that are asked for.
-#[derive(Clone, Copy, Debug, PartialEq, Eq)]
+#[derive(Clone, Copy)]
 pub struct Sections {
     /// The assumptions of the run.
     pub assumptions: bool,

@@ -6,7 +6,7 @@ ghost use Rattle.ot_args.specs.Reading.{option_value};
 use crate::settings::CommandOption;
 
 /// The word of a command.
-#[derive(Clone, Copy, Debug, PartialEq, Eq)]
+#[derive(Clone, Copy)]
 pub enum Verb {
     Check,
     Info,
