@@ -23,7 +23,7 @@ use crate::fault::RuleFault;
 use crate::instances::Ledger;
 use crate::theorem::Theorem;
 use ot_plain::{Memory, NameId, Names};
-use ot_subst::Subst;
+use ot_subst::{Results, Subst};
 use ot_term::{Steps, TermId, Terms, VarKey};
 use ot_type::{TypeId, TypeSubst};
 use std::alloc::Global;
@@ -254,7 +254,8 @@ pub(crate) fn list_theorem(
     let _count = names.count();
     let mut steps = Steps::new(Ledger);
     let s = constants(alloc, terms, cs, vars)?;
-    let concl = ot_subst::apply(alloc, terms, names, &s, th.concl, &mut steps)?;
+    let mut results = Results::hashed(alloc);
+    let concl = ot_subst::apply(alloc, terms, names, &mut results, &s, th.concl, &mut steps)?;
     Ok(Theorem {
         hyps: Vec::new(alloc),
         concl,

@@ -15,7 +15,7 @@ use crate::fault::RuleFault;
 use crate::hypotheses::once_each;
 use crate::theorem::Theorem;
 use ot_plain::Names;
-use ot_subst::{Subst, apply, beta};
+use ot_subst::{Results, Subst, apply, beta};
 use ot_term::{Steps, TermId, Terms};
 use std::alloc::Global;
 
@@ -28,6 +28,7 @@ pub(crate) fn beta_conv(
     alloc: Global,
     terms: &mut Terms,
     names: &mut Names,
+    results: &mut Results,
     t: TermId,
 ) -> Result<Theorem, RuleFault>
     requires inside { t < length terms.old.terms }
@@ -37,7 +38,7 @@ pub(crate) fn beta_conv(
     ensures name_table { IsNameTable names.new }
 {
     let mut steps = Steps::new(Ledger);
-    let contracted = beta(alloc, terms, names, t, &mut steps)?;
+    let contracted = beta(alloc, terms, names, results, t, &mut steps)?;
     let concl = equate(terms, t, contracted)?;
     Ok(Theorem {
         hyps: Vec::new(alloc),
@@ -50,6 +51,7 @@ pub(crate) fn subst(
     alloc: Global,
     terms: &mut Terms,
     names: &mut Names,
+    results: &mut Results,
     s: &Subst,
     th: &Theorem,
 ) -> Result<Theorem, RuleFault>
@@ -61,9 +63,9 @@ pub(crate) fn subst(
     ensures name_table { IsNameTable names.new }
 {
     let mut steps = Steps::new(Ledger);
-    let hyps = images(alloc, terms, names, s, &th.hyps, &mut steps)?;
+    let hyps = images(alloc, terms, names, results, s, &th.hyps, &mut steps)?;
     let hyps = once_each(alloc, terms, &hyps)?;
-    let concl = apply(alloc, terms, names, s, th.concl, &mut steps)?;
+    let concl = apply(alloc, terms, names, results, s, th.concl, &mut steps)?;
     Ok(Theorem { hyps, concl })
 }
 
@@ -72,6 +74,7 @@ fn images(
     alloc: Global,
     terms: &mut Terms,
     names: &mut Names,
+    results: &mut Results,
     s: &Subst,
     ids: &[TermId],
     steps: &mut Steps<Ledger>,
@@ -90,7 +93,7 @@ fn images(
     let _count = names.count();
     let mut images = Vec::new(alloc);
     for id in ids {
-        images.push(apply(alloc, terms, names, s, *id, steps)?)?;
+        images.push(apply(alloc, terms, names, results, s, *id, steps)?)?;
     }
     Ok(images)
 }

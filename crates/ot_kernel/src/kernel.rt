@@ -17,6 +17,7 @@ use crate::places::Places;
 use crate::theorem::{Theorem, ThmId};
 use ot_define::Signature;
 use ot_plain::{Memory, Name, NameId, Names};
+use ot_subst::Results;
 use ot_term::{TermFault, TermId, Terms, VarKey};
 use ot_type::{TableFault, TypeId};
 use std::alloc::Global;
@@ -39,6 +40,8 @@ pub struct Kernel {
     pub(crate) definitions: Vec<Definition>,
     // Their symbols.
     pub(crate) signature: Signature,
+    // For substitution and beta.
+    pub(crate) results: Results,
 }
 
 impl Model for Kernel {
@@ -69,6 +72,7 @@ impl Kernel {
             places: Places::new(alloc),
             definitions: Vec::new(alloc),
             signature: Signature::new(alloc),
+            results: Results::new(alloc),
         })
     }
 

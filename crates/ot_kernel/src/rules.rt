@@ -99,7 +99,13 @@ impl Kernel {
         ensures keeps { Keeps self.old self.new }
         ensures same { SameBasis self.old self.new }
     {
-        let theorem = instances::beta_conv(self.alloc, &mut self.terms, &mut self.names, t);
+        let theorem = instances::beta_conv(
+            self.alloc,
+            &mut self.terms,
+            &mut self.names,
+            &mut self.results,
+            t,
+        );
         self.derived(theorem)
     }
 
@@ -115,6 +121,7 @@ impl Kernel {
             self.alloc,
             &mut self.terms,
             &mut self.names,
+            &mut self.results,
             s,
             &self.theorems[th.0],
         );

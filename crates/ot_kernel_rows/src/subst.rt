@@ -5,7 +5,7 @@ ghost use Rattle.ot_subst.specs.Walk.{NamesBelow};
 
 use crate::building::key;
 use ot_plain::{Memory, NameId, Names};
-use ot_subst::{Subst, SubstFault, apply, beta};
+use ot_subst::{Results, Subst, SubstFault, apply, beta};
 use ot_term::{Steps, TermId, TermNode, Terms};
 use ot_type::{TableFault, TypeId, TypeSubst};
 use std::alloc::Global;
@@ -59,6 +59,7 @@ fn check_name(
     alloc: Global,
     terms: &mut Terms,
     names: &mut Names,
+    results: &mut Results,
 ) -> Result<(), Fail>
     requires terms { NamesBelow 5 terms.old }
     requires names { length names.old ≡ 5 }
@@ -67,7 +68,15 @@ fn check_name(
     let mut s = Subst::new(alloc, TypeSubst::new(alloc));
     assert!(rt; terms.type_of(p.y) == p.ty);
     s.add(terms, key(NameId::A, p.ty), p.y)?;
-    let id = apply(alloc, terms, names, &s, p.over_y, &mut Steps::new(Ledger))?;
+    let id = apply(
+        alloc,
+        terms,
+        names,
+        results,
+        &s,
+        p.over_y,
+        &mut Steps::new(Ledger),
+    )?;
     assert!(rt; is_over_another(terms, id, p.ty, p.y));
     Ok(())
 }
@@ -79,6 +88,7 @@ fn check_beta(
     alloc: Global,
     terms: &mut Terms,
     names: &mut Names,
+    results: &mut Results,
 ) -> Result<(), Fail>
     requires terms { NamesBelow 5 terms.old }
     requires names { length names.old ≡ 5 }
@@ -87,10 +97,10 @@ fn check_beta(
     let f = terms.abs(key(NameId::A, p.ty), p.over_y)?;
     let t = terms.app(f, p.y)?;
     let mut steps = Steps::new(Ledger);
-    let id = beta(alloc, terms, names, t, &mut steps)?;
+    let id = beta(alloc, terms, names, results, t, &mut steps)?;
     assert!(rt; is_over_another(terms, id, p.ty, p.y));
     assert!(rt; steps.count() == 4);
-    let refused = beta(alloc, terms, names, p.y, &mut steps);
+    let refused = beta(alloc, terms, names, results, p.y, &mut steps);
     assert!(rt; refused == Err(SubstFault::NotRedex));
     Ok(())
 }
@@ -115,6 +125,7 @@ fn check_type(
     alloc: Global,
     terms: &mut Terms,
     names: &mut Names,
+    results: &mut Results,
 ) -> Result<(), Fail>
     requires terms { NamesBelow 5 terms.old }
     requires names { length names.old ≡ 5 }
@@ -125,7 +136,7 @@ fn check_type(
     let free = terms.var(key(NameId::R, truth))?;
     let t = terms.abs(key(NameId::R, truth), x)?;
     let s = for_type(alloc, terms, NameId::A, truth)?;
-    let id = apply(alloc, terms, names, &s, t, &mut Steps::new(Ledger))?;
+    let id = apply(alloc, terms, names, results, &s, t, &mut Steps::new(Ledger))?;
     assert!(rt; is_over_another(terms, id, truth, free));
     Ok(())
 }
@@ -135,19 +146,22 @@ fn check_type(
 fn named(rt: &impl Abort, alloc: Global) -> Result<(), Fail> {
     let mut names = Names::new(alloc)?;
     let mut terms = Terms::new(alloc);
-    check_name(rt, alloc, &mut terms, &mut names)
+    let mut results = Results::new(alloc);
+    check_name(rt, alloc, &mut terms, &mut names, &mut results)
 }
 
 fn contracted(rt: &impl Abort, alloc: Global) -> Result<(), Fail> {
     let mut names = Names::new(alloc)?;
     let mut terms = Terms::new(alloc);
-    check_beta(rt, alloc, &mut terms, &mut names)
+    let mut results = Results::new(alloc);
+    check_beta(rt, alloc, &mut terms, &mut names, &mut results)
 }
 
 fn typed(rt: &impl Abort, alloc: Global) -> Result<(), Fail> {
     let mut names = Names::new(alloc)?;
     let mut terms = Terms::new(alloc);
-    check_type(rt, alloc, &mut terms, &mut names)
+    let mut results = Results::new(alloc);
+    check_type(rt, alloc, &mut terms, &mut names, &mut results)
 }
 
 #[test]

@@ -16,7 +16,7 @@ use Rattle.ot_term.specs.TermTable.{term_at, variable_of, Grows}
 use Rattle.ot_term.specs.declared.term.VarKey.{VarKey}
 use Rattle.ot_subst.specs.Substitution.{Substitution, type_part, variable_part}
 use Rattle.ot_subst.specs.Walk.{AreReady}
-use Rattle.ot_subst.specs.Memory.{keys, IsMemory, IsPartBelow, IsWalked, CountsParts, IsCounted}
+use Rattle.ot_subst.specs.Memory.{keys, IsPartBelow, IsWalked, CountsParts, IsCounted}
 use Rattle.ot_subst.proofs.Growing.{term_at-Grows}
 use Rattle.ot_subst.proofs.Walked.{no_clash-Grows}
 

@@ -14,3 +14,4 @@ pub mod Abstraction
 pub mod Taken
 pub mod Counting
 pub mod Redex
+pub mod ByPlace

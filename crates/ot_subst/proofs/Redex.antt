@@ -3,13 +3,13 @@ use Rattle.std.proofs.Common.{◌≡◌, ℕ, suc, ◌+◌, ◌<◌, ◌≤◌, 
 use Rattle.std.proofs.lemmas.Option.{get_or_from_slice_get, slice_get-get_or}
 use Rattle.std.proofs.lemmas.List.Elements.{All-cons, All-nil}
 use Rattle.ot_plain.specs.Lists.{IsMember, AreDistinct}
-use Rattle.ot_plain.specs.Trees.{Ty, TyVar, Named, NConst, NApp, NAbs}
+use Rattle.ot_plain.specs.Trees.{Ty, TyVar, Named, NVar, NConst, NApp, NAbs}
 use Rattle.ot_plain.specs.Hol.{nameless, named_type, fun_ty, parts, size, HasNoClash}
 use Rattle.ot_plain.specs.Naming.{numbers}
 use Rattle.ot_laws.proofs.Tests.{tells_numbers}
 use Rattle.ot_laws.proofs.Sets.{IsMember-left}
 use Rattle.ot_laws.proofs.Size.{part-self}
-use Rattle.ot_laws.proofs.Opened.{beta-subst}
+use Rattle.ot_laws.proofs.Opened.{within-nameless, beta-subst}
 use Rattle.ot_laws.proofs.Typing.{applied-some, abs-some, type-nameless}
 use Rattle.ot_term.specs.Term.{TermTable}
 use Rattle.ot_term.specs.TermTable.{term_at, term_of, variable_of, IsTermTable}
@@ -20,6 +20,7 @@ use Rattle.ot_subst.specs.Substitution.{Substitution, type_part, variable_part, 
 use Rattle.ot_subst.specs.Memory.{CountsParts}
 use Rattle.ot_subst.specs.Beta.{contracted, HasNoBetaClash}
 use Rattle.ot_subst.proofs.Counting.{numbers-size}
+use Rattle.ot_subst.proofs.Unchanged.{open-self}
 
 -- a substitution of one pair
 pub one_pair : (s start : Substitution) (types : List (ℕ × ℕ)) (v : VarKey) (x : ℕ) → s ≡ with_pair start v x → start ≡ record { types = types; terms = [] } → types ≡ [] → s ≡ record { types = []; terms = (v, x) ∷ [] }
@@ -91,6 +92,12 @@ module _ (t : TermTable) (table : IsTermTable t) (id : ℕ) (within : id < lengt
 
       pub is_redex : (s : Substitution) → s ≡ record { types = []; terms = (v, x) ∷ [] } → contracted (nameless numbers (term_at t.terms id)) ≡ Some (substituted t s (nameless numbers (term_at t.terms body)))
       is_redex s e = ap (λ z. contracted (nameless numbers z)) whole ∙ ap Some (beta-subst numbers tells_numbers (variable_of t.types v) (term_at t.terms body) (term_at t.terms x)) ∙ ap (λ z. Some (substituted t z (nameless numbers (term_at t.terms body)))) (sym e)
+
+      -- the variable itself put in
+      pub same-redex : term_at t.terms x ≡ NVar (variable_of t.types v) → contracted (nameless numbers (term_at t.terms id)) ≡ Some (nameless numbers (term_at t.terms body))
+      same-redex e =
+          ap (λ z. contracted (nameless numbers z)) (whole ∙ ap (NApp (NAbs (variable_of t.types v) (term_at t.terms body))) e)
+          ∙ ap Some (open-self 0 (variable_of t.types v) (nameless numbers (term_at t.terms body)) (within-nameless numbers tells_numbers (term_at t.terms body)))
 
       fun_parts : (a b c d : Ty ℕ) → fun_ty numbers a b ≡ fun_ty numbers c d → a ≡ c
       fun_parts a b c d e = cc

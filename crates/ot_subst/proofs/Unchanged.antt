@@ -1,8 +1,10 @@
--- A term with no free variable becomes itself where no type changes.
-use Rattle.std.proofs.Common.{◌≡◌, ◌<◌, ℕ, suc, [], List, length, refl, sym, ap, ◌∙◌, inl, inr, arith}
+-- What stays as it is: a term with no free variable, where no type changes, and a body with the bound variable put in again.
+use Rattle.std.proofs.Common.{◌≡◌, ◌<◌, ℕ, suc, [], List, length, refl, sym, ap, ◌∙◌, inl, inr, eq-eqb, arith}
 use Rattle.ot_plain.specs.Trees.{Ty, Variable, Tm, Free, Con, Bound, App, Abs}
-use Rattle.ot_plain.specs.Hol.{IsClosed, bind, inst, inst_by, image, nameless, type_at as type_for}
+use Rattle.ot_plain.specs.Hol.{IsClosed, IsWithin, close_at, open_at, bind, inst, inst_by, nameless, type_at as type_for}
 use Rattle.ot_plain.specs.Naming.{numbers}
+use Rattle.ot_laws.proofs.Tests.{tells_numbers, var_cases}
+use Rattle.ot_laws.proofs.Opened.{place_below}
 use Rattle.ot_type.specs.TypeTable.{images}
 use Rattle.ot_type.proofs.InstLemmas.{inst-nothing}
 use Rattle.ot_term.specs.Term.{TermTable}
@@ -43,3 +45,14 @@ walked-unchanged t s r es n id within h untyped closed = record {
   known = λ e m. inl m;
   counted = λ _ _. omega arith;
 }
+
+-- a variable that is bound and put in again
+pub open-self : (k : ℕ) (v : Variable ℕ) (t : Tm ℕ) → IsWithin numbers k t → open_at numbers k (Free v) (close_at numbers k v t) ≡ t
+open-self k v (Free w) h = elim (var_cases numbers tells_numbers w v) [
+  | inl p ↦ rw (p.0, eq-eqb k k refl) (ap Free (sym p.1))
+  | inr p ↦ rw p.0
+]
+open-self k v (Con n ty) h = refl
+open-self k v (Bound j) h = rw (place_below j k h)
+open-self k v (App f x) h = ap (λ y. App y (open_at numbers k (Free v) (close_at numbers k v x))) (open-self k v f h.0) ∙ ap (App f) (open-self k v x h.1)
+open-self k v (Abs ty b) h = ap (Abs ty) (open-self (suc k) v b h)

@@ -2,6 +2,8 @@
 pub mod Substitution
 pub mod Walk
 pub mod Memory
+pub mod Places
+pub mod Held
 pub mod Renamed
 pub mod Clash
 pub mod Fault

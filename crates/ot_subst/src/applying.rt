@@ -13,9 +13,9 @@ ghost use Rattle.ot_subst.specs.Beta.{contracted, HasNoBetaClash};
 use crate::clash::Work;
 use crate::fault::SubstFault;
 use crate::renamed::Renamed;
+use crate::results::Results;
 use crate::subst::Subst;
 use crate::walk::walk;
-use indexmap::IndexMap;
 use ot_plain::Names;
 use ot_term::{Nodes, Steps, TermId, TermNode};
 use ot_type::{TableFault, TypeSubst};
@@ -26,6 +26,7 @@ fn put_in<N: Nodes<L>, L>(
     alloc: Global,
     terms: &mut N,
     names: &mut Names,
+    results: &mut Results,
     s: &Subst,
     t: TermId,
     steps: &mut Steps<L>,
@@ -46,7 +47,7 @@ fn put_in<N: Nodes<L>, L>(
     if s.types().is_empty() && terms.is_closed(t) {
         return Ok(t);
     }
-    put_in_open(alloc, terms, names, s, t, steps)
+    put_in_open(alloc, terms, names, results, s, t, steps)
 }
 
 // The same, node by node.
@@ -54,6 +55,7 @@ fn put_in_open<N: Nodes<L>, L>(
     alloc: Global,
     terms: &mut N,
     names: &mut Names,
+    results: &mut Results,
     s: &Subst,
     t: TermId,
     steps: &mut Steps<L>,
@@ -73,12 +75,13 @@ fn put_in_open<N: Nodes<L>, L>(
     let _ty = terms.type_of(t);
     let renamed = Renamed::Outermost;
     let work = Work {
+        alloc,
         subst: s,
         renamed: &renamed,
     };
-    let mut memory = IndexMap::new(alloc);
     let mut frees = None;
-    walk(&work, terms, names, &mut memory, &mut frees, t, steps)
+    results.clear();
+    walk(&work, terms, names, results, &mut frees, t, steps)
 }
 
 /// The term with the substitution put in: its nameless form is the substitution on the nameless form of `t`.
@@ -92,6 +95,7 @@ pub fn apply<N: Nodes<L>, L>(
     alloc: Global,
     terms: &mut N,
     names: &mut Names,
+    results: &mut Results,
     s: &Subst,
     t: TermId,
     steps: &mut Steps<L>,
@@ -113,7 +117,7 @@ pub fn apply<N: Nodes<L>, L>(
     ensures below { NamesBelow (length names.new) (N.table terms.new) }
     ensures fits { IsSubstOf (N.table terms.new) s.now }
 {
-    Ok(put_in(alloc, terms, names, s, t, steps)?)
+    Ok(put_in(alloc, terms, names, results, s, t, steps)?)
 }
 
 /// The body of an abstraction with the argument put in for the variable.
@@ -126,6 +130,7 @@ pub fn beta<N: Nodes<L>, L>(
     alloc: Global,
     terms: &mut N,
     names: &mut Names,
+    results: &mut Results,
     t: TermId,
     steps: &mut Steps<L>,
 ) -> Result<TermId, SubstFault>
@@ -151,7 +156,11 @@ pub fn beta<N: Nodes<L>, L>(
     let TermNode::Abs(v, body) = terms.take(f, steps) else {
         return Err(SubstFault::NotRedex);
     };
+    // Where the variable itself is put in, nothing changes.
+    if terms.is_var(x, &v) {
+        return Ok(body);
+    }
     let mut s = Subst::new(alloc, TypeSubst::new(alloc));
     s.insert(v, x)?;
-    Ok(put_in(alloc, terms, names, &s, body, steps)?)
+    Ok(put_in(alloc, terms, names, results, &s, body, steps)?)
 }

@@ -20,6 +20,7 @@ use std::alloc::Global;
 /// A substitution at work, with the binders that were renamed so far.
 #[derive(Clone, Copy)]
 pub(crate) struct Work<'a> {
+    pub(crate) alloc: Global,
     pub(crate) subst: &'a Subst,
     pub(crate) renamed: &'a Renamed<'a>,
 }
@@ -80,7 +81,6 @@ fn any_coincides<N: Nodes<L>, L>(
 // Whether the binder `v` of a body, which is `w` after the type part, has to be renamed. Without renamed binders around, it
 // has to be only where it clashes.
 pub(crate) fn clashes<N: Nodes<L>, L>(
-    alloc: Global,
     terms: &mut N,
     work: &Work<'_>,
     frees: &mut Option<Vec<VarKey>>,
@@ -104,14 +104,14 @@ pub(crate) fn clashes<N: Nodes<L>, L>(
     if meets(work.renamed, v, w) || work.subst.get(w).is_some() {
         return Ok(true);
     }
-    if is_put_in(alloc, &*terms, work.subst, frees, w)? {
+    if is_put_in(work.alloc, &*terms, work.subst, frees, w)? {
         return Ok(true);
     }
     // Where no type changes, no other variable becomes the binder; where one does, only one of its name can.
     if work.subst.types().is_empty() {
         return Ok(false);
     }
-    let xs = terms.free_named(alloc, v.name, body)?;
+    let xs = terms.free_named(work.alloc, v.name, body)?;
     any_coincides(terms, work.subst, v, w, &xs)
 }
 

@@ -6,10 +6,13 @@ mod applying;
 mod clash;
 mod fault;
 mod images;
+mod placed;
 mod renamed;
+mod results;
 mod subst;
 mod walk;
 
 pub use applying::{apply, beta};
 pub use fault::SubstFault;
+pub use results::Results;
 pub use subst::Subst;

@@ -1,6 +1,5 @@
 //! The walk that puts a substitution into a term, node by node.
 ghost use Rattle.std.specs.Prelude.{◌≡◌, ℕ, ◌<◌, ◌≤◌, ◌+◌, ◌++◌, ◌∷◌, [], suc, max, None, Some, Err, IfOk, OnOk, OnErr, length, slice_get, false, nat_eq};
-ghost use Rattle.std.specs.Map.{lookup};
 ghost use Rattle.ot_plain.specs.Trees.{Ty, NApp, NAbs};
 ghost use Rattle.ot_plain.specs.Hol.{is_shallow, nameless, named_type, fun_ty};
 ghost use Rattle.ot_plain.specs.Naming.{numbers};
@@ -14,19 +13,10 @@ ghost use Rattle.ot_subst.specs.Memory.{IsMemory, IsWalked, IsCounted, above};
 use crate::clash::{Work, clashes};
 use crate::images::{constant_of, image_of};
 use crate::renamed::Renamed;
-use indexmap::IndexMap;
-use ot_plain::{Memory, Names};
+use crate::results::Results;
+use ot_plain::Names;
 use ot_term::{Nodes, Steps, TermFault, TermId, TermNode, VarKey};
 use ot_type::TableFault;
-
-// Remembers what a term becomes, which was not remembered before.
-fn keep(memory: &mut IndexMap<TermId, TermId>, id: TermId, image: TermId) -> Result<TermId, Memory>
-    requires { lookup (nat_eq id) memory.old.entries ≡ None }
-    ensures { IfOk result (λ q. (q ≡ image) × (memory.new.entries ≡ memory.old.entries ++ (id, q) ∷ [])) }
-{
-    memory.insert(id, image)?;
-    Ok(image)
-}
 
 // The application of a function to an argument that it takes.
 fn join<N: Nodes<L>, L>(terms: &mut N, f: TermId, x: TermId) -> Result<TermId, TableFault>
@@ -54,21 +44,21 @@ fn application<N: Nodes<L>, L>(
     work: &Work<'_>,
     terms: &mut N,
     names: &mut Names,
-    memory: &mut IndexMap<TermId, TermId>,
+    memory: &mut Results,
     frees: &mut Option<Vec<VarKey>>,
     f: TermId,
     x: TermId,
     steps: &mut Steps<L>,
 ) -> Result<TermId, TableFault>
     requires set_up { IsSetUp (length names.old) (N.table terms.old) work.now.subst.now (pairs_of work.now.renamed.now) }
-    requires remembered { IsMemory (N.table terms.old) work.now.subst.now (pairs_of work.now.renamed.now) memory.old.entries }
+    requires remembered { IsMemory (N.table terms.old) work.now.subst.now (pairs_of work.now.renamed.now) memory.old }
     requires frees { AreKnown (N.table terms.old) work.now.subst.now frees.old }
     requires f { f < length (N.table terms.old).terms }
     requires x { x < length (N.table terms.old).terms }
     requires typed { (ty : Ty ℕ) × (named_type numbers (NApp (term_at (N.table terms.old).terms f) (term_at (N.table terms.old).terms x)) ≡ Some ty) }
-    ensures ok { IfOk result (IsWalked (N.table terms.old) (N.table terms.new) work.now.subst.now (pairs_of work.now.renamed.now) memory.old.entries memory.new.entries steps.old steps.new (NApp (term_at (N.table terms.old).terms f) (term_at (N.table terms.old).terms x)) (suc (max f x))) }
+    ensures ok { IfOk result (IsWalked (N.table terms.old) (N.table terms.new) work.now.subst.now (pairs_of work.now.renamed.now) memory.old memory.new steps.old steps.new (NApp (term_at (N.table terms.old).terms f) (term_at (N.table terms.old).terms x)) (suc (max f x))) }
     ensures nesting { result ≡ Err TableFault.Nesting → is_shallow numbers (becomes (N.table terms.old) work.now.subst.now (pairs_of work.now.renamed.now) (nameless numbers (NApp (term_at (N.table terms.old).terms f) (term_at (N.table terms.old).terms x)))) ≡ false }
-    ensures refused { OnErr result (IsCounted (N.table terms.old) work.now.subst.now (pairs_of work.now.renamed.now) memory.old.entries steps.old steps.new (NApp (term_at (N.table terms.old).terms f) (term_at (N.table terms.old).terms x)) (suc (max f x))) }
+    ensures refused { OnErr result (IsCounted (N.table terms.old) work.now.subst.now (pairs_of work.now.renamed.now) memory.old steps.old steps.new (NApp (term_at (N.table terms.old).terms f) (term_at (N.table terms.old).terms x)) (suc (max f x))) }
     ensures frees { OnOk result (AreKnown (N.table terms.new) work.now.subst.now frees.new) }
     ensures later { IsLater names.old names.new (N.table terms.old) (N.table terms.new) }
 {
@@ -83,30 +73,29 @@ fn abstraction<N: Nodes<L>, L>(
     work: &Work<'_>,
     terms: &mut N,
     names: &mut Names,
-    memory: &mut IndexMap<TermId, TermId>,
+    memory: &mut Results,
     frees: &mut Option<Vec<VarKey>>,
     v: VarKey,
     body: TermId,
     steps: &mut Steps<L>,
 ) -> Result<TermId, TableFault>
     requires set_up { IsSetUp (length names.old) (N.table terms.old) work.now.subst.now (pairs_of work.now.renamed.now) }
-    requires remembered { IsMemory (N.table terms.old) work.now.subst.now (pairs_of work.now.renamed.now) memory.old.entries }
+    requires remembered { IsMemory (N.table terms.old) work.now.subst.now (pairs_of work.now.renamed.now) memory.old }
     requires frees { AreKnown (N.table terms.old) work.now.subst.now frees.old }
     requires v { v.ty < length (N.table terms.old).types }
     requires body { body < length (N.table terms.old).terms }
     requires typed { (ty : Ty ℕ) × (named_type numbers (NAbs (variable_of (N.table terms.old).types v) (term_at (N.table terms.old).terms body)) ≡ Some ty) }
     requires bound { bound_named (NAbs (variable_of (N.table terms.old).types v) (term_at (N.table terms.old).terms body)) ≤ length names.old }
-    ensures ok { IfOk result (IsWalked (N.table terms.old) (N.table terms.new) work.now.subst.now (pairs_of work.now.renamed.now) memory.old.entries memory.new.entries steps.old steps.new (NAbs (variable_of (N.table terms.old).types v) (term_at (N.table terms.old).terms body)) (suc body)) }
+    ensures ok { IfOk result (IsWalked (N.table terms.old) (N.table terms.new) work.now.subst.now (pairs_of work.now.renamed.now) memory.old memory.new steps.old steps.new (NAbs (variable_of (N.table terms.old).types v) (term_at (N.table terms.old).terms body)) (suc body)) }
     ensures nesting { result ≡ Err TableFault.Nesting → is_shallow numbers (becomes (N.table terms.old) work.now.subst.now (pairs_of work.now.renamed.now) (nameless numbers (NAbs (variable_of (N.table terms.old).types v) (term_at (N.table terms.old).terms body)))) ≡ false }
-    ensures refused { OnErr result (IsCounted (N.table terms.old) work.now.subst.now (pairs_of work.now.renamed.now) memory.old.entries steps.old steps.new (NAbs (variable_of (N.table terms.old).types v) (term_at (N.table terms.old).terms body)) (suc body)) }
+    ensures refused { OnErr result (IsCounted (N.table terms.old) work.now.subst.now (pairs_of work.now.renamed.now) memory.old steps.old steps.new (NAbs (variable_of (N.table terms.old).types v) (term_at (N.table terms.old).terms body)) (suc body)) }
     ensures frees { OnOk result (AreKnown (N.table terms.new) work.now.subst.now frees.new) }
     ensures later { IsLater names.old names.new (N.table terms.old) (N.table terms.new) }
 {
-    let alloc = *memory.allocator();
     let ty = terms.type_inst(work.subst.types(), v.ty)?;
     let name = v.name;
     let kept = VarKey { name, ty };
-    if !clashes(alloc, terms, work, frees, &v, &kept, body)? {
+    if !clashes(terms, work, frees, &v, &kept, body)? {
         let body = walk(work, terms, names, memory, frees, body, steps)?;
         return terms.abs(kept, body);
     }
@@ -114,10 +103,11 @@ fn abstraction<N: Nodes<L>, L>(
     let new = VarKey { name, ty };
     let renamed = Renamed::Binder(&v, &new, work.renamed);
     let inside = Work {
+        alloc: work.alloc,
         subst: work.subst,
         renamed: &renamed,
     };
-    let mut results = IndexMap::new(alloc);
+    let mut results = Results::hashed(work.alloc);
     let body = walk(&inside, terms, names, &mut results, frees, body, steps)?;
     terms.abs(new, body)
 }
@@ -128,20 +118,20 @@ fn image_of_node<N: Nodes<L>, L>(
     work: &Work<'_>,
     terms: &mut N,
     names: &mut Names,
-    memory: &mut IndexMap<TermId, TermId>,
+    memory: &mut Results,
     frees: &mut Option<Vec<VarKey>>,
     node: TermNode,
     steps: &mut Steps<L>,
 ) -> Result<TermId, TableFault>
     requires set_up { IsSetUp (length names.old) (N.table terms.old) work.now.subst.now (pairs_of work.now.renamed.now) }
-    requires remembered { IsMemory (N.table terms.old) work.now.subst.now (pairs_of work.now.renamed.now) memory.old.entries }
+    requires remembered { IsMemory (N.table terms.old) work.now.subst.now (pairs_of work.now.renamed.now) memory.old }
     requires frees { AreKnown (N.table terms.old) work.now.subst.now frees.old }
     requires below { AreBelow (length (N.table terms.old).types) (length (N.table terms.old).terms) node }
     requires typed { (ty : Ty ℕ) × (named_type numbers (term_of (N.table terms.old).types (N.table terms.old).terms node) ≡ Some ty) }
     requires bound { bound_named (term_of (N.table terms.old).types (N.table terms.old).terms node) ≤ length names.old }
-    ensures ok { IfOk result (IsWalked (N.table terms.old) (N.table terms.new) work.now.subst.now (pairs_of work.now.renamed.now) memory.old.entries memory.new.entries steps.old steps.new (term_of (N.table terms.old).types (N.table terms.old).terms node) (above node)) }
+    ensures ok { IfOk result (IsWalked (N.table terms.old) (N.table terms.new) work.now.subst.now (pairs_of work.now.renamed.now) memory.old memory.new steps.old steps.new (term_of (N.table terms.old).types (N.table terms.old).terms node) (above node)) }
     ensures nesting { result ≡ Err TableFault.Nesting → is_shallow numbers (becomes (N.table terms.old) work.now.subst.now (pairs_of work.now.renamed.now) (nameless numbers (term_of (N.table terms.old).types (N.table terms.old).terms node))) ≡ false }
-    ensures refused { OnErr result (IsCounted (N.table terms.old) work.now.subst.now (pairs_of work.now.renamed.now) memory.old.entries steps.old steps.new (term_of (N.table terms.old).types (N.table terms.old).terms node) (above node)) }
+    ensures refused { OnErr result (IsCounted (N.table terms.old) work.now.subst.now (pairs_of work.now.renamed.now) memory.old steps.old steps.new (term_of (N.table terms.old).types (N.table terms.old).terms node) (above node)) }
     ensures frees { OnOk result (AreKnown (N.table terms.new) work.now.subst.now frees.new) }
     ensures later { IsLater names.old names.new (N.table terms.old) (N.table terms.new) }
 {
@@ -159,18 +149,18 @@ pub(crate) fn walk<N: Nodes<L>, L>(
     work: &Work<'_>,
     terms: &mut N,
     names: &mut Names,
-    memory: &mut IndexMap<TermId, TermId>,
+    memory: &mut Results,
     frees: &mut Option<Vec<VarKey>>,
     id: TermId,
     steps: &mut Steps<L>,
 ) -> Result<TermId, TableFault>
     requires set_up { IsSetUp (length names.old) (N.table terms.old) work.now.subst.now (pairs_of work.now.renamed.now) }
-    requires remembered { IsMemory (N.table terms.old) work.now.subst.now (pairs_of work.now.renamed.now) memory.old.entries }
+    requires remembered { IsMemory (N.table terms.old) work.now.subst.now (pairs_of work.now.renamed.now) memory.old }
     requires frees { AreKnown (N.table terms.old) work.now.subst.now frees.old }
     requires inside { id < length (N.table terms.old).terms }
-    ensures ok { IfOk result (IsWalked (N.table terms.old) (N.table terms.new) work.now.subst.now (pairs_of work.now.renamed.now) memory.old.entries memory.new.entries steps.old steps.new (term_at (N.table terms.old).terms id) (suc id)) }
+    ensures ok { IfOk result (IsWalked (N.table terms.old) (N.table terms.new) work.now.subst.now (pairs_of work.now.renamed.now) memory.old memory.new steps.old steps.new (term_at (N.table terms.old).terms id) (suc id)) }
     ensures nesting { result ≡ Err TableFault.Nesting → is_shallow numbers (becomes (N.table terms.old) work.now.subst.now (pairs_of work.now.renamed.now) (nameless numbers (term_at (N.table terms.old).terms id))) ≡ false }
-    ensures refused { OnErr result (IsCounted (N.table terms.old) work.now.subst.now (pairs_of work.now.renamed.now) memory.old.entries steps.old steps.new (term_at (N.table terms.old).terms id) (suc id)) }
+    ensures refused { OnErr result (IsCounted (N.table terms.old) work.now.subst.now (pairs_of work.now.renamed.now) memory.old steps.old steps.new (term_at (N.table terms.old).terms id) (suc id)) }
     ensures frees { OnOk result (AreKnown (N.table terms.new) work.now.subst.now frees.new) }
     ensures later { IsLater names.old names.new (N.table terms.old) (N.table terms.new) }
 {
@@ -178,10 +168,10 @@ pub(crate) fn walk<N: Nodes<L>, L>(
     if work.subst.types().is_empty() && terms.is_closed(id) {
         return Ok(id);
     }
-    if let Some(done) = memory.get(&id) {
-        return Ok(*done);
+    if let Some(done) = memory.get(id) {
+        return Ok(done);
     }
     let node = terms.take(id, steps);
     let image = image_of_node(work, terms, names, memory, frees, node, steps)?;
-    Ok(keep(memory, id, image)?)
+    Ok(memory.keep(id, image)?)
 }

@@ -36,6 +36,12 @@ pub trait Nodes<L> {
         ensures typed { named_type numbers (term_at (table self.now).terms id) ≡ Some (type_at (table self.now).types result) }
         ensures table { IsTermTable (table self.now) };
 
+    /// Whether a term is this variable.
+    fn is_var(&self, id: TermId, v: &VarKey) -> bool
+        requires term { id < length (table self.now).terms }
+        requires ty { v.now.ty < length (table self.now).types }
+        ensures { Decides result (term_at (table self.now).terms id ≡ NVar (variable_of (table self.now).types v.now)) };
+
     /// The free variables of a term, each once.
     fn free_vars(&self, alloc: Global, id: TermId) -> Result<Vec<VarKey>, Memory>
         requires { id < length (table self.now).terms }
@@ -125,6 +131,10 @@ impl<L> Nodes<L> for Terms {
 
     fn type_of(&self, id: TermId) -> TypeId {
         self.type_of(id)
+    }
+
+    fn is_var(&self, id: TermId, v: &VarKey) -> bool {
+        self.is_var(id, v)
     }
 
     fn free_vars(&self, alloc: Global, id: TermId) -> Result<Vec<VarKey>, Memory> {

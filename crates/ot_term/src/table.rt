@@ -1,6 +1,7 @@
 //! The table: its nodes, what stands beside them, and how they are read.
-ghost use Rattle.std.specs.Prelude.{◌≡◌, ℕ, ◌<◌, ◌≤◌, max, [], Some, slice_get, slice_index_or, length, IfOk, IfSome, OnErr};
+ghost use Rattle.std.specs.Prelude.{◌≡◌, ℕ, ◌<◌, ◌≤◌, max, [], Some, slice_get, slice_index_or, length, IfOk, IfSome, OnErr, Decides};
 ghost use Rattle.ot_plain.specs.Table.{Extends, IsInjective};
+ghost use Rattle.ot_plain.specs.Trees.{NVar};
 ghost use Rattle.ot_plain.specs.Hol.{named_type, named_depth, depth_limit};
 ghost use Rattle.ot_plain.specs.Naming.{numbers};
 ghost use Rattle.ot_plain.specs.Bounds.{bound_named, names_in_terms};
@@ -15,7 +16,7 @@ mod gather;
 mod types;
 mod walk;
 
-use crate::term::{TermId, TermNode};
+use crate::term::{TermId, TermNode, VarKey};
 use indexmap::IndexMap;
 use ot_class::{ClassId, Classes};
 use ot_plain::Memory;
@@ -55,7 +56,7 @@ impl Model for Terms {
 }
 
 impl Terms {
-    ghost use Rattle.ot_term.specs.TermTable.{term_at, term_of, AreBelow, Suits, Grows, IsTermTable};
+    ghost use Rattle.ot_term.specs.TermTable.{term_at, term_of, variable_of, AreBelow, Suits, Grows, IsTermTable};
 
     /// A table with no types and no terms. It takes no memory.
     pub fn new(alloc: Global) -> Terms
@@ -87,6 +88,15 @@ impl Terms {
             Some((node, _)) => node,
             None => unreachable!(),
         }
+    }
+
+    /// Whether a term is this variable.
+    pub fn is_var(&self, id: TermId, v: &VarKey) -> bool
+        requires term { id < length self.now.terms }
+        requires ty { v.now.ty < length self.now.types }
+        ensures { Decides result (term_at self.now.terms id ≡ NVar (variable_of self.now.types v.now)) }
+    {
+        *self.node(id) == TermNode::Var(*v)
     }
 
     /// The type of a term.

@@ -1,4 +1,6 @@
 //! Terms by number, the symbols in them, and why a table has no number for a term.
+ghost use Rattle.std.specs.Prelude.{◌≡◌};
+
 use ot_plain::{Memory, NameId};
 use ot_type::{TableFault, TypeId};
 use std::marker::Model;
@@ -15,6 +17,15 @@ impl Model for TermId {
     ghost view = { λ n. n.0 };
 
     ghost inverse = { λ n. record { 0 = n } };
+}
+
+impl TermId {
+    /// The number: a table numbers its terms from 0 on, in the order in which they come.
+    pub fn index(self) -> usize
+        ensures { result ≡ self }
+    {
+        self.0
+    }
 }
 
 /// A variable: a name with a type. Two variables with one name and two types are two variables.

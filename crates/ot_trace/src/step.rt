@@ -5,6 +5,7 @@ use ot_plain::{Cmd, NameId};
 use smallvec::SmallVec;
 
 /// How an object was made, with the parts by number.
+// A trace has many steps: the lists hold inside what most of them need.
 #[derive(PartialEq, Eq, Hash, Drop)]
 pub enum Step {
     /// A number.
@@ -12,9 +13,9 @@ pub enum Step {
     /// A name.
     Name(NameId),
     /// What a word makes of its operands, from the bottom of the stack up.
-    Make(Cmd, SmallVec<StepId, 5>),
+    Make(Cmd, SmallVec<StepId, 2>),
     /// A definition by a word and its operands; the steps of its symbols stand last.
-    Define(Cmd, SmallVec<StepId, 5>, SmallVec<StepId, 3>),
+    Define(Cmd, SmallVec<StepId, 2>, SmallVec<StepId, 1>),
     /// The theorem of a definition, by its place from 1 on.
     Outcome(u8, StepId),
 }

@@ -1,10 +1,10 @@
-use Rattle.std.proofs.Common.{◌≡◌, Result, Err, ap, arith}
+use Rattle.std.proofs.Common.{◌≡◌, Result, Err, refl, ap, arith}
 use Rattle.ot_subst.proofs.Faults.{same_error, nesting-from}
 use Rattle.ot_subst.specs.declared.fault.SubstFault.{SubstFault}
 use Rattle.ot_subst.specs.declared.fault.SubstFault.TheVariants.{NotRedex, Nesting}
 use Rattle.ot_subst.proofs.Growing.{Grows-refl}
 use Rattle.ot_plain.proofs.TableLemmas.{Extends-refl}
-use Rattle.ot_subst.proofs.Redex.{one_pair, not-app, one_step, not-abs, two_steps, is_redex, redex-subst, redex-steps}
+use Rattle.ot_subst.proofs.Redex.{one_pair, not-app, one_step, not-abs, two_steps, is_redex, same-redex, redex-subst, redex-steps}
 use Rattle.ot_subst.proofs.applying.beta.Goals as goal
 
 differ : {X : Type 0} → ◌≡◌ {A = Result X SubstFault} (Err NotRedex) (Err Nesting) → ⊥
@@ -35,6 +35,12 @@ returns-in_default-take g c = record {
   name_table = c.count-count.ensures.table;
   below = c.requires.below;
 }
+
+pub returns-then-is_var-clause-ok : goal.returns-then-is_var-clause-ok
+returns-then-is_var-clause-ok g c = (_, same-redex (g.N.Nodes.table c.args.terms.now) c.take.ensures.table c.args.t c.requires.inside c.in-App.f c.in-App.x c.in-App.ensures.below.0 c.in-App.ensures.tree c.in-Abs.v c.in-Abs.body (omega (arith, c.in-App.ensures.below.1, c.requires.inside)) c.in-Abs.ensures.below.0 c.in-Abs.ensures.below.1 c.in-Abs.ensures.tree (c.is_var.ensures.0 c.if-is_var.true), record { within = omega (arith, c.in-Abs.ensures.below.1, c.in-App.ensures.below.0, c.requires.inside); form = refl })
+
+pub returns-then-is_var-clause-steps : goal.returns-then-is_var-clause-steps
+returns-then-is_var-clause-steps g c h = two_steps (g.N.Nodes.table c.args.terms.now) c.take.ensures.table c.args.t c.requires.inside c.in-App.f c.in-App.x c.in-App.ensures.below.0 c.in-App.ensures.tree c.args.steps.now c.take-2.new.steps (omega (arith, c.take.ensures.counted, c.take-2.ensures.counted))
 
 pub returns-in_err-insert-clause-steps : goal.returns-in_err-insert-clause-steps
 returns-in_err-insert-clause-steps g c h = two_steps (g.N.Nodes.table c.args.terms.now) c.take.ensures.table c.args.t c.requires.inside c.in-App.f c.in-App.x c.in-App.ensures.below.0 c.in-App.ensures.tree c.args.steps.now c.take-2.new.steps (omega (arith, c.take.ensures.counted, c.take-2.ensures.counted))
