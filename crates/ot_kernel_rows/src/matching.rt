@@ -1,10 +1,11 @@
 //! Patterns against the terms of a kernel.
 ghost use Rattle.std.specs.Prelude.{◌≡◌, ◌<◌, ◌≤◌, length, IfOk};
 
+use crate::building::key;
 use ot_kernel::Kernel;
 use ot_match::{Match, find_match};
 use ot_plain::{Memory, Name, NameId, Tm, Ty};
-use ot_term::{TermFault, TermId, VarKey};
+use ot_term::{TermFault, TermId};
 use ot_type::TypeId;
 use std::alloc::{AllocError, Global};
 use std::process::Abort;
@@ -80,12 +81,8 @@ fn check_places(rt: &impl Abort, alloc: Global, kernel: &mut Kernel) -> Result<(
     requires { length kernel.old.names ≡ 5 }
 {
     let ty = kernel.type_op(NameId::BOOL, &[])?;
-    let v = VarKey {
-        name: NameId::A,
-        ty,
-    };
-    let a = kernel.var(v)?;
-    let identity = kernel.abs(v, a)?;
+    let a = kernel.var(key(NameId::A, ty))?;
+    let identity = kernel.abs(key(NameId::A, ty), a)?;
     let patterns = make_patterns(alloc)?;
     check_patterns(rt, alloc, kernel, &patterns, a, identity)
 }
@@ -149,8 +146,8 @@ fn identity(kernel: &mut Kernel, name: NameId, ty: TypeId) -> Result<TermId, Fai
     ensures types { length kernel.old.types ≤ length kernel.new.types }
     ensures terms { length kernel.old.terms ≤ length kernel.new.terms }
 {
-    let body = kernel.var(VarKey { name, ty })?;
-    Ok(kernel.abs(VarKey { name, ty }, body)?)
+    let body = kernel.var(key(name, ty))?;
+    Ok(kernel.abs(key(name, ty), body)?)
 }
 
 /// f D D for D a hundred times, from this term on.
@@ -171,22 +168,18 @@ fn doubled(kernel: &mut Kernel, f: TermId, start: TermId) -> Result<TermId, Term
     Ok(last)
 }
 
-/// A variable of two arguments of a type.
+/// The type of a function of two arguments of a type.
 #[tactic(auto, using(std::proofs::lemmas::Option::slice_get_within))]
-fn function_key(kernel: &mut Kernel, ty: TypeId) -> Result<VarKey, Fail>
+fn function_type(kernel: &mut Kernel, ty: TypeId) -> Result<TypeId, Fail>
     requires names { 5 ≤ length kernel.old.names }
     requires ty { ty < length kernel.old.types }
-    ensures key { IfOk result (λ v. v.name < 5 × v.ty < length kernel.new.types) }
+    ensures within { IfOk result (λ r. r < length kernel.new.types) }
     ensures names { length kernel.old.names ≤ length kernel.new.names }
     ensures types { length kernel.old.types ≤ length kernel.new.types }
     ensures terms { length kernel.old.terms ≤ length kernel.new.terms }
 {
     let unary = kernel.type_op(NameId::ARROW, &[ty, ty])?;
-    let ty = kernel.type_op(NameId::ARROW, &[ty, unary])?;
-    Ok(VarKey {
-        name: NameId::EQUALS,
-        ty,
-    })
+    Ok(kernel.type_op(NameId::ARROW, &[ty, unary])?)
 }
 
 #[test]
@@ -202,8 +195,8 @@ fn check_shared(rt: &impl Abort, alloc: Global, kernel: &mut Kernel) -> Result<(
 {
     let truth = kernel.type_op(NameId::BOOL, &[])?;
     let ty = kernel.type_op(NameId::ARROW, &[truth, truth])?;
-    let v = function_key(kernel, ty)?;
-    let f = kernel.var(v)?;
+    let binary = function_type(kernel, ty)?;
+    let f = kernel.var(key(NameId::EQUALS, binary))?;
     let start = identity(kernel, NameId::A, truth)?;
     let left = doubled(kernel, f, start)?;
     let renamed = identity(kernel, NameId::R, truth)?;
@@ -212,14 +205,8 @@ fn check_shared(rt: &impl Abort, alloc: Global, kernel: &mut Kernel) -> Result<(
     let alike = kernel.app(part, right)?;
     let apart = kernel.app(part, start)?;
     check_of_two(rt, alloc, kernel, alike, apart)?;
-    let bound = kernel.abs(v, alike)?;
-    let kept = kernel.abs(
-        VarKey {
-            name: NameId::A,
-            ty,
-        },
-        alike,
-    )?;
+    let bound = kernel.abs(key(NameId::EQUALS, binary), alike)?;
+    let kept = kernel.abs(key(NameId::A, ty), alike)?;
     check_around(rt, alloc, kernel, bound, kept)
 }
 
