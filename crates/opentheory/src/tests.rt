@@ -529,7 +529,10 @@ fn has_long_name(alloc: Global, letters: usize, status: Status, line: &[u8]) -> 
 }
 
 const USAGE: &[u8] =
-    b"usage: opentheory check|info|link|minimise [--packages DIR] INPUT; info also takes --assumptions --definitions --theorems; opentheory sample [--article] N; opentheory info --uses INPUT; opentheory info --readable INPUT; opentheory read INPUT TEXT; opentheory prove INPUT; opentheory verify LOG; opentheory find PATTERN INPUT\n";
+    b"usage: opentheory check|info|link|minimise [--packages DIR] INPUT; info also takes --assumptions \
+      --definitions --theorems; opentheory sample [--article] N; opentheory info --uses INPUT; opentheory info \
+      --readable INPUT; opentheory read INPUT TEXT; opentheory prove INPUT; opentheory verify LOG; opentheory \
+      find PATTERN INPUT\n";
 
 /// Words that are no command.
 const OTHER_WORDS: [&[&str]; 15] = [

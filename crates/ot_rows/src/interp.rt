@@ -2,55 +2,10 @@
 use ot_interp::Interp;
 use ot_plain::{Memory, NameId};
 use std::alloc::Global;
+use std::process::Abort;
 use std::test::Fail;
 
 type Pair = (NameId, NameId);
-
-// The pair of the first map, the pair of the second, a name, and what it becomes by both.
-const ROWS: [(Pair, Pair, NameId, NameId); 7] = [
-    (
-        (NameId::A, NameId::R),
-        (NameId::R, NameId::BOOL),
-        NameId::A,
-        NameId::BOOL,
-    ),
-    (
-        (NameId::A, NameId::R),
-        (NameId::R, NameId::BOOL),
-        NameId::R,
-        NameId::BOOL,
-    ),
-    (
-        (NameId::A, NameId::R),
-        (NameId::R, NameId::BOOL),
-        NameId::EQUALS,
-        NameId::EQUALS,
-    ),
-    (
-        (NameId::R, NameId::BOOL),
-        (NameId::A, NameId::R),
-        NameId::A,
-        NameId::R,
-    ),
-    (
-        (NameId::A, NameId::R),
-        (NameId::A, NameId::EQUALS),
-        NameId::A,
-        NameId::R,
-    ),
-    (
-        (NameId::A, NameId::R),
-        (NameId::R, NameId::A),
-        NameId::A,
-        NameId::A,
-    ),
-    (
-        (NameId::A, NameId::R),
-        (NameId::R, NameId::A),
-        NameId::R,
-        NameId::A,
-    ),
-];
 
 fn single(alloc: Global, pair: Pair, is_type: bool) -> Result<Interp, Memory> {
     let mut interp = Interp::new(alloc);
@@ -77,14 +32,42 @@ fn by_both(
     Ok([both.constant(name), both.type_op(name)])
 }
 
+// What a name becomes by both pairs, and by no pair.
+fn check_row(
+    rt: &impl Abort,
+    alloc: Global,
+    inner: Pair,
+    outer: Pair,
+    name: NameId,
+    wanted: NameId,
+) -> Result<(), Fail> {
+    assert!(rt; by_both(alloc, inner, outer, name, false)? == [wanted, name]);
+    assert!(rt; by_both(alloc, inner, outer, name, true)? == [name, wanted]);
+    Ok(())
+}
+
+fn check_identity(rt: &impl Abort, identity: &Interp, name: NameId) {
+    assert!(rt; [identity.constant(name), identity.type_op(name)] == [name; 2]);
+}
+
 #[test]
 fn one_after_another(rt: HostRuntime) -> Result<(), Fail> {
+    const A: NameId = NameId::A;
+    const R: NameId = NameId::R;
+    const BOOL: NameId = NameId::BOOL;
+    const EQUALS: NameId = NameId::EQUALS;
     let alloc = rt.alloc();
-    for (inner, outer, name, wanted) in ROWS {
-        let identity = Interp::new(alloc);
-        assert!(rt; [identity.constant(name), identity.type_op(name)] == [name; 2]);
-        assert!(rt; by_both(alloc, inner, outer, name, false)? == [wanted, name]);
-        assert!(rt; by_both(alloc, inner, outer, name, true)? == [name, wanted]);
-    }
+    check_row(&rt, alloc, (A, R), (R, BOOL), A, BOOL)?;
+    check_row(&rt, alloc, (A, R), (R, BOOL), R, BOOL)?;
+    check_row(&rt, alloc, (A, R), (R, BOOL), EQUALS, EQUALS)?;
+    check_row(&rt, alloc, (R, BOOL), (A, R), A, R)?;
+    check_row(&rt, alloc, (A, R), (A, EQUALS), A, R)?;
+    check_row(&rt, alloc, (A, R), (R, A), A, A)?;
+    check_row(&rt, alloc, (A, R), (R, A), R, A)?;
     Ok(())
+}
+
+#[test]
+fn identity(rt: HostRuntime) {
+    check_identity(&rt, &Interp::new(rt.alloc()), NameId::A);
 }

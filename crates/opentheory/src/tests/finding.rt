@@ -15,14 +15,17 @@ const ARTICLES: [(&[u8], &[u8], &str, Status, &[u8]); 6] = [
         DEFINES_IT,
         "((p : bool) = (q : bool))",
         Status::Accepted,
-        b"matches: 1\n  -: |- (@\"Data.Bool.T\":\"bool\" = ((\\\"bool\". #0) = (\\\"bool\". #0)))\n    \"p\":\"bool\" := @\"Data.Bool.T\":\"bool\"\n    \"q\":\"bool\" := ((\\\"bool\". #0) = (\\\"bool\". #0))\n",
+        b"matches: 1\n  -: |- (@\"Data.Bool.T\":\"bool\" = ((\\\"bool\". #0) = (\\\"bool\". #0)))\n    \
+          \"p\":\"bool\" := @\"Data.Bool.T\":\"bool\"\n    \"q\":\"bool\" := ((\\\"bool\". #0) = (\\\"bool\". \
+          #0))\n",
     ),
     (
         EQUATION,
         PROVES_IT_BY_Y,
         "((x : 'A) = (x : 'A))",
         Status::Accepted,
-        b"matches: 1\n  -: |- ((\\\"bool\". #0) = (\\\"bool\". #0))\n    type '\"A\" := (\"bool\" -> \"bool\")\n    \"x\":(\"bool\" -> \"bool\") := (\\\"bool\". #0)\n",
+        b"matches: 1\n  -: |- ((\\\"bool\". #0) = (\\\"bool\". #0))\n    type '\"A\" := (\"bool\" -> \
+          \"bool\")\n    \"x\":(\"bool\" -> \"bool\") := (\\\"bool\". #0)\n",
     ),
     (
         EQUATION,
@@ -104,7 +107,11 @@ const ROWS: [(&[&str], Status, &[u8]); 7] = [
     (
         &["((p : 'a) = (q : 'a))", "t.thy"],
         Status::Accepted,
-        b"matches: 2\n  one-1: |- ((\\\"bool\". #0) = (\\\"bool\". #0))\n    type '\"a\" := (\"bool\" -> \"bool\")\n    \"p\":(\"bool\" -> \"bool\") := (\\\"bool\". #0)\n    \"q\":(\"bool\" -> \"bool\") := (\\\"bool\". #0)\n  t.thy: |- (@\"Data.Bool.T\":\"bool\" = ((\\\"bool\". #0) = (\\\"bool\". #0)))\n    type '\"a\" := \"bool\"\n    \"p\":\"bool\" := @\"Data.Bool.T\":\"bool\"\n    \"q\":\"bool\" := ((\\\"bool\". #0) = (\\\"bool\". #0))\n",
+        b"matches: 2\n  one-1: |- ((\\\"bool\". #0) = (\\\"bool\". #0))\n    type '\"a\" := (\"bool\" -> \
+          \"bool\")\n    \"p\":(\"bool\" -> \"bool\") := (\\\"bool\". #0)\n    \"q\":(\"bool\" -> \"bool\") := \
+          (\\\"bool\". #0)\n  t.thy: |- (@\"Data.Bool.T\":\"bool\" = ((\\\"bool\". #0) = (\\\"bool\". #0)))\n    \
+          type '\"a\" := \"bool\"\n    \"p\":\"bool\" := @\"Data.Bool.T\":\"bool\"\n    \"q\":\"bool\" := \
+          ((\\\"bool\". #0) = (\\\"bool\". #0))\n",
     ),
     (
         &["--packages", "p", "(p : bool)", "t.thy"],

@@ -109,22 +109,39 @@ const WRITTEN: [(&[u8], &[u8]); 12] = [
     (b"", b"otlog 1"),
     // A constant c for a constant k.
     (
-        b"6 version \"bool\" typeOp nil opType 0 def pop \"k\" const 0 ref constTerm 1 def pop \"->\" typeOp 0 ref 0 ref nil cons cons opType 2 def pop \"->\" typeOp 0 ref 2 ref nil cons cons opType 3 def pop \"c\" 1 ref defineConst nil \"=\" const 3 ref constTerm \"c\" const 0 ref constTerm appTerm 1 ref appTerm thm",
+        b"6 version \"bool\" typeOp nil opType 0 def pop \"k\" const 0 ref constTerm 1 def pop \"->\" typeOp 0 \
+          ref 0 ref nil cons cons opType 2 def pop \"->\" typeOp 0 ref 2 ref nil cons cons opType 3 def pop \
+          \"c\" 1 ref defineConst nil \"=\" const 3 ref constTerm \"c\" const 0 ref constTerm appTerm 1 ref \
+          appTerm thm",
         b"otlog 1 tyop \"bool\" 0 con \"k\" 0 constant \"c\" 0 result 0",
     ),
     // From p = q, q = p.
     (
-        b"6 version \"bool\" typeOp nil opType 0 def pop \"->\" typeOp 0 ref 0 ref nil cons cons opType 1 def pop \"->\" typeOp 0 ref 1 ref nil cons cons opType 2 def pop \"=\" const 2 ref constTerm 3 def pop \"p\" 0 ref var varTerm 4 def pop \"q\" 0 ref var varTerm 5 def pop 3 ref 4 ref appTerm 5 ref appTerm 6 def assume sym 6 ref nil cons 3 ref 5 ref appTerm 4 ref appTerm thm",
-        b"otlog 1 tyop \"bool\" 0 tyop \"->\" 2 0 0 tyop \"->\" 2 0 1 con \"=\" 2 free \"p\" 0 app 0 1 free \"q\" 0 app 2 3 assume 4 refl 0 appThm 1 0 refl 1 appThm 2 3 eqMp 4 3 result 5",
+        b"6 version \"bool\" typeOp nil opType 0 def pop \"->\" typeOp 0 ref 0 ref nil cons cons opType 1 def \
+          pop \"->\" typeOp 0 ref 1 ref nil cons cons opType 2 def pop \"=\" const 2 ref constTerm 3 def pop \
+          \"p\" 0 ref var varTerm 4 def pop \"q\" 0 ref var varTerm 5 def pop 3 ref 4 ref appTerm 5 ref appTerm \
+          6 def assume sym 6 ref nil cons 3 ref 5 ref appTerm 4 ref appTerm thm",
+        b"otlog 1 tyop \"bool\" 0 tyop \"->\" 2 0 0 tyop \"->\" 2 0 1 con \"=\" 2 free \"p\" 0 app 0 1 free \
+          \"q\" 0 app 2 3 assume 4 refl 0 appThm 1 0 refl 1 appThm 2 3 eqMp 4 3 result 5",
     ),
     // From p = q and q = r, p = r: the lower theorem first, and the top one first.
     (
-        b"6 version \"bool\" typeOp nil opType 0 def pop \"->\" typeOp 0 ref 0 ref nil cons cons opType 1 def pop \"->\" typeOp 0 ref 1 ref nil cons cons opType 2 def pop \"=\" const 2 ref constTerm 3 def pop \"p\" 0 ref var varTerm 4 def pop \"q\" 0 ref var varTerm 5 def pop \"r\" 0 ref var varTerm 6 def pop 3 ref 4 ref appTerm 5 ref appTerm 7 def pop 3 ref 5 ref appTerm 6 ref appTerm 8 def pop 7 ref assume 8 ref assume trans 7 ref 8 ref nil cons cons 3 ref 4 ref appTerm 6 ref appTerm thm",
-        b"otlog 1 tyop \"bool\" 0 tyop \"->\" 2 0 0 tyop \"->\" 2 0 1 con \"=\" 2 free \"p\" 0 app 0 1 free \"q\" 0 app 2 3 assume 4 app 0 3 free \"r\" 0 app 5 6 assume 7 refl 2 appThm 2 1 eqMp 3 0 result 4",
+        b"6 version \"bool\" typeOp nil opType 0 def pop \"->\" typeOp 0 ref 0 ref nil cons cons opType 1 def \
+          pop \"->\" typeOp 0 ref 1 ref nil cons cons opType 2 def pop \"=\" const 2 ref constTerm 3 def pop \
+          \"p\" 0 ref var varTerm 4 def pop \"q\" 0 ref var varTerm 5 def pop \"r\" 0 ref var varTerm 6 def pop \
+          3 ref 4 ref appTerm 5 ref appTerm 7 def pop 3 ref 5 ref appTerm 6 ref appTerm 8 def pop 7 ref assume 8 \
+          ref assume trans 7 ref 8 ref nil cons cons 3 ref 4 ref appTerm 6 ref appTerm thm",
+        b"otlog 1 tyop \"bool\" 0 tyop \"->\" 2 0 0 tyop \"->\" 2 0 1 con \"=\" 2 free \"p\" 0 app 0 1 free \
+          \"q\" 0 app 2 3 assume 4 app 0 3 free \"r\" 0 app 5 6 assume 7 refl 2 appThm 2 1 eqMp 3 0 result 4",
     ),
     (
-        b"6 version \"bool\" typeOp nil opType 0 def pop \"->\" typeOp 0 ref 0 ref nil cons cons opType 1 def pop \"->\" typeOp 0 ref 1 ref nil cons cons opType 2 def pop \"=\" const 2 ref constTerm 3 def pop \"p\" 0 ref var varTerm 4 def pop \"q\" 0 ref var varTerm 5 def pop \"r\" 0 ref var varTerm 6 def pop 3 ref 4 ref appTerm 5 ref appTerm 7 def pop 3 ref 5 ref appTerm 6 ref appTerm 8 def pop 8 ref assume 7 ref assume trans 7 ref 8 ref nil cons cons 3 ref 4 ref appTerm 6 ref appTerm thm",
-        b"otlog 1 tyop \"bool\" 0 tyop \"->\" 2 0 0 tyop \"->\" 2 0 1 con \"=\" 2 free \"q\" 0 app 0 1 free \"r\" 0 app 2 3 assume 4 free \"p\" 0 app 0 5 app 6 1 assume 7 refl 6 appThm 2 0 eqMp 3 1 result 4",
+        b"6 version \"bool\" typeOp nil opType 0 def pop \"->\" typeOp 0 ref 0 ref nil cons cons opType 1 def \
+          pop \"->\" typeOp 0 ref 1 ref nil cons cons opType 2 def pop \"=\" const 2 ref constTerm 3 def pop \
+          \"p\" 0 ref var varTerm 4 def pop \"q\" 0 ref var varTerm 5 def pop \"r\" 0 ref var varTerm 6 def pop \
+          3 ref 4 ref appTerm 5 ref appTerm 7 def pop 3 ref 5 ref appTerm 6 ref appTerm 8 def pop 8 ref assume 7 \
+          ref assume trans 7 ref 8 ref nil cons cons 3 ref 4 ref appTerm 6 ref appTerm thm",
+        b"otlog 1 tyop \"bool\" 0 tyop \"->\" 2 0 0 tyop \"->\" 2 0 1 con \"=\" 2 free \"q\" 0 app 0 1 free \
+          \"r\" 0 app 2 3 assume 4 free \"p\" 0 app 0 5 app 6 1 assume 7 refl 6 appThm 2 0 eqMp 3 1 result 4",
     ),
     // An assumption for a hypothesis: the lemma is the top theorem, and the lower one.
     (
@@ -137,23 +154,41 @@ const WRITTEN: [(&[u8], &[u8]); 12] = [
     ),
     // The hypotheses of an assumption in the order of their texts, each once.
     (
-        b"6 version \"bool\" typeOp nil opType 0 def pop \"p\" 0 ref var varTerm 1 def pop \"q\" 0 ref var varTerm 2 def 1 ref 2 ref nil cons cons cons 1 ref axiom 2 ref 1 ref nil cons cons 1 ref thm",
+        b"6 version \"bool\" typeOp nil opType 0 def pop \"p\" 0 ref var varTerm 1 def pop \"q\" 0 ref var \
+          varTerm 2 def 1 ref 2 ref nil cons cons cons 1 ref axiom 2 ref 1 ref nil cons cons 1 ref thm",
         b"otlog 1 tyop \"bool\" 0 free \"p\" 0 free \"q\" 0 assumption 0 2 0 1 result 0",
     ),
     // Of two pairs for one name or variable the first: of {p} |- p with k for p, and then p for p.
     (
-        b"6 version \"bool\" typeOp nil opType 0 def pop \"p\" 0 ref var 1 def varTerm 2 def pop \"k\" const 0 ref constTerm 3 def pop \"A\" 0 ref nil cons cons 4 def pop 4 ref 4 ref nil cons cons 1 ref 3 ref nil cons cons 1 ref 2 ref nil cons cons nil cons cons nil cons cons 2 ref assume subst 3 ref nil cons 3 ref thm",
+        b"6 version \"bool\" typeOp nil opType 0 def pop \"p\" 0 ref var 1 def varTerm 2 def pop \"k\" const 0 \
+          ref constTerm 3 def pop \"A\" 0 ref nil cons cons 4 def pop 4 ref 4 ref nil cons cons 1 ref 3 ref nil \
+          cons cons 1 ref 2 ref nil cons cons nil cons cons nil cons cons 2 ref assume subst 3 ref nil cons 3 \
+          ref thm",
         b"otlog 1 tyop \"bool\" 0 free \"p\" 0 assume 0 con \"k\" 0 subst 0 1 \"A\" 0 1 \"p\" 0 1 result 1",
     ),
     // (\x. x) p = p, and \p. p = \p. p by absThm of p = p.
     (
-        b"6 version \"bool\" typeOp nil opType 0 def pop \"->\" typeOp 0 ref 0 ref nil cons cons opType 1 def pop \"->\" typeOp 0 ref 1 ref nil cons cons opType 2 def pop \"=\" const 2 ref constTerm 3 def pop \"p\" 0 ref var 4 def varTerm 5 def pop \"x\" 0 ref var 6 def 6 ref varTerm absTerm 5 ref appTerm 7 def betaConv nil 3 ref 7 ref appTerm 5 ref appTerm thm 4 ref 5 ref refl absThm pop",
+        b"6 version \"bool\" typeOp nil opType 0 def pop \"->\" typeOp 0 ref 0 ref nil cons cons opType 1 def \
+          pop \"->\" typeOp 0 ref 1 ref nil cons cons opType 2 def pop \"=\" const 2 ref constTerm 3 def pop \
+          \"p\" 0 ref var 4 def varTerm 5 def pop \"x\" 0 ref var 6 def 6 ref varTerm absTerm 5 ref appTerm 7 \
+          def betaConv nil 3 ref 7 ref appTerm 5 ref appTerm thm 4 ref 5 ref refl absThm pop",
         b"otlog 1 tyop \"bool\" 0 bound 0 lam 0 0 free \"p\" 0 app 1 2 betaConv 3 result 0",
     ),
     // A type operator of version 5, of which the second theorem is exported.
     (
-        b"\"->\" typeOp 0 def pop \"bool\" typeOp nil opType 1 def pop 0 ref 1 ref 1 ref nil cons cons opType 2 def pop 0 ref 1 ref 2 ref nil cons cons opType 3 def pop \"=\" const 4 def pop \"A\" varType 5 def pop \"T\" \"abs\" \"rep\" nil nil \"P\" const 2 ref constTerm \"k\" const 1 ref constTerm appTerm axiom defineTypeOp nil 4 ref 3 ref constTerm 8 def \"P\" const 2 ref constTerm \"r\" 1 ref var varTerm 6 def appTerm appTerm 8 ref \"rep\" const 0 ref \"T\" typeOp nil opType 7 def 1 ref nil cons cons opType constTerm \"abs\" const 0 ref 1 ref 7 ref nil cons cons opType constTerm 6 ref appTerm appTerm appTerm 6 ref appTerm appTerm thm",
-        b"otlog 1 tyop \"bool\" 0 tyop \"->\" 2 0 0 con \"P\" 1 con \"k\" 0 app 0 1 assumption 2 0 typeOperator \"T\" \"abs\" \"rep\" 0 0 bound 0 app 0 3 lam 0 4 free \"r\" 0 app 5 6 betaConv 7 tyop \"->\" 2 0 1 con \"=\" 2 refl 8 appThm 4 3 refl 7 appThm 5 6 eqMp 7 6 refl 6 appThm 2 9 refl 8 appThm 11 10 tyop \"T\" 0 tyop \"->\" 2 3 0 con \"rep\" 4 tyop \"->\" 2 0 3 con \"abs\" 5 app 10 3 app 9 11 app 8 12 app 13 3 lam 0 14 app 15 6 refl 16 appThm 12 13 eqMp 14 13 app 0 6 app 8 17 refl 18 appThm 16 15 eqMp 17 8 betaConv 16 refl 18 appThm 20 19 eqMp 21 18 result 22",
+        b"\"->\" typeOp 0 def pop \"bool\" typeOp nil opType 1 def pop 0 ref 1 ref 1 ref nil cons cons opType 2 \
+          def pop 0 ref 1 ref 2 ref nil cons cons opType 3 def pop \"=\" const 4 def pop \"A\" varType 5 def pop \
+          \"T\" \"abs\" \"rep\" nil nil \"P\" const 2 ref constTerm \"k\" const 1 ref constTerm appTerm axiom \
+          defineTypeOp nil 4 ref 3 ref constTerm 8 def \"P\" const 2 ref constTerm \"r\" 1 ref var varTerm 6 def \
+          appTerm appTerm 8 ref \"rep\" const 0 ref \"T\" typeOp nil opType 7 def 1 ref nil cons cons opType \
+          constTerm \"abs\" const 0 ref 1 ref 7 ref nil cons cons opType constTerm 6 ref appTerm appTerm appTerm \
+          6 ref appTerm appTerm thm",
+        b"otlog 1 tyop \"bool\" 0 tyop \"->\" 2 0 0 con \"P\" 1 con \"k\" 0 app 0 1 assumption 2 0 typeOperator \
+          \"T\" \"abs\" \"rep\" 0 0 bound 0 app 0 3 lam 0 4 free \"r\" 0 app 5 6 betaConv 7 tyop \"->\" 2 0 1 \
+          con \"=\" 2 refl 8 appThm 4 3 refl 7 appThm 5 6 eqMp 7 6 refl 6 appThm 2 9 refl 8 appThm 11 10 tyop \
+          \"T\" 0 tyop \"->\" 2 3 0 con \"rep\" 4 tyop \"->\" 2 0 3 con \"abs\" 5 app 10 3 app 9 11 app 8 12 app \
+          13 3 lam 0 14 app 15 6 refl 16 appThm 12 13 eqMp 14 13 app 0 6 app 8 17 refl 18 appThm 16 15 eqMp 17 8 \
+          betaConv 16 refl 18 appThm 20 19 eqMp 21 18 result 22",
     ),
 ];
 

@@ -16,7 +16,9 @@ pub type Repeated = (
 
 /// Terms x and y at A, f at A -> (A -> A), stored as 5, 7 and 4; x and y again as 406 and 407.
 const SAMPLE: &[u8] =
-    b"6 version \"->\" typeOp 0 def pop \"A\" varType 1 def pop 0 ref 1 ref 1 ref nil cons cons opType 2 def pop 0 ref 1 ref 2 ref nil cons cons opType 3 def pop \"f\" 3 ref var varTerm 4 def pop \"x\" 1 ref var 5 def varTerm 406 def 6 def pop \"y\" 1 ref var varTerm 407 def 7 def pop";
+    b"6 version \"->\" typeOp 0 def pop \"A\" varType 1 def pop 0 ref 1 ref 1 ref nil cons cons opType 2 def pop \
+      0 ref 1 ref 2 ref nil cons cons opType 3 def pop \"f\" 3 ref var varTerm 4 def pop \"x\" 1 ref var 5 def \
+      varTerm 406 def 6 def pop \"y\" 1 ref var varTerm 407 def 7 def pop";
 
 /// Both are doubled under f.
 const BOTH_DOUBLED: &[u8] =
@@ -80,7 +82,8 @@ pub const REPEATED: [Repeated; 11] = [
     ),
     (
         &[
-            b"6 version \"->\" typeOp 0 def pop \"A\" varType 1 def pop \"f\" 0 ref 1 ref 1 ref nil cons cons opType var varTerm 2 def pop \"x\" 1 ref var varTerm",
+            b"6 version \"->\" typeOp 0 def pop \"A\" varType 1 def pop \"f\" 0 ref 1 ref 1 ref nil cons cons \
+              opType var varTerm 2 def pop \"x\" 1 ref var varTerm",
         ],
         b"3 def pop 2 ref 3 ref appTerm",
         4096,
@@ -113,7 +116,8 @@ pub const REPEATED: [Repeated; 11] = [
     (
         &[
             P5,
-            b"\"c\" const 0 ref 2 ref 0 ref 2 ref 2 ref nil cons cons opType nil cons cons opType constTerm 6 def pop \"d\" const 2 ref constTerm",
+            b"\"c\" const 0 ref 2 ref 0 ref 2 ref 2 ref nil cons cons opType nil cons cons opType constTerm 6 \
+              def pop \"d\" const 2 ref constTerm",
         ],
         b"7 def pop 6 ref 7 ref appTerm 7 ref appTerm",
         100,
@@ -151,7 +155,8 @@ pub const DOUBLED: [Repeated; 4] = [
         ],
         b"7 def pop 6 ref 7 ref appTerm 7 ref appTerm",
         60,
-        b"7 def pop 4 ref 3 ref constTerm 7 ref appTerm 8 def pop nil 8 ref \"a\" 1 ref var varTerm appTerm axiom nil 8 ref \"b\" 1 ref var varTerm appTerm axiom",
+        b"7 def pop 4 ref 3 ref constTerm 7 ref appTerm 8 def pop nil 8 ref \"a\" 1 ref var varTerm appTerm \
+          axiom nil 8 ref \"b\" 1 ref var varTerm appTerm axiom",
         "check",
         Status::Accepted,
         b"accepted: 0 theorems, 2 assumptions, 0 definitions\n",
@@ -161,7 +166,9 @@ pub const DOUBLED: [Repeated; 4] = [
         &[SAMPLE],
         BOTH_DOUBLED,
         200,
-        b"\"=\" const 0 ref 1 ref 0 ref 1 ref \"bool\" typeOp nil opType nil cons cons opType nil cons cons opType constTerm 406 ref appTerm 900 def 6 ref appTerm assume 900 ref 7 ref appTerm assume deductAntisym",
+        b"\"=\" const 0 ref 1 ref 0 ref 1 ref \"bool\" typeOp nil opType nil cons cons opType nil cons cons \
+          opType constTerm 406 ref appTerm 900 def 6 ref appTerm assume 900 ref 7 ref appTerm assume \
+          deductAntisym",
         "check",
         Status::Accepted,
         NONE,
@@ -171,7 +178,9 @@ pub const DOUBLED: [Repeated; 4] = [
         &[SAMPLE],
         BOTH_DOUBLED,
         200,
-        b"nil 5 ref 7 ref nil cons cons nil cons nil cons cons 406 ref refl subst nil \"=\" const 0 ref 1 ref 0 ref 1 ref \"bool\" typeOp nil opType nil cons cons opType nil cons cons opType constTerm 407 ref appTerm 407 ref appTerm thm",
+        b"nil 5 ref 7 ref nil cons cons nil cons nil cons cons 406 ref refl subst nil \"=\" const 0 ref 1 ref 0 \
+          ref 1 ref \"bool\" typeOp nil opType nil cons cons opType nil cons cons opType constTerm 407 ref \
+          appTerm 407 ref appTerm thm",
         "check",
         Status::Accepted,
         ONE,

@@ -2,7 +2,8 @@
 use ot_program::Status;
 
 pub const FIRST: &[u8] =
-    b"6\nversion\n\"p\"\n\"bool\"\ntypeOp\nnil\nopType\nvar\nvarTerm\n0\ndef\nassume\n0\nref\nnil\ncons\n0\nref\nthm\n";
+    b"6\nversion\n\"p\"\n\"bool\"\ntypeOp\nnil\nopType\nvar\nvarTerm\n0\ndef\nassume\n0\nref\nnil\ncons\n0\nref\n\
+      thm\n";
 
 pub const NONE: &[u8] = b"accepted: 0 theorems, 0 assumptions, 0 definitions\n";
 
@@ -42,7 +43,8 @@ pub const ARTICLES: [(&[u8], Status, &[u8]); 22] = [
     ),
     // One sequent exported twice, the second time with its hypothesis twice in the list.
     (
-        b"6 version \"p\" \"bool\" typeOp nil opType var varTerm 0 def assume 0 ref nil cons 0 ref thm 0 ref assume 0 ref 0 ref nil cons cons 0 ref thm",
+        b"6 version \"p\" \"bool\" typeOp nil opType var varTerm 0 def assume 0 ref nil cons 0 ref thm 0 ref \
+          assume 0 ref 0 ref nil cons cons 0 ref thm",
         Status::Accepted,
         ONE,
     ),
@@ -108,7 +110,9 @@ pub const ARTICLES: [(&[u8], Status, &[u8]); 22] = [
 
 /// It stores 0 `->`, 1 bool, 2 bool -> bool, 3 bool -> (bool -> bool), 4 the constant `=`, 5 the type variable A.
 pub const P: &[u8] =
-    b"6 version \"->\" typeOp 0 def pop \"bool\" typeOp nil opType 1 def pop 0 ref 1 ref 1 ref nil cons cons opType 2 def pop 0 ref 1 ref 2 ref nil cons cons opType 3 def pop \"=\" const 4 def pop \"A\" varType 5 def pop";
+    b"6 version \"->\" typeOp 0 def pop \"bool\" typeOp nil opType 1 def pop 0 ref 1 ref 1 ref nil cons cons \
+      opType 2 def pop 0 ref 1 ref 2 ref nil cons cons opType 3 def pop \"=\" const 4 def pop \"A\" varType 5 \
+      def pop";
 
 /// `=` at bool -> bool, over P.
 const E: &[u8] =
@@ -119,11 +123,15 @@ const I: &[u8] = b"\"x\" 1 ref var 6 def 6 ref varTerm absTerm 7 def appTerm 7 r
 
 /// Over P, an assumption that proves a hypothesis of another theorem, and one that proves its own.
 const TAKEN: &[u8] =
-    b"\"p\" 1 ref var varTerm 6 def assume nil 6 ref axiom 7 def proveHyp nil 6 ref thm 7 ref 6 ref assume proveHyp nil 6 ref thm";
+    b"\"p\" 1 ref var varTerm 6 def assume nil 6 ref axiom 7 def proveHyp nil 6 ref thm 7 ref 6 ref assume \
+      proveHyp nil 6 ref thm";
 
 /// Over P, a = b and b = c joined, in both orders.
 const JOINED: &[u8] =
-    b"\"a\" 1 ref var varTerm 6 def pop \"b\" 1 ref var varTerm 7 def pop \"c\" 1 ref var varTerm 8 def pop 4 ref 3 ref constTerm 9 def pop 9 ref 6 ref appTerm 7 ref appTerm 10 def pop 9 ref 7 ref appTerm 8 ref appTerm 11 def pop 9 ref 6 ref appTerm 8 ref appTerm 12 def pop 10 ref assume 11 ref assume trans 10 ref 11 ref nil cons cons 12 ref thm 11 ref assume 10 ref assume trans 11 ref 10 ref nil cons cons 12 ref thm";
+    b"\"a\" 1 ref var varTerm 6 def pop \"b\" 1 ref var varTerm 7 def pop \"c\" 1 ref var varTerm 8 def pop 4 \
+      ref 3 ref constTerm 9 def pop 9 ref 6 ref appTerm 7 ref appTerm 10 def pop 9 ref 7 ref appTerm 8 ref \
+      appTerm 11 def pop 9 ref 6 ref appTerm 8 ref appTerm 12 def pop 10 ref assume 11 ref assume trans 10 ref \
+      11 ref nil cons cons 12 ref thm 11 ref assume 10 ref assume trans 11 ref 10 ref nil cons cons 12 ref thm";
 
 /// The constant T, defined as an equation.
 pub const REALISTIC: &[&[u8]] = &[
@@ -139,7 +147,10 @@ const TWO_CONSTANTS: &[&[u8]] = &[
     P,
     E,
     I,
-    b"pop \"u\" 1 ref var 9 def pop \"w\" 1 ref var 10 def pop 4 ref 3 ref constTerm 11 def pop \"c\" 9 ref nil cons cons \"d\" 10 ref nil cons cons nil cons cons 11 ref 9 ref varTerm appTerm 8 ref appTerm assume 11 ref 10 ref varTerm appTerm 8 ref appTerm assume sym trans defineConstList nil 11 ref \"c\" const 1 ref constTerm appTerm \"d\" const 1 ref constTerm appTerm thm",
+    b"pop \"u\" 1 ref var 9 def pop \"w\" 1 ref var 10 def pop 4 ref 3 ref constTerm 11 def pop \"c\" 9 ref nil \
+      cons cons \"d\" 10 ref nil cons cons nil cons cons 11 ref 9 ref varTerm appTerm 8 ref appTerm assume 11 \
+      ref 10 ref varTerm appTerm 8 ref appTerm assume sym trans defineConstList nil 11 ref \"c\" const 1 ref \
+      constTerm appTerm \"d\" const 1 ref constTerm appTerm thm",
 ];
 
 /// A definition of no constant.
@@ -151,34 +162,43 @@ const NO_CONSTANTS: &[&[u8]] = &[
 /// A type operator, by an axiom.
 const NEW_TYPE: &[&[u8]] = &[
     P,
-    b"\"T\" \"abs\" \"rep\" nil nil \"P\" const 2 ref constTerm \"k\" const 1 ref constTerm appTerm axiom defineTypeOp",
+    b"\"T\" \"abs\" \"rep\" nil nil \"P\" const 2 ref constTerm \"k\" const 1 ref constTerm appTerm axiom \
+      defineTypeOp",
 ];
 
 /// The same without its version.
 pub const P5: &[u8] =
-    b"\"->\" typeOp 0 def pop \"bool\" typeOp nil opType 1 def pop 0 ref 1 ref 1 ref nil cons cons opType 2 def pop 0 ref 1 ref 2 ref nil cons cons opType 3 def pop \"=\" const 4 def pop \"A\" varType 5 def pop";
+    b"\"->\" typeOp 0 def pop \"bool\" typeOp nil opType 1 def pop 0 ref 1 ref 1 ref nil cons cons opType 2 def \
+      pop 0 ref 1 ref 2 ref nil cons cons opType 3 def pop \"=\" const 4 def pop \"A\" varType 5 def pop";
 
 /// p r is that r is the image of its image.
 const OPEN: &[u8] =
-    b"nil 4 ref 3 ref constTerm 8 def \"P\" const 2 ref constTerm \"r\" 1 ref var varTerm 6 def appTerm appTerm 8 ref \"rep\" const 0 ref \"T\" typeOp nil opType 7 def 1 ref nil cons cons opType constTerm \"abs\" const 0 ref 1 ref 7 ref nil cons cons opType constTerm 6 ref appTerm appTerm appTerm 6 ref appTerm appTerm thm";
+    b"nil 4 ref 3 ref constTerm 8 def \"P\" const 2 ref constTerm \"r\" 1 ref var varTerm 6 def appTerm appTerm \
+      8 ref \"rep\" const 0 ref \"T\" typeOp nil opType 7 def 1 ref nil cons cons opType constTerm \"abs\" const \
+      0 ref 1 ref 7 ref nil cons cons opType constTerm 6 ref appTerm appTerm appTerm 6 ref appTerm appTerm thm";
 
 /// A type operator of version 5, of which the second theorem is exported.
 const NEW_TYPE_5: &[&[u8]] = &[
     P5,
-    b"\"T\" \"abs\" \"rep\" nil nil \"P\" const 2 ref constTerm \"k\" const 1 ref constTerm appTerm axiom defineTypeOp",
+    b"\"T\" \"abs\" \"rep\" nil nil \"P\" const 2 ref constTerm \"k\" const 1 ref constTerm appTerm axiom \
+      defineTypeOp",
     OPEN,
 ];
 
 /// Two beta redexes, one in the other.
 const BETA: &[&[u8]] = &[
     P,
-    b"0 ref 5 ref 5 ref nil cons cons opType 9 def pop \"x\" 5 ref var 6 def pop \"y\" 5 ref var 7 def pop 6 ref 7 ref 6 ref varTerm absTerm absTerm 7 ref varTerm appTerm 8 def betaConv nil 4 ref 0 ref 9 ref 0 ref 9 ref 1 ref nil cons cons opType nil cons cons opType constTerm 8 ref appTerm \"z\" 5 ref var 7 ref varTerm absTerm appTerm thm",
+    b"0 ref 5 ref 5 ref nil cons cons opType 9 def pop \"x\" 5 ref var 6 def pop \"y\" 5 ref var 7 def pop 6 ref \
+      7 ref 6 ref varTerm absTerm absTerm 7 ref varTerm appTerm 8 def betaConv nil 4 ref 0 ref 9 ref 0 ref 9 ref \
+      1 ref nil cons cons opType nil cons cons opType constTerm 8 ref appTerm \"z\" 5 ref var 7 ref varTerm \
+      absTerm appTerm thm",
 ];
 
 /// A variable that a substitution of types would capture.
 const CAPTURED: &[&[u8]] = &[
     P,
-    b"\"A\" 1 ref nil cons cons nil cons nil nil cons cons \"x\" 1 ref var \"x\" 5 ref var varTerm absTerm refl subst nil",
+    b"\"A\" 1 ref nil cons cons nil cons nil nil cons cons \"x\" 1 ref var \"x\" 5 ref var varTerm absTerm refl \
+      subst nil",
     E,
     b"\"y\" 1 ref var \"x\" 1 ref var varTerm absTerm 6 def appTerm 6 ref appTerm thm",
 ];
@@ -193,19 +213,23 @@ const EQUAL: &[&[u8]] = &[
 
 /// Over P, `p = q` is stored as 9, and `q = p` as 10.
 const Q: &[u8] =
-    b"\"p\" 1 ref var varTerm 6 def pop \"q\" 1 ref var varTerm 7 def pop 4 ref 3 ref constTerm 8 def pop 8 ref 6 ref appTerm 7 ref appTerm 9 def pop 8 ref 7 ref appTerm 6 ref appTerm 10 def pop";
+    b"\"p\" 1 ref var varTerm 6 def pop \"q\" 1 ref var varTerm 7 def pop 4 ref 3 ref constTerm 8 def pop 8 ref \
+      6 ref appTerm 7 ref appTerm 9 def pop 8 ref 7 ref appTerm 6 ref appTerm 10 def pop";
 
 /// `deductAntisym` of p |- p and q |- q, whose hypotheses stay, and of p |- p with itself, whose hypotheses go.
 const DEDUCED: &[&[u8]] = &[
     P,
     Q,
-    b"6 ref assume 7 ref assume deductAntisym 6 ref 7 ref nil cons cons 9 ref thm 6 ref assume 6 ref assume deductAntisym nil 8 ref 6 ref appTerm 6 ref appTerm thm",
+    b"6 ref assume 7 ref assume deductAntisym 6 ref 7 ref nil cons cons 9 ref thm 6 ref assume 6 ref assume \
+      deductAntisym nil 8 ref 6 ref appTerm 6 ref appTerm thm",
 ];
 
 /// `appThm` of f = f and x = y.
 const APPLIED: &[&[u8]] = &[
     P,
-    b"\"f\" 2 ref var varTerm 6 def refl 4 ref 3 ref constTerm 9 def \"x\" 1 ref var varTerm 7 def appTerm \"y\" 1 ref var varTerm 8 def appTerm 10 def assume appThm 10 ref nil cons 9 ref 6 ref 7 ref appTerm appTerm 6 ref 8 ref appTerm appTerm thm",
+    b"\"f\" 2 ref var varTerm 6 def refl 4 ref 3 ref constTerm 9 def \"x\" 1 ref var varTerm 7 def appTerm \"y\" \
+      1 ref var varTerm 8 def appTerm 10 def assume appThm 10 ref nil cons 9 ref 6 ref 7 ref appTerm appTerm 6 \
+      ref 8 ref appTerm appTerm thm",
 ];
 
 /// `absThm` of an assumption p = q.
@@ -220,15 +244,21 @@ const ABSTRACTED: &[&[u8]] = &[
 /// An operator with an argument, `=` at another type than an equality's and with one argument, and a type with variables.
 const FORMS: &[&[u8]] = &[
     P,
-    b"\"list\" typeOp 5 ref nil cons opType 6 def pop \"x\" 6 ref var varTerm 7 def refl nil 4 ref 0 ref 6 ref 0 ref 6 ref 1 ref nil cons cons opType nil cons cons opType constTerm 7 ref appTerm 7 ref appTerm thm 4 ref 1 ref constTerm 8 def assume 8 ref nil cons 8 ref thm 4 ref 3 ref constTerm \"p\" 1 ref var varTerm appTerm 9 def refl nil",
+    b"\"list\" typeOp 5 ref nil cons opType 6 def pop \"x\" 6 ref var varTerm 7 def refl nil 4 ref 0 ref 6 ref 0 \
+      ref 6 ref 1 ref nil cons cons opType nil cons cons opType constTerm 7 ref appTerm 7 ref appTerm thm 4 ref \
+      1 ref constTerm 8 def assume 8 ref nil cons 8 ref thm 4 ref 3 ref constTerm \"p\" 1 ref var varTerm \
+      appTerm 9 def refl nil",
     E,
-    b"9 ref appTerm 9 ref appTerm thm \"T\" \"abs\" \"rep\" \"A\" \"B\" nil cons cons nil \"P\" const 0 ref 5 ref 1 ref nil cons cons opType constTerm \"k\" const 5 ref constTerm appTerm axiom defineTypeOp",
+    b"9 ref appTerm 9 ref appTerm thm \"T\" \"abs\" \"rep\" \"A\" \"B\" nil cons cons nil \"P\" const 0 ref 5 \
+      ref 1 ref nil cons cons opType constTerm \"k\" const 5 ref constTerm appTerm axiom defineTypeOp",
 ];
 
 /// Two assumptions, two definitions and two theorems.
 const ORDERS: &[&[u8]] = &[
     P,
-    b"\"q\" 1 ref var varTerm 6 def pop \"p\" 1 ref var varTerm 7 def pop nil 6 ref axiom nil 6 ref thm nil 7 ref axiom nil 7 ref thm \"d\" \"k\" const 1 ref constTerm defineConst pop pop \"c\" \"k\" const 1 ref constTerm defineConst",
+    b"\"q\" 1 ref var varTerm 6 def pop \"p\" 1 ref var varTerm 7 def pop nil 6 ref axiom nil 6 ref thm nil 7 \
+      ref axiom nil 7 ref thm \"d\" \"k\" const 1 ref constTerm defineConst pop pop \"c\" \"k\" const 1 ref \
+      constTerm defineConst",
 ];
 
 /// Articles in parts, the words behind `info`, and what it prints.
@@ -260,7 +290,9 @@ pub const SUMMARIES: [(&[&[u8]], &[&str], &[u8]); 23] = [
     (
         REALISTIC,
         &["-"],
-        b"assumptions: 0\ndefinitions: 1\n  const \"Data.Bool.T\" : |- (@\"Data.Bool.T\":\"bool\" = ((\\\"bool\". #0) = (\\\"bool\". #0)))\ntheorems: 1\n  |- (@\"Data.Bool.T\":\"bool\" = ((\\\"bool\". #0) = (\\\"bool\". #0)))\n",
+        b"assumptions: 0\ndefinitions: 1\n  const \"Data.Bool.T\" : |- (@\"Data.Bool.T\":\"bool\" = \
+          ((\\\"bool\". #0) = (\\\"bool\". #0)))\ntheorems: 1\n  |- (@\"Data.Bool.T\":\"bool\" = ((\\\"bool\". \
+          #0) = (\\\"bool\". #0)))\n",
     ),
     (
         REALISTIC,
@@ -275,7 +307,8 @@ pub const SUMMARIES: [(&[&[u8]], &[&str], &[u8]); 23] = [
     (
         DEDUCED,
         &["--readable", "-"],
-        b"assumptions: 0\ntheorems: 2\n  (p : bool), (q : bool) |- ((p : bool) = (q : bool))\n  |- ((p : bool) = (p : bool))\n",
+        b"assumptions: 0\ntheorems: 2\n  (p : bool), (q : bool) |- ((p : bool) = (q : bool))\n  |- ((p : bool) = \
+          (p : bool))\n",
     ),
     (
         BETA,
@@ -305,52 +338,79 @@ pub const SUMMARIES: [(&[&[u8]], &[&str], &[u8]); 23] = [
     (
         TRANSITIVE,
         &["--theorems", "--definitions", "a.art"],
-        b"definitions: 0\ntheorems: 1\n  (\"a\":\"bool\" = \"b\":\"bool\"), (\"b\":\"bool\" = \"c\":\"bool\") |- (\"a\":\"bool\" = \"c\":\"bool\")\n",
+        b"definitions: 0\ntheorems: 1\n  (\"a\":\"bool\" = \"b\":\"bool\"), (\"b\":\"bool\" = \"c\":\"bool\") |- \
+          (\"a\":\"bool\" = \"c\":\"bool\")\n",
     ),
     (
         TWO_CONSTANTS,
         &["-"],
-        b"assumptions: 0\ndefinitions: 1\n  consts \"c\" for \"u\":\"bool\", \"d\" for \"w\":\"bool\" from (\"u\":\"bool\" = ((\\\"bool\". #0) = (\\\"bool\". #0))), (\"w\":\"bool\" = ((\\\"bool\". #0) = (\\\"bool\". #0))) |- (\"u\":\"bool\" = \"w\":\"bool\") : |- (@\"c\":\"bool\" = @\"d\":\"bool\")\ntheorems: 1\n  |- (@\"c\":\"bool\" = @\"d\":\"bool\")\n",
+        b"assumptions: 0\ndefinitions: 1\n  consts \"c\" for \"u\":\"bool\", \"d\" for \"w\":\"bool\" from \
+          (\"u\":\"bool\" = ((\\\"bool\". #0) = (\\\"bool\". #0))), (\"w\":\"bool\" = ((\\\"bool\". #0) = \
+          (\\\"bool\". #0))) |- (\"u\":\"bool\" = \"w\":\"bool\") : |- (@\"c\":\"bool\" = @\"d\":\"bool\")\n\
+          theorems: 1\n  |- (@\"c\":\"bool\" = @\"d\":\"bool\")\n",
     ),
     (
         NO_CONSTANTS,
         &["--definitions", "a.art"],
-        b"definitions: 1\n  consts from |- ((\\\"bool\". #0) = (\\\"bool\". #0)) : |- ((\\\"bool\". #0) = (\\\"bool\". #0))\n",
+        b"definitions: 1\n  consts from |- ((\\\"bool\". #0) = (\\\"bool\". #0)) : |- ((\\\"bool\". #0) = \
+          (\\\"bool\". #0))\n",
     ),
     (
         NEW_TYPE,
         &["-"],
-        b"assumptions: 1\n  |- (@\"P\":(\"bool\" -> \"bool\") @\"k\":\"bool\")\ndefinitions: 1\n  type \"T\" () abs \"abs\" rep \"rep\" from |- (@\"P\":(\"bool\" -> \"bool\") @\"k\":\"bool\") : |- ((\\\"T\". (@\"abs\":(\"bool\" -> \"T\") (@\"rep\":(\"T\" -> \"bool\") #0))) = (\\\"T\". #0)) ; |- ((\\\"bool\". ((@\"rep\":(\"T\" -> \"bool\") (@\"abs\":(\"bool\" -> \"T\") #0)) = #0)) = (\\\"bool\". (@\"P\":(\"bool\" -> \"bool\") #0)))\ntheorems: 0\n",
+        b"assumptions: 1\n  |- (@\"P\":(\"bool\" -> \"bool\") @\"k\":\"bool\")\ndefinitions: 1\n  type \"T\" () \
+          abs \"abs\" rep \"rep\" from |- (@\"P\":(\"bool\" -> \"bool\") @\"k\":\"bool\") : |- ((\\\"T\". \
+          (@\"abs\":(\"bool\" -> \"T\") (@\"rep\":(\"T\" -> \"bool\") #0))) = (\\\"T\". #0)) ; |- ((\\\"bool\". \
+          ((@\"rep\":(\"T\" -> \"bool\") (@\"abs\":(\"bool\" -> \"T\") #0)) = #0)) = (\\\"bool\". \
+          (@\"P\":(\"bool\" -> \"bool\") #0)))\ntheorems: 0\n",
     ),
     (
         NEW_TYPE_5,
         &["-"],
-        b"assumptions: 1\n  |- (@\"P\":(\"bool\" -> \"bool\") @\"k\":\"bool\")\ndefinitions: 1\n  type \"T\" () abs \"abs\" rep \"rep\" from |- (@\"P\":(\"bool\" -> \"bool\") @\"k\":\"bool\") : |- ((\\\"T\". (@\"abs\":(\"bool\" -> \"T\") (@\"rep\":(\"T\" -> \"bool\") #0))) = (\\\"T\". #0)) ; |- ((\\\"bool\". ((@\"rep\":(\"T\" -> \"bool\") (@\"abs\":(\"bool\" -> \"T\") #0)) = #0)) = (\\\"bool\". (@\"P\":(\"bool\" -> \"bool\") #0)))\ntheorems: 1\n  |- ((@\"P\":(\"bool\" -> \"bool\") \"r\":\"bool\") = ((@\"rep\":(\"T\" -> \"bool\") (@\"abs\":(\"bool\" -> \"T\") \"r\":\"bool\")) = \"r\":\"bool\"))\n",
+        b"assumptions: 1\n  |- (@\"P\":(\"bool\" -> \"bool\") @\"k\":\"bool\")\ndefinitions: 1\n  type \"T\" () \
+          abs \"abs\" rep \"rep\" from |- (@\"P\":(\"bool\" -> \"bool\") @\"k\":\"bool\") : |- ((\\\"T\". \
+          (@\"abs\":(\"bool\" -> \"T\") (@\"rep\":(\"T\" -> \"bool\") #0))) = (\\\"T\". #0)) ; |- ((\\\"bool\". \
+          ((@\"rep\":(\"T\" -> \"bool\") (@\"abs\":(\"bool\" -> \"T\") #0)) = #0)) = (\\\"bool\". \
+          (@\"P\":(\"bool\" -> \"bool\") #0)))\ntheorems: 1\n  |- ((@\"P\":(\"bool\" -> \"bool\") \
+          \"r\":\"bool\") = ((@\"rep\":(\"T\" -> \"bool\") (@\"abs\":(\"bool\" -> \"T\") \"r\":\"bool\")) = \
+          \"r\":\"bool\"))\n",
     ),
     (
         DEDUCED,
         &["-"],
-        b"assumptions: 0\ndefinitions: 0\ntheorems: 2\n  \"p\":\"bool\", \"q\":\"bool\" |- (\"p\":\"bool\" = \"q\":\"bool\")\n  |- (\"p\":\"bool\" = \"p\":\"bool\")\n",
+        b"assumptions: 0\ndefinitions: 0\ntheorems: 2\n  \"p\":\"bool\", \"q\":\"bool\" |- (\"p\":\"bool\" = \
+          \"q\":\"bool\")\n  |- (\"p\":\"bool\" = \"p\":\"bool\")\n",
     ),
     (
         APPLIED,
         &["--theorems", "-"],
-        b"theorems: 1\n  (\"x\":\"bool\" = \"y\":\"bool\") |- ((\"f\":(\"bool\" -> \"bool\") \"x\":\"bool\") = (\"f\":(\"bool\" -> \"bool\") \"y\":\"bool\"))\n",
+        b"theorems: 1\n  (\"x\":\"bool\" = \"y\":\"bool\") |- ((\"f\":(\"bool\" -> \"bool\") \"x\":\"bool\") = \
+          (\"f\":(\"bool\" -> \"bool\") \"y\":\"bool\"))\n",
     ),
     (
         ABSTRACTED,
         &["-"],
-        b"assumptions: 1\n  |- (\"p\":\"bool\" = \"q\":\"bool\")\ndefinitions: 0\ntheorems: 1\n  |- ((\\\"bool\". \"p\":\"bool\") = (\\\"bool\". \"q\":\"bool\"))\n",
+        b"assumptions: 1\n  |- (\"p\":\"bool\" = \"q\":\"bool\")\ndefinitions: 0\ntheorems: 1\n  |- \
+          ((\\\"bool\". \"p\":\"bool\") = (\\\"bool\". \"q\":\"bool\"))\n",
     ),
     (
         FORMS,
         &["-"],
-        b"assumptions: 1\n  |- (@\"P\":('\"A\" -> \"bool\") @\"k\":'\"A\")\ndefinitions: 1\n  type \"T\" (\"A\" \"B\") abs \"abs\" rep \"rep\" from |- (@\"P\":('\"A\" -> \"bool\") @\"k\":'\"A\") : |- ((\\(\"T\" '\"A\" '\"B\"). (@\"abs\":('\"A\" -> (\"T\" '\"A\" '\"B\")) (@\"rep\":((\"T\" '\"A\" '\"B\") -> '\"A\") #0))) = (\\(\"T\" '\"A\" '\"B\"). #0)) ; |- ((\\'\"A\". ((@\"rep\":((\"T\" '\"A\" '\"B\") -> '\"A\") (@\"abs\":('\"A\" -> (\"T\" '\"A\" '\"B\")) #0)) = #0)) = (\\'\"A\". (@\"P\":('\"A\" -> \"bool\") #0)))\ntheorems: 3\n  |- (\"x\":(\"list\" '\"A\") = \"x\":(\"list\" '\"A\"))\n  @\"=\":\"bool\" |- @\"=\":\"bool\"\n  |- ((@\"=\":(\"bool\" -> (\"bool\" -> \"bool\")) \"p\":\"bool\") = (@\"=\":(\"bool\" -> (\"bool\" -> \"bool\")) \"p\":\"bool\"))\n",
+        b"assumptions: 1\n  |- (@\"P\":('\"A\" -> \"bool\") @\"k\":'\"A\")\ndefinitions: 1\n  type \"T\" (\"A\" \
+          \"B\") abs \"abs\" rep \"rep\" from |- (@\"P\":('\"A\" -> \"bool\") @\"k\":'\"A\") : |- ((\\(\"T\" \
+          '\"A\" '\"B\"). (@\"abs\":('\"A\" -> (\"T\" '\"A\" '\"B\")) (@\"rep\":((\"T\" '\"A\" '\"B\") -> \
+          '\"A\") #0))) = (\\(\"T\" '\"A\" '\"B\"). #0)) ; |- ((\\'\"A\". ((@\"rep\":((\"T\" '\"A\" '\"B\") -> \
+          '\"A\") (@\"abs\":('\"A\" -> (\"T\" '\"A\" '\"B\")) #0)) = #0)) = (\\'\"A\". (@\"P\":('\"A\" -> \
+          \"bool\") #0)))\ntheorems: 3\n  |- (\"x\":(\"list\" '\"A\") = \"x\":(\"list\" '\"A\"))\n  \
+          @\"=\":\"bool\" |- @\"=\":\"bool\"\n  |- ((@\"=\":(\"bool\" -> (\"bool\" -> \"bool\")) \"p\":\"bool\") \
+          = (@\"=\":(\"bool\" -> (\"bool\" -> \"bool\")) \"p\":\"bool\"))\n",
     ),
     (
         ORDERS,
         &["-"],
-        b"assumptions: 2\n  |- \"p\":\"bool\"\n  |- \"q\":\"bool\"\ndefinitions: 2\n  const \"d\" : |- (@\"d\":\"bool\" = @\"k\":\"bool\")\n  const \"c\" : |- (@\"c\":\"bool\" = @\"k\":\"bool\")\ntheorems: 2\n  |- \"q\":\"bool\"\n  |- \"p\":\"bool\"\n",
+        b"assumptions: 2\n  |- \"p\":\"bool\"\n  |- \"q\":\"bool\"\ndefinitions: 2\n  const \"d\" : |- \
+          (@\"d\":\"bool\" = @\"k\":\"bool\")\n  const \"c\" : |- (@\"c\":\"bool\" = @\"k\":\"bool\")\ntheorems: \
+          2\n  |- \"q\":\"bool\"\n  |- \"p\":\"bool\"\n",
     ),
 ];
 
@@ -359,7 +419,10 @@ pub const PARTS: [(&[&[u8]], Status, &[u8]); 12] = [
     (
         &[
             P,
-            b"0 ref 5 ref 5 ref nil cons cons opType 9 def pop \"x\" 5 ref var 6 def pop \"y\" 5 ref var 7 def pop 6 ref 7 ref 6 ref varTerm absTerm absTerm 7 ref varTerm appTerm 8 def betaConv nil 4 ref 0 ref 9 ref 0 ref 9 ref 1 ref nil cons cons opType nil cons cons opType constTerm 8 ref appTerm \"y\" 5 ref var 7 ref varTerm absTerm appTerm thm",
+            b"0 ref 5 ref 5 ref nil cons cons opType 9 def pop \"x\" 5 ref var 6 def pop \"y\" 5 ref var 7 def \
+              pop 6 ref 7 ref 6 ref varTerm absTerm absTerm 7 ref varTerm appTerm 8 def betaConv nil 4 ref 0 ref \
+              9 ref 0 ref 9 ref 1 ref nil cons cons opType nil cons cons opType constTerm 8 ref appTerm \"y\" 5 \
+              ref var 7 ref varTerm absTerm appTerm thm",
         ],
         Status::Refused,
         b"opentheory: -:128: theorem differs from the stated sequent\n",
@@ -367,7 +430,8 @@ pub const PARTS: [(&[&[u8]], Status, &[u8]); 12] = [
     (
         &[
             P,
-            b"\"A\" 1 ref nil cons cons nil cons nil nil cons cons \"x\" 1 ref var \"x\" 5 ref var varTerm absTerm refl subst nil",
+            b"\"A\" 1 ref nil cons cons nil cons nil nil cons cons \"x\" 1 ref var \"x\" 5 ref var varTerm \
+              absTerm refl subst nil",
             E,
             b"\"x\" 1 ref var \"x\" 1 ref var varTerm absTerm 6 def appTerm 6 ref appTerm thm",
         ],
@@ -420,7 +484,8 @@ pub const PARTS: [(&[&[u8]], Status, &[u8]); 12] = [
     (
         &[
             P,
-            b"\"T\" \"abs\" \"rep\" nil nil \"P\" const 2 ref constTerm \"k\" const 1 ref constTerm appTerm axiom defineTypeOp",
+            b"\"T\" \"abs\" \"rep\" nil nil \"P\" const 2 ref constTerm \"k\" const 1 ref constTerm appTerm \
+              axiom defineTypeOp",
             OPEN,
         ],
         Status::Refused,
@@ -464,7 +529,8 @@ pub const FAULTS: [(&[u8], &[u8]); 63] = [
         b"12: not a function",
     ),
     (
-        b"\"f\" const \"->\" typeOp \"A\" varType 0 def 0 ref nil cons cons opType constTerm \"x\" const \"B\" varType constTerm appTerm",
+        b"\"f\" const \"->\" typeOp \"A\" varType 0 def 0 ref nil cons cons opType constTerm \"x\" const \"B\" \
+          varType constTerm appTerm",
         b"23: argument of another type",
     ),
     (b"\"a\" assume", b"4: wanted term, found name"),
@@ -557,7 +623,8 @@ pub const FAULTS: [(&[u8], &[u8]); 63] = [
         b"16: bad substitution list",
     ),
     (
-        b"nil \"x\" \"A\" varType var \"c\" const \"B\" varType constTerm nil cons cons nil cons nil cons cons \"d\" const \"A\" varType constTerm refl subst",
+        b"nil \"x\" \"A\" varType var \"c\" const \"B\" varType constTerm nil cons cons nil cons nil cons cons \
+          \"d\" const \"A\" varType constTerm refl subst",
         b"27: bad substitution list",
     ),
     (
@@ -593,7 +660,8 @@ pub const FAULTS: [(&[u8], &[u8]); 63] = [
         b"9: free variable in a definition",
     ),
     (
-        b"\"c\" \"f\" const \"->\" typeOp \"A\" varType 0 def \"bool\" typeOp nil opType nil cons cons opType constTerm \"k\" const 0 ref constTerm appTerm defineConst",
+        b"\"c\" \"f\" const \"->\" typeOp \"A\" varType 0 def \"bool\" typeOp nil opType nil cons cons opType \
+          constTerm \"k\" const 0 ref constTerm appTerm defineConst",
         b"27: type variable not in the type of the constant",
     ),
     (

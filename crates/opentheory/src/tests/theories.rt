@@ -5,14 +5,19 @@ pub type Entry = (&'static str, &'static [u8], &'static [u8]);
 
 /// The term (\x. x) = (\x. x) at bool, stored as 8, and \x. x as 7.
 pub const EQUATION: &[u8] =
-    b"6\nversion\n\"->\"\ntypeOp\n0\ndef\npop\n\"bool\"\ntypeOp\nnil\nopType\n1\ndef\npop\n0\nref\n1\nref\n1\nref\nnil\ncons\ncons\nopType\n2\ndef\npop\n0\nref\n1\nref\n2\nref\nnil\ncons\ncons\nopType\n3\ndef\npop\n\"=\"\nconst\n4\ndef\npop\n\"A\"\nvarType\n5\ndef\npop\n4\nref\n0\nref\n2\nref\n0\nref\n2\nref\n1\nref\nnil\ncons\ncons\nopType\nnil\ncons\ncons\nopType\nconstTerm\n\"x\"\n1\nref\nvar\n6\ndef\n6\nref\nvarTerm\nabsTerm\n7\ndef\nappTerm\n7\nref\nappTerm\n8\ndef\npop\n";
+    b"6\nversion\n\"->\"\ntypeOp\n0\ndef\npop\n\"bool\"\ntypeOp\nnil\nopType\n1\ndef\npop\n0\nref\n1\nref\n1\n\
+      ref\nnil\ncons\ncons\nopType\n2\ndef\npop\n0\nref\n1\nref\n2\nref\nnil\ncons\ncons\nopType\n3\ndef\npop\n\
+      \"=\"\nconst\n4\ndef\npop\n\"A\"\nvarType\n5\ndef\npop\n4\nref\n0\nref\n2\nref\n0\nref\n2\nref\n1\nref\n\
+      nil\ncons\ncons\nopType\nnil\ncons\ncons\nopType\nconstTerm\n\"x\"\n1\nref\nvar\n6\ndef\n6\nref\nvarTerm\n\
+      absTerm\n7\ndef\nappTerm\n7\nref\nappTerm\n8\ndef\npop\n";
 
 pub const PROVES_IT: &[u8] = b"7\nref\nrefl\nnil\n8\nref\nthm\n";
 
 const TAKES_IT: &[u8] = b"nil\n8\nref\naxiom\nnil\n8\nref\nthm\n";
 
 pub const DEFINES_IT: &[u8] =
-    b"\"Data.Bool.T\"\n8\nref\ndefineConst\nnil\n4\nref\n3\nref\nconstTerm\n\"Data.Bool.T\"\nconst\n1\nref\nconstTerm\nappTerm\n8\nref\nappTerm\nthm\n";
+    b"\"Data.Bool.T\"\n8\nref\ndefineConst\nnil\n4\nref\n3\nref\nconstTerm\n\"Data.Bool.T\"\nconst\n1\nref\n\
+      constTerm\nappTerm\n8\nref\nappTerm\nthm\n";
 
 /// The same under a hypothesis that it doesn't need.
 const TAKES_IT_UNDER_Q: &[u8] =
@@ -20,17 +25,26 @@ const TAKES_IT_UNDER_Q: &[u8] =
 
 /// Two variables p and q of type bool, and p = q and q = p, stored as 9 and 10.
 const BOTH_WAYS: &[u8] =
-    b"6\nversion\n\"->\"\ntypeOp\n0\ndef\npop\n\"bool\"\ntypeOp\nnil\nopType\n1\ndef\npop\n0\nref\n1\nref\n1\nref\nnil\ncons\ncons\nopType\n2\ndef\npop\n0\nref\n1\nref\n2\nref\nnil\ncons\ncons\nopType\n3\ndef\npop\n\"=\"\nconst\n4\ndef\npop\n\"A\"\nvarType\n5\ndef\npop\n\"p\"\n1\nref\nvar\nvarTerm\n6\ndef\npop\n\"q\"\n1\nref\nvar\nvarTerm\n7\ndef\npop\n4\nref\n3\nref\nconstTerm\n8\ndef\npop\n8\nref\n6\nref\nappTerm\n7\nref\nappTerm\n9\ndef\npop\n8\nref\n7\nref\nappTerm\n6\nref\nappTerm\n10\ndef\npop\n";
+    b"6\nversion\n\"->\"\ntypeOp\n0\ndef\npop\n\"bool\"\ntypeOp\nnil\nopType\n1\ndef\npop\n0\nref\n1\nref\n1\n\
+      ref\nnil\ncons\ncons\nopType\n2\ndef\npop\n0\nref\n1\nref\n2\nref\nnil\ncons\ncons\nopType\n3\ndef\npop\n\
+      \"=\"\nconst\n4\ndef\npop\n\"A\"\nvarType\n5\ndef\npop\n\"p\"\n1\nref\nvar\nvarTerm\n6\ndef\npop\n\"q\"\n1\n\
+      ref\nvar\nvarTerm\n7\ndef\npop\n4\nref\n3\nref\nconstTerm\n8\ndef\npop\n8\nref\n6\nref\nappTerm\n7\nref\n\
+      appTerm\n9\ndef\npop\n8\nref\n7\nref\nappTerm\n6\nref\nappTerm\n10\ndef\npop\n";
 
 /// A constant "Y" between p and q of type bool, as an axiom, and its symmetry.
 pub const SYMMETRY: &[u8] =
-    b"6\nversion\n\"->\"\ntypeOp\n0\ndef\npop\n\"bool\"\ntypeOp\nnil\nopType\n1\ndef\npop\n0\nref\n1\nref\n1\nref\nnil\ncons\ncons\nopType\n2\ndef\npop\n0\nref\n1\nref\n2\nref\nnil\ncons\ncons\nopType\n3\ndef\npop\n\"=\"\nconst\n4\ndef\npop\n\"A\"\nvarType\n5\ndef\npop\n\"p\"\n1\nref\nvar\nvarTerm\n6\ndef\npop\n\"q\"\n1\nref\nvar\nvarTerm\n7\ndef\npop\n\"Y\"\nconst\n3\nref\nconstTerm\n6\nref\nappTerm\n7\nref\nappTerm\n8\ndef\npop\nnil\n8\nref\naxiom\nsym\npop\nnil\n8\nref\naxiom\nnil\n8\nref\nthm\n";
+    b"6\nversion\n\"->\"\ntypeOp\n0\ndef\npop\n\"bool\"\ntypeOp\nnil\nopType\n1\ndef\npop\n0\nref\n1\nref\n1\n\
+      ref\nnil\ncons\ncons\nopType\n2\ndef\npop\n0\nref\n1\nref\n2\nref\nnil\ncons\ncons\nopType\n3\ndef\npop\n\
+      \"=\"\nconst\n4\ndef\npop\n\"A\"\nvarType\n5\ndef\npop\n\"p\"\n1\nref\nvar\nvarTerm\n6\ndef\npop\n\"q\"\n1\n\
+      ref\nvar\nvarTerm\n7\ndef\npop\n\"Y\"\nconst\n3\nref\nconstTerm\n6\nref\nappTerm\n7\nref\nappTerm\n8\ndef\n\
+      pop\nnil\n8\nref\naxiom\nsym\npop\nnil\n8\nref\naxiom\nnil\n8\nref\nthm\n";
 
 /// `one` proves what `two` takes; `two` imports it, or doesn't, or only `main` does.
 pub const IMPORTS: [Entry; 3] = [
     (
         "t.thy",
-        b"name: t\none {\n  article: \"one.art\"\n}\ntwo {\n  import: one\n  article: \"two.art\"\n}\nmain {\n  import: two\n}\n",
+        b"name: t\none {\n  article: \"one.art\"\n}\ntwo {\n  import: one\n  article: \"two.art\"\n}\nmain {\n  \
+          import: two\n}\n",
         b"",
     ),
     ("one.art", EQUATION, PROVES_IT),
@@ -50,7 +64,8 @@ pub const IMPORTS_NONE: [Entry; 3] = [
 pub const IMPORTS_LATE: [Entry; 3] = [
     (
         "t.thy",
-        b"name: t\none {\n  article: \"one.art\"\n}\ntwo {\n  article: \"two.art\"\n}\nmain {\n  import: one\n  import: two\n}\n",
+        b"name: t\none {\n  article: \"one.art\"\n}\ntwo {\n  article: \"two.art\"\n}\nmain {\n  import: one\n  \
+          import: two\n}\n",
         b"",
     ),
     ("one.art", EQUATION, PROVES_IT),
@@ -61,7 +76,8 @@ pub const IMPORTS_LATE: [Entry; 3] = [
 pub const WEAKENS: [Entry; 3] = [
     (
         "t.thy",
-        b"name: t\none {\n  article: \"one.art\"\n}\ntwo {\n  import: one\n  article: \"two.art\"\n}\nmain {\n  import: two\n}\n",
+        b"name: t\none {\n  article: \"one.art\"\n}\ntwo {\n  import: one\n  article: \"two.art\"\n}\nmain {\n  \
+          import: two\n}\n",
         b"",
     ),
     ("one.art", EQUATION, PROVES_IT),
@@ -87,7 +103,8 @@ pub const ASSUMED_ONE: &[u8] = b"accepted: 1 theorems, 1 assumptions, 0 definiti
 pub const ASSUMES: [Entry; 3] = [
     (
         "t.thy",
-        b"name: t\none {\n  article: \"one.art\"\n}\ntwo {\n  import: one\n  article: \"two.art\"\n}\nmain {\n  import: two\n}\n",
+        b"name: t\none {\n  article: \"one.art\"\n}\ntwo {\n  import: one\n  article: \"two.art\"\n}\nmain {\n  \
+          import: two\n}\n",
         b"",
     ),
     (
@@ -103,7 +120,8 @@ pub const ASSUMES: [Entry; 3] = [
 ];
 
 pub const SYMMETRIC: &[u8] =
-    b"assumptions: 1\n  |- (\"p\":\"bool\" = \"q\":\"bool\")\ndefinitions: 0\ntheorems: 1\n  |- (\"q\":\"bool\" = \"p\":\"bool\")\n";
+    b"assumptions: 1\n  |- (\"p\":\"bool\" = \"q\":\"bool\")\ndefinitions: 0\ntheorems: 1\n  |- (\"q\":\"bool\" \
+      = \"p\":\"bool\")\n";
 
 /// A package whose "Y" is called "X" inside, and `=` outside. Its article alone has no equation.
 pub const RENAMES: [Entry; 3] = [
@@ -121,7 +139,8 @@ pub const RENAMES: [Entry; 3] = [
 ];
 
 pub const RENAMED: &[u8] =
-    b"assumptions: 1\n  |- (\"p\":\"bool\" = \"q\":\"bool\")\ndefinitions: 0\ntheorems: 1\n  |- (\"p\":\"bool\" = \"q\":\"bool\")\n";
+    b"assumptions: 1\n  |- (\"p\":\"bool\" = \"q\":\"bool\")\ndefinitions: 0\ntheorems: 1\n  |- (\"p\":\"bool\" \
+      = \"q\":\"bool\")\n";
 
 pub const NOT_EQUATION: &[u8] = b"opentheory: packages/eq-1.0/eq.art:85: not an equation\n";
 

@@ -5,7 +5,9 @@ pub type Written = (&'static [&'static [u8]], &'static [u8]);
 
 /// An assumption and a definition that nothing exported needs.
 pub const NEEDLESS: &[u8] =
-    b"6 version \"bool\" typeOp nil opType 0 def pop \"p\" \"bool\" typeOp nil opType var varTerm 1 def pop nil 1 ref axiom pop \"c\" \"k\" const 0 ref constTerm defineConst pop pop 1 ref assume 1 ref nil cons 1 ref thm";
+    b"6 version \"bool\" typeOp nil opType 0 def pop \"p\" \"bool\" typeOp nil opType var varTerm 1 def pop nil \
+      1 ref axiom pop \"c\" \"k\" const 0 ref constTerm defineConst pop pop 1 ref assume 1 ref nil cons 1 ref \
+      thm";
 
 /// What is left of it: 22 lines of 97 bytes.
 pub const LEAN: &[u8] =
@@ -16,7 +18,11 @@ pub const WRITTEN: [Written; 4] = [
     (&[LEAN], LEAN),
     (
         super::tables::REALISTIC,
-        b"6 version \"Data.Bool.T\" 0 def \"=\" const 1 def \"->\" typeOp 2 def 2 ref \"bool\" typeOp nil 3 def opType 4 def 4 ref 3 ref cons 5 def cons opType 6 def 2 ref 6 ref 5 ref cons opType 3 ref cons cons opType constTerm \"x\" 4 ref var 7 def 7 ref varTerm absTerm 8 def appTerm 8 ref appTerm 9 def defineConst 10 def pop pop 10 ref 3 ref 1 ref 2 ref 4 ref 6 ref 3 ref cons cons opType constTerm 0 ref const 4 ref constTerm appTerm 9 ref appTerm thm",
+        b"6 version \"Data.Bool.T\" 0 def \"=\" const 1 def \"->\" typeOp 2 def 2 ref \"bool\" typeOp nil 3 def \
+          opType 4 def 4 ref 3 ref cons 5 def cons opType 6 def 2 ref 6 ref 5 ref cons opType 3 ref cons cons \
+          opType constTerm \"x\" 4 ref var 7 def 7 ref varTerm absTerm 8 def appTerm 8 ref appTerm 9 def \
+          defineConst 10 def pop pop 10 ref 3 ref 1 ref 2 ref 4 ref 6 ref 3 ref cons cons opType constTerm 0 ref \
+          const 4 ref constTerm appTerm 9 ref appTerm thm",
     ),
     // An empty article.
     (&[b"#"], b"6 version"),
@@ -24,7 +30,9 @@ pub const WRITTEN: [Written; 4] = [
 
 /// What `link` and `minimise` write of a theory whose second block takes what the first one proves.
 pub const LINKED: &[u8] =
-    b"6 version \"x\" \"bool\" typeOp nil 0 def opType 1 def var 2 def 2 ref varTerm absTerm 3 def refl 0 ref \"=\" const \"->\" typeOp 4 def 4 ref 1 ref 1 ref 0 ref cons 5 def cons opType 6 def 4 ref 6 ref 5 ref cons opType 0 ref cons cons opType constTerm 3 ref appTerm 3 ref appTerm thm";
+    b"6 version \"x\" \"bool\" typeOp nil 0 def opType 1 def var 2 def 2 ref varTerm absTerm 3 def refl 0 ref \
+      \"=\" const \"->\" typeOp 4 def 4 ref 1 ref 1 ref 0 ref cons 5 def cons opType 6 def 4 ref 6 ref 5 ref \
+      cons opType 0 ref cons cons opType constTerm 3 ref appTerm 3 ref appTerm thm";
 
 /// The sizes of samples, and their lines.
 pub const SAMPLES: [(&str, &[u8]); 4] = [
