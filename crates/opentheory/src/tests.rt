@@ -255,7 +255,7 @@ fn joined(alloc: Global, parts: &[&[u8]]) -> Result<Vec<u8>, Fail> {
 
 #[test]
 fn articles(rt: HostRuntime) -> Result<(), Fail> {
-    for (text, status, line) in ARTICLES {
+    for &(text, status, line) in ARTICLES {
         let mut article = Vec::new(rt.alloc());
         add_lines(&mut article, text)?;
         assert!(rt;
@@ -268,7 +268,7 @@ fn articles(rt: HostRuntime) -> Result<(), Fail> {
 
 #[test]
 fn articles_in_parts(rt: HostRuntime) -> Result<(), Fail> {
-    for (parts, status, line) in PARTS {
+    for &(parts, status, line) in PARTS {
         let article = joined(rt.alloc(), parts)?;
         assert!(rt;
             answers(rt.alloc(), &["check", "-"], &article, status, line)?,
@@ -280,7 +280,7 @@ fn articles_in_parts(rt: HostRuntime) -> Result<(), Fail> {
 
 #[test]
 fn summaries(rt: HostRuntime) -> Result<(), Fail> {
-    for (parts, operands, summary) in SUMMARIES {
+    for &(parts, operands, summary) in SUMMARIES {
         let article = joined(rt.alloc(), parts)?;
         let mut words: Vec<&str> = vec![in rt.alloc(); "info"]?;
         words.extend_from_slice(operands)?;
@@ -304,7 +304,7 @@ fn is_refused(alloc: Global, text: &[u8], fault: &[u8]) -> Result<bool, Fail> {
 
 #[test]
 fn faults(rt: HostRuntime) -> Result<(), Fail> {
-    for (text, fault) in FAULTS {
+    for &(text, fault) in FAULTS {
         assert!(rt; is_refused(rt.alloc(), text, fault)?, "{text:?}");
     }
     Ok(())
@@ -417,7 +417,7 @@ fn is_written(alloc: Global, parts: &[&[u8]], text: &[u8]) -> Result<bool, Fail>
 /// An article that is written has what its exports need and nothing else, and proves the same.
 #[test]
 fn minimised(rt: HostRuntime) -> Result<(), Fail> {
-    for (parts, text) in WRITTEN {
+    for &(parts, text) in WRITTEN {
         assert!(rt; is_written(rt.alloc(), parts, text)?, "{parts:?}");
     }
     let lean = joined(rt.alloc(), &[LEAN])?;
@@ -452,7 +452,7 @@ fn linked(rt: HostRuntime) -> Result<(), Fail> {
 /// The sample article, and what it comes to.
 #[test]
 fn samples(rt: HostRuntime) -> Result<(), Fail> {
-    for (size, line) in SAMPLES {
+    for &(size, line) in SAMPLES {
         assert!(rt;
             answers(rt.alloc(), &["sample", size], b"", Status::Accepted, line)?,
             "{size}"
@@ -566,7 +566,7 @@ fn other_words(rt: HostRuntime) -> Result<(), Fail> {
 
 /// Words, how many bytes of the article of 19 lines are cut off, and what is answered over objects that take or give few
 /// bytes a call, or fail: the status, the output and the error line.
-const OUTSIDES: [(&[&str], usize, Outside, Status, &[u8], &[u8]); 10] = [
+const OUTSIDES: &[(&[&str], usize, Outside, Status, &[u8], &[u8])] = &[
     (&["check", "a.art"], 0, FINE, Status::Accepted, ONE, b""),
     (
         &["check", "-"],
@@ -666,7 +666,7 @@ const OUTSIDES: [(&[&str], usize, Outside, Status, &[u8], &[u8]); 10] = [
 
 #[test]
 fn outsides(rt: HostRuntime) -> Result<(), Fail> {
-    for (words, cut, outside, status, out, err) in OUTSIDES {
+    for &(words, cut, outside, status, out, err) in OUTSIDES {
         assert!(rt; outside.read.0 > 0 && outside.write.0 > 0 && outside.say.0 > 0);
         let article = &FIRST[..FIRST.len() - cut.min(1)];
         let answer = answered(rt.alloc(), words, article, outside)?;

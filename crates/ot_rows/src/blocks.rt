@@ -3,7 +3,7 @@ use ot_blocks::{PlanFault, StructureFault, article_path, is_package, package_pat
 use ot_theory::parse;
 
 /// Theory files, with the blocks that each of their blocks imports and the order in which they run.
-const PLANS: [(&[u8], &[&[usize]], &[usize]); 5] = [
+const PLANS: &[(&[u8], &[&[usize]], &[usize])] = &[
     (
         b"name: t\none {\n  article: \"one.art\"\n}\ntwo {\n  import: one\n  article: \"two.art\"\n}\nmain {\n  import: two\n}\n",
         &[&[], &[0], &[1]],
@@ -29,7 +29,7 @@ const PLANS: [(&[u8], &[&[usize]], &[usize]); 5] = [
 
 #[test]
 fn plans(rt: HostRuntime) {
-    for (text, imports, order) in PLANS {
+    for &(text, imports, order) in PLANS {
         match parse(rt.alloc(), text) {
             Ok(theory) => match plan_blocks(rt.alloc(), &theory.blocks) {
                 Ok(plan) => {
@@ -47,7 +47,7 @@ fn plans(rt: HostRuntime) {
 }
 
 /// Theory files that have no plan, each with the line and the fault that it is refused for.
-const FAULTS: [(&[u8], u64, StructureFault); 7] = [
+const FAULTS: &[(&[u8], u64, StructureFault)] = &[
     (
         b"a {\nimport: b\n}\nb {\nimport: a\n}\nmain {\nimport: a\n}\n",
         5,
@@ -79,7 +79,7 @@ const FAULTS: [(&[u8], u64, StructureFault); 7] = [
 
 #[test]
 fn faults(rt: HostRuntime) {
-    for (text, line, fault) in FAULTS {
+    for &(text, line, fault) in FAULTS {
         match parse(rt.alloc(), text) {
             Ok(theory) => match plan_blocks(rt.alloc(), &theory.blocks) {
                 Ok(_) => assert!(rt; false),
@@ -91,7 +91,7 @@ fn faults(rt: HostRuntime) {
 }
 
 /// Texts, and whether they are full names of packages.
-const FULL_NAMES: [(&[u8], bool); 16] = [
+const FULL_NAMES: &[(&[u8], bool)] = &[
     (b"bool-1.0", true),
     (b"a-b-1.2.3", true),
     (b"eq-1.0", true),
@@ -112,13 +112,13 @@ const FULL_NAMES: [(&[u8], bool); 16] = [
 
 #[test]
 fn full_names(rt: HostRuntime) {
-    for (full, is_full_name) in FULL_NAMES {
+    for &(full, is_full_name) in FULL_NAMES {
         assert!(rt; is_package(full) == is_full_name);
     }
 }
 
 /// Folders of packages, full names, and the paths of the packages' theory files.
-const PACKAGES: [(&str, &[u8], &str); 4] = [
+const PACKAGES: &[(&str, &[u8], &str)] = &[
     ("packages", b"eq-1.0", "packages/eq-1.0/eq.thy"),
     ("packages", b"bool-1.0", "packages/bool-1.0/bool.thy"),
     ("/p/", b"a-b-1.2.3", "/p//a-b-1.2.3/a-b.thy"),
@@ -127,7 +127,7 @@ const PACKAGES: [(&str, &[u8], &str); 4] = [
 
 #[test]
 fn packages(rt: HostRuntime) {
-    for (folder, full, wanted) in PACKAGES {
+    for &(folder, full, wanted) in PACKAGES {
         if is_package(full) {
             match package_path(rt.alloc(), folder, full) {
                 Ok(path) => assert!(rt; path.as_str() == wanted),
@@ -140,7 +140,7 @@ fn packages(rt: HostRuntime) {
 }
 
 /// Paths of theory files, and the paths of the article `eq.art` that they name.
-const ARTICLES: [(&str, &str); 4] = [
+const ARTICLES: &[(&str, &str)] = &[
     ("packages/eq-1.0/eq.thy", "packages/eq-1.0/eq.art"),
     ("w.thy", "eq.art"),
     ("/w.thy", "/eq.art"),
@@ -149,7 +149,7 @@ const ARTICLES: [(&str, &str); 4] = [
 
 #[test]
 fn articles(rt: HostRuntime) {
-    for (theory_path, wanted) in ARTICLES {
+    for &(theory_path, wanted) in ARTICLES {
         match article_path(rt.alloc(), theory_path, b"\"eq.art\"") {
             Ok(path) => assert!(rt; path.as_str() == wanted),
             Err(_) => assert!(rt; false),

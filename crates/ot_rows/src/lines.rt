@@ -2,7 +2,7 @@
 use ot_lines::{is_skipped, piece_len, trimmed};
 
 /// Bytes, the length of a piece that ends in a newline, its text, and whether it is passed over.
-const ROWS: [(&[u8], Option<usize>, &[u8], bool); 14] = [
+const ROWS: &[(&[u8], Option<usize>, &[u8], bool)] = &[
     (b"", None, b"", true),
     (b"6", None, b"6", false),
     (b"6\nversion", Some(2), b"6", false),
@@ -21,7 +21,7 @@ const ROWS: [(&[u8], Option<usize>, &[u8], bool); 14] = [
 
 #[test]
 fn cuts_and_trims(rt: HostRuntime) {
-    for (bytes, len, text, skipped) in ROWS {
+    for &(bytes, len, text, skipped) in ROWS {
         let found = piece_len(bytes, 0);
         assert!(rt; found == len);
         let piece = match found {

@@ -84,7 +84,7 @@ fn check_texts(rt: &impl Abort, alloc: Global, read: &Readable) -> Result<(), Fa
 }
 
 /// A few symbols: what each is, and its quoted name.
-const SYMBOLS: [(WordKind, &[u8]); 5] = [
+const SYMBOLS: &[(WordKind, &[u8])] = &[
     (WordKind::Con, b"\"Data.Bool.T\""),
     (WordKind::Con, b"\"Data.Bool./\\\\\""),
     (WordKind::Con, b"\"Data.Bool.==>\""),
@@ -94,7 +94,7 @@ const SYMBOLS: [(WordKind, &[u8]); 5] = [
 
 fn symbols_of(rt: &impl Abort, alloc: Global) -> Result<Vec<(WordKind, Name)>, Fail> {
     let mut symbols = Vec::new(alloc);
-    for (kind, quoted) in SYMBOLS {
+    for &(kind, quoted) in SYMBOLS {
         assert!(rt; !quoted.is_empty() && quoted[0] == b'"');
         let name = Name::read(alloc, quoted)?;
         symbols.push((kind, name))?;
@@ -114,7 +114,7 @@ fn test_notation(rt: &impl Abort, alloc: Global) -> Result<Notation, Fail> {
 }
 
 /// Lines, and the column and fault of each; 0 where it is read.
-const LINES: [(&[u8], u64, TextFault); 54] = [
+const LINES: &[(&[u8], u64, TextFault)] = &[
     (b"|- (x : bool)", 0, TextFault::Syntax),
     (b"|- (x : bool", 13, TextFault::Syntax),
     (b"|- y", 4, TextFault::Unbound),
@@ -230,7 +230,7 @@ fn answer_of(read: Result<Readable, ReadRefusal>) -> (u64, TextFault) {
 }
 
 fn check_lines(rt: &impl Abort, alloc: Global, notation: &Notation) -> Result<(), Fail> {
-    for (line, wanted, fault) in LINES {
+    for &(line, wanted, fault) in LINES {
         let answer = answer_of(read_sequent(alloc, notation, line));
         assert!(rt; answer.0 == wanted, "line {line:?}");
         assert!(rt; answer.1 == fault);
@@ -239,7 +239,7 @@ fn check_lines(rt: &impl Abort, alloc: Global, notation: &Notation) -> Result<()
 }
 
 /// So many parentheses before the end, and where the line is refused.
-const DEEP: [(u64, u64, TextFault); 4] = [
+const DEEP: &[(u64, u64, TextFault)] = &[
     (8192, 4 + 8192, TextFault::Syntax),
     (8193, 3 + 8193, TextFault::TooManyOpen),
     (1, 5, TextFault::Syntax),
@@ -247,7 +247,7 @@ const DEEP: [(u64, u64, TextFault); 4] = [
 ];
 
 fn check_many_open(rt: &impl Abort, alloc: Global, notation: &Notation) -> Result<(), Fail> {
-    for (count, wanted, fault) in DEEP {
+    for &(count, wanted, fault) in DEEP {
         let mut line = Vec::from_slice(alloc, b"|- ")?;
         for _ in 0..count {
             line.push(b'(')?;

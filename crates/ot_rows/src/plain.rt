@@ -3,7 +3,7 @@ use ot_plain::{Cmd, Name, NameFault};
 use std::test::Fail;
 
 /// Quoted texts, the components that they spell, and the spelling of that name.
-const NAMES: [(&[u8], &[&[u8]], &[u8]); 7] = [
+const NAMES: &[(&[u8], &[&[u8]], &[u8])] = &[
     (b"\"a.b\\.c\"", &[b"a", b"b.c"], b"\"a.b\\.c\""),
     (b"\"\"", &[b""], b"\"\""),
     (b"\".\"", &[b"", b""], b"\".\""),
@@ -22,7 +22,7 @@ const NAMES: [(&[u8], &[&[u8]], &[u8]); 7] = [
 ];
 
 /// Quoted texts that spell no name.
-const FAULTS: [(&[u8], NameFault); 6] = [
+const FAULTS: &[(&[u8], NameFault)] = &[
     (b"\"abc", NameFault::Unterminated),
     (b"\"", NameFault::Unterminated),
     (b"\"a\\\"", NameFault::Unterminated),
@@ -33,7 +33,7 @@ const FAULTS: [(&[u8], NameFault); 6] = [
 
 #[test]
 fn names_and_their_spellings(rt: HostRuntime) -> Result<(), Fail> {
-    for (quoted, components, spelling) in NAMES {
+    for &(quoted, components, spelling) in NAMES {
         assert!(rt; !quoted.is_empty() && quoted[0] == b'"');
         let name = Name::read(rt.alloc(), quoted)?;
         assert!(rt; name.components().len() == components.len());
@@ -46,7 +46,7 @@ fn names_and_their_spellings(rt: HostRuntime) -> Result<(), Fail> {
         assert!(rt; out.len() == spelling.len() + 1);
         assert!(rt; &out[1..] == spelling);
     }
-    for (quoted, fault) in FAULTS {
+    for &(quoted, fault) in FAULTS {
         assert!(rt; !quoted.is_empty() && quoted[0] == b'"');
         match Name::read(rt.alloc(), quoted) {
             Ok(_) => assert!(rt; false),

@@ -2,7 +2,7 @@
 use ot_records::{RecordWord, soundness_law};
 use std::test::Fail;
 
-const LISTED: [(&[u8], RecordWord); 6] = [
+const LISTED: &[(&[u8], RecordWord)] = &[
     (b"tyvar", RecordWord::TyVar),
     (b"lam", RecordWord::Lam),
     (b"deductAntisym", RecordWord::DeductAntisym),
@@ -13,7 +13,7 @@ const LISTED: [(&[u8], RecordWord); 6] = [
 
 #[test]
 fn words(rt: HostRuntime) -> Result<(), Fail> {
-    for (text, word) in LISTED {
+    for &(text, word) in LISTED {
         assert!(rt; RecordWord::find(text) == Some(word));
         assert!(rt; word.text() == text);
     }

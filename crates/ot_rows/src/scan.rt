@@ -10,7 +10,7 @@ const FIRST: &[u8] =
     b"6\nversion\n\"p\"\n\"bool\"\ntypeOp\nnil\nopType\nvar\nvarTerm\n0\ndef\nassume\n0\nref\nnil\ncons\n0\nref\nthm\n";
 
 /// Articles with their limits, the lines that hold a command, and what comes then.
-const ROWS: [(&[u8], u64, &[(u64, &[u8])], Result<(), ScanFault>); 12] = [
+const ROWS: &[(&[u8], u64, &[(u64, &[u8])], Result<(), ScanFault>)] = &[
     (b"", 100, &[], Ok(())),
     (b"\n \t\r\n#\n", 100, &[], Ok(())),
     (b"6\nversion", 100, &[(1, b"6"), (2, b"version")], Ok(())),
@@ -82,7 +82,7 @@ fn check_lines(
 
 #[test]
 fn lines_in_pieces_of_any_size(rt: HostRuntime) -> Result<(), Fail> {
-    for (text, max_bytes, wanted, end) in ROWS {
+    for &(text, max_bytes, wanted, end) in ROWS {
         for piece in [1, 2, 7, 100_000] {
             let bytes = Vec::from_slice(rt.alloc(), text)?;
             let mut source = MemSource::new(bytes, piece, Vec::new(rt.alloc()));

@@ -3,7 +3,7 @@ use ot_theory::{SymbolWord, Tag, TheoryError, TheoryFault, parse, split_interpre
 use std::test::Fail;
 
 /// Texts that are no theory files, each with the line and the fault that it is refused for.
-const FAULTS: [(&[u8], u64, TheoryFault); 26] = [
+const FAULTS: &[(&[u8], u64, TheoryFault)] = &[
     (b"", 0, TheoryFault::NoMain),
     (b"main {\n", 1, TheoryFault::BadBlock),
     (b"main {\n}\nmain {\n", 3, TheoryFault::DuplicateBlock),
@@ -62,7 +62,7 @@ const FAULTS: [(&[u8], u64, TheoryFault); 26] = [
 
 #[test]
 fn first_faults(rt: HostRuntime) {
-    for (text, line, fault) in FAULTS {
+    for &(text, line, fault) in FAULTS {
         match parse(rt.alloc(), text) {
             Ok(_) => assert!(rt; false),
             Err(error) => assert!(rt; error == TheoryError::At { line, fault }),
@@ -74,11 +74,11 @@ fn first_faults(rt: HostRuntime) {
 type Statement = (u64, &'static [u8], &'static [u8]);
 
 /// Texts with their tags, and their blocks: a line, a name and the statements.
-const FILES: [(
+const FILES: &[(
     &[u8],
     &[Statement],
     &[(u64, &'static [u8], &'static [Statement])],
-); 5] = [
+)] = &[
     (
         b"name: t\none {\n  article: \"one.art\"\n}\ntwo {\n  import: one\n  article: \"two.art\"\n}\nmain {\n  import: two\n}\n",
         &[(1, b"name", b"t")],
@@ -155,7 +155,7 @@ const FILES: [(
 
 #[test]
 fn tags_and_blocks(rt: HostRuntime) {
-    for (text, tags, blocks) in FILES {
+    for &(text, tags, blocks) in FILES {
         match parse(rt.alloc(), text) {
             Ok(theory) => {
                 assert!(rt; same(&theory.tags, tags));
@@ -177,7 +177,7 @@ fn same(found: &[Tag<'_>], wanted: &[Statement]) -> bool {
 }
 
 /// Values, and what they are split into.
-const VALUES: [(&[u8], Option<(SymbolWord, &[u8], &[u8])>); 18] = [
+const VALUES: &[(&[u8], Option<(SymbolWord, &[u8], &[u8])>)] = &[
     (
         b"const \"a\" as \"b\"",
         Some((SymbolWord::Con, b"\"a\"", b"\"b\"")),
@@ -212,7 +212,7 @@ const VALUES: [(&[u8], Option<(SymbolWord, &[u8], &[u8])>); 18] = [
 
 #[test]
 fn interpretations(rt: HostRuntime) {
-    for (value, parts) in VALUES {
+    for &(value, parts) in VALUES {
         assert!(rt; split_interpret(value) == parts);
     }
 }

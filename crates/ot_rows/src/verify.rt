@@ -11,7 +11,7 @@ const ASSUMED: &[u8] = b"otlog\n1\ntyop\n\"bool\"\n0\nfree\n\"p\"\n0\nassume\n0\
 // What stands before the type is another operator.
 const OTHER: &[u8] = b"otlog\n1\ntyop\n\"t\"\n0\nfree\n\"p\"\n0\nassume\n0\n";
 
-const ROWS: [(&[u8], &[u8], Option<(u64, LogFault)>); 24] = [
+const ROWS: &[(&[u8], &[u8], Option<(u64, LogFault)>)] = &[
     (ASSUMED, b"result\n0\n", None),
     (OTHER, b"result\n0\n", Some((9, LogFault::BadStep))),
     (ASSUMED, b"result\n", Some((11, LogFault::LogEnds))),
@@ -83,7 +83,7 @@ const ROWS: [(&[u8], &[u8], Option<(u64, LogFault)>); 24] = [
 
 #[test]
 fn logs(rt: HostRuntime) -> Result<(), Fail> {
-    for (front, back, wanted) in ROWS {
+    for &(front, back, wanted) in ROWS {
         let mut text = Vec::from_slice(rt.alloc(), front)?;
         text.extend_from_slice(back)?;
         let mut source = MemSource::new(text, 7, Vec::new(rt.alloc()));
@@ -98,7 +98,7 @@ fn logs(rt: HostRuntime) -> Result<(), Fail> {
 }
 
 // What stands behind the first log, and the summary of both.
-const SUMMARIES: [(&[u8], &[u8]); 6] = [
+const SUMMARIES: &[(&[u8], &[u8])] = &[
     (b"", b"assumptions: 0\ndefinitions: 0\ntheorems: 0\n"),
     (
         b"result\n0\n",
@@ -157,7 +157,7 @@ const SUMMARIES: [(&[u8], &[u8]); 6] = [
 
 #[test]
 fn summaries(rt: HostRuntime) -> Result<(), Fail> {
-    for (back, wanted) in SUMMARIES {
+    for &(back, wanted) in SUMMARIES {
         let mut text = Vec::from_slice(rt.alloc(), ASSUMED)?;
         text.extend_from_slice(back)?;
         let mut source = MemSource::new(text, 7, Vec::new(rt.alloc()));

@@ -9,7 +9,7 @@ const PROVES_IT_BY_Y: &[u8] =
     b"8\nref\nrefl\n\"y\"\n1\nref\nvar\n9\ndef\n9\nref\nvarTerm\nabsTerm\nrefl\neqMp\nnil\n8\nref\nthm\n";
 
 /// The two halves of an article, a pattern, the status, and the text.
-const ARTICLES: [(&[u8], &[u8], &str, Status, &[u8]); 6] = [
+const ARTICLES: &[(&[u8], &[u8], &str, Status, &[u8])] = &[
     (
         EQUATION,
         DEFINES_IT,
@@ -92,7 +92,7 @@ const FILES: [Entry; 9] = [
 ];
 
 /// Words behind `find`, the status, and the text.
-const ROWS: [(&[&str], Status, &[u8]); 7] = [
+const ROWS: &[(&[&str], Status, &[u8])] = &[
     (&["(p : bool)", "u.thy"], Status::Refused, NOT_EQUATION),
     (
         &["(p : bool)", "gone.thy"],
@@ -132,7 +132,7 @@ const ROWS: [(&[&str], Status, &[u8]); 7] = [
 
 #[test]
 fn patterns(rt: HostRuntime) -> Result<(), Fail> {
-    for (start, end, pattern, status, text) in ARTICLES {
+    for &(start, end, pattern, status, text) in ARTICLES {
         let mut article = Vec::from_slice(rt.alloc(), start)?;
         article.extend_from_slice(end)?;
         assert!(rt;
@@ -145,7 +145,7 @@ fn patterns(rt: HostRuntime) -> Result<(), Fail> {
 
 #[test]
 fn packages(rt: HostRuntime) -> Result<(), Fail> {
-    for (operands, status, text) in ROWS {
+    for &(operands, status, text) in ROWS {
         let mut words: Vec<&str> = vec![in rt.alloc(); "find"]?;
         words.extend_from_slice(operands)?;
         assert!(rt;

@@ -9,7 +9,7 @@ use std::alloc::Global;
 use std::test::Fail;
 
 /// Which call of an output that takes ten bytes a call fails, and how many bytes stand then. The seventh call is the flush.
-const FAILING_WRITES: [(u64, usize); 7] = [
+const FAILING_WRITES: &[(u64, usize)] = &[
     (1, 0),
     (2, 10),
     (3, 20),
@@ -27,7 +27,7 @@ fn has_front(answer: &Answer, count: usize) -> bool {
 #[test]
 fn failing_sinks(rt: HostRuntime) -> Result<(), Fail> {
     let alloc = rt.alloc();
-    for (call, count) in FAILING_WRITES {
+    for &(call, count) in FAILING_WRITES {
         let outside = Outside {
             write: (10, call),
             ..FINE

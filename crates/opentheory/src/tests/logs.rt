@@ -12,7 +12,7 @@ const SUMMARY: &[u8] =
     b"assumptions: 0\ndefinitions: 0\ntheorems: 1\n  \"p\":\"bool\" |- \"p\":\"bool\"\n";
 
 /// Words, a log, and the status with the text.
-const ROWS: [(&[&str], &[u8], Status, &[u8]); 10] = [
+const ROWS: &[(&[&str], &[u8], Status, &[u8])] = &[
     (&["verify", "-"], LOG, Status::Accepted, SUMMARY),
     (&["verify", "a.art"], LOG, Status::Accepted, SUMMARY),
     (
@@ -67,7 +67,7 @@ const ROWS: [(&[&str], &[u8], Status, &[u8]); 10] = [
 
 #[test]
 fn logs(rt: HostRuntime) -> Result<(), Fail> {
-    for (words, text, status, said) in ROWS {
+    for &(words, text, status, said) in ROWS {
         let log = joined(rt.alloc(), &[text])?;
         assert!(rt; answers(rt.alloc(), words, &log, status, said)?, "{text:?}");
     }
@@ -100,7 +100,7 @@ fn proofs(rt: HostRuntime) -> Result<(), Fail> {
 }
 
 /// Articles and the logs that are written of them, a space for the end of a line.
-const WRITTEN: [(&[u8], &[u8]); 12] = [
+const WRITTEN: &[(&[u8], &[u8])] = &[
     // {p} |- p
     (
         b"6 version \"p\" \"bool\" typeOp nil opType var varTerm 0 def assume 0 ref nil cons 0 ref thm",
@@ -201,7 +201,7 @@ fn is_written(alloc: Global, text: &[u8], log: &[u8]) -> Result<bool, Fail> {
 
 #[test]
 fn written_logs(rt: HostRuntime) -> Result<(), Fail> {
-    for (text, log) in WRITTEN {
+    for &(text, log) in WRITTEN {
         assert!(rt; is_written(rt.alloc(), text, log)?, "{text:?}");
     }
     Ok(())

@@ -36,7 +36,7 @@ const FILES: [Entry; 9] = [
 const TRUTH: &[u8] = b"|- (@\"Data.Bool.T\":\"bool\" = ((\\\"bool\". #0) = (\\\"bool\". #0)))\n";
 
 /// Words, the status, and the text.
-const ROWS: [(&[&str], Status, &[u8]); 12] = [
+const ROWS: &[(&[&str], Status, &[u8])] = &[
     (&["read", "t.thy", "short.txt"], Status::Accepted, TRUTH),
     (
         &["read", "truth.art", "short.txt"],
@@ -89,7 +89,7 @@ const ROWS: [(&[&str], Status, &[u8]); 12] = [
 
 #[test]
 fn lines(rt: HostRuntime) -> Result<(), Fail> {
-    for (words, status, text) in ROWS {
+    for &(words, status, text) in ROWS {
         assert!(rt;
             says(rt.alloc(), words, &FILES, 0, status, text)?,
             "{words:?}"

@@ -12,7 +12,7 @@ pub const ONE: &[u8] = b"accepted: 1 theorems, 0 assumptions, 0 definitions\n";
 const DEFINED: &[u8] = b"accepted: 1 theorems, 0 assumptions, 1 definitions\n";
 
 /// Whole articles, a space for the end of a line.
-pub const ARTICLES: [(&[u8], Status, &[u8]); 22] = [
+pub const ARTICLES: &[(&[u8], Status, &[u8])] = &[
     (b"", Status::Accepted, NONE),
     (b"6", Status::Accepted, NONE),
     (b"6 version -9223372036854775808", Status::Accepted, NONE),
@@ -262,7 +262,7 @@ const ORDERS: &[&[u8]] = &[
 ];
 
 /// Articles in parts, the words behind `info`, and what it prints.
-pub const SUMMARIES: [(&[&[u8]], &[&str], &[u8]); 23] = [
+pub const SUMMARIES: &[(&[&[u8]], &[&str], &[u8])] = &[
     (
         ASSUMED,
         &["--uses", "-"],
@@ -415,7 +415,7 @@ pub const SUMMARIES: [(&[&[u8]], &[&str], &[u8]); 23] = [
 ];
 
 /// Whole articles in parts, a space for the end of a line.
-pub const PARTS: [(&[&[u8]], Status, &[u8]); 12] = [
+pub const PARTS: &[(&[&[u8]], Status, &[u8])] = &[
     (
         &[
             P,
@@ -500,7 +500,7 @@ const ASSUMED: &[&[u8]] = &[P, TAKEN];
 const TRANSITIVE: &[&[u8]] = &[P, JOINED];
 
 /// What follows `6 version`, a space for the end of a line, with the line and the text of the fault.
-pub const FAULTS: [(&[u8], &[u8]); 63] = [
+pub const FAULTS: &[(&[u8], &[u8])] = &[
     (b"\"a\" \"b\" cons", b"5: wanted list, found name"),
     (b"nil def", b"4: wanted number, found list"),
     (b"7 ref", b"4: no entry 7"),

@@ -13,7 +13,7 @@ pub const NEEDLESS: &[u8] =
 pub const LEAN: &[u8] =
     b"6 version \"p\" \"bool\" typeOp nil 0 def opType var varTerm 1 def assume 1 ref 0 ref cons 1 ref thm";
 
-pub const WRITTEN: [Written; 4] = [
+pub const WRITTEN: &[Written] = &[
     (&[NEEDLESS], LEAN),
     (&[LEAN], LEAN),
     (
@@ -35,7 +35,7 @@ pub const LINKED: &[u8] =
       cons opType 0 ref cons cons opType constTerm 3 ref appTerm 3 ref appTerm thm";
 
 /// The sizes of samples, and their lines.
-pub const SAMPLES: [(&str, &[u8]); 4] = [
+pub const SAMPLES: &[(&str, &[u8])] = &[
     (
         "1",
         b"sample 1: 132 lines, 1 theorems, 0 assumptions, 0 definitions; minimised 100 lines\n",
