@@ -198,8 +198,8 @@ fn files_of(alloc: Global, entries: &[Entry]) -> Result<Vec<(String, Vec<u8>)>, 
     Ok(files)
 }
 
-/// Runs the program on these words over the files of a table, and compares the status and what it says. The call of this
-/// number fails.
+/// Runs the program on these words over the files of a table, and compares the status and what it says. The call of
+/// this number fails.
 fn says(
     alloc: Global,
     words: &[&str],
@@ -564,8 +564,8 @@ fn other_words(rt: HostRuntime) -> Result<(), Fail> {
     Ok(())
 }
 
-/// Words, how many bytes of the article of 19 lines are cut off, and what is answered over objects that take or give few
-/// bytes a call, or fail: the status, the output and the error line.
+/// Words, how many bytes of the article of 19 lines are cut off, and what is answered over objects that take or give
+/// few bytes a call, or fail: the status, the output and the error line.
 const OUTSIDES: &[(&[&str], usize, Outside, Status, &[u8], &[u8])] = &[
     (&["check", "a.art"], 0, FINE, Status::Accepted, ONE, b""),
     (

@@ -13,7 +13,8 @@ use ot_term::{TermId, Terms};
 pub fn alpha_eq(terms: &Terms, a: TermId, b: TermId) -> bool
     requires left { a < length terms.now.terms }
     requires right { b < length terms.now.terms }
-    ensures { IsTrue result ↔ (nameless numbers (term_at terms.now.terms a) ≡ nameless numbers (term_at terms.now.terms b)) }
+    ensures { IsTrue result
+        ↔ (nameless numbers (term_at terms.now.terms a) ≡ nameless numbers (term_at terms.now.terms b)) }
 {
     terms.class(a) == terms.class(b)
 }

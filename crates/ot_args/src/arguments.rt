@@ -19,8 +19,8 @@ pub struct Given<'a> {
 }
 
 impl<'a> Given<'a> {
-    /// Reads the options of a command, each at most once, and the operands behind them: the words from the first on that names
-    /// no option.
+    /// Reads the options of a command, each at most once, and the operands behind them: the words from the first on
+    /// that names no option.
     pub fn read(verb: Verb, words: &'a [String]) -> Result<Given<'a>, Usage>
         ensures { given_answer result ≡ read_after verb no_settings (texts_of words.now) }
     {

@@ -1,7 +1,9 @@
 ghost use Rattle.std.specs.Prelude.{◌≡◌, ℕ, List, IfOk};
 ghost use Rattle.std.specs.Option.{option_map, option_and_then};
-ghost use Rattle.ot_args.specs.Grammar.{CommandValue, FitsOperands, IsRead, answer, arguments, command, command_of, command_on};
-ghost use Rattle.ot_args.specs.Grammar.{command_on_two, command_value, command_with, count_of, info, is_input, is_plain, is_theory, packages_of, sample, texts_of};
+ghost use Rattle.ot_args.specs.Grammar.{CommandValue, FitsOperands, IsRead, answer, arguments, command, command_of};
+ghost use Rattle.ot_args.specs.Grammar.{command_on};
+ghost use Rattle.ot_args.specs.Grammar.{command_on_two, command_value, command_with, count_of, info, is_input};
+ghost use Rattle.ot_args.specs.Grammar.{is_plain, is_theory, packages_of, sample, texts_of};
 ghost use Rattle.ot_args.specs.Reading.{settings_value};
 
 use crate::arguments::Given;
@@ -97,11 +99,11 @@ impl<'a> Command<'a> {
     /// find [--packages DIR] PATTERN INPUT
     /// ```
     ///
-    /// Options stand before the operands, in any order, each at most once. DIR isn't empty, and is `packages` where the words
-    /// name no folder. `info` asks for all three sections where they name none; `--uses` and `--readable` stand beside none of
-    /// them, nor beside each other. INPUT and LOG are `-`, or a name that isn't empty and doesn't begin with `-`; FILE is an
-    /// INPUT that ends in `.thy`. TEXT and PATTERN aren't empty and don't begin with `-`. N is a number from 1 to 1,000 in
-    /// decimal, without sign or leading zero.
+    /// Options stand before the operands, in any order, each at most once. DIR isn't empty, and is `packages` where
+    /// the words name no folder. `info` asks for all three sections where they name none; `--uses` and `--readable`
+    /// stand beside none of them, nor beside each other. INPUT and LOG are `-`, or a name that isn't empty and
+    /// doesn't begin with `-`; FILE is an INPUT that ends in `.thy`. TEXT and PATTERN aren't empty and don't begin
+    /// with `-`. N is a number from 1 to 1,000 in decimal, without sign or leading zero.
     /// `Usage` comes exactly for words outside this grammar, which is the program's own. No memory is taken.
     pub fn read(words: &'a [String]) -> Result<Command<'a>, Usage>
         ensures value { answer result ≡ command_of (texts_of words.now) }
@@ -117,8 +119,8 @@ impl<'a> Command<'a> {
     }
 }
 
-/// A law: words are a command exactly where they are its word, options that it takes, in any order and each at most once, and
-/// its operands, written out.
+/// A law: words are a command exactly where they are its word, options that it takes, in any order and each at most
+/// once, and its operands, written out.
 pub fn one_reading()
     ensures { (words : List (List ℕ)) (c : CommandValue) → IsRead words c }
 {}

@@ -51,7 +51,8 @@ pub const UNSET: Settings<'static> = Settings {
 };
 
 impl<'a> Settings<'a> {
-    /// The settings with one option more; `Usage` where the command doesn't take it, it was set before, or its value is empty.
+    /// The settings with one option more; `Usage` where the command doesn't take it, it was set before, or its value
+    /// is empty.
     pub fn set(self, verb: Verb, option: CommandOption<'a>) -> Result<Settings<'a>, Usage>
         ensures { settings_answer result ≡ set_one verb (settings_value self.entry) (option_value option.entry) }
     {

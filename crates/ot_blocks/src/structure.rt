@@ -1,7 +1,8 @@
 ghost use Rattle.std.specs.Prelude.{◌≡◌, ℕ, List, Some, None, true, IfOk, is_some, codes, map, filter_map};
 ghost use Rattle.ot_theory.specs.Theory.{has_block};
 ghost use Rattle.ot_theory.specs.Answers.{tag_of, tags_of, blocks_of};
-ghost use Rattle.ot_blocks.specs.Structure.{place_of, fault_of, import_of, faults_of, graph_of, imported_blocks, plan, IsPlan};
+ghost use Rattle.ot_blocks.specs.Structure.{place_of, fault_of, import_of, faults_of, graph_of, imported_blocks};
+ghost use Rattle.ot_blocks.specs.Structure.{plan, IsPlan};
 ghost use Rattle.ot_blocks.specs.Answers.{lists_of, plan_of, Plans, places_in, Reads, Collects};
 
 use crate::fault::{PlanFault, StructureFault};
@@ -75,7 +76,8 @@ fn graph_of(
     places: &HashMap<&[u8], usize>,
 ) -> Result<Vec<Vec<Import>>, PlanFault>
     ensures { Collects (λ graph. lists_of graph.items) result
-        (faults_of (places_in places.now) (blocks_of blocks.now)) (graph_of (places_in places.now) (blocks_of blocks.now)) }
+        (faults_of (places_in places.now) (blocks_of blocks.now))
+        (graph_of (places_in places.now) (blocks_of blocks.now)) }
 {
     let mut graph = Vec::new(alloc);
     'each: for block in blocks {
@@ -110,7 +112,8 @@ fn import_of(
     places: &HashMap<&[u8], usize>,
 ) -> Result<Option<Import>, PlanFault>
     ensures { Reads result
-        (fault_of (places_in places.now) (tag_of statement.now)) (import_of (places_in places.now) (tag_of statement.now)) }
+        (fault_of (places_in places.now) (tag_of statement.now))
+        (import_of (places_in places.now) (tag_of statement.now)) }
 {
     let line = statement.line;
     match key_of(statement.key) {

@@ -16,8 +16,8 @@ use std::alloc::Global;
 use std::marker::Model;
 
 /// What stands beside a node. No free variable has a name with a greater number than `newest`, and the tree is `closed`
-/// exactly where none is free. `size` is how many nodes the tree has, as far as a `u32` goes; how long a call takes depends
-/// on it, and no answer does.
+/// exactly where none is free. `size` is how many nodes the tree has, as far as a `u32` goes; how long a call takes
+/// depends on it, and no answer does.
 #[derive(Clone, Copy)]
 struct Beside {
     newest: NameId,
@@ -25,8 +25,8 @@ struct Beside {
     size: u32,
 }
 
-/// Nameless terms, each with a number that it keeps. Types are taken by number, so contracts see the type with the number
-/// k as the type variable k.
+/// Nameless terms, each with a number that it keeps. Types are taken by number, so contracts see the type with the
+/// number k as the type variable k.
 #[derive(Drop)]
 pub struct Classes {
     nodes: IndexMap<ClassNode, Beside>,
@@ -84,7 +84,8 @@ impl Classes {
     pub fn app(&mut self, f: ClassId, x: ClassId) -> Result<ClassId, Memory>
         requires f { f < length self.old }
         requires x { x < length self.old }
-        ensures ok { IfOk result (λ id. slice_get self.new id ≡ Some (App (class_at self.old f) (class_at self.old x))) }
+        ensures ok { IfOk result
+            (λ id. slice_get self.new id ≡ Some (App (class_at self.old f) (class_at self.old x))) }
         ensures extends { Extends self.old self.new }
         ensures once { IsInjective self.new }
     {
@@ -94,7 +95,8 @@ impl Classes {
     /// The abstraction of a variable from a body. A part that is shared is worked on once, or is small.
     pub fn abs(&mut self, name: NameId, ty: TypeId, body: ClassId) -> Result<ClassId, Memory>
         requires { body < length self.old }
-        ensures ok { IfOk result (λ id. slice_get self.new id ≡ Some (Abs (numbered ty) (close numbers (variable_by name ty) (class_at self.old body)))) }
+        ensures ok { IfOk result (λ id. slice_get self.new id
+            ≡ Some (Abs (numbered ty) (close numbers (variable_by name ty) (class_at self.old body)))) }
         ensures extends { Extends self.old self.new }
         ensures once { IsInjective self.new }
     {

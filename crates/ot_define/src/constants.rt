@@ -24,7 +24,8 @@ impl Signature {
         t: TermId,
     ) -> Result<(), DefineFault>
         requires { t < length terms.now.terms }
-        ensures { Checks result (checked_const numbers self.now.defined self.now.used name (tm_at terms.now.terms t)) }
+        ensures { Checks result
+            (checked_const numbers self.now.defined self.now.used name (tm_at terms.now.terms t)) }
     {
         let symbol = constant_symbol(name);
         self.check_symbols(alloc, terms, &[], t, &[symbol])?;

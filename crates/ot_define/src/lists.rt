@@ -9,7 +9,8 @@ ghost use Rattle.ot_plain.specs.Naming.{numbers};
 ghost use Rattle.ot_plain.specs.Answers.{unless};
 ghost use Rattle.ot_term.specs.TermTable.{variable_of};
 ghost use Rattle.ot_term.specs.declared.term.SymbolKind.TheVariants.{Con};
-ghost use Rattle.ot_laws.specs.Conditions.{are_distinct, checked_list, checked_symbols, given, given_by, is_closed, is_closed_but, keeps_type_vars, only, terms_given};
+ghost use Rattle.ot_laws.specs.Conditions.{are_distinct, checked_list, checked_symbols, given, given_by, is_closed};
+ghost use Rattle.ot_laws.specs.Conditions.{is_closed_but, keeps_type_vars, only, terms_given};
 ghost use Rattle.ot_define.specs.Answers.{Checks, checked_given, tm_at, sequent_at, listed};
 
 use crate::constants::constant_symbol;
@@ -40,7 +41,8 @@ impl Signature {
         requires vars { All (λ v. v.ty < length terms.now.types) vars.now }
         requires hyps { All (λ i. i < length terms.now.terms) hyps.now }
         requires concl { concl < length terms.now.terms }
-        ensures { Checks result (checked_list numbers self.now.defined self.now.used names.now (map (variable_of terms.now.types) vars.now) (sequent_at terms.now.terms hyps.now concl)) }
+        ensures { Checks result (checked_list numbers self.now.defined self.now.used names.now
+            (map (variable_of terms.now.types) vars.now) (sequent_at terms.now.terms hyps.now concl)) }
     {
         check_pairs(alloc, terms, names, vars, hyps)?;
         let Some(given) = terms_given(alloc, terms, vars, hyps)? else {
@@ -61,7 +63,9 @@ impl Signature {
     ) -> Result<(), DefineFault>
         requires hyps { All (λ i. i < length terms.now.terms) hyps.now }
         requires concl { concl < length terms.now.terms }
-        ensures { Checks result (checked_symbols numbers self.now.defined self.now.used (symbols_of numbers (sequent_at terms.now.terms hyps.now concl)) (map ConSymbol names.now)) }
+        ensures { Checks result
+            (checked_symbols numbers self.now.defined self.now.used
+            (symbols_of numbers (sequent_at terms.now.terms hyps.now concl)) (map ConSymbol names.now)) }
     {
         let symbols = constant_symbols(alloc, names)?;
         self.check_symbols(alloc, terms, hyps, concl, symbols.as_slice())
@@ -77,7 +81,9 @@ fn check_pairs(
     hyps: &[TermId],
 ) -> Result<(), DefineFault>
     requires { All (λ v. v.ty < length terms.now.types) vars.now }
-    ensures { Checks result (unless BadDefinitionList (are_distinct numbers.same names.now && are_distinct (same_var numbers) (map (variable_of terms.now.types) vars.now) && (length hyps.now == length vars.now))) }
+    ensures { Checks result
+        (unless BadDefinitionList (are_distinct numbers.same names.now && are_distinct (same_var numbers)
+        (map (variable_of terms.now.types) vars.now) && (length hyps.now == length vars.now))) }
 {
     let paired = are_pairs(alloc, terms, names, vars, hyps)?;
     pass_if(paired, DefineFault::BadDefinitionList)
@@ -94,7 +100,8 @@ fn check_given(
     requires vars { All (λ v. v.ty < length terms.now.types) vars.now }
     requires given { All (λ i. i < length terms.now.terms) given.now }
     requires concl { concl < length terms.now.terms }
-    ensures { Checks result (checked_given numbers (map (variable_of terms.now.types) vars.now) (map (tm_at terms.now.terms) given.now) (tm_at terms.now.terms concl)) }
+    ensures { Checks result (checked_given numbers (map (variable_of terms.now.types) vars.now)
+        (map (tm_at terms.now.terms) given.now) (tm_at terms.now.terms concl)) }
 {
     check_all_closed(alloc, terms, given)?;
     check_closed_but(alloc, terms, vars, concl)?;
@@ -110,7 +117,9 @@ fn are_pairs(
     hyps: &[TermId],
 ) -> Result<bool, Memory>
     requires { All (λ v. v.ty < length terms.now.types) vars.now }
-    ensures { IfOk result (λ b. b ≡ (are_distinct numbers.same names.now && are_distinct (same_var numbers) (map (variable_of terms.now.types) vars.now) && (length hyps.now == length vars.now))) }
+    ensures { IfOk result
+        (λ b. b ≡ (are_distinct numbers.same names.now && are_distinct (same_var numbers)
+        (map (variable_of terms.now.types) vars.now) && (length hyps.now == length vars.now))) }
 {
     // Each type has one number.
     let _types = terms.types();
@@ -141,7 +150,8 @@ fn terms_given(
 ) -> Result<Option<Vec<TermId>>, Memory>
     requires vars { All (λ v. v.ty < length terms.now.types) vars.now }
     requires hyps { All (λ i. i < length terms.now.terms) hyps.now }
-    ensures given { IfOk result (λ found. option_map (λ ts. map (tm_at terms.now.terms) ts.items) found ≡ terms_given numbers (map (tm_at terms.now.terms) hyps.now) (map (variable_of terms.now.types) vars.now)) }
+    ensures given { IfOk result (λ found. option_map (λ ts. map (tm_at terms.now.terms) ts.items) found
+        ≡ terms_given numbers (map (tm_at terms.now.terms) hyps.now) (map (variable_of terms.now.types) vars.now)) }
     ensures inside { IfOk result (λ found. IfSome found (λ ts. All (λ i. i < length terms.now.terms) ts.items)) }
 {
     let mut given = Vec::new(alloc);
@@ -158,7 +168,8 @@ fn terms_given(
 fn only_given(terms: &Terms, hyps: &[TermId], v: &VarKey) -> Option<TermId>
     requires var { v.now.ty < length terms.now.types }
     requires hyps { All (λ i. i < length terms.now.terms) hyps.now }
-    ensures given { option_map (tm_at terms.now.terms) result ≡ only (given numbers (map (tm_at terms.now.terms) hyps.now) (variable_of terms.now.types v.now)) }
+    ensures given { option_map (tm_at terms.now.terms) result
+        ≡ only (given numbers (map (tm_at terms.now.terms) hyps.now) (variable_of terms.now.types v.now)) }
     ensures inside { IfSome result (λ t. t < length terms.now.terms) }
 {
     let mut found = None;
@@ -177,7 +188,8 @@ fn only_given(terms: &Terms, hyps: &[TermId], v: &VarKey) -> Option<TermId>
 fn given_by(terms: &Terms, hyp: TermId, v: &VarKey) -> Option<TermId>
     requires var { v.now.ty < length terms.now.types }
     requires hyp { hyp < length terms.now.terms }
-    ensures given { given_by numbers (variable_of terms.now.types v.now) (as_equation numbers (tm_at terms.now.terms hyp)) ≡ listed (option_map (tm_at terms.now.terms) result) }
+    ensures given { given_by numbers (variable_of terms.now.types v.now)
+        (as_equation numbers (tm_at terms.now.terms hyp)) ≡ listed (option_map (tm_at terms.now.terms) result) }
     ensures inside { IfSome result (λ t. t < length terms.now.terms) }
 {
     let Some(sides) = terms.as_eq(hyp) else {
@@ -216,7 +228,8 @@ fn check_all_closed(alloc: Global, terms: &Terms, ts: &[TermId]) -> Result<(), D
 // Refuses terms of which one has a type variable that its type lacks.
 fn check_all_type_vars(alloc: Global, terms: &Terms, ts: &[TermId]) -> Result<(), DefineFault>
     requires { All (λ i. i < length terms.now.terms) ts.now }
-    ensures { Checks result (unless TypeVarEscapes (list_all (keeps_type_vars numbers) (map (tm_at terms.now.terms) ts.now))) }
+    ensures { Checks result
+        (unless TypeVarEscapes (list_all (keeps_type_vars numbers) (map (tm_at terms.now.terms) ts.now))) }
 {
     for t in ts {
         check_type_vars(alloc, terms, *t)?;

@@ -27,7 +27,9 @@ pub(crate) fn symbols_in(
 ) -> Result<IndexSet<Symbol>, Memory>
     requires hyps { All (λ i. i < length terms.now.terms) hyps.now }
     requires concl { concl < length terms.now.terms }
-    ensures { IfOk result (λ symbols. IsSameSet (map symbol_of symbols.keys) (symbols_of numbers (sequent_at terms.now.terms hyps.now concl))) }
+    ensures { IfOk result
+        (λ symbols. IsSameSet (map symbol_of symbols.keys)
+        (symbols_of numbers (sequent_at terms.now.terms hyps.now concl))) }
 {
     let mut symbols = IndexSet::new(alloc);
     for hyp in hyps {
@@ -45,7 +47,9 @@ fn add_symbols(
     symbols: &mut IndexSet<Symbol>,
 ) -> Result<(), Memory>
     requires { t < length terms.now.terms }
-    ensures { OnOk result (IsSameSet (map symbol_of symbols.new.keys) (map symbol_of symbols.old.keys ++ symbols_tm numbers (tm_at terms.now.terms t))) }
+    ensures { OnOk result
+        (IsSameSet (map symbol_of symbols.new.keys)
+        (map symbol_of symbols.old.keys ++ symbols_tm numbers (tm_at terms.now.terms t))) }
 {
     let more = terms.symbols(alloc, t)?;
     add_all(symbols, more.as_slice())
@@ -60,7 +64,9 @@ pub(crate) fn check_closed_but(
 ) -> Result<(), DefineFault>
     requires vars { All (λ v. v.ty < length terms.now.types) vars.now }
     requires t { t < length terms.now.terms }
-    ensures { Checks result (unless NotClosed (is_closed_but numbers (map (variable_of terms.now.types) vars.now) (tm_at terms.now.terms t))) }
+    ensures { Checks result
+        (unless NotClosed
+        (is_closed_but numbers (map (variable_of terms.now.types) vars.now) (tm_at terms.now.terms t))) }
 {
     // Each type has one number.
     let _types = terms.types();

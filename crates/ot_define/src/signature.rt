@@ -50,9 +50,15 @@ impl Signature {
         }
     }
 
-    /// Records the symbols that a definition defines, and those that occur in it. After want of memory all is as before.
+    /// Records the symbols that a definition defines, and those that occur in it. After want of memory all is as
+    /// before.
     pub fn add(&mut self, defined: &[Symbol], used: &[Symbol]) -> Result<(), Memory>
-        ensures ok { OnOk result (self.new ≡ record { defined = with_symbols self.old.defined (map symbol_of defined.now); used = with_symbols self.old.used (map symbol_of used.now) }) }
+        ensures ok { OnOk result
+            (self.new ≡ record {
+              defined = with_symbols self.old.defined (map symbol_of defined.now);
+              used =
+                  with_symbols self.old.used (map symbol_of used.now);
+            }) }
         ensures err { OnErr result (self.new ≡ self.old) }
     {
         let before = self.defined.len();
@@ -75,7 +81,9 @@ impl Signature {
     ) -> Result<(), DefineFault>
         requires hyps { All (λ i. i < length terms.now.terms) hyps.now }
         requires concl { concl < length terms.now.terms }
-        ensures { Checks result (checked_symbols numbers self.now.defined self.now.used (symbols_of numbers (sequent_at terms.now.terms hyps.now concl)) (map symbol_of symbols.now)) }
+        ensures { Checks result
+            (checked_symbols numbers self.now.defined self.now.used
+            (symbols_of numbers (sequent_at terms.now.terms hyps.now concl)) (map symbol_of symbols.now)) }
     {
         refuse_primitive(symbols)?;
         self.refuse_defined(alloc, symbols)?;
@@ -99,14 +107,17 @@ impl Signature {
 
     // Whether the symbol stands before, or is defined.
     fn is_taken(&self, before: &IndexSet<Symbol>, symbol: &Symbol) -> bool
-        ensures { result ≡ is_among numbers (symbol_of symbol.now) (map symbol_of before.now.keys ++ self.now.defined) }
+        ensures { result
+            ≡ is_among numbers (symbol_of symbol.now) (map symbol_of before.now.keys ++ self.now.defined) }
     {
         has_symbol(before, symbol) || has_symbol(&self.defined, symbol)
     }
 
     // Refuses the first of the symbols that occurs in the premise, or in a definition.
     fn refuse_used(&self, premise: &IndexSet<Symbol>, symbols: &[Symbol]) -> Result<(), DefineFault>
-        ensures { Checks result (refuse_first numbers SymbolInUse (λ s. is_among numbers s (map symbol_of premise.now.keys) || is_among numbers s self.now.used) (map symbol_of symbols.now)) }
+        ensures { Checks result
+            (refuse_first numbers SymbolInUse (λ s. is_among numbers s (map symbol_of premise.now.keys)
+            || is_among numbers s self.now.used) (map symbol_of symbols.now)) }
     {
         match self.first_used(premise, symbols) {
             Some(symbol) => Err(DefineFault::SymbolInUse(symbol)),
@@ -116,7 +127,8 @@ impl Signature {
 
     // The first of the symbols that occurs in the premise, or in a definition.
     fn first_used(&self, premise: &IndexSet<Symbol>, symbols: &[Symbol]) -> Option<Symbol>
-        ensures { result ≡ find (λ s. is_among numbers (symbol_of s) (map symbol_of premise.now.keys) || is_among numbers (symbol_of s) self.now.used) symbols.now }
+        ensures { result ≡ find (λ s. is_among numbers (symbol_of s) (map symbol_of premise.now.keys)
+            || is_among numbers (symbol_of s) self.now.used) symbols.now }
     {
         symbols
             .iter()
@@ -126,7 +138,8 @@ impl Signature {
 
     // Whether the symbol occurs in the premise, or in a definition.
     fn is_used(&self, premise: &IndexSet<Symbol>, symbol: &Symbol) -> bool
-        ensures { result ≡ (is_among numbers (symbol_of symbol.now) (map symbol_of premise.now.keys) || is_among numbers (symbol_of symbol.now) self.now.used) }
+        ensures { result ≡ (is_among numbers (symbol_of symbol.now) (map symbol_of premise.now.keys)
+            || is_among numbers (symbol_of symbol.now) self.now.used) }
     {
         has_symbol(premise, symbol) || has_symbol(&self.used, symbol)
     }
@@ -141,7 +154,8 @@ fn has_symbol(symbols: &IndexSet<Symbol>, symbol: &Symbol) -> bool
 
 // Refuses the first of the symbols that has a meaning of its own.
 fn refuse_primitive(symbols: &[Symbol]) -> Result<(), DefineFault>
-    ensures { Checks result (refuse_first numbers Primitive (λ s. is_among numbers s (primitives numbers)) (map symbol_of symbols.now)) }
+    ensures { Checks result
+        (refuse_first numbers Primitive (λ s. is_among numbers s (primitives numbers)) (map symbol_of symbols.now)) }
 {
     match first_primitive(symbols) {
         Some(symbol) => Err(DefineFault::Primitive(symbol)),

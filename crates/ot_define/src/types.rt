@@ -38,7 +38,8 @@ impl Signature {
     ) -> Result<(), DefineFault>
         requires hyps { All (λ i. i < length terms.now.terms) hyps.now }
         requires concl { concl < length terms.now.terms }
-        ensures { Checks result (checked_type numbers self.now.defined self.now.used name abs rep vars.now (sequent_at terms.now.terms hyps.now concl)) }
+        ensures { Checks result (checked_type numbers self.now.defined self.now.used name abs rep vars.now
+            (sequent_at terms.now.terms hyps.now concl)) }
     {
         pass_if(hyps.is_empty(), DefineFault::HypothesesPresent)?;
         let Some(p) = function_of(terms, concl) else {
@@ -70,7 +71,9 @@ fn function_of(terms: &Terms, t: TermId) -> Option<TermId>
 // Refuses type variables of which one stands twice, or the term has another.
 fn check_listed(alloc: Global, terms: &Terms, vars: &[NameId], t: TermId) -> Result<(), DefineFault>
     requires { t < length terms.now.terms }
-    ensures { Checks result (unless BadTypeVars (are_distinct numbers.same vars.now && are_names_of numbers (vars_tm numbers (tm_at terms.now.terms t)) vars.now)) }
+    ensures { Checks result
+        (unless BadTypeVars (are_distinct numbers.same vars.now
+        && are_names_of numbers (vars_tm numbers (tm_at terms.now.terms t)) vars.now)) }
 {
     let occurring = terms.type_vars(alloc, t)?;
     let distinct = are_distinct(alloc, vars)?;

@@ -59,7 +59,8 @@ fn type_lines(
     max: usize,
 ) -> Result<BTreeSet<Vec<u8>>, PrintFault>
     requires { AreTypesIn kernel.now types.now }
-    ensures ok { IfOk result (λ lines. texts_of lines ≡ ascending (map type_line_of (types_of kernel.now types.now))) }
+    ensures ok { IfOk result
+        (λ lines. texts_of lines ≡ ascending (map type_line_of (types_of kernel.now types.now))) }
     ensures too_large { result ≡ Err PrintFault.TooLarge
         → max < bytes_in (ascending (map type_line_of (types_of kernel.now types.now))) }
 {
@@ -80,7 +81,8 @@ fn variable_lines(
     max: usize,
 ) -> Result<BTreeSet<Vec<u8>>, PrintFault>
     requires { AreTermsIn kernel.now vars.now }
-    ensures ok { IfOk result (λ lines. texts_of lines ≡ ascending (map variable_line_of (terms_of kernel.now vars.now))) }
+    ensures ok { IfOk result
+        (λ lines. texts_of lines ≡ ascending (map variable_line_of (terms_of kernel.now vars.now))) }
     ensures too_large { result ≡ Err PrintFault.TooLarge
         → max < bytes_in (ascending (map variable_line_of (terms_of kernel.now vars.now))) }
 {
@@ -127,9 +129,11 @@ fn variable_line(
     requires ty { ty < length kernel.now.types }
     requires id { id < length kernel.now.terms }
     ensures ok { IfOk result
-        (λ line. line.items ≡ variable_line_of (record { name = name.now; ty = type_at kernel.now ty }, term_at kernel.now id)) }
+        (λ line. line.items
+        ≡ variable_line_of (record { name = name.now; ty = type_at kernel.now ty }, term_at kernel.now id)) }
     ensures too_large { result ≡ Err PrintFault.TooLarge
-        → max < length (variable_line_of (record { name = name.now; ty = type_at kernel.now ty }, term_at kernel.now id)) }
+        → max < length
+        (variable_line_of (record { name = name.now; ty = type_at kernel.now ty }, term_at kernel.now id)) }
 {
     let mut page = Page::new(alloc, max);
     let mut line = Vec::new(alloc);

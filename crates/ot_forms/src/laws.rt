@@ -1,6 +1,9 @@
-ghost use Rattle.ot_forms.specs.Laws.{RunsHaveNotations, WordsDiffer, VariableWordsDiffer, ReadsBack, OneReading, OneTermReading, OneRefusal, OneTermRefusal, NotBoth, NotBothTerm, FirstCounts, FirstOfLineCounts};
+ghost use Rattle.ot_forms.specs.Laws.{RunsHaveNotations, WordsDiffer, VariableWordsDiffer, ReadsBack, OneReading};
+ghost use Rattle.ot_forms.specs.Laws.{OneTermReading, OneRefusal, OneTermRefusal, NotBoth, NotBothTerm, FirstCounts};
+ghost use Rattle.ot_forms.specs.Laws.{FirstOfLineCounts};
 
-/// Laws of words: what a run hides is a notation; two symbols of one kind have different words, and so have two variables.
+/// Laws of words: what a run hides is a notation; two symbols of one kind have different words, and so have two
+/// variables.
 pub fn words_differ()
     ensures notations { RunsHaveNotations }
     ensures symbols { WordsDiffer }
@@ -12,8 +15,8 @@ pub fn reads_back()
     ensures { ReadsBack }
 {}
 
-/// Laws of reading: a line stands for one sequent and a text for one term, and then isn't refused; it is refused at one place
-/// for one fault; and of the refusals of what is of the forms, that of the part that ends first counts.
+/// Laws of reading: a line stands for one sequent and a text for one term, and then isn't refused; it is refused at
+/// one place for one fault; and of the refusals of what is of the forms, that of the part that ends first counts.
 pub fn one_reading()
     ensures line { OneReading }
     ensures term { OneTermReading }

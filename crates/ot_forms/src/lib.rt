@@ -1,4 +1,5 @@
-//! The forms of readable text, what a line of them stands for, and why a line is refused; and the laws of these definitions.
+//! The forms of readable text, what a line of them stands for, and why a line is refused; and the laws of these
+//! definitions.
 #![tactic(auto)]
 
 mod fault;

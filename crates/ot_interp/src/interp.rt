@@ -8,9 +8,9 @@ use ot_plain::{Memory, NameId};
 use std::alloc::Global;
 use std::marker::Model;
 
-/// An interpretation, which the `interpret:` statements of a theory file write: for constants and for type operators, names
-/// and the names that they become. A name that isn't held stays. Where all numbers are of one table, those that the calls
-/// give are, too (`within`).
+/// An interpretation, which the `interpret:` statements of a theory file write: for constants and for type operators,
+/// names and the names that they become. A name that isn't held stays. Where all numbers are of one table, those that
+/// the calls give are, too (`within`).
 #[derive(Drop)]
 pub struct Interp {
     constants: IndexMap<NameId, NameId>,
@@ -40,33 +40,36 @@ impl Interp {
         }
     }
 
-    /// Adds a constant that isn't held, and the one that it becomes: the statement `interpret: const "from" as "to"`. After
-    /// want of memory the interpretation is as it was.
+    /// Adds a constant that isn't held, and the one that it becomes: the statement `interpret: const "from" as "to"`.
+    /// After want of memory the interpretation is as it was.
     pub fn add_constant(&mut self, from: NameId, to: NameId) -> Result<(), Memory>
         requires { is_held numbers self.old.constants from ≡ false }
-        ensures ok { OnOk result (self.new ≡ record { constants = self.old.constants ++ (from, to) ∷ []; type_ops = self.old.type_ops }) }
+        ensures ok { OnOk result
+            (self.new ≡ record { constants = self.old.constants ++ (from, to) ∷ []; type_ops = self.old.type_ops }) }
         ensures err { OnErr result (self.new ≡ self.old) }
         ensures within { (size : ℕ) → from < size → to < size → IsWithin size self.old → IsWithin size self.new }
     {
         pairs::add(&mut self.constants, from, to)
     }
 
-    /// Adds a type operator that isn't held, and the one that it becomes: the statement `interpret: type "from" as "to"`. After
-    /// want of memory the interpretation is as it was.
+    /// Adds a type operator that isn't held, and the one that it becomes: the statement `interpret: type "from" as
+    /// "to"`. After want of memory the interpretation is as it was.
     pub fn add_type_op(&mut self, from: NameId, to: NameId) -> Result<(), Memory>
         requires { is_held numbers self.old.type_ops from ≡ false }
-        ensures ok { OnOk result (self.new ≡ record { constants = self.old.constants; type_ops = self.old.type_ops ++ (from, to) ∷ [] }) }
+        ensures ok { OnOk result
+            (self.new ≡ record { constants = self.old.constants; type_ops = self.old.type_ops ++ (from, to) ∷ [] }) }
         ensures err { OnErr result (self.new ≡ self.old) }
         ensures within { (size : ℕ) → from < size → to < size → IsWithin size self.old → IsWithin size self.new }
     {
         pairs::add(&mut self.type_ops, from, to)
     }
 
-    /// First this interpretation, then the outer one, as what a package's theory file says comes before what is said by the
-    /// block that names the package. The one error is want of memory.
+    /// First this interpretation, then the outer one, as what a package's theory file says comes before what is said
+    /// by the block that names the package. The one error is want of memory.
     pub fn after(&self, alloc: Global, outer: &Interp) -> Result<Interp, Memory>
         ensures pairs { IfOk result (λ both. both ≡ after numbers self.now outer.now) }
-        ensures within { IfOk result (λ both. (size : ℕ) → IsWithin size self.now → IsWithin size outer.now → IsWithin size both) }
+        ensures within { IfOk result (λ both. (size : ℕ) → IsWithin size self.now → IsWithin size outer.now
+            → IsWithin size both) }
     {
         let constants = pairs::after(alloc, &self.constants, &outer.constants)?;
         let type_ops = pairs::after(alloc, &self.type_ops, &outer.type_ops)?;

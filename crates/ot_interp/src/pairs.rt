@@ -37,7 +37,8 @@ fn images(
     inner: &IndexMap<NameId, NameId>,
     outer: &IndexMap<NameId, NameId>,
 ) -> Result<IndexMap<NameId, NameId>, Memory>
-    ensures { IfOk result (λ both. both.entries ≡ map (λ p. (p.0, renamed numbers outer.now.entries p.1)) inner.now.entries) }
+    ensures { IfOk result
+        (λ both. both.entries ≡ map (λ p. (p.0, renamed numbers outer.now.entries p.1)) inner.now.entries) }
 {
     let mut both = IndexMap::new(alloc);
     for (from, to) in inner {

@@ -38,7 +38,8 @@ impl<'a> Source for Bytes<'a> {
         ensures bound { ReadsAtMost result buf.new }
         ensures bytes { ReadConsumes (Some self.old.left.now) (Some self.new.left.now) result buf.new }
         ensures cause { HasCause 0 0 result }
-        ensures whole { OnOk result (self.new.left.now ≡ drop (min (length buf.new) (length self.old.left.now)) self.old.left.now) }
+        ensures whole { OnOk result (self.new.left.now ≡ drop (min (length buf.new) (length self.old.left.now))
+            self.old.left.now) }
     {
         let bytes = self.left;
         if bytes.is_empty() {

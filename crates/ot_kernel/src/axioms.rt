@@ -1,5 +1,6 @@
 //! Assumptions: sequents that are taken as they are.
-ghost use Rattle.std.specs.Prelude.{◌≡◌, ◌<◌, ◌≤◌, map, length, take, find, None, false, IfOk, IfErr, IfSome, OnOk, OnErr};
+ghost use Rattle.std.specs.Prelude.{◌≡◌, ◌<◌, ◌≤◌, map, length, take, find, None, false, IfOk, IfErr, IfSome, OnOk};
+ghost use Rattle.std.specs.Prelude.{OnErr};
 ghost use Rattle.std.specs.List.{All, list_all};
 ghost use Rattle.std.specs.Option.{option_map};
 ghost use Rattle.ot_plain.specs.Hol.{same_tm, same_sequent};
@@ -20,8 +21,8 @@ use ot_term::TermId;
 use ot_type::TypeId;
 
 impl Kernel {
-    /// The assumption of a sequent, which is added at the end of the assumptions where none of them is that sequent. The
-    /// hypotheses are a set. `NotBool` where the conclusion or a hypothesis isn't of the type of propositions.
+    /// The assumption of a sequent, which is added at the end of the assumptions where none of them is that sequent.
+    /// The hypotheses are a set. `NotBool` where the conclusion or a hypothesis isn't of the type of propositions.
     pub fn axiom(&mut self, hyps: &[TermId], concl: TermId) -> Result<ThmId, RuleFault>
         requires hyps { All (λ i. i < length self.old.terms) hyps.now }
         requires concl { concl < length self.old.terms }
@@ -79,7 +80,8 @@ impl Kernel {
         requires theorem { IsInside (length self.now.terms) theorem.now }
         ensures within { IfSome result (λ id. id < length self.now.theorems) }
         ensures first { option_map (theorem_at self.now) result
-            ≡ find (λ r. same_sequent names r (sequent_of self.now.terms theorem.now)) (map (theorem_at self.now) among.now) }
+            ≡ find (λ r. same_sequent names r (sequent_of self.now.terms theorem.now))
+            (map (theorem_at self.now) among.now) }
     {
         for id in among {
             if self.same(*id, &theorem.hyps, theorem.concl) {
@@ -93,7 +95,8 @@ impl Kernel {
     pub fn first_place(&self, concl: TermId) -> usize
         requires { concl < length self.now.terms }
         ensures within { result ≤ length self.now.assumptions }
-        ensures none { All (λ r. same_tm names r.concl (term_at self.now concl) ≡ false) (take result self.now.assumptions) }
+        ensures none { All (λ r. same_tm names r.concl (term_at self.now concl) ≡ false)
+            (take result self.now.assumptions) }
     {
         match self.places.get(self.terms.class(concl)) {
             Some(place) => place,
@@ -104,8 +107,10 @@ impl Kernel {
     // A sequent of propositions as a new assumption, whose theorem takes the next place.
     fn suppose(&mut self, theorem: Theorem) -> Result<ThmId, RuleFault>
         requires proposed { IsProposed self.old theorem }
-        requires new { find (λ r. same_sequent names r (sequent_of self.old.terms theorem)) self.old.assumptions ≡ None }
-        ensures ok { IfOk result (λ id. (id ≡ length self.old.theorems) × (self.new ≡ supposing self.old (sequent_of self.old.terms theorem))) }
+        requires new { find (λ r. same_sequent names r (sequent_of self.old.terms theorem)) self.old.assumptions
+            ≡ None }
+        ensures ok { IfOk result (λ id. (id ≡ length self.old.theorems)
+            × (self.new ≡ supposing self.old (sequent_of self.old.terms theorem))) }
         ensures err { IfErr result (λ e. (self.new ≡ self.old) × (e ≡ RuleFault.Memory)) }
     {
         let class = self.terms.class(theorem.concl);

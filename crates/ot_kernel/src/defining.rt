@@ -3,7 +3,8 @@ ghost use Rattle.std.specs.Prelude.{◌≡◌, ℕ, ◌<◌, ◌∷◌, [], map,
 ghost use Rattle.std.specs.List.{All};
 ghost use Rattle.ot_plain.specs.Lists.{AreDistinct};
 ghost use Rattle.ot_plain.specs.Trees.{TyOp, TyVar, Free, Con, App};
-ghost use Rattle.ot_plain.specs.Hol.{fun_ty, bool_ty, HasType, type_in, type_of, equation, sequent_of, IsClosed, tys_of_vars, type_theorems, subst_tm, constants_for};
+ghost use Rattle.ot_plain.specs.Hol.{fun_ty, bool_ty, HasType, type_in, type_of, equation, sequent_of, IsClosed};
+ghost use Rattle.ot_plain.specs.Hol.{tys_of_vars, type_theorems, subst_tm, constants_for};
 ghost use Rattle.ot_plain.specs.Naming.{numbers, IsNameTable};
 ghost use Rattle.ot_plain.specs.Rules.{within_limit};
 ghost use Rattle.ot_type.specs.TypeTable.{type_at, types_at};
@@ -16,7 +17,8 @@ ghost use Rattle.ot_kernel.specs.Equating.{limited, Makes};
 ghost use Rattle.ot_kernel.specs.Spelled.{IsInside};
 ghost use Rattle.ot_kernel.specs.Defining.{zipped};
 ghost use Rattle.ot_kernel.specs.Opening.{beta_over};
-ghost use Rattle.ot_kernel.specs.Proved.{bound_of_names, IsGrownTo, IsNumberOf, equal_functions, trip, TurnsBack, MakesTrip, DerivesBoth};
+ghost use Rattle.ot_kernel.specs.Proved.{bound_of_names, IsGrownTo, IsNumberOf, equal_functions, trip, TurnsBack};
+ghost use Rattle.ot_kernel.specs.Proved.{MakesTrip, DerivesBoth};
 
 use crate::equations::{abstract_from, apply, equate};
 use crate::fault::RuleFault;
@@ -36,7 +38,8 @@ pub(crate) fn const_theorem(
     t: TermId,
 ) -> Result<Theorem, RuleFault>
     requires inside { t < length terms.old.terms }
-    ensures derives { Derives result (within_limit numbers (sequent_of numbers (equation numbers (type_of numbers (tm_at terms.old.terms t))
+    ensures derives { Derives result (within_limit numbers
+        (sequent_of numbers (equation numbers (type_of numbers (tm_at terms.old.terms t))
         (Con name (type_of numbers (tm_at terms.old.terms t))) (tm_at terms.old.terms t)))) terms.new.terms }
     ensures grown { IsGrownBy name terms.old terms.new }
 {
@@ -64,7 +67,8 @@ pub(crate) fn type_theorems(
     requires u { u < length terms.old.types }
     requires typed { HasType numbers (tm_at terms.old.terms p) (fun_ty numbers (type_at terms.old.types u) (bool_ty numbers)) }
     requires closed { IsClosed numbers (tm_at terms.old.terms p) }
-    ensures derives { DerivesBoth result (type_theorems numbers (TyOp op (tys_of_vars numbers vars.now)) (type_at terms.old.types u) abs rep (tm_at terms.old.terms p)) terms.new.terms }
+    ensures derives { DerivesBoth result (type_theorems numbers (TyOp op (tys_of_vars numbers vars.now))
+        (type_at terms.old.types u) abs rep (tm_at terms.old.terms p)) terms.new.terms }
     ensures grown { IsGrownTo (bound_of_names (4 ∷ op ∷ abs ∷ rep ∷ vars.now)) terms.old terms.new }
 {
     let ty = new_type(alloc, terms, op, vars)?;
@@ -132,7 +136,8 @@ pub(crate) fn constant_between(
 ) -> Result<TermId, RuleFault>
     requires from { from < length terms.old.types }
     requires to { to < length terms.old.types }
-    ensures makes { Makes result (limited numbers (Con name (fun_ty numbers (type_at terms.old.types from) (type_at terms.old.types to)))) terms.new.terms }
+    ensures makes { Makes result (limited numbers
+        (Con name (fun_ty numbers (type_at terms.old.types from) (type_at terms.old.types to)))) terms.new.terms }
     ensures grown { IsGrownTo (bound_of_names (0 ∷ name ∷ [])) terms.old terms.new }
 {
     let ty = terms.type_fun(from, to)?;
@@ -151,8 +156,10 @@ fn abs_theorem(
     requires abs { abs < length terms.old.terms }
     requires rep { rep < length terms.old.terms }
     requires typed { TurnsBack (type_at terms.old.types v.now.ty) (tm_at terms.old.terms rep) (tm_at terms.old.terms abs) }
-    ensures derives { Derives result (within_limit numbers (equal_functions (variable_of terms.old.types v.now) (type_at terms.old.types v.now.ty)
-        (trip (tm_at terms.old.terms rep) (tm_at terms.old.terms abs) (variable_of terms.old.types v.now)) (Free (variable_of terms.old.types v.now)))) terms.new.terms }
+    ensures derives { Derives result (within_limit numbers
+        (equal_functions (variable_of terms.old.types v.now) (type_at terms.old.types v.now.ty)
+        (trip (tm_at terms.old.terms rep) (tm_at terms.old.terms abs) (variable_of terms.old.types v.now))
+        (Free (variable_of terms.old.types v.now)))) terms.new.terms }
     ensures grown { IsGrownBy v.now.name terms.old terms.new }
 {
     let (x, image) = round_trip(terms, v, rep, abs)?;
@@ -173,9 +180,12 @@ fn rep_theorem(
     requires rep { rep < length terms.old.terms }
     requires p { p < length terms.old.terms }
     requires typed { TurnsBack (type_at terms.old.types v.now.ty) (tm_at terms.old.terms abs) (tm_at terms.old.terms rep) }
-    requires predicate { HasType numbers (tm_at terms.old.terms p) (fun_ty numbers (type_at terms.old.types v.now.ty) (bool_ty numbers)) }
+    requires predicate { HasType numbers (tm_at terms.old.terms p)
+        (fun_ty numbers (type_at terms.old.types v.now.ty) (bool_ty numbers)) }
     ensures derives { Derives result (within_limit numbers (equal_functions (variable_of terms.old.types v.now) (bool_ty numbers)
-        (equation numbers (type_at terms.old.types v.now.ty) (trip (tm_at terms.old.terms abs) (tm_at terms.old.terms rep) (variable_of terms.old.types v.now)) (Free (variable_of terms.old.types v.now)))
+        (equation numbers (type_at terms.old.types v.now.ty)
+        (trip (tm_at terms.old.terms abs) (tm_at terms.old.terms rep) (variable_of terms.old.types v.now))
+        (Free (variable_of terms.old.types v.now)))
         (App (tm_at terms.old.terms p) (Free (variable_of terms.old.types v.now))))) terms.new.terms }
     ensures grown { IsGrownBy v.now.name terms.old terms.new }
 {
@@ -196,7 +206,8 @@ pub(crate) fn round_trip(
     requires f { f < length terms.old.terms }
     requires g { g < length terms.old.terms }
     requires typed { TurnsBack (type_at terms.old.types v.now.ty) (tm_at terms.old.terms f) (tm_at terms.old.terms g) }
-    ensures makes { MakesTrip result (tm_at terms.old.terms f) (tm_at terms.old.terms g) (variable_of terms.old.types v.now) terms.new.terms }
+    ensures makes { MakesTrip result (tm_at terms.old.terms f) (tm_at terms.old.terms g)
+        (variable_of terms.old.types v.now) terms.new.terms }
     ensures grown { IsGrownBy v.now.name terms.old terms.new }
 {
     let x = terms.var(*v)?;
@@ -217,7 +228,9 @@ fn equal_functions(
     requires a { a < length terms.old.terms }
     requires b { b < length terms.old.terms }
     requires typed { type_in numbers [] (tm_at terms.old.terms a) ≡ type_in numbers [] (tm_at terms.old.terms b) }
-    ensures derives { Derives result (within_limit numbers (equal_functions (variable_of terms.old.types v.now) (type_of numbers (tm_at terms.old.terms a)) (tm_at terms.old.terms a) (tm_at terms.old.terms b))) terms.new.terms }
+    ensures derives { Derives result (within_limit numbers
+        (equal_functions (variable_of terms.old.types v.now) (type_of numbers (tm_at terms.old.terms a))
+        (tm_at terms.old.terms a) (tm_at terms.old.terms b))) terms.new.terms }
     ensures grown { IsGrownBy v.now.name terms.old terms.new }
 {
     let _types = terms.types();
@@ -246,7 +259,10 @@ pub(crate) fn list_theorem(
     requires inside { IsInside (length terms.old.terms) th.now }
     requires below { NamesBelow (length names.old) terms.old }
     ensures ok { IfOk result (λ new. IsInside (length terms.new.terms) new × (numbered_sequent terms.new.terms new
-        ≡ sequent_of numbers (subst_tm numbers [] (constants_for numbers (zipped numbers cs.now (map (variable_of terms.old.types) vars.now))) (tm_at terms.old.terms th.now.concl)))) }
+        ≡ sequent_of numbers
+        (subst_tm numbers []
+        (constants_for numbers (zipped numbers cs.now (map (variable_of terms.old.types) vars.now)))
+        (tm_at terms.old.terms th.now.concl)))) }
     ensures err { IfErr result (λ e. e ≡ OutOfMemory) }
     ensures later { IsLater names.old names.new terms.old terms.new }
     ensures name_table { IsNameTable names.new }
@@ -273,7 +289,8 @@ fn constants(
     requires vars { All (λ v. v.ty < length terms.old.types) vars.now }
     requires distinct { AreDistinct (map (variable_of terms.old.types) vars.now) }
     ensures types { IfOk result (λ s. s.types ≡ []) }
-    ensures terms { IfOk result (λ s. variable_part terms.new s ≡ constants_for numbers (zipped numbers cs.now (map (variable_of terms.old.types) vars.now))) }
+    ensures terms { IfOk result (λ s. variable_part terms.new s
+        ≡ constants_for numbers (zipped numbers cs.now (map (variable_of terms.old.types) vars.now))) }
     ensures fits { IfOk result (λ s. IsSubstOf terms.new s) }
     ensures grown { IsGrownTo (bound_of_names cs.now) terms.old terms.new }
 {
@@ -295,9 +312,12 @@ pub(crate) fn beta_theorem(
 ) -> Result<Theorem, RuleFault>
     requires ty { v.now.ty < length terms.old.types }
     requires p { p < length terms.old.terms }
-    requires predicate { HasType numbers (tm_at terms.old.terms p) (fun_ty numbers (type_at terms.old.types v.now.ty) (bool_ty numbers)) }
+    requires predicate { HasType numbers (tm_at terms.old.terms p)
+        (fun_ty numbers (type_at terms.old.types v.now.ty) (bool_ty numbers)) }
     requires closed { IsClosed numbers (tm_at terms.old.terms p) }
-    ensures derives { Derives result (within_limit numbers (sequent_of numbers (beta_over numbers (variable_of terms.old.types v.now) (tm_at terms.old.terms p)))) terms.new.terms }
+    ensures derives { Derives result (within_limit numbers
+        (sequent_of numbers (beta_over numbers (variable_of terms.old.types v.now) (tm_at terms.old.terms p))))
+        terms.new.terms }
     ensures grown { IsGrownBy v.now.name terms.old terms.new }
 {
     let x = terms.var(*v)?;

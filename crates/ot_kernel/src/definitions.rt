@@ -31,11 +31,13 @@ use std::alloc::Global;
 impl Kernel {
     /// The theorem of a constant that is defined as a term: that it equals the term.
     ///
-    /// The first refusal counts: `Primitive`, `AlreadyDefined`, `SymbolInUse`, `NotClosed`, `TypeVarEscapes`, `Nesting`.
+    /// The first refusal counts: `Primitive`, `AlreadyDefined`, `SymbolInUse`, `NotClosed`, `TypeVarEscapes`,
+    /// `Nesting`.
     pub fn define_const(&mut self, name: NameId, t: TermId) -> Result<ThmId, RuleFault>
         requires name { name < length self.old.names }
         requires t { t < length self.old.terms }
-        ensures defines { Defines result (const_definition name_alphabet self.old.definitions (name_at self.old name) (term_at self.old t)) self.old self.new }
+        ensures defines { Defines result (const_definition name_alphabet self.old.definitions (name_at self.old name)
+            (term_at self.old t)) self.old self.new }
         ensures symbols { IfErr result (IsSymbolIn (length self.new.names)) }
         ensures keeps { Keeps self.old self.new }
     {
@@ -48,9 +50,12 @@ impl Kernel {
     fn check_constant(&self, name: NameId, t: TermId) -> Result<(), RuleFault>
         requires name { name < length self.now.names }
         requires t { t < length self.now.terms }
-        ensures passed { OnOk result (checked_const name_alphabet (all_defined name_alphabet self.now.definitions) (all_used name_alphabet self.now.definitions) (name_at self.now name) (term_at self.now t) ≡ Ok tt) }
-        ensures next { OnOk result (IsNext name_alphabet self.now.assumptions self.now.definitions (ConDef (name_at self.now name) (term_at self.now t))) }
-        ensures refused { IfErr result (λ e. RefusesBy (name_at self.now) e (const_definition name_alphabet self.now.definitions (name_at self.now name) (term_at self.now t))) }
+        ensures passed { OnOk result (checked_const name_alphabet (all_defined name_alphabet self.now.definitions)
+            (all_used name_alphabet self.now.definitions) (name_at self.now name) (term_at self.now t) ≡ Ok tt) }
+        ensures next { OnOk result (IsNext name_alphabet self.now.assumptions self.now.definitions
+            (ConDef (name_at self.now name) (term_at self.now t))) }
+        ensures refused { IfErr result (λ e. RefusesBy (name_at self.now) e
+            (const_definition name_alphabet self.now.definitions (name_at self.now name) (term_at self.now t))) }
         ensures symbols { IfErr result (IsSymbolIn (length self.now.names)) }
     {
         let checked = self.signature.check_const(self.alloc, &self.terms, name, t);
@@ -67,9 +72,12 @@ impl Kernel {
         requires name { name < length self.old.names }
         requires t { t < length self.old.terms }
         requires inside { IsInside (length self.old.terms) theorem }
-        requires next { IsNext name_alphabet self.old.assumptions self.old.definitions (ConDef (name_at self.old name) (term_at self.old t)) }
-        requires theorem { sequent_of self.old.terms theorem ∷ [] ≡ theorems name_alphabet (ConDef (name_at self.old name) (term_at self.old t)) }
-        ensures ok { IfOk result (λ id. (id ≡ length self.old.theorems) × (self.new ≡ defining self.old (ConDef (name_at self.old name) (term_at self.old t)))) }
+        requires next { IsNext name_alphabet self.old.assumptions self.old.definitions
+            (ConDef (name_at self.old name) (term_at self.old t)) }
+        requires theorem { sequent_of self.old.terms theorem ∷ []
+            ≡ theorems name_alphabet (ConDef (name_at self.old name) (term_at self.old t)) }
+        ensures ok { IfOk result (λ id. (id ≡ length self.old.theorems)
+            × (self.new ≡ defining self.old (ConDef (name_at self.old name) (term_at self.old t)))) }
         ensures err { IfErr result (λ e. (self.new ≡ self.old) × (e ≡ RuleFault.Memory)) }
     {
         let id = ThmId(self.theorems.len());
@@ -88,9 +96,16 @@ impl Kernel {
         requires vars { All (λ v. (v.name < length self.now.names) × (v.ty < length self.now.types)) vars.now }
         requires pairs { length names.now ≡ length vars.now }
         requires th { th < length self.now.theorems }
-        ensures passed { OnOk result (checked_list name_alphabet (all_defined name_alphabet self.now.definitions) (all_used name_alphabet self.now.definitions) (map (name_at self.now) names.now) (map (variable_at self.now) vars.now) (theorem_at self.now th) ≡ Ok tt) }
-        ensures next { OnOk result (IsNext name_alphabet self.now.assumptions self.now.definitions (ListDef (zipped name_alphabet (map (name_at self.now) names.now) (map (variable_at self.now) vars.now)) (theorem_at self.now th))) }
-        ensures refused { IfErr result (λ e. RefusesBy (name_at self.now) e (list_definition name_alphabet self.now.definitions (map (name_at self.now) names.now) (map (variable_at self.now) vars.now) (theorem_at self.now th))) }
+        ensures passed { OnOk result (checked_list name_alphabet (all_defined name_alphabet self.now.definitions)
+            (all_used name_alphabet self.now.definitions) (map (name_at self.now) names.now)
+            (map (variable_at self.now) vars.now) (theorem_at self.now th) ≡ Ok tt) }
+        ensures next { OnOk result
+            (IsNext name_alphabet self.now.assumptions self.now.definitions
+            (ListDef (zipped name_alphabet (map (name_at self.now) names.now) (map (variable_at self.now) vars.now))
+            (theorem_at self.now th))) }
+        ensures refused { IfErr result (λ e. RefusesBy (name_at self.now) e
+            (list_definition name_alphabet self.now.definitions (map (name_at self.now) names.now)
+            (map (variable_at self.now) vars.now) (theorem_at self.now th))) }
         ensures symbols { IfErr result (IsSymbolIn (length self.now.names)) }
     {
         let theorem = &self.theorems[th.0];
@@ -119,10 +134,17 @@ impl Kernel {
         requires pairs { length names.now ≡ length vars.now }
         requires premise { premise < length self.old.theorems }
         requires inside { IsInside (length self.old.terms) theorem }
-        requires next { IsNext name_alphabet self.old.assumptions self.old.definitions (ListDef (zipped name_alphabet (map (name_at self.old) names.now) (map (variable_at self.old) vars.now)) (theorem_at self.old premise)) }
-        requires theorem { sequent_of self.old.terms theorem ∷ [] ≡ theorems name_alphabet (ListDef (zipped name_alphabet (map (name_at self.old) names.now) (map (variable_at self.old) vars.now)) (theorem_at self.old premise)) }
+        requires next { IsNext name_alphabet self.old.assumptions self.old.definitions
+            (ListDef (zipped name_alphabet (map (name_at self.old) names.now) (map (variable_at self.old) vars.now))
+            (theorem_at self.old premise)) }
+        requires theorem { sequent_of self.old.terms theorem ∷ []
+            ≡ theorems name_alphabet
+            (ListDef (zipped name_alphabet (map (name_at self.old) names.now) (map (variable_at self.old) vars.now))
+            (theorem_at self.old premise)) }
         ensures ok { IfOk result (λ id. (id ≡ length self.old.theorems)
-            × (self.new ≡ defining self.old (ListDef (zipped name_alphabet (map (name_at self.old) names.now) (map (variable_at self.old) vars.now)) (theorem_at self.old premise)))) }
+            × (self.new ≡ defining self.old
+            (ListDef (zipped name_alphabet (map (name_at self.old) names.now) (map (variable_at self.old) vars.now))
+            (theorem_at self.old premise)))) }
         ensures err { IfErr result (λ e. (self.new ≡ self.old) × (e ≡ RuleFault.Memory)) }
     {
         let id = ThmId(self.theorems.len());
@@ -144,7 +166,9 @@ impl Kernel {
     pub(crate) fn symbols_with(&self, th: ThmId, ids: &[TermId]) -> Result<Vec<Symbol>, Memory>
         requires th { th < length self.now.theorems }
         requires ids { All (λ i. i < length self.now.terms) ids.now }
-        ensures symbols { IfOk result (λ v. IsSameSet (map (map_symbol (name_at self.now)) (map symbol_of v.items)) (symbols_of name_alphabet (theorem_at self.now th) ++ symbols_all name_alphabet (terms_at self.now ids.now))) }
+        ensures symbols { IfOk result (λ v. IsSameSet (map (map_symbol (name_at self.now)) (map symbol_of v.items))
+            (symbols_of name_alphabet (theorem_at self.now th)
+            ++ symbols_all name_alphabet (terms_at self.now ids.now))) }
         ensures below { IfOk result (λ v. All (λ s. number_of s < length self.now.names) (map symbol_of v.items)) }
     {
         let mut all = Vec::from_slice(self.alloc, self.hyps(th))?;
@@ -156,14 +180,15 @@ impl Kernel {
     // The symbols of terms.
     fn symbols_in(&self, ids: &[TermId]) -> Result<Vec<Symbol>, Memory>
         requires { All (λ i. i < length self.now.terms) ids.now }
-        ensures symbols { IfOk result (λ v. IsSameSet (map (map_symbol (name_at self.now)) (map symbol_of v.items)) (symbols_all name_alphabet (terms_at self.now ids.now))) }
+        ensures symbols { IfOk result (λ v. IsSameSet (map (map_symbol (name_at self.now)) (map symbol_of v.items))
+            (symbols_all name_alphabet (terms_at self.now ids.now))) }
         ensures below { IfOk result (λ v. All (λ s. number_of s < length self.now.names) (map symbol_of v.items)) }
     {
         symbols_of(self.alloc, &self.terms, ids)
     }
 
-    /// The theorem of constants that are defined for the variables of a theorem, whose hypotheses give each variable its
-    /// term: the conclusion with the constants for the variables, pair by pair.
+    /// The theorem of constants that are defined for the variables of a theorem, whose hypotheses give each variable
+    /// its term: the conclusion with the constants for the variables, pair by pair.
     ///
     /// The first refusal counts: `BadDefinitionList`, `Primitive`, `AlreadyDefined`, `SymbolInUse`, `NotClosed`,
     /// `TypeVarEscapes`.
@@ -177,7 +202,8 @@ impl Kernel {
         requires vars { All (λ v. (v.name < length self.old.names) × (v.ty < length self.old.types)) vars.now }
         requires pairs { length names.now ≡ length vars.now }
         requires th { th < length self.old.theorems }
-        ensures defines { Defines result (list_definition name_alphabet self.old.definitions (map (name_at self.old) names.now) (map (variable_at self.old) vars.now) (theorem_at self.old th)) self.old self.new }
+        ensures defines { Defines result (list_definition name_alphabet self.old.definitions (map (name_at self.old) names.now)
+            (map (variable_at self.old) vars.now) (theorem_at self.old th)) self.old self.new }
         ensures symbols { IfErr result (IsSymbolIn (length self.new.names)) }
         ensures keeps { Keeps self.old self.new }
     {
@@ -202,7 +228,8 @@ impl Kernel {
         defined: &[Symbol],
         used: &[Symbol],
     ) -> Result<(), Memory>
-        requires { IsAcceptable self.old theorems.items definition (map symbol_of defined.now) (map symbol_of used.now) }
+        requires { IsAcceptable self.old theorems.items definition (map symbol_of defined.now)
+            (map symbol_of used.now) }
         ensures ok { OnOk result (self.new ≡ accepting self.old theorems.items definition) }
         ensures err { OnErr result (self.new ≡ self.old) }
     {
@@ -224,7 +251,8 @@ impl Kernel {
 // The symbols of terms over the table.
 fn symbols_of(alloc: Global, terms: &Terms, ids: &[TermId]) -> Result<Vec<Symbol>, Memory>
     requires { All (λ i. i < length terms.now.terms) ids.now }
-    ensures { IfOk result (λ v. IsSameSet (map symbol_of v.items) (symbols_all numbers (tms_at terms.now.terms ids.now))) }
+    ensures { IfOk result
+        (λ v. IsSameSet (map symbol_of v.items) (symbols_all numbers (tms_at terms.now.terms ids.now))) }
 {
     let mut symbols = Vec::new(alloc);
     for id in ids {
@@ -265,7 +293,12 @@ fn add_to(
     used: &[Symbol],
 ) -> Result<(), Memory>
     ensures theorems { OnOk result (theorems.new.items ≡ theorems.old.items ++ more.items) }
-    ensures symbols { OnOk result (signature.new ≡ record { defined = with_symbols signature.old.defined (map symbol_of defined.now); used = with_symbols signature.old.used (map symbol_of used.now) }) }
+    ensures symbols { OnOk result (signature.new
+        ≡ record {
+          defined = with_symbols signature.old.defined (map symbol_of defined.now);
+          used = with_symbols
+              signature.old.used (map symbol_of used.now);
+        }) }
     ensures err { OnErr result ((theorems.new.items ≡ theorems.old.items) × (signature.new ≡ signature.old)) }
 {
     let before = theorems.len();

@@ -26,7 +26,8 @@ pub(crate) fn deduct_antisym(
     requires top { IsInside (length terms.old.terms) top.now }
     requires lower_sequent { IsSequent numbers (numbered_sequent terms.old.terms lower.now) }
     requires top_sequent { IsSequent numbers (numbered_sequent terms.old.terms top.now) }
-    ensures derives { Derives result (deduct_antisym_rule numbers (numbered_sequent terms.old.terms lower.now) (numbered_sequent terms.old.terms top.now)) terms.new.terms }
+    ensures derives { Derives result (deduct_antisym_rule numbers (numbered_sequent terms.old.terms lower.now)
+        (numbered_sequent terms.old.terms top.now)) terms.new.terms }
     ensures grown { IsGrown terms.old terms.new }
 {
     let _types = terms.types();
@@ -46,7 +47,8 @@ pub(crate) fn prove_hyp(
 ) -> Result<Theorem, RuleFault>
     requires lower { IsInside (length terms.now.terms) lower.now }
     requires top { IsInside (length terms.now.terms) top.now }
-    ensures derives { Derives result (prove_hyp_rule numbers (numbered_sequent terms.now.terms lower.now) (numbered_sequent terms.now.terms top.now)) terms.now.terms }
+    ensures derives { Derives result (prove_hyp_rule numbers (numbered_sequent terms.now.terms lower.now)
+        (numbered_sequent terms.now.terms top.now)) terms.now.terms }
 {
     if is_lemma(terms, lower, top) {
         Ok(proved_hyp(alloc, terms, lower, top)?)
@@ -59,7 +61,8 @@ pub(crate) fn prove_hyp(
 fn is_lemma(terms: &Terms, lower: &Theorem, top: &Theorem) -> bool
     requires lower { IsInside (length terms.now.terms) lower.now }
     requires top { IsInside (length terms.now.terms) top.now }
-    ensures { result ≡ (not (is_in numbers (tm_at terms.now.terms top.now.concl) (tms_at terms.now.terms lower.now.hyps.items))
+    ensures { result
+        ≡ (not (is_in numbers (tm_at terms.now.terms top.now.concl) (tms_at terms.now.terms lower.now.hyps.items))
         && is_in numbers (tm_at terms.now.terms lower.now.concl) (tms_at terms.now.terms top.now.hyps.items)) }
 {
     if has_term(terms, &lower.hyps, top.concl) {
@@ -78,7 +81,8 @@ fn proved_hyp(
     requires lemma { IsInside (length terms.now.terms) lemma.now }
     requires other { IsInside (length terms.now.terms) other.now }
     ensures inside { IfOk result (IsInside (length terms.now.terms)) }
-    ensures sequent { IfOk result (λ th. numbered_sequent terms.now.terms th ≡ proved_hyp numbers (numbered_sequent terms.now.terms lemma.now) (numbered_sequent terms.now.terms other.now)) }
+    ensures sequent { IfOk result (λ th. numbered_sequent terms.now.terms th ≡ proved_hyp numbers
+        (numbered_sequent terms.now.terms lemma.now) (numbered_sequent terms.now.terms other.now)) }
 {
     let left = minus(alloc, terms, lemma.concl, &other.hyps)?;
     let hyps = union(alloc, terms, &lemma.hyps, &left)?;

@@ -3,7 +3,8 @@ ghost use Rattle.std.specs.Prelude.{◌≡◌, ℕ, ◌<◌, [], None, length, I
 ghost use Rattle.ot_plain.specs.Trees.{Ty};
 ghost use Rattle.ot_plain.specs.Hol.{type_in, as_equation};
 ghost use Rattle.ot_plain.specs.Naming.{numbers};
-ghost use Rattle.ot_plain.specs.Rules.{app_rule, abs_rule, refl_rule, eq_mp_rule, abs_thm_rule, app_thm_rule, sym_rule, trans_rule};
+ghost use Rattle.ot_plain.specs.Rules.{app_rule, abs_rule, refl_rule, eq_mp_rule, abs_thm_rule, app_thm_rule};
+ghost use Rattle.ot_plain.specs.Rules.{sym_rule, trans_rule};
 ghost use Rattle.ot_term.specs.TermTable.{variable_of, IsTermTable};
 ghost use Rattle.ot_kernel.specs.declared.fault.RuleFault.TheVariants.{NotEquation};
 ghost use Rattle.ot_kernel.specs.Numbered.{tm_at, numbered_sequent, Derives, IsGrown, IsGrownBy};
@@ -57,7 +58,8 @@ pub(crate) fn apply(terms: &mut Terms, f: TermId, x: TermId) -> Result<TermId, R
 pub(crate) fn abstract_from(terms: &mut Terms, v: &VarKey, t: TermId) -> Result<TermId, RuleFault>
     requires ty { v.now.ty < length terms.old.types }
     requires t { t < length terms.old.terms }
-    ensures makes { Makes result (abs_rule numbers (variable_of terms.old.types v.now) (tm_at terms.old.terms t)) terms.new.terms }
+    ensures makes { Makes result (abs_rule numbers (variable_of terms.old.types v.now) (tm_at terms.old.terms t))
+        terms.new.terms }
     ensures grown { IsGrownBy v.now.name terms.old terms.new }
 {
     Ok(terms.abs(*v, t)?)
@@ -98,7 +100,8 @@ pub(crate) fn eq_mp(
 ) -> Result<Theorem, RuleFault>
     requires lower { IsInside (length terms.now.terms) lower.now }
     requires top { IsInside (length terms.now.terms) top.now }
-    ensures derives { Derives result (eq_mp_rule numbers (numbered_sequent terms.now.terms lower.now) (numbered_sequent terms.now.terms top.now)) terms.now.terms }
+    ensures derives { Derives result (eq_mp_rule numbers (numbered_sequent terms.now.terms lower.now)
+        (numbered_sequent terms.now.terms top.now)) terms.now.terms }
 {
     let (p, q) = sides(terms, lower.concl)?;
     if !alpha_eq(terms, p, top.concl) {
@@ -117,7 +120,8 @@ pub(crate) fn abs_thm(
 ) -> Result<Theorem, RuleFault>
     requires ty { v.ty < length terms.old.types }
     requires inside { IsInside (length terms.old.terms) th.now }
-    ensures derives { Derives result (abs_thm_rule numbers (variable_of terms.old.types v) (numbered_sequent terms.old.terms th.now)) terms.new.terms }
+    ensures derives { Derives result (abs_thm_rule numbers (variable_of terms.old.types v)
+        (numbered_sequent terms.old.terms th.now)) terms.new.terms }
     ensures grown { IsGrownBy v.name terms.old terms.new }
 {
     let _types = terms.types();
@@ -141,7 +145,8 @@ pub(crate) fn app_thm(
 ) -> Result<Theorem, RuleFault>
     requires lower { IsInside (length terms.old.terms) lower.now }
     requires top { IsInside (length terms.old.terms) top.now }
-    ensures derives { Derives result (app_thm_rule numbers (numbered_sequent terms.old.terms lower.now) (numbered_sequent terms.old.terms top.now)) terms.new.terms }
+    ensures derives { Derives result (app_thm_rule numbers (numbered_sequent terms.old.terms lower.now)
+        (numbered_sequent terms.old.terms top.now)) terms.new.terms }
     ensures grown { IsGrown terms.old terms.new }
 {
     let _types = terms.types();
@@ -163,7 +168,8 @@ pub(crate) fn trans(
 ) -> Result<Theorem, RuleFault>
     requires lower { IsInside (length terms.old.terms) lower.now }
     requires top { IsInside (length terms.old.terms) top.now }
-    ensures derives { Derives result (trans_rule numbers (numbered_sequent terms.old.terms lower.now) (numbered_sequent terms.old.terms top.now)) terms.new.terms }
+    ensures derives { Derives result (trans_rule numbers (numbered_sequent terms.old.terms lower.now)
+        (numbered_sequent terms.old.terms top.now)) terms.new.terms }
     ensures grown { IsGrown terms.old terms.new }
 {
     let _types = terms.types();

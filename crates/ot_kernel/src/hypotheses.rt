@@ -40,7 +40,8 @@ pub(crate) fn union(
 ) -> Result<Vec<TermId>, Memory>
     requires g { All (λ i. i < length terms.now.terms) g.now }
     requires h { All (λ i. i < length terms.now.terms) h.now }
-    ensures union { IfOk result (λ v. tms_at terms.now.terms v.items ≡ union numbers (tms_at terms.now.terms g.now) (tms_at terms.now.terms h.now)) }
+    ensures union { IfOk result (λ v. tms_at terms.now.terms v.items ≡ union numbers (tms_at terms.now.terms g.now)
+        (tms_at terms.now.terms h.now)) }
     ensures inside { IfOk result (λ v. All (λ i. i < length terms.now.terms) v.items) }
 {
     let classes = classes_of_many(alloc, terms, g, h.len())?;
@@ -60,7 +61,8 @@ pub(crate) fn minus(
 ) -> Result<Vec<TermId>, Memory>
     requires t { t < length terms.now.terms }
     requires g { All (λ i. i < length terms.now.terms) g.now }
-    ensures minus { IfOk result (λ v. tms_at terms.now.terms v.items ≡ minus numbers (tm_at terms.now.terms t) (tms_at terms.now.terms g.now)) }
+    ensures minus { IfOk result (λ v. tms_at terms.now.terms v.items
+        ≡ minus numbers (tm_at terms.now.terms t) (tms_at terms.now.terms g.now)) }
     ensures inside { IfOk result (λ v. All (λ i. i < length terms.now.terms) v.items) }
 {
     let mut left = Vec::new(alloc);
@@ -75,7 +77,8 @@ pub(crate) fn minus(
 // The members of a list, each once, at its last place.
 pub(crate) fn once_each(alloc: Global, terms: &Terms, g: &[TermId]) -> Result<Vec<TermId>, Memory>
     requires { All (λ i. i < length terms.now.terms) g.now }
-    ensures once { IfOk result (λ v. tms_at terms.now.terms v.items ≡ once_each numbers (tms_at terms.now.terms g.now)) }
+    ensures once { IfOk result
+        (λ v. tms_at terms.now.terms v.items ≡ once_each numbers (tms_at terms.now.terms g.now)) }
     ensures inside { IfOk result (λ v. All (λ i. i < length terms.now.terms) v.items) }
 {
     let mut later = classes_of_none(alloc, g.len());
@@ -100,7 +103,8 @@ fn push_lacking(
     requires among { All (λ i. i < length terms.now.terms) among.now }
     requires classes { IfSome classes.now (λ s. AreClassesOf terms.now (tms_at terms.now.terms among.now) s.keys) }
     requires t { t < length terms.now.terms }
-    ensures { OnOk result (list.new.items ≡ (if is_in numbers (tm_at terms.now.terms t) (tms_at terms.now.terms among.now)
+    ensures { OnOk result
+        (list.new.items ≡ (if is_in numbers (tm_at terms.now.terms t) (tms_at terms.now.terms among.now)
         then list.old.items else list.old.items ++ t ∷ [])) }
 {
     if is_among(terms, among, classes, t) {
@@ -119,7 +123,8 @@ pub(crate) fn is_free_in_some(
 ) -> Result<bool, Memory>
     requires ty { v.ty < length terms.now.types }
     requires among { All (λ i. i < length terms.now.terms) among.now }
-    ensures { IfOk result (λ b. b ≡ is_free_in_some numbers (variable_of terms.now.types v) (tms_at terms.now.terms among.now)) }
+    ensures { IfOk result
+        (λ b. b ≡ is_free_in_some numbers (variable_of terms.now.types v) (tms_at terms.now.terms among.now)) }
 {
     for t in among {
         if terms.is_free(alloc, &v, *t)? {

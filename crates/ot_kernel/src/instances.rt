@@ -58,7 +58,8 @@ pub(crate) fn subst(
     requires inside { IsInside (length terms.old.terms) th.now }
     requires subst { IsSubstOf terms.old s.now }
     requires below { NamesBelow (length names.old) terms.old }
-    ensures derives { Derives result (subst_rule numbers (type_part terms.old s.now) (variable_part terms.old s.now) (numbered_sequent terms.old.terms th.now)) terms.new.terms }
+    ensures derives { Derives result (subst_rule numbers (type_part terms.old s.now) (variable_part terms.old s.now)
+        (numbered_sequent terms.old.terms th.now)) terms.new.terms }
     ensures later { IsLater names.old names.new terms.old terms.new }
     ensures name_table { IsNameTable names.new }
 {
@@ -82,9 +83,12 @@ fn images(
     requires inside { All (λ i. i < length terms.old.terms) ids.now }
     requires subst { IsSubstOf terms.old s.now }
     requires below { NamesBelow (length names.old) terms.old }
-    ensures images { IfOk result (λ v. tms_at terms.new.terms v.items ≡ map (substituted terms.old s.now) (tms_at terms.old.terms ids.now)) }
+    ensures images { IfOk result (λ v. tms_at terms.new.terms v.items
+        ≡ map (substituted terms.old s.now) (tms_at terms.old.terms ids.now)) }
     ensures within { IfOk result (λ v. All (λ i. i < length terms.new.terms) v.items) }
-    ensures refuses { IfErr result (λ e. (concl : Tm _) → RefusesRule e (subst_rule numbers (type_part terms.old s.now) (variable_part terms.old s.now) (record { hyps = tms_at terms.old.terms ids.now; concl = concl }))) }
+    ensures refuses { IfErr result (λ e. (concl : Tm _)
+        → RefusesRule e (subst_rule numbers (type_part terms.old s.now) (variable_part terms.old s.now)
+        (record { hyps = tms_at terms.old.terms ids.now; concl = concl }))) }
     ensures later { IsLater names.old names.new terms.old terms.new }
     ensures name_table { IsNameTable names.new }
     ensures fits { IsSubstOf terms.new s.now }

@@ -6,7 +6,8 @@ ghost use Rattle.ot_plain.specs.Hol.{bool_ty, same_sequent};
 ghost use Rattle.ot_plain.specs.Rules.{has_type, op_rule, app_rule, abs_rule, assume_rule};
 ghost use Rattle.ot_laws.specs.Theorem.{IsTheorem};
 ghost use Rattle.ot_kernel.specs.Spelled.{sequent_of, IsInside, IsSpelled};
-ghost use Rattle.ot_kernel.specs.State.{State, name_at, type_at, types_at, variable_at, named_at, term_at, terms_at, theorem_at, Keeps, SameBasis, SameTheorems, IsSoundState};
+ghost use Rattle.ot_kernel.specs.State.{State, name_at, type_at, types_at, variable_at, named_at, term_at, terms_at};
+ghost use Rattle.ot_kernel.specs.State.{theorem_at, Keeps, SameBasis, SameTheorems, IsSoundState};
 ghost use Rattle.ot_kernel.specs.Definitions.{definition_at, IsHeld};
 ghost use Rattle.ot_kernel.specs.Answers.{MakesType, MakesTerm, MakesAbstraction, Concludes};
 ghost use Rattle.ot_kernel.specs.Derived.{Follows, Adds};
@@ -25,8 +26,8 @@ use std::marker::Model;
 
 /// Names, types, terms and theorems by number, each theorem derivable in higher-order logic.
 ///
-/// Each number that a call takes is one of this kernel. After each call, refused or not, every number stands for what it
-/// stood for; a refused call leaves each theorem, assumption and definition as it was.
+/// Each number that a call takes is one of this kernel. After each call, refused or not, every number stands for what
+/// it stood for; a refused call leaves each theorem, assumption and definition as it was.
 #[derive(Drop)]
 pub struct Kernel {
     pub(crate) alloc: Global,
@@ -61,7 +62,17 @@ impl Model for Kernel {
 impl Kernel {
     /// A kernel with the first names, and with no type, term, theorem, assumption or definition.
     pub fn new(alloc: Global) -> Result<Kernel, Memory>
-        ensures { IfOk result (λ k. k ≡ record { names = first_names; types = []; terms = []; classes = []; theorems = []; assumptions = []; definitions = [] }) }
+        ensures { IfOk result
+            (λ k. k ≡ record {
+              names = first_names;
+              types = [];
+              terms = [];
+              classes = [];
+              theorems = [];
+              assumptions =
+                  [];
+              definitions = [];
+            }) }
     {
         Ok(Kernel {
             alloc,
@@ -121,7 +132,8 @@ impl Kernel {
     pub fn type_op(&mut self, name: NameId, args: &[TypeId]) -> Result<TypeId, TableFault>
         requires name { name < length self.old.names }
         requires args { All (λ i. i < length self.old.types) args.now }
-        ensures made { MakesType result (op_rule names (name_at self.old name) (types_at self.old args.now)) self.new }
+        ensures made { MakesType result (op_rule names (name_at self.old name) (types_at self.old args.now))
+            self.new }
         ensures keeps { Keeps self.old self.new }
         ensures same { SameTheorems self.old self.new }
     {
@@ -159,7 +171,8 @@ impl Kernel {
         requires f { f < length self.old.terms }
         requires x { x < length self.old.terms }
         ensures made { MakesTerm result (app_rule names (term_at self.old f) (term_at self.old x)) self.new }
-        ensures named { IfOk result (λ id. slice_get self.new.terms id ≡ Some (NApp (named_at self.old.terms f) (named_at self.old.terms x))) }
+        ensures named { IfOk result (λ id. slice_get self.new.terms id
+            ≡ Some (NApp (named_at self.old.terms f) (named_at self.old.terms x))) }
         ensures keeps { Keeps self.old self.new }
         ensures same { SameTheorems self.old self.new }
     {
@@ -172,8 +185,10 @@ impl Kernel {
         requires name { v.name < length self.old.names }
         requires ty { v.ty < length self.old.types }
         requires body { body < length self.old.terms }
-        ensures made { MakesAbstraction result (abs_rule names (variable_at self.old v) (term_at self.old body)) self.new }
-        ensures named { IfOk result (λ id. slice_get self.new.terms id ≡ Some (NAbs (variable_at self.old v) (named_at self.old.terms body))) }
+        ensures made { MakesAbstraction result (abs_rule names (variable_at self.old v) (term_at self.old body))
+            self.new }
+        ensures named { IfOk result (λ id. slice_get self.new.terms id
+            ≡ Some (NAbs (variable_at self.old v) (named_at self.old.terms body))) }
         ensures keeps { Keeps self.old self.new }
         ensures same { SameTheorems self.old self.new }
     {
@@ -229,7 +244,8 @@ impl Kernel {
     pub(crate) fn conclude(&mut self, th: Theorem) -> Result<ThmId, RuleFault>
         requires inside { IsInside (length self.old.terms) th }
         requires follows { IsTheorem names self.old.assumptions self.old.definitions (sequent_of self.old.terms th) }
-        ensures ok { IfOk result (λ id. (self.new ≡ record self.old { theorems = self.old.theorems ++ sequent_of self.old.terms th ∷ [] })
+        ensures ok { IfOk result
+            (λ id. (self.new ≡ record self.old { theorems = self.old.theorems ++ sequent_of self.old.terms th ∷ [] })
             × (id ≡ length self.old.theorems)) }
         ensures err { IfErr result (λ e. (self.new ≡ self.old) × (e ≡ RuleFault.Memory)) }
     {
@@ -267,13 +283,14 @@ impl Kernel {
         self.theorems[th.0].concl
     }
 
-    /// Whether a theorem is this sequent: whether the set of its hypotheses and its conclusion are these, up to the names
-    /// of binders.
+    /// Whether a theorem is this sequent: whether the set of its hypotheses and its conclusion are these, up to the
+    /// names of binders.
     pub fn same(&self, th: ThmId, hyps: &[TermId], concl: TermId) -> bool
         requires th { th < length self.now.theorems }
         requires hyps { All (λ i. i < length self.now.terms) hyps.now }
         requires concl { concl < length self.now.terms }
-        ensures { result ≡ same_sequent names (theorem_at self.now th) (record { hyps = terms_at self.now hyps.now; concl = term_at self.now concl }) }
+        ensures { result ≡ same_sequent names (theorem_at self.now th)
+            (record { hyps = terms_at self.now hyps.now; concl = term_at self.now concl }) }
     {
         self.theorems[th.0].states(self.alloc, &self.terms, hyps, concl)
     }

@@ -53,7 +53,8 @@ pub(crate) fn is_among(
 // Whether the class of a term is among these: whether the term is one of the terms whose classes these are.
 fn has_class(terms: &Terms, classes: &IndexSet<ClassId>, t: TermId) -> bool
     requires { t < length terms.now.terms }
-    ensures { (us : List (Tm ℕ)) → AreClassesOf terms.now us classes.now.keys → result ≡ is_in numbers (tm_at terms.now.terms t) us }
+    ensures { (us : List (Tm ℕ)) → AreClassesOf terms.now us classes.now.keys → result
+        ≡ is_in numbers (tm_at terms.now.terms t) us }
 {
     classes.contains(&terms.class(t))
 }
@@ -66,7 +67,8 @@ pub(crate) fn classes_of_many(
     sought: usize,
 ) -> Result<Option<IndexSet<ClassId>>, Memory>
     requires { All (λ i. i < length terms.now.terms) among.now }
-    ensures { IfOk result (λ found. IfSome found (λ s. AreClassesOf terms.now (tms_at terms.now.terms among.now) s.keys)) }
+    ensures { IfOk result
+        (λ found. IfSome found (λ s. AreClassesOf terms.now (tms_at terms.now.terms among.now) s.keys)) }
 {
     if among.len() <= FEW || sought <= FEW {
         return Ok(None);

@@ -3,7 +3,8 @@
 ghost use Rattle.std.specs.Prelude.{◌≡◌, ◌<◌, true, map, length, ◌∷◌, IfErr};
 ghost use Rattle.std.specs.List.{All, list_all};
 ghost use Rattle.ot_plain.specs.Trees.{TyOp, Free, App};
-ghost use Rattle.ot_plain.specs.Hol.{fun_ty, bool_ty, HasType, IsClosed, equation, sequent_of as stated, tys_of_vars, type_theorems, theorems_at, is_shallow_sequent};
+ghost use Rattle.ot_plain.specs.Hol.{fun_ty, bool_ty, HasType, IsClosed, equation, sequent_of as stated, tys_of_vars};
+ghost use Rattle.ot_plain.specs.Hol.{type_theorems, theorems_at, is_shallow_sequent};
 ghost use Rattle.ot_plain.specs.Naming.{names as name_alphabet, numbers};
 ghost use Rattle.ot_plain.specs.Rules.{within_limit};
 ghost use Rattle.ot_type.specs.TypeTable.{type_at};
@@ -12,7 +13,8 @@ ghost use Rattle.ot_kernel.specs.State.{name_at, theorem_at, Keeps};
 ghost use Rattle.ot_kernel.specs.Numbered.{tm_at, Derives, IsGrownBy};
 ghost use Rattle.ot_kernel.specs.Proved.{bound_of_names, IsGrownTo, trip, TurnsBack, IsPremise, DerivesOpen};
 ghost use Rattle.ot_kernel.specs.Answers.{IsSymbolIn};
-ghost use Rattle.ot_kernel.specs.Opening.{var_r, open_theorems, open_theorems_at, beta_over, beta_at, open_type_definition, DefinesOpenType};
+ghost use Rattle.ot_kernel.specs.Opening.{var_r, open_theorems, open_theorems_at, beta_over, beta_at};
+ghost use Rattle.ot_kernel.specs.Opening.{open_type_definition, DefinesOpenType};
 
 use crate::defining::{beta_theorem, constant_between, new_type, round_trip};
 use crate::equations::{apply, equate};
@@ -59,7 +61,10 @@ impl Kernel {
         requires rep { rep < length self.old.names }
         requires vars { All (λ n. n < length self.old.names) vars.now }
         requires th { th < length self.old.theorems }
-        ensures defines { DefinesOpenType result (open_type_definition name_alphabet var_r self.old.definitions (name_at self.old name) (name_at self.old abs) (name_at self.old rep) (map (name_at self.old) vars.now) (theorem_at self.old th)) self.old self.new }
+        ensures defines { DefinesOpenType result
+            (open_type_definition name_alphabet var_r self.old.definitions (name_at self.old name)
+            (name_at self.old abs) (name_at self.old rep) (map (name_at self.old) vars.now) (theorem_at self.old th))
+            self.old self.new }
         ensures symbols { IfErr result (IsSymbolIn (length self.new.names)) }
         ensures keeps { Keeps self.old self.new }
     {
@@ -92,8 +97,10 @@ fn operator_open(
 ) -> Result<(Theorem, Theorem), RuleFault>
     requires inside { premise < length terms.old.terms }
     requires premise { IsPremise numbers (tm_at terms.old.terms premise) }
-    requires limit { list_all (is_shallow_sequent numbers) (theorems_at numbers op abs rep vars.now (tm_at terms.old.terms premise)) ≡ true }
-    ensures derives { DerivesOpen result (beta_at numbers 4 (tm_at terms.old.terms premise)) (open_theorems_at numbers 3 4 op abs rep vars.now (tm_at terms.old.terms premise)) terms.new.terms }
+    requires limit { list_all (is_shallow_sequent numbers)
+        (theorems_at numbers op abs rep vars.now (tm_at terms.old.terms premise)) ≡ true }
+    ensures derives { DerivesOpen result (beta_at numbers 4 (tm_at terms.old.terms premise))
+        (open_theorems_at numbers 3 4 op abs rep vars.now (tm_at terms.old.terms premise)) terms.new.terms }
     ensures grown { IsGrownTo (bound_of_names (4 ∷ op ∷ abs ∷ rep ∷ vars.now)) terms.old terms.new }
 {
     let (p, u) = parts(terms, premise);
@@ -115,9 +122,12 @@ fn open_theorems(
     requires u { u < length terms.old.types }
     requires typed { HasType numbers (tm_at terms.old.terms p) (fun_ty numbers (type_at terms.old.types u) (bool_ty numbers)) }
     requires closed { IsClosed numbers (tm_at terms.old.terms p) }
-    requires limit { list_all (is_shallow_sequent numbers) (type_theorems numbers (TyOp op (tys_of_vars numbers vars.now)) (type_at terms.old.types u) abs rep (tm_at terms.old.terms p)) ≡ true }
-    ensures derives { DerivesOpen result (beta_over numbers (record { name = 4; ty = type_at terms.old.types u }) (tm_at terms.old.terms p))
-        (open_theorems numbers 3 4 (TyOp op (tys_of_vars numbers vars.now)) (type_at terms.old.types u) abs rep (tm_at terms.old.terms p)) terms.new.terms }
+    requires limit { list_all (is_shallow_sequent numbers) (type_theorems numbers (TyOp op (tys_of_vars numbers vars.now))
+        (type_at terms.old.types u) abs rep (tm_at terms.old.terms p)) ≡ true }
+    ensures derives { DerivesOpen result
+        (beta_over numbers (record { name = 4; ty = type_at terms.old.types u }) (tm_at terms.old.terms p))
+        (open_theorems numbers 3 4 (TyOp op (tys_of_vars numbers vars.now)) (type_at terms.old.types u) abs rep
+        (tm_at terms.old.terms p)) terms.new.terms }
     ensures grown { IsGrownTo (bound_of_names (4 ∷ op ∷ abs ∷ rep ∷ vars.now)) terms.old terms.new }
 {
     let ty = new_type(alloc, terms, op, vars)?;
@@ -151,7 +161,8 @@ fn open_abs_theorem(
     requires rep { rep < length terms.old.terms }
     requires typed { TurnsBack (type_at terms.old.types v.now.ty) (tm_at terms.old.terms rep) (tm_at terms.old.terms abs) }
     ensures derives { Derives result (within_limit numbers (stated numbers (equation numbers (type_at terms.old.types v.now.ty)
-        (trip (tm_at terms.old.terms rep) (tm_at terms.old.terms abs) (variable_of terms.old.types v.now)) (Free (variable_of terms.old.types v.now))))) terms.new.terms }
+        (trip (tm_at terms.old.terms rep) (tm_at terms.old.terms abs) (variable_of terms.old.types v.now))
+        (Free (variable_of terms.old.types v.now))))) terms.new.terms }
     ensures grown { IsGrownBy v.now.name terms.old terms.new }
 {
     let (x, image) = round_trip(terms, v, rep, abs)?;
@@ -176,9 +187,14 @@ fn open_rep_theorem(
     requires rep { rep < length terms.old.terms }
     requires p { p < length terms.old.terms }
     requires typed { TurnsBack (type_at terms.old.types v.now.ty) (tm_at terms.old.terms abs) (tm_at terms.old.terms rep) }
-    requires predicate { HasType numbers (tm_at terms.old.terms p) (fun_ty numbers (type_at terms.old.types v.now.ty) (bool_ty numbers)) }
-    ensures derives { Derives result (within_limit numbers (stated numbers (equation numbers (bool_ty numbers) (App (tm_at terms.old.terms p) (Free (variable_of terms.old.types v.now)))
-        (equation numbers (type_at terms.old.types v.now.ty) (trip (tm_at terms.old.terms abs) (tm_at terms.old.terms rep) (variable_of terms.old.types v.now)) (Free (variable_of terms.old.types v.now)))))) terms.new.terms }
+    requires predicate { HasType numbers (tm_at terms.old.terms p)
+        (fun_ty numbers (type_at terms.old.types v.now.ty) (bool_ty numbers)) }
+    ensures derives { Derives result (within_limit numbers
+        (stated numbers (equation numbers (bool_ty numbers)
+        (App (tm_at terms.old.terms p) (Free (variable_of terms.old.types v.now)))
+        (equation numbers (type_at terms.old.types v.now.ty)
+        (trip (tm_at terms.old.terms abs) (tm_at terms.old.terms rep) (variable_of terms.old.types v.now))
+        (Free (variable_of terms.old.types v.now)))))) terms.new.terms }
     ensures grown { IsGrownBy v.now.name terms.old terms.new }
 {
     let (x, image) = round_trip(terms, v, abs, rep)?;

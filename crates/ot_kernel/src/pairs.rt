@@ -17,7 +17,8 @@ impl Kernel {
         requires name { name < length self.now.names }
         requires ty { ty < length self.now.types }
         requires fits { AreTypePairs self.now s.old }
-        ensures ok { OnOk result (type_pairs self.now s.new ≡ with_type (type_pairs self.now s.old) (name_at self.now name) (type_at self.now ty)) }
+        ensures ok { OnOk result (type_pairs self.now s.new
+            ≡ with_type (type_pairs self.now s.old) (name_at self.now name) (type_at self.now ty)) }
         ensures err { OnErr result (s.new ≡ s.old) }
         ensures fits { AreTypePairs self.now s.new }
     {
@@ -26,15 +27,17 @@ impl Kernel {
         s.add(name, ty)
     }
 
-    /// Adds a variable and its term to a substitution, where the term has the variable's type; whether it has. A variable
-    /// that has a term keeps it.
+    /// Adds a variable and its term to a substitution, where the term has the variable's type; whether it has. A
+    /// variable that has a term keeps it.
     pub fn add_term(&self, s: &mut Subst, v: VarKey, t: TermId) -> Result<bool, Memory>
         requires name { v.name < length self.now.names }
         requires ty { v.ty < length self.now.types }
         requires t { t < length self.now.terms }
         requires fits { IsSubstIn self.now s.old }
         ensures typed { IfOk result (λ b. b ≡ has_type names (term_at self.now t) (type_at self.now v.ty)) }
-        ensures pairs { IfOk result (λ b. term_pairs self.now s.new ≡ (if b then with_term (term_pairs self.now s.old) (variable_at self.now v) (term_at self.now t) else term_pairs self.now s.old)) }
+        ensures pairs { IfOk result (λ b. term_pairs self.now s.new
+            ≡ (if b then with_term (term_pairs self.now s.old) (variable_at self.now v) (term_at self.now t) else
+            term_pairs self.now s.old)) }
         ensures types { s.new.types ≡ s.old.types }
         ensures err { OnErr result (s.new ≡ s.old) }
         ensures fits { IsSubstIn self.now s.new }

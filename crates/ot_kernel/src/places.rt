@@ -64,10 +64,12 @@ impl Places {
 }
 
 impl Kernel {
-    /// A place in a list before which no term is this one up to the names of binders; none where no term of the list is.
+    /// A place in a list before which no term is this one up to the names of binders; none where no term of the list
+    /// is.
     pub fn place_of(&self, places: &Places, term: TermId) -> Option<usize>
         requires { term < length self.now.terms }
-        ensures { (ps : List (Tm NameValue)) → AreFirstPlaces self.now ps places.now → IsFirstPlace ps (term_at self.now term) result }
+        ensures { (ps : List (Tm NameValue)) → AreFirstPlaces self.now ps places.now
+            → IsFirstPlace ps (term_at self.now term) result }
     {
         places.get(self.terms.class(term))
     }
@@ -75,8 +77,10 @@ impl Kernel {
     /// Notes the term that comes next in a list, at its place. The list without it is found as before.
     pub fn note_term(&self, places: &mut Places, term: TermId, place: usize) -> Result<(), Memory>
         requires { term < length self.now.terms }
-        ensures more { OnOk result ((ps : List (Tm NameValue)) → length ps ≡ place → AreFirstPlaces self.now ps places.old → AreFirstPlaces self.now (ps ++ term_at self.now term ∷ []) places.new) }
-        ensures still { OnOk result ((ps : List (Tm NameValue)) → length ps ≡ place → AreFirstPlaces self.now ps places.old → AreFirstPlaces self.now ps places.new) }
+        ensures more { OnOk result ((ps : List (Tm NameValue)) → length ps ≡ place → AreFirstPlaces self.now ps
+            places.old → AreFirstPlaces self.now (ps ++ term_at self.now term ∷ []) places.new) }
+        ensures still { OnOk result ((ps : List (Tm NameValue)) → length ps ≡ place → AreFirstPlaces self.now ps places.old
+            → AreFirstPlaces self.now ps places.new) }
         ensures err { OnErr result (places.new ≡ places.old) }
     {
         places.note(self.terms.class(term), place)?;

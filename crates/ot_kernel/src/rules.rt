@@ -1,7 +1,8 @@
 //! The rules by which theorems are made. Each gives the sequent of its rule, or its one refusal.
 ghost use Rattle.std.specs.Prelude.{◌<◌, length};
 ghost use Rattle.ot_plain.specs.Naming.{names};
-ghost use Rattle.ot_plain.specs.Rules.{refl_rule, eq_mp_rule, abs_thm_rule, app_thm_rule, deduct_antisym_rule, beta_conv_rule, subst_rule, sym_rule, trans_rule, prove_hyp_rule};
+ghost use Rattle.ot_plain.specs.Rules.{refl_rule, eq_mp_rule, abs_thm_rule, app_thm_rule, deduct_antisym_rule};
+ghost use Rattle.ot_plain.specs.Rules.{beta_conv_rule, subst_rule, sym_rule, trans_rule, prove_hyp_rule};
 ghost use Rattle.ot_kernel.specs.State.{variable_at, term_at, theorem_at, Keeps, SameBasis};
 ghost use Rattle.ot_kernel.specs.Answers.{Concludes};
 ghost use Rattle.ot_kernel.specs.Pairs.{type_pairs, term_pairs, IsSubstIn};
@@ -25,11 +26,13 @@ impl Kernel {
         self.derived(theorem)
     }
 
-    /// From G |- p = q (lower) and D |- p (top), q under both. The first refusal counts: `NotEquation`, `NotAlphaEqual`.
+    /// From G |- p = q (lower) and D |- p (top), q under both. The first refusal counts: `NotEquation`,
+    /// `NotAlphaEqual`.
     pub fn eq_mp(&mut self, lower: ThmId, top: ThmId) -> Result<ThmId, RuleFault>
         requires lower { lower < length self.old.theorems }
         requires top { top < length self.old.theorems }
-        ensures concludes { Concludes result (eq_mp_rule names (theorem_at self.old lower) (theorem_at self.old top)) self.old self.new }
+        ensures concludes { Concludes result (eq_mp_rule names (theorem_at self.old lower) (theorem_at self.old top))
+            self.old self.new }
         ensures keeps { Keeps self.old self.new }
         ensures same { SameBasis self.old self.new }
     {
@@ -48,7 +51,8 @@ impl Kernel {
         requires name { v.name < length self.old.names }
         requires ty { v.ty < length self.old.types }
         requires th { th < length self.old.theorems }
-        ensures concludes { Concludes result (abs_thm_rule names (variable_at self.old v) (theorem_at self.old th)) self.old self.new }
+        ensures concludes { Concludes result (abs_thm_rule names (variable_at self.old v) (theorem_at self.old th))
+            self.old self.new }
         ensures keeps { Keeps self.old self.new }
         ensures same { SameBasis self.old self.new }
     {
@@ -61,7 +65,8 @@ impl Kernel {
     pub fn app_thm(&mut self, lower: ThmId, top: ThmId) -> Result<ThmId, RuleFault>
         requires lower { lower < length self.old.theorems }
         requires top { top < length self.old.theorems }
-        ensures concludes { Concludes result (app_thm_rule names (theorem_at self.old lower) (theorem_at self.old top)) self.old self.new }
+        ensures concludes { Concludes result (app_thm_rule names (theorem_at self.old lower) (theorem_at self.old top)) self.old
+            self.new }
         ensures keeps { Keeps self.old self.new }
         ensures same { SameBasis self.old self.new }
     {
@@ -79,7 +84,8 @@ impl Kernel {
     pub fn deduct_antisym(&mut self, lower: ThmId, top: ThmId) -> Result<ThmId, RuleFault>
         requires lower { lower < length self.old.theorems }
         requires top { top < length self.old.theorems }
-        ensures concludes { Concludes result (deduct_antisym_rule names (theorem_at self.old lower) (theorem_at self.old top)) self.old self.new }
+        ensures concludes { Concludes result (deduct_antisym_rule names (theorem_at self.old lower) (theorem_at self.old top))
+            self.old self.new }
         ensures keeps { Keeps self.old self.new }
         ensures same { SameBasis self.old self.new }
     {
@@ -109,11 +115,13 @@ impl Kernel {
         self.derived(theorem)
     }
 
-    /// The theorem with the substitution put into its hypotheses and its conclusion. `Nesting` where it would pass the limit.
+    /// The theorem with the substitution put into its hypotheses and its conclusion. `Nesting` where it would pass
+    /// the limit.
     pub fn subst(&mut self, s: &Subst, th: ThmId) -> Result<ThmId, RuleFault>
         requires subst { IsSubstIn self.old s.now }
         requires th { th < length self.old.theorems }
-        ensures concludes { Concludes result (subst_rule names (type_pairs self.old s.now.types) (term_pairs self.old s.now) (theorem_at self.old th)) self.old self.new }
+        ensures concludes { Concludes result (subst_rule names (type_pairs self.old s.now.types) (term_pairs self.old s.now)
+            (theorem_at self.old th)) self.old self.new }
         ensures keeps { Keeps self.old self.new }
         ensures same { SameBasis self.old self.new }
     {
@@ -144,7 +152,8 @@ impl Kernel {
     pub fn trans(&mut self, lower: ThmId, top: ThmId) -> Result<ThmId, RuleFault>
         requires lower { lower < length self.old.theorems }
         requires top { top < length self.old.theorems }
-        ensures concludes { Concludes result (trans_rule names (theorem_at self.old lower) (theorem_at self.old top)) self.old self.new }
+        ensures concludes { Concludes result (trans_rule names (theorem_at self.old lower) (theorem_at self.old top))
+            self.old self.new }
         ensures keeps { Keeps self.old self.new }
         ensures same { SameBasis self.old self.new }
     {
@@ -162,7 +171,8 @@ impl Kernel {
     pub fn prove_hyp(&mut self, lower: ThmId, top: ThmId) -> Result<ThmId, RuleFault>
         requires lower { lower < length self.old.theorems }
         requires top { top < length self.old.theorems }
-        ensures concludes { Concludes result (prove_hyp_rule names (theorem_at self.old lower) (theorem_at self.old top)) self.old self.new }
+        ensures concludes { Concludes result (prove_hyp_rule names (theorem_at self.old lower) (theorem_at self.old top)) self.old
+            self.new }
         ensures keeps { Keeps self.old self.new }
         ensures same { SameBasis self.old self.new }
     {

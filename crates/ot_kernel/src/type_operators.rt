@@ -45,7 +45,9 @@ impl Kernel {
         requires rep { rep < length self.old.names }
         requires vars { All (λ n. n < length self.old.names) vars.now }
         requires th { th < length self.old.theorems }
-        ensures defines { DefinesType result (type_definition name_alphabet self.old.definitions (name_at self.old name) (name_at self.old abs) (name_at self.old rep) (map (name_at self.old) vars.now) (theorem_at self.old th)) self.old self.new }
+        ensures defines { DefinesType result
+            (type_definition name_alphabet self.old.definitions (name_at self.old name) (name_at self.old abs)
+            (name_at self.old rep) (map (name_at self.old) vars.now) (theorem_at self.old th)) self.old self.new }
         ensures symbols { IfErr result (IsSymbolIn (length self.new.names)) }
         ensures keeps { Keeps self.old self.new }
     {
@@ -70,9 +72,16 @@ impl Kernel {
         requires rep { rep < length self.now.names }
         requires vars { All (λ n. n < length self.now.names) vars.now }
         requires th { th < length self.now.theorems }
-        ensures passed { OnOk result (checked_type name_alphabet (all_defined name_alphabet self.now.definitions) (all_used name_alphabet self.now.definitions) (name_at self.now name) (name_at self.now abs) (name_at self.now rep) (map (name_at self.now) vars.now) (theorem_at self.now th) ≡ Ok tt) }
-        ensures next { OnOk result (IsNext name_alphabet self.now.assumptions self.now.definitions (TyDef (name_at self.now name) (name_at self.now abs) (name_at self.now rep) (map (name_at self.now) vars.now) (theorem_at self.now th))) }
-        ensures refused { IfErr result (λ e. RefusesBy (name_at self.now) e (type_definition name_alphabet self.now.definitions (name_at self.now name) (name_at self.now abs) (name_at self.now rep) (map (name_at self.now) vars.now) (theorem_at self.now th))) }
+        ensures passed { OnOk result (checked_type name_alphabet (all_defined name_alphabet self.now.definitions)
+            (all_used name_alphabet self.now.definitions) (name_at self.now name) (name_at self.now abs)
+            (name_at self.now rep) (map (name_at self.now) vars.now) (theorem_at self.now th) ≡ Ok tt) }
+        ensures next { OnOk result
+            (IsNext name_alphabet self.now.assumptions self.now.definitions
+            (TyDef (name_at self.now name) (name_at self.now abs) (name_at self.now rep)
+            (map (name_at self.now) vars.now) (theorem_at self.now th))) }
+        ensures refused { IfErr result (λ e. RefusesBy (name_at self.now) e
+            (type_definition name_alphabet self.now.definitions (name_at self.now name) (name_at self.now abs)
+            (name_at self.now rep) (map (name_at self.now) vars.now) (theorem_at self.now th))) }
         ensures symbols { IfErr result (IsSymbolIn (length self.now.names)) }
     {
         let theorem = &self.theorems[th.0];
@@ -109,15 +118,24 @@ impl Kernel {
         requires premise { premise < length self.old.theorems }
         requires first { IsInside (length self.old.terms) both.0 }
         requires second { IsInside (length self.old.terms) both.1 }
-        requires next { IsNext name_alphabet self.old.assumptions self.old.definitions (TyDef (name_at self.old name) (name_at self.old abs) (name_at self.old rep) (map (name_at self.old) vars.now) (theorem_at self.old premise)) }
+        requires next { IsNext name_alphabet self.old.assumptions self.old.definitions
+            (TyDef (name_at self.old name) (name_at self.old abs) (name_at self.old rep)
+            (map (name_at self.old) vars.now) (theorem_at self.old premise)) }
         requires theorems { sequent_of self.old.terms both.0 ∷ sequent_of self.old.terms both.1 ∷ []
-            ≡ theorems name_alphabet (TyDef (name_at self.old name) (name_at self.old abs) (name_at self.old rep) (map (name_at self.old) vars.now) (theorem_at self.old premise)) }
+            ≡ theorems name_alphabet (TyDef (name_at self.old name) (name_at self.old abs) (name_at self.old rep)
+            (map (name_at self.old) vars.now) (theorem_at self.old premise)) }
         requires further { All (IsInside (length self.old.terms)) further.items }
-        requires follow { let d = TyDef (name_at self.old name) (name_at self.old abs) (name_at self.old rep) (map (name_at self.old) vars.now) (theorem_at self.old premise) in
-            All (IsTheorem name_alphabet self.old.assumptions (self.old.definitions ++ d ∷ [])) (theorems name_alphabet d)
-            → All (IsTheorem name_alphabet self.old.assumptions (self.old.definitions ++ d ∷ [])) (map (sequent_of self.old.terms) further.items) }
+        requires follow { let d = TyDef (name_at self.old name) (name_at self.old abs) (name_at self.old rep)
+            (map (name_at self.old) vars.now) (theorem_at self.old premise) in
+            All (IsTheorem name_alphabet self.old.assumptions (self.old.definitions ++ d ∷ []))
+            (theorems name_alphabet d)
+            → All (IsTheorem name_alphabet self.old.assumptions (self.old.definitions ++ d ∷ []))
+            (map (sequent_of self.old.terms) further.items) }
         ensures ok { IfOk result (λ ids. (ids.0 ≡ length self.old.theorems) × (ids.1 ≡ suc (length self.old.theorems))
-            × (self.new ≡ defining_more self.old (TyDef (name_at self.old name) (name_at self.old abs) (name_at self.old rep) (map (name_at self.old) vars.now) (theorem_at self.old premise)) (map (sequent_of self.old.terms) further.items))) }
+            × (self.new ≡ defining_more self.old
+            (TyDef (name_at self.old name) (name_at self.old abs) (name_at self.old rep)
+            (map (name_at self.old) vars.now) (theorem_at self.old premise))
+            (map (sequent_of self.old.terms) further.items))) }
         ensures err { IfErr result (λ e. (self.new ≡ self.old) × (e ≡ RuleFault.Memory)) }
     {
         let abs_th = ThmId(self.theorems.len());
@@ -168,7 +186,8 @@ pub(crate) fn operator_theorems(
 ) -> Result<(Theorem, Theorem), RuleFault>
     requires inside { premise < length terms.old.terms }
     requires premise { IsPremise numbers (tm_at terms.old.terms premise) }
-    ensures derives { DerivesBoth result (theorems_at numbers op abs rep vars.now (tm_at terms.old.terms premise)) terms.new.terms }
+    ensures derives { DerivesBoth result (theorems_at numbers op abs rep vars.now (tm_at terms.old.terms premise))
+        terms.new.terms }
     ensures grown { IsGrownTo (bound_of_names (4 ∷ op ∷ abs ∷ rep ∷ vars.now)) terms.old terms.new }
 {
     let (p, u) = parts(terms, premise);

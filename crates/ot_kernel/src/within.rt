@@ -41,7 +41,8 @@ impl Kernel {
     /// Whether these are all propositions. Every number stands for what it stood for.
     pub fn are_propositions(&mut self, ts: &[TermId]) -> Result<bool, Memory>
         requires { All (λ i. i < length self.old.terms) ts.now }
-        ensures are { IfOk result (λ b. b ≡ list_all (λ t. has_type names t (bool_ty names)) (terms_at self.old ts.now)) }
+        ensures are { IfOk result
+            (λ b. b ≡ list_all (λ t. has_type names t (bool_ty names)) (terms_at self.old ts.now)) }
         ensures keeps { Keeps self.old self.new }
         ensures same { SameTheorems self.old self.new }
     {

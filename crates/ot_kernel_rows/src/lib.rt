@@ -1,5 +1,6 @@
-//! Worked rows of the tables, of the kernel, and of what stands on it or on files: their public calls, tried against values from
-//! outside. These are the formats' own examples, or worked by hand. The crate is tests alone: it has no code of its own.
+//! Worked rows of the tables, of the kernel, and of what stands on it or on files: their public calls, tried against
+//! values from outside. These are the formats' own examples, or worked by hand. The crate is tests alone: it has no
+//! code of its own.
 #![tactic(auto)]
 
 #[cfg(test)]

@@ -49,18 +49,16 @@ fn end_of(answer: &Result<Vec<Export>, LinkFault>, session: &Session) -> End {
     }
 }
 
-/// The path of a fault.
-fn path_of(answer: &Result<Vec<Export>, LinkFault>) -> &str {
+/// Whether this is the path of a fault, or empty where there is none.
+fn is_at(answer: &Result<Vec<Export>, LinkFault>, wanted: &str) -> bool {
     match answer {
-        Err(
-            LinkFault::Article { path, .. }
-            | LinkFault::Theory { path, .. }
-            | LinkFault::Structure { path, .. }
-            | LinkFault::TheoryTooLarge { path }
-            | LinkFault::NoFile { path }
-            | LinkFault::ReadFault { path },
-        ) => path.as_str(),
-        Ok(_) | Err(LinkFault::Memory) => "",
+        Err(LinkFault::Article { path, .. }) => path.as_str() == wanted,
+        Err(LinkFault::Theory { path, .. }) => path.as_str() == wanted,
+        Err(LinkFault::Structure { path, .. }) => path.as_str() == wanted,
+        Err(LinkFault::TheoryTooLarge { path }) => path.as_str() == wanted,
+        Err(LinkFault::NoFile { path }) => path.as_str() == wanted,
+        Err(LinkFault::ReadFault { path }) => path.as_str() == wanted,
+        Ok(_) | Err(LinkFault::Memory) => wanted.is_empty(),
     }
 }
 
@@ -99,7 +97,7 @@ fn ends_over(
 {
     let mut session = Session::new(alloc)?;
     let result = link(alloc, &mut session, files, input, "packages", limits);
-    Ok(end_of(&result, &session) == end && path_of(&result) == path)
+    Ok(end_of(&result, &session) == end && is_at(&result, path))
 }
 
 #[test]

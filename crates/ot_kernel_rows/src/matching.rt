@@ -38,16 +38,32 @@ fn application(alloc: Global, function: Tm, argument: Tm) -> Result<Tm, AllocErr
     Ok(Tm::App(Box::new(alloc, function)?, Box::new(alloc, argument)?))
 }
 
-/// A free variable of type A -> A -> A of two others of type A.
+// No more than one part is owned where the next may be refused, so that few refusals have to drop any.
+fn unary(alloc: Global) -> Result<Ty, AllocError> {
+    let result = type_variable(alloc, b"A")?;
+    arrow(alloc, type_variable(alloc, b"A")?, result)
+}
+
+fn binary(alloc: Global) -> Result<Ty, AllocError> {
+    let result = unary(alloc)?;
+    arrow(alloc, type_variable(alloc, b"A")?, result)
+}
+
+/// A free variable of type A.
+fn letter(alloc: Global, name: &[u8]) -> Result<Tm, AllocError> {
+    variable(alloc, name, type_variable(alloc, b"A")?)
+}
+
+/// A free variable of type A -> A -> A of one of type A.
+fn of_one(alloc: Global, argument: &[u8]) -> Result<Tm, AllocError> {
+    let function = variable(alloc, b"g", binary(alloc)?)?;
+    application(alloc, function, letter(alloc, argument)?)
+}
+
+/// The same of two.
 fn of_two(alloc: Global, left: &[u8], right: &[u8]) -> Result<Tm, AllocError> {
-    let one = type_variable(alloc, b"A")?;
-    let unary = arrow(alloc, type_variable(alloc, b"A")?, one)?;
-    let binary = arrow(alloc, type_variable(alloc, b"A")?, unary)?;
-    let function = variable(alloc, b"g", binary)?;
-    let left = variable(alloc, left, type_variable(alloc, b"A")?)?;
-    let right = variable(alloc, right, type_variable(alloc, b"A")?)?;
-    let part = application(alloc, function, left)?;
-    application(alloc, part, right)
+    let part = of_one(alloc, left)?;
+    application(alloc, part, letter(alloc, right)?)
 }
 
 /// How many types and terms the match has, if there is one.
@@ -96,7 +112,7 @@ struct Patterns {
 }
 
 fn make_any(alloc: Global) -> Result<Tm, AllocError> {
-    variable(alloc, b"x", type_variable(alloc, b"A")?)
+    letter(alloc, b"x")
 }
 
 fn make_inner(alloc: Global) -> Result<Tm, AllocError> {

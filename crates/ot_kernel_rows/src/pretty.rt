@@ -88,8 +88,8 @@ fn check_applied(
     Ok(())
 }
 
-/// Appends a theorem's text without shown namespaces and with the namespace of truth values shown, a line each, and gives how
-/// many symbols a run with this export has.
+/// Appends a theorem's text without shown namespaces and with the namespace of truth values shown, a line each, and
+/// gives how many symbols a run with this export has.
 fn append(alloc: Global, kernel: &Kernel, th: ThmId, out: &mut Vec<u8>) -> Result<usize, Fail>
     requires { th < length kernel.now.theorems }
 {

@@ -1,5 +1,6 @@
 ghost use Rattle.std.specs.Prelude.{◌≡◌, ◌≤◌, length, MatchOption};
-ghost use Rattle.ot_lines.specs.Pieces.{IsOpenTo, EndsAt, OneCut, text_of, is_skipped, is_blank, without_last, trim_front, trim_back};
+ghost use Rattle.ot_lines.specs.Pieces.{IsOpenTo, EndsAt, OneCut, text_of, is_skipped, is_blank, without_last};
+ghost use Rattle.ot_lines.specs.Pieces.{trim_front, trim_back};
 
 /// How long the first piece is, its newline counted, where the newline is among the bytes. None of
 /// the first `searched` is a newline.
@@ -51,8 +52,8 @@ pub fn is_skipped(text: &[u8]) -> bool
     matches!(text, [] | [b'#', ..])
 }
 
-/// Whether the line that a piece holds is passed over, by the article format. Where the piece begins with a byte above `#`,
-/// its text does too, and isn't cut out to be asked.
+/// Whether the line that a piece holds is passed over, by the article format. Where the piece begins with a byte
+/// above `#`, its text does too, and isn't cut out to be asked.
 pub fn is_passed_over(piece: &[u8]) -> bool
     ensures { result ≡ is_skipped (text_of piece.now) }
 {

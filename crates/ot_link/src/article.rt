@@ -10,7 +10,8 @@ ghost use Rattle.ot_machine.specs.Run.{run};
 ghost use Rattle.ot_machine.specs.Answers.{NamesSymbolIn as NamesSymbolInArticle};
 ghost use Rattle.ot_link.specs.Blocks.{article_end, run_article};
 ghost use Rattle.ot_link.specs.Stops.{answered_by};
-ghost use Rattle.ot_link.specs.Answers.{AreWithin, setting_of, Comes, ran_of, EndsAs, AreExportsIn, NamesSymbolIn, HasCause, IsOfArticle, HasFailed};
+ghost use Rattle.ot_link.specs.Answers.{AreWithin, setting_of, Comes, ran_of, EndsAs, AreExportsIn, NamesSymbolIn};
+ghost use Rattle.ot_link.specs.Answers.{HasCause, IsOfArticle, HasFailed};
 ghost use Rattle.ot_link.specs.Lawful.{IsLawfulSession, IsLawfulContext, AreLawfulOnce, StaysLawful};
 
 use crate::fault::LinkFault;
@@ -35,15 +36,18 @@ pub(crate) fn run_article<F: Files>(
     requires context { IsContextOf session.old context.now }
     requires lawful_context { IsLawfulContext session.old context.now }
     requires limit { setting.limits.now.article_bytes ≤ 2 ^ 32 }
-    ensures comes { (folder : Folder) → F.folder files.old ≡ Some folder → Comes session.new.kernel (ran_of session.new) result
-        (run_article (setting_of folder setting.entry) (string_bytes path) (context_of session.old context.now) (run_of session.old)) }
+    ensures comes { (folder : Folder) → F.folder files.old ≡ Some folder
+        → Comes session.new.kernel (ran_of session.new) result
+        (run_article (setting_of folder setting.entry) (string_bytes path) (context_of session.old context.now)
+        (run_of session.old)) }
     ensures exports { IfOk result (AreExportsIn session.new) }
     ensures symbols { IfErr result (NamesSymbolIn session.new.kernel) }
     ensures grown { Grows session.old session.new }
     ensures session { IsRun session.new }
     ensures lawful { StaysLawful session.old session.new }
     ensures lawful_exports { IfOk result (λ exports. AreLawfulOnce session.new exports.items) }
-    ensures cause { IfErr result (λ e. HasCause e (F.misses files.old) (F.misses files.new) (F.faults files.old) (F.faults files.new) (F.at files.new)) }
+    ensures cause { IfErr result (λ e. HasCause e (F.misses files.old) (F.misses files.new) (F.faults files.old)
+        (F.faults files.new) (F.at files.new)) }
     ensures later { (F.faults files.old ≤ F.faults files.new) × (F.misses files.old ≤ F.misses files.new) }
     ensures folder { F.folder files.new ≡ F.folder files.old }
 {
@@ -54,14 +58,16 @@ pub(crate) fn run_article<F: Files>(
     }
 }
 
-/// Runs the article of a path that a source has left by itself, and gives its exports: its symbols have the names that it
-/// gives them, and no theorem comes from elsewhere. The session is fresh, and the limits are at most those of the program.
+/// Runs the article of a path that a source has left by itself, and gives its exports: its symbols have the names
+/// that it gives them, and no theorem comes from elsewhere. The session is fresh, and the limits are at most those of
+/// the program.
 ///
 /// - `Article`: the first fault of the article, with this path and its line.
 /// - `ReadFault`: only where the source failed in this call.
 /// - `Memory`: free. No other fault is answered.
 ///
-/// Each assumption, definition and export is what its origin makes, and each name in an origin is one that a line can say.
+/// Each assumption, definition and export is what its origin makes, and each name in an origin is one that a line can
+/// say.
 pub fn run_alone<S: Source>(
     alloc: Global,
     session: &mut Session,
@@ -73,7 +79,10 @@ pub fn run_alone<S: Source>(
     requires fresh { run_of session.old ≡ fresh_run }
     requires limits { AreWithin limits.now }
     ensures ends { IfSome (S.left source.old) (λ bytes. Comes session.new.kernel (ran_of session.new) result
-        (answered_by (string_bytes path) (article_end (string_bytes path) (run no_context (lines_of limits.now.article_bytes bytes) (record { article = fresh_article; run = fresh_run }))))) }
+        (answered_by (string_bytes path)
+        (article_end (string_bytes path)
+        (run no_context (lines_of limits.now.article_bytes bytes)
+        (record { article = fresh_article; run = fresh_run }))))) }
     ensures own { IfErr result (IsOfArticle (string_bytes path)) }
     ensures session { IsRun session.new }
     ensures lawful { IsLawfulSession session.new }
@@ -115,8 +124,12 @@ fn run_named<S: Source>(
     requires context { IsContextOf session.old context.now }
     requires lawful_context { IsLawfulContext session.old context.now }
     requires limit { setting.limits.now.article_bytes ≤ 2 ^ 32 }
-    ensures ends { (bytes : List ℕ) → S.left source.old ≡ Some bytes → Comes session.new.kernel (ran_of session.new) result
-        (answered_by (string_bytes path) (article_end (string_bytes path) (run (context_of session.old context.now) (lines_of setting.entry.limits.now.article_bytes bytes) (record { article = fresh_article; run = run_of session.old })))) }
+    ensures ends { (bytes : List ℕ) → S.left source.old ≡ Some bytes
+        → Comes session.new.kernel (ran_of session.new) result
+        (answered_by (string_bytes path)
+        (article_end (string_bytes path)
+        (run (context_of session.old context.now) (lines_of setting.entry.limits.now.article_bytes bytes)
+        (record { article = fresh_article; run = run_of session.old })))) }
     ensures own { IfErr result (IsOfArticle (string_bytes path)) }
     ensures exports { IfOk result (AreExportsIn session.new) }
     ensures symbols { IfErr result (NamesSymbolIn session.new.kernel) }
@@ -151,7 +164,8 @@ fn run_source<S: Source>(
     requires lawful_context { IsLawfulContext session.old context.now }
     requires limit { setting.limits.now.article_bytes ≤ 2 ^ 32 }
     ensures ends { IfSome (S.left source.old) (λ bytes. EndsAs session.new result
-        (run (context_of session.old context.now) (lines_of setting.entry.limits.now.article_bytes bytes) (record { article = fresh_article; run = run_of session.old }))) }
+        (run (context_of session.old context.now) (lines_of setting.entry.limits.now.article_bytes bytes)
+        (record { article = fresh_article; run = run_of session.old }))) }
     ensures exports { IfOk result (AreExportsIn session.new) }
     ensures symbols { IfErr result (NamesSymbolInArticle session.new.kernel) }
     ensures apart { (line : ℕ) → result ≢ Err (ArticleFault.At line Fault.Memory) }

@@ -1,5 +1,6 @@
 // Blocks, theory files and packages as they are run.
-ghost use Rattle.std.specs.Prelude.{◌≡◌, ◌≤◌, ◌<◌, ◌++◌, ◌∷◌, ℕ, [], Some, true, map, codes, length, position, slice_get, slice_index_or, IfOk, IfErr, string_bytes};
+ghost use Rattle.std.specs.Prelude.{◌≡◌, ◌≤◌, ◌<◌, ◌++◌, ◌∷◌, ℕ, [], Some, true, map, codes, length, position};
+ghost use Rattle.std.specs.Prelude.{slice_get, slice_index_or, IfOk, IfErr, string_bytes};
 ghost use Rattle.std.specs.List.{All, list_any};
 ghost use Rattle.std.specs.Str.{bytes_eq};
 ghost use Rattle.ot_io.specs.Folder.{Folder};
@@ -13,7 +14,8 @@ ghost use Rattle.ot_link.specs.Link.{imported, run_at, run_planned, run_file};
 ghost use Rattle.ot_link.specs.Answers.{AreWithin, setting_of, Comes, ran_of, AreExportsIn, NamesSymbolIn, HasCause};
 ghost use Rattle.ot_link.specs.Holding.{held_at, held_of, done_of};
 ghost use Rattle.ot_link.specs.Running.{chain_of, first_source, opener_of, source_value, IsRunnable, IsSourceRight};
-ghost use Rattle.ot_link.specs.Lawful.{IsLawfulSession, IsLawfulContext, AreLawfulExports, AreLawfulOnce, StaysLawful};
+ghost use Rattle.ot_link.specs.Lawful.{IsLawfulSession, IsLawfulContext, AreLawfulExports, AreLawfulOnce};
+ghost use Rattle.ot_link.specs.Lawful.{StaysLawful};
 
 use crate::article::run_article;
 use crate::exports::{each_once, given_to, imported};
@@ -111,7 +113,8 @@ fn main_exports(
     blocks: &[Block<'_>],
     done: &HashMap<usize, Vec<Export>>,
 ) -> Result<Vec<Export>, Memory>
-    ensures { IfOk result (λ exports. exports.items ≡ held_of done.now (position (λ b. bytes_eq b.name.now (codes "main")) blocks.now)) }
+    ensures { IfOk result (λ exports. exports.items
+        ≡ held_of done.now (position (λ b. bytes_eq b.name.now (codes "main")) blocks.now)) }
 {
     match main_place(blocks) {
         Some(place) => imported(alloc, done, &[place]),
@@ -138,16 +141,20 @@ fn run_source<'x, F: Files>(
     requires source { IsSourceRight (source_value source) }
     requires imports { All (IsExportIn session.old) imports.now }
     requires lawful_imports { AreLawfulExports session.old imports.now }
-    ensures comes { (folder : Folder) → F.folder files.old ≡ Some folder → Comes session.new.kernel (ran_of session.new) result
-        (run_source (setting_of folder setting.entry) (opener_of (setting_of folder setting.entry) file.now) (string_bytes file.now.path)
-        (map (export_of session.old) imports.now) (source_value source.entry) (context_of session.old context.now) (run_of session.old)) }
+    ensures comes { (folder : Folder) → F.folder files.old ≡ Some folder
+        → Comes session.new.kernel (ran_of session.new) result
+        (run_source (setting_of folder setting.entry) (opener_of (setting_of folder setting.entry) file.now)
+        (string_bytes file.now.path)
+        (map (export_of session.old) imports.now) (source_value source.entry) (context_of session.old context.now)
+        (run_of session.old)) }
     ensures exports { IfOk result (AreExportsIn session.new) }
     ensures symbols { IfErr result (NamesSymbolIn session.new.kernel) }
     ensures grown { Grows session.old session.new }
     ensures session { IsRun session.new }
     ensures lawful { StaysLawful session.old session.new }
     ensures lawful_exports { IfOk result (λ exports. AreLawfulOnce session.new exports.items) }
-    ensures cause { IfErr result (λ e. HasCause e (F.misses files.old) (F.misses files.new) (F.faults files.old) (F.faults files.new) (F.at files.new)) }
+    ensures cause { IfErr result (λ e. HasCause e (F.misses files.old) (F.misses files.new) (F.faults files.old)
+        (F.faults files.new) (F.at files.new)) }
     ensures later { (F.faults files.old ≤ F.faults files.new) × (F.misses files.old ≤ F.misses files.new) }
     ensures folder { F.folder files.new ≡ F.folder files.old }
 {
@@ -183,15 +190,18 @@ fn open_package<'x, F: Files>(
     requires context { IsContextOf session.old context.now }
     requires lawful_context { IsLawfulContext session.old context.now }
     requires full { is_package full.now ≡ true }
-    ensures comes { (folder : Folder) → F.folder files.old ≡ Some folder → Comes session.new.kernel (ran_of session.new) result
-        (opener_of (setting_of folder setting.entry) file.now line full.now (context_of session.old context.now) (run_of session.old)) }
+    ensures comes { (folder : Folder) → F.folder files.old ≡ Some folder
+        → Comes session.new.kernel (ran_of session.new) result
+        (opener_of (setting_of folder setting.entry) file.now line full.now (context_of session.old context.now)
+        (run_of session.old)) }
     ensures exports { IfOk result (AreExportsIn session.new) }
     ensures symbols { IfErr result (NamesSymbolIn session.new.kernel) }
     ensures grown { Grows session.old session.new }
     ensures session { IsRun session.new }
     ensures lawful { StaysLawful session.old session.new }
     ensures lawful_exports { IfOk result (λ exports. AreLawfulOnce session.new exports.items) }
-    ensures cause { IfErr result (λ e. HasCause e (F.misses files.old) (F.misses files.new) (F.faults files.old) (F.faults files.new) (F.at files.new)) }
+    ensures cause { IfErr result (λ e. HasCause e (F.misses files.old) (F.misses files.new) (F.faults files.old)
+        (F.faults files.new) (F.at files.new)) }
     ensures later { (F.faults files.old ≤ F.faults files.new) × (F.misses files.old ≤ F.misses files.new) }
     ensures folder { F.folder files.new ≡ F.folder files.old }
 {
@@ -235,16 +245,20 @@ fn run_block<F: Files>(
     requires block { IsRunnable (block_of block.now) }
     requires imports { All (IsExportIn session.old) imports.now }
     requires lawful_imports { AreLawfulExports session.old imports.now }
-    ensures comes { (folder : Folder) → F.folder files.old ≡ Some folder → Comes session.new.kernel (ran_of session.new) result
-        (run_block (setting_of folder setting.entry) (opener_of (setting_of folder setting.entry) file.now) (string_bytes file.now.path)
-        (context_of session.old file.now.outer.now) (block_of block.now) (map (export_of session.old) imports.now) (run_of session.old)) }
+    ensures comes { (folder : Folder) → F.folder files.old ≡ Some folder
+        → Comes session.new.kernel (ran_of session.new) result
+        (run_block (setting_of folder setting.entry) (opener_of (setting_of folder setting.entry) file.now)
+        (string_bytes file.now.path)
+        (context_of session.old file.now.outer.now) (block_of block.now) (map (export_of session.old) imports.now)
+        (run_of session.old)) }
     ensures exports { IfOk result (AreExportsIn session.new) }
     ensures symbols { IfErr result (NamesSymbolIn session.new.kernel) }
     ensures grown { Grows session.old session.new }
     ensures session { IsRun session.new }
     ensures lawful { StaysLawful session.old session.new }
     ensures lawful_exports { IfOk result (λ exports. AreLawfulOnce session.new exports.items) }
-    ensures cause { IfErr result (λ e. HasCause e (F.misses files.old) (F.misses files.new) (F.faults files.old) (F.faults files.new) (F.at files.new)) }
+    ensures cause { IfErr result (λ e. HasCause e (F.misses files.old) (F.misses files.new) (F.faults files.old)
+        (F.faults files.new) (F.at files.new)) }
     ensures later { (F.faults files.old ≤ F.faults files.new) × (F.misses files.old ≤ F.misses files.new) }
     ensures folder { F.folder files.new ≡ F.folder files.old }
 {
@@ -291,9 +305,12 @@ fn run_next<F: Files>(
     requires blocks { All IsRunnable (blocks_of blocks.now) }
     requires done { (b : ℕ) → All (IsExportIn session.old) (held_at done.now b) }
     requires lawful_done { (b : ℕ) → AreLawfulOnce session.old (held_at done.now b) }
-    ensures comes { (folder : Folder) → F.folder files.old ≡ Some folder → Comes session.new.kernel (ran_of session.new) result
-        (run_at (setting_of folder setting.entry) (opener_of (setting_of folder setting.entry) file.now) (string_bytes file.now.path)
-        (context_of session.old file.now.outer.now) (imported (plan_of plan.now).imports (done_of session.old done.now) place)
+    ensures comes { (folder : Folder) → F.folder files.old ≡ Some folder
+        → Comes session.new.kernel (ran_of session.new) result
+        (run_at (setting_of folder setting.entry) (opener_of (setting_of folder setting.entry) file.now)
+        (string_bytes file.now.path)
+        (context_of session.old file.now.outer.now)
+        (imported (plan_of plan.now).imports (done_of session.old done.now) place)
         (slice_get (blocks_of blocks.now) place) (run_of session.old)) }
     ensures exports { IfOk result (AreExportsIn session.new) }
     ensures symbols { IfErr result (NamesSymbolIn session.new.kernel) }
@@ -301,7 +318,8 @@ fn run_next<F: Files>(
     ensures session { IsRun session.new }
     ensures lawful { StaysLawful session.old session.new }
     ensures lawful_exports { IfOk result (λ exports. AreLawfulOnce session.new exports.items) }
-    ensures cause { IfErr result (λ e. HasCause e (F.misses files.old) (F.misses files.new) (F.faults files.old) (F.faults files.new) (F.at files.new)) }
+    ensures cause { IfErr result (λ e. HasCause e (F.misses files.old) (F.misses files.new) (F.faults files.old)
+        (F.faults files.new) (F.at files.new)) }
     ensures later { (F.faults files.old ≤ F.faults files.new) × (F.misses files.old ≤ F.misses files.new) }
     ensures folder { F.folder files.new ≡ F.folder files.old }
 {
@@ -328,16 +346,20 @@ fn run_blocks<F: Files>(
     requires context { IsContextOf session.old file.now.outer.now }
     requires lawful_context { IsLawfulContext session.old file.now.outer.now }
     requires blocks { All IsRunnable (blocks_of blocks.now) }
-    ensures comes { (folder : Folder) → F.folder files.old ≡ Some folder → Comes session.new.kernel (ran_of session.new) result
-        (run_planned (setting_of folder setting.entry) (opener_of (setting_of folder setting.entry) file.now) (string_bytes file.now.path)
-        (context_of session.old file.now.outer.now) (run_of session.old) (record { blocks = blocks_of blocks.now; plan = plan_of plan.now })) }
+    ensures comes { (folder : Folder) → F.folder files.old ≡ Some folder
+        → Comes session.new.kernel (ran_of session.new) result
+        (run_planned (setting_of folder setting.entry) (opener_of (setting_of folder setting.entry) file.now)
+        (string_bytes file.now.path)
+        (context_of session.old file.now.outer.now) (run_of session.old)
+        (record { blocks = blocks_of blocks.now; plan = plan_of plan.now })) }
     ensures exports { IfOk result (AreExportsIn session.new) }
     ensures symbols { IfErr result (NamesSymbolIn session.new.kernel) }
     ensures grown { Grows session.old session.new }
     ensures session { IsRun session.new }
     ensures lawful { StaysLawful session.old session.new }
     ensures lawful_exports { IfOk result (λ exports. AreLawfulOnce session.new exports.items) }
-    ensures cause { IfErr result (λ e. HasCause e (F.misses files.old) (F.misses files.new) (F.faults files.old) (F.faults files.new) (F.at files.new)) }
+    ensures cause { IfErr result (λ e. HasCause e (F.misses files.old) (F.misses files.new) (F.faults files.old)
+        (F.faults files.new) (F.at files.new)) }
     ensures later { (F.faults files.old ≤ F.faults files.new) × (F.misses files.old ≤ F.misses files.new) }
     ensures folder { F.folder files.new ≡ F.folder files.old }
 {
@@ -364,8 +386,10 @@ pub(crate) fn link_file<F: Files>(
     requires lawful { IsLawfulSession session.old }
     requires context { IsContextOf session.old file.now.outer.now }
     requires lawful_context { IsLawfulContext session.old file.now.outer.now }
-    ensures comes { (folder : Folder) → F.folder files.old ≡ Some folder → Comes session.new.kernel (ran_of session.new) result
-        (run_file (setting_of folder setting.entry) (opener_of (setting_of folder setting.entry) file.now) (string_bytes file.now.path)
+    ensures comes { (folder : Folder) → F.folder files.old ≡ Some folder
+        → Comes session.new.kernel (ran_of session.new) result
+        (run_file (setting_of folder setting.entry) (opener_of (setting_of folder setting.entry) file.now)
+        (string_bytes file.now.path)
         (context_of session.old file.now.outer.now) (run_of session.old)) }
     ensures exports { IfOk result (AreExportsIn session.new) }
     ensures symbols { IfErr result (NamesSymbolIn session.new.kernel) }
@@ -373,7 +397,8 @@ pub(crate) fn link_file<F: Files>(
     ensures session { IsRun session.new }
     ensures lawful { StaysLawful session.old session.new }
     ensures lawful_exports { IfOk result (λ exports. AreLawfulOnce session.new exports.items) }
-    ensures cause { IfErr result (λ e. HasCause e (F.misses files.old) (F.misses files.new) (F.faults files.old) (F.faults files.new) (F.at files.new)) }
+    ensures cause { IfErr result (λ e. HasCause e (F.misses files.old) (F.misses files.new) (F.faults files.old)
+        (F.faults files.new) (F.at files.new)) }
     ensures later { (F.faults files.old ≤ F.faults files.new) × (F.misses files.old ≤ F.misses files.new) }
     ensures folder { F.folder files.new ≡ F.folder files.old }
 {

@@ -20,7 +20,8 @@ pub(crate) fn each_once(
     exports: &[Export],
 ) -> Result<Vec<Export>, Memory>
     requires { All (IsExportIn session.now) exports.now }
-    ensures once { IfOk result (λ once. map (export_of session.now) once.items ≡ each_once [] (map (export_of session.now) exports.now)) }
+    ensures once { IfOk result
+        (λ once. map (export_of session.now) once.items ≡ each_once [] (map (export_of session.now) exports.now)) }
     ensures inside { IfOk result (AreExportsIn session.now) }
     ensures lawful { AreLawfulExports session.now exports.now → IfOk result (λ once. AreLawfulOnce session.now once.items) }
 {

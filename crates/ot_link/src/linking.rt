@@ -16,11 +16,11 @@ use ot_machine::{Context, Export, Session, fresh_law};
 use ot_plain::Limits;
 use std::alloc::Global;
 
-/// Runs a theory file, with all articles and packages that it asks for, and gives the exports of its block `main`. By the
-/// theory file format the blocks that `main` reaches run in depth-first order, each once, behind its imports; a block's
-/// article or package is run in the context of the exports that the block imports, and under its `interpret:` statements. A
-/// package `NAME-VERSION` is the file `NAME.thy` in the folder of that full name in `packages`. The session is fresh, and
-/// the limits are at most those of the program.
+/// Runs a theory file, with all articles and packages that it asks for, and gives the exports of its block `main`. By
+/// the theory file format the blocks that `main` reaches run in depth-first order, each once, behind its imports; a
+/// block's article or package is run in the context of the exports that the block imports, and under its `interpret:`
+/// statements. A package `NAME-VERSION` is the file `NAME.thy` in the folder of that full name in `packages`. The
+/// session is fresh, and the limits are at most those of the program.
 ///
 /// - `Article`, `Theory`, `Structure`, `TheoryTooLarge`: the first fault of the run, with the path of its file and its line.
 ///   The symbol that a fault of an article names has its name in the session's kernel.
@@ -28,8 +28,8 @@ use std::alloc::Global;
 /// - `ReadFault`: only where the files failed in this call; the path is one of those that the run needs.
 /// - `Memory`: free.
 ///
-/// No file is left open. After a fault the session may hold what the run put into it. Each assumption, definition and export
-/// is what its origin makes, and each name in an origin is one that a line can say.
+/// No file is left open. After a fault the session may hold what the run put into it. Each assumption, definition and
+/// export is what its origin makes, and each name in an origin is one that a line can say.
 pub fn link<F: Files>(
     alloc: Global,
     session: &mut Session,
@@ -48,7 +48,8 @@ pub fn link<F: Files>(
     ensures lawful_exports { IfOk result (λ exports. AreLawfulOnce session.new exports.items) }
     ensures exports { IfOk result (AreExportsIn session.new) }
     ensures symbols { IfErr result (NamesSymbolIn session.new.kernel) }
-    ensures cause { IfErr result (λ e. HasCause e (F.misses files.old) (F.misses files.new) (F.faults files.old) (F.faults files.new) (F.at files.new)) }
+    ensures cause { IfErr result (λ e. HasCause e (F.misses files.old) (F.misses files.new) (F.faults files.old)
+        (F.faults files.new) (F.at files.new)) }
     ensures later { (F.faults files.old ≤ F.faults files.new) × (F.misses files.old ≤ F.misses files.new) }
     ensures folder { F.folder files.new ≡ F.folder files.old }
     ensures closed { F.left files.new ≡ Some [] }
@@ -73,13 +74,15 @@ fn link_first<F: Files>(
     requires session { IsRun session.old }
     requires fresh { run_of session.old ≡ fresh_run }
     requires limits { AreWithin setting.limits.now }
-    ensures comes { (folder : Folder) → F.folder files.old ≡ Some folder → Comes session.new.kernel (ran_of session.new) result (link (setting_of folder setting.entry) path.now) }
+    ensures comes { (folder : Folder) → F.folder files.old ≡ Some folder
+        → Comes session.new.kernel (ran_of session.new) result (link (setting_of folder setting.entry) path.now) }
     ensures session { IsRun session.new }
     ensures lawful { IsLawfulSession session.new }
     ensures lawful_exports { IfOk result (λ exports. AreLawfulOnce session.new exports.items) }
     ensures exports { IfOk result (AreExportsIn session.new) }
     ensures symbols { IfErr result (NamesSymbolIn session.new.kernel) }
-    ensures cause { IfErr result (λ e. HasCause e (F.misses files.old) (F.misses files.new) (F.faults files.old) (F.faults files.new) (F.at files.new)) }
+    ensures cause { IfErr result (λ e. HasCause e (F.misses files.old) (F.misses files.new) (F.faults files.old)
+        (F.faults files.new) (F.at files.new)) }
     ensures later { (F.faults files.old ≤ F.faults files.new) × (F.misses files.old ≤ F.misses files.new) }
     ensures folder { F.folder files.new ≡ F.folder files.old }
 {

@@ -26,9 +26,11 @@ pub(crate) fn theory_text<F: Files>(
     path: &str,
 ) -> Result<Vec<u8>, LinkFault>
     requires { setting.limits.now.theory_bytes ≤ 1048576 }
-    ensures comes { (folder : Folder) (k : State) → F.folder files.old ≡ Some folder → Comes k (λ text. text.items) result (text_at (setting_of folder setting.entry) path.now) }
+    ensures comes { (folder : Folder) (k : State) → F.folder files.old ≡ Some folder
+        → Comes k (λ text. text.items) result (text_at (setting_of folder setting.entry) path.now) }
     ensures symbols { IfErr result (λ e. (k : State) → NamesSymbolIn k e) }
-    ensures cause { IfErr result (λ e. HasCause e (F.misses files.old) (F.misses files.new) (F.faults files.old) (F.faults files.new) (F.at files.new)) }
+    ensures cause { IfErr result (λ e. HasCause e (F.misses files.old) (F.misses files.new) (F.faults files.old)
+        (F.faults files.new) (F.at files.new)) }
     ensures later { (F.faults files.old ≤ F.faults files.new) × (F.misses files.old ≤ F.misses files.new) }
     ensures folder { F.folder files.new ≡ F.folder files.old }
 {
@@ -70,7 +72,8 @@ pub(crate) fn theory_at<'a>(
     ensures comes { (k : State) → Comes k theory_of result (answered (in_theory path.now (theory text.now))) }
     ensures sound { IfOk result (λ t. IsSound (theory_of t)) }
     ensures symbols { IfErr result (λ e. (k : State) → NamesSymbolIn k e) }
-    ensures cause { IfErr result (λ e. (misses misses' faults faults' : ℕ) (at : Option (List ℕ)) → HasCause e misses misses' faults faults' at) }
+    ensures cause { IfErr result (λ e. (misses misses' faults faults' : ℕ) (at : Option (List ℕ))
+        → HasCause e misses misses' faults faults' at) }
 {
     match parse(alloc, text) {
         Ok(theory) => Ok(theory),
@@ -88,7 +91,8 @@ pub(crate) fn plan_at(alloc: Global, path: &str, blocks: &[Block<'_>]) -> Result
     ensures comes { (k : State) → Comes k plan_of result (answered (in_structure path.now (plan (blocks_of blocks.now)))) }
     ensures sound { IfOk result (λ p. IsPlan (blocks_of blocks.now) (plan_of p)) }
     ensures symbols { IfErr result (λ e. (k : State) → NamesSymbolIn k e) }
-    ensures cause { IfErr result (λ e. (misses misses' faults faults' : ℕ) (at : Option (List ℕ)) → HasCause e misses misses' faults faults' at) }
+    ensures cause { IfErr result (λ e. (misses misses' faults faults' : ℕ) (at : Option (List ℕ))
+        → HasCause e misses misses' faults faults' at) }
 {
     match plan_blocks(alloc, blocks) {
         Ok(plan) => Ok(plan),

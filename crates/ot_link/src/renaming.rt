@@ -25,7 +25,8 @@ pub(crate) fn interpretation_of(
 ) -> Result<Interp, Memory>
     requires session { IsRun session.old }
     requires right { AreRight (tags_of statements.now) }
-    ensures names { IfOk result (λ i. map_interpretation (name_at session.new.kernel) i ≡ interpretation_of (tags_of statements.now)) }
+    ensures names { IfOk result (λ i. map_interpretation (name_at session.new.kernel) i
+        ≡ interpretation_of (tags_of statements.now)) }
     ensures within { IfOk result (IsWithin (length session.new.kernel.names)) }
     ensures grown { Grows session.old session.new }
     ensures session { IsRun session.new }
@@ -38,8 +39,8 @@ pub(crate) fn interpretation_of(
     Ok(interp)
 }
 
-/// A law: what a line can say is read as what a line can say in a block, too, where it is so in the context of the block's
-/// file.
+/// A law: what a line can say is read as what a line can say in a block, too, where it is so in the context of the
+/// block's file.
 pub(crate) fn naming_law()
     ensures { BlocksAreNaming }
 {
@@ -57,8 +58,10 @@ fn add_statement(
 ) -> Result<(), Memory>
     requires session { IsRun session.old }
     requires within { IsWithin (length session.old.kernel.names) interp.old }
-    requires new { IsNew (renaming_at (tag_of statement.now)) (map_interpretation (name_at session.old.kernel) interp.old) }
-    ensures added { OnOk result (map_interpretation (name_at session.new.kernel) interp.new ≡ added (renaming_at (tag_of statement.now)) (map_interpretation (name_at session.old.kernel) interp.old)) }
+    requires new { IsNew (renaming_at (tag_of statement.now))
+        (map_interpretation (name_at session.old.kernel) interp.old) }
+    ensures added { OnOk result (map_interpretation (name_at session.new.kernel) interp.new
+        ≡ added (renaming_at (tag_of statement.now)) (map_interpretation (name_at session.old.kernel) interp.old)) }
     ensures within { OnOk result (IsWithin (length session.new.kernel.names) interp.new) }
     ensures grown { Grows session.old session.new }
     ensures session { IsRun session.new }
@@ -80,7 +83,8 @@ fn add_renaming(
     requires session { IsRun session.old }
     requires within { IsWithin (length session.old.kernel.names) interp.old }
     requires new { IsNew (renaming_of value.now) (map_interpretation (name_at session.old.kernel) interp.old) }
-    ensures added { OnOk result (map_interpretation (name_at session.new.kernel) interp.new ≡ added (renaming_of value.now) (map_interpretation (name_at session.old.kernel) interp.old)) }
+    ensures added { OnOk result (map_interpretation (name_at session.new.kernel) interp.new
+        ≡ added (renaming_of value.now) (map_interpretation (name_at session.old.kernel) interp.old)) }
     ensures within { OnOk result (IsWithin (length session.new.kernel.names) interp.new) }
     ensures grown { Grows session.old session.new }
     ensures session { IsRun session.new }

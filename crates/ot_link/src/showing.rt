@@ -14,9 +14,9 @@ use ot_plain::{Limits, Memory, Name, NameFault};
 use ot_theory::Tag;
 use std::alloc::Global;
 
-/// The namespaces that a theory file shows, in the order of its lines: a tag `show:` outside the blocks whose value is one
-/// quoted name shows the namespace that has all its components. Other values have no effect. No block is run and no package
-/// is opened. The limits are at most those of the program.
+/// The namespaces that a theory file shows, in the order of its lines: a tag `show:` outside the blocks whose value
+/// is one quoted name shows the namespace that has all its components. Other values have no effect. No block is run
+/// and no package is opened. The limits are at most those of the program.
 ///
 /// - `Theory`, `TheoryTooLarge`: the first fault of the file up to its grammar, as of `link`.
 /// - `NoFile`: only where the file was missing in this call, and where the folder is told, exactly where it is.
@@ -34,7 +34,8 @@ pub fn shown<F: Files>(
     ensures shows { IfSome (F.folder files.old) (λ folder. (k : State) → Comes k (λ names. names.items) result
         (stated (record { folder = folder; packages = []; limits = limits.now }) theory_path.now)) }
     ensures symbols { IfErr result (λ e. (k : State) → NamesSymbolIn k e) }
-    ensures cause { IfErr result (λ e. HasCause e (F.misses files.old) (F.misses files.new) (F.faults files.old) (F.faults files.new) (F.at files.new)) }
+    ensures cause { IfErr result (λ e. HasCause e (F.misses files.old) (F.misses files.new) (F.faults files.old)
+        (F.faults files.new) (F.at files.new)) }
     ensures later { (F.faults files.old ≤ F.faults files.new) × (F.misses files.old ≤ F.misses files.new) }
     ensures folder { F.folder files.new ≡ F.folder files.old }
     ensures closed { F.left files.new ≡ Some [] }
@@ -56,9 +57,11 @@ fn shown_at<F: Files>(
     path: &str,
 ) -> Result<Vec<Name>, LinkFault>
     requires { AreWithin setting.limits.now }
-    ensures comes { (folder : Folder) (k : State) → F.folder files.old ≡ Some folder → Comes k (λ names. names.items) result (stated (setting_of folder setting.entry) path.now) }
+    ensures comes { (folder : Folder) (k : State) → F.folder files.old ≡ Some folder
+        → Comes k (λ names. names.items) result (stated (setting_of folder setting.entry) path.now) }
     ensures symbols { IfErr result (λ e. (k : State) → NamesSymbolIn k e) }
-    ensures cause { IfErr result (λ e. HasCause e (F.misses files.old) (F.misses files.new) (F.faults files.old) (F.faults files.new) (F.at files.new)) }
+    ensures cause { IfErr result (λ e. HasCause e (F.misses files.old) (F.misses files.new) (F.faults files.old)
+        (F.faults files.new) (F.at files.new)) }
     ensures later { (F.faults files.old ≤ F.faults files.new) × (F.misses files.old ≤ F.misses files.new) }
     ensures folder { F.folder files.new ≡ F.folder files.old }
 {

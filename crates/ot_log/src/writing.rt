@@ -40,12 +40,12 @@ impl From<Memory> for LogRefusal {
     }
 }
 
-/// Appends the proof log of a run: the definitions that its exports need, in their old order, each behind its premise, and
-/// the exports in their order, each behind its proof.
+/// Appends the proof log of a run: the definitions that its exports need, in their old order, each behind its
+/// premise, and the exports in their order, each behind its proof.
 ///
-/// The exports are lawful over the run of the session, as those are that the run of an article or of a theory file gives.
-/// The check of the log ends: with the exports as results, and with the needed assumptions and definitions. `TooLarge` comes
-/// exactly where it has more than `max` bytes, and after a refusal `out` is as it was.
+/// The exports are lawful over the run of the session, as those are that the run of an article or of a theory file
+/// gives. The check of the log ends: with the exports as results, and with the needed assumptions and definitions.
+/// `TooLarge` comes exactly where it has more than `max` bytes, and after a refusal `out` is as it was.
 pub fn write_log(
     alloc: Global,
     session: &Session,
@@ -108,7 +108,8 @@ fn written(
     requires exports { All (IsExportIn session.now) exports.now }
     requires proofs { All (HasProof session.now) exports.now }
     ensures { IfOk result (λ w. Holds session.now max w
-        (log (map (origin_of session.now) definitions.now) (map (λ e. origin_of session.now e.theorem) exports.now))) }
+        (log (map (origin_of session.now) definitions.now)
+        (map (λ e. origin_of session.now e.theorem) exports.now))) }
 {
     let mut writer = Writer::new(alloc, count, max)?;
     for definition in definitions {

@@ -36,7 +36,9 @@ impl Session {
     /// The places of the conclusions among theorems of this session.
     pub fn places_of(&self, alloc: Global, theorems: &[Given]) -> Result<Places, Memory>
         requires { All (λ g. g.th < length self.now.kernel.theorems) theorems.now }
-        ensures { IfOk result (λ places. AreFirstPlaces self.now.kernel (concls_of self.now.kernel (map (λ g. g.th) theorems.now)) places) }
+        ensures { IfOk result
+            (λ places. AreFirstPlaces self.now.kernel (concls_of self.now.kernel (map (λ g. g.th) theorems.now))
+            places) }
     {
         let mut places = Places::new(alloc);
         for place in 0..theorems.len() {
@@ -50,7 +52,8 @@ impl Session {
     pub(crate) fn constant_named(&self, ctx: &Context<'_>, name: NameId) -> NameId
         requires context { IsContextOf self.now ctx.now }
         requires name { name < length self.now.kernel.names }
-        ensures renamed { name_at self.now.kernel result ≡ renamed names (context_of self.now ctx.now).interpretation.constants (name_at self.now.kernel name) }
+        ensures renamed { name_at self.now.kernel result
+            ≡ renamed names (context_of self.now ctx.now).interpretation.constants (name_at self.now.kernel name) }
         ensures inside { result < length self.now.kernel.names }
     {
         self.kernel.sound();
@@ -66,7 +69,9 @@ impl Session {
     ) -> Result<Vec<NameId>, Memory>
         requires context { IsContextOf self.now ctx.now }
         requires names { All (λ p. p.0 < length self.now.kernel.names) pairs.now }
-        ensures renamed { IfOk result (λ v. map (name_at self.now.kernel) v.items ≡ map (λ p. renamed names (context_of self.now ctx.now).interpretation.constants (name_at self.now.kernel p.0)) pairs.now) }
+        ensures renamed { IfOk result (λ v. map (name_at self.now.kernel) v.items
+            ≡ map (λ p. renamed names (context_of self.now ctx.now).interpretation.constants
+            (name_at self.now.kernel p.0)) pairs.now) }
         ensures inside { IfOk result (λ v. All (λ n. n < length self.now.kernel.names) v.items) }
     {
         let mut names = Vec::new(alloc);
@@ -80,7 +85,8 @@ impl Session {
     pub(crate) fn type_op_named(&self, ctx: &Context<'_>, name: NameId) -> NameId
         requires context { IsContextOf self.now ctx.now }
         requires name { name < length self.now.kernel.names }
-        ensures renamed { name_at self.now.kernel result ≡ renamed names (context_of self.now ctx.now).interpretation.type_ops (name_at self.now.kernel name) }
+        ensures renamed { name_at self.now.kernel result
+            ≡ renamed names (context_of self.now ctx.now).interpretation.type_ops (name_at self.now.kernel name) }
         ensures inside { result < length self.now.kernel.names }
     {
         self.kernel.sound();

@@ -25,9 +25,12 @@ impl Session {
     ) -> Result<Vec<(NameId, VarKey)>, Fault>
         requires of { IsOf self.now machine.now }
         requires inside { IsListIn (length machine.now.cells.items) list }
-        ensures read { Makes self.now.kernel (λ v. map (λ p. (name_at self.now.kernel p.0, variable_at self.now.kernel p.1)) v.items) result (pairs_of (list_at (lists_of self.now machine.now) list)) }
+        ensures read { Makes self.now.kernel
+            (λ v. map (λ p. (name_at self.now.kernel p.0, variable_at self.now.kernel p.1)) v.items) result
+            (pairs_of (list_at (lists_of self.now machine.now) list)) }
         ensures names { IfOk result (λ v. All (λ p. p.0 < length self.now.kernel.names) v.items) }
-        ensures variables { IfOk result (λ v. All (λ p. (p.1.name < length self.now.kernel.names) × (p.1.ty < length self.now.kernel.types)) v.items) }
+        ensures variables { IfOk result (λ v.
+            All (λ p. (p.1.name < length self.now.kernel.names) × (p.1.ty < length self.now.kernel.types)) v.items) }
     {
         let mut pairs = Vec::new(alloc);
         let mut rest = list;
@@ -43,7 +46,8 @@ impl Session {
     fn definition_pair(&self, machine: &Machine, pair: Object) -> Result<(NameId, VarKey), Fault>
         requires of { IsOf self.now machine.now }
         requires inside { IsIn self.now.kernel (length machine.now.cells.items) pair }
-        ensures read { Makes self.now.kernel (λ p. (name_at self.now.kernel p.0, variable_at self.now.kernel p.1)) result (definition_pair (object_of self.now.kernel (lists_of self.now machine.now) pair)) }
+        ensures read { Makes self.now.kernel (λ p. (name_at self.now.kernel p.0, variable_at self.now.kernel p.1))
+            result (definition_pair (object_of self.now.kernel (lists_of self.now machine.now) pair)) }
         ensures name { IfOk result (λ p. p.0 < length self.now.kernel.names) }
         ensures variable { IfOk result (λ p. (p.1.name < length self.now.kernel.names) × (p.1.ty < length self.now.kernel.types)) }
     {

@@ -15,8 +15,8 @@ use ot_plain::Memory;
 use ot_trace::StepId;
 
 impl Session {
-    /// Exports a theorem, where its sequent isn't exported already, with the steps of the theorem, of its list and of its
-    /// term.
+    /// Exports a theorem, where its sequent isn't exported already, with the steps of the theorem, of its list and of
+    /// its term.
     pub(crate) fn export(
         &self,
         machine: &mut Machine,
@@ -30,7 +30,13 @@ impl Session {
         requires theorem { theorem < length self.now.trace }
         requires list { list < length self.now.trace }
         requires term { term < length self.now.trace }
-        ensures ok { OnOk result (article_of self.now machine.new ≡ (let s = article_of self.now machine.old in record s { exports = exported (export_of self.now (record { th = th; theorem = theorem; list = list; term = term })) s.exports })) }
+        ensures ok { OnOk result
+            (article_of self.now machine.new
+            ≡ (let s = article_of self.now machine.old in
+            record s {
+              exports = exported
+                  (export_of self.now (record { th = th; theorem = theorem; list = list; term = term })) s.exports;
+            })) }
         ensures err { OnErr result (article_of self.now machine.new ≡ article_of self.now machine.old) }
         ensures of { IsOf self.now machine.new }
         ensures stack { vec_len machine.new.stack ≡ vec_len machine.old.stack }
@@ -50,8 +56,9 @@ impl Session {
         Ok(())
     }
 
-    /// Whether one of these exports is the theorem's sequent: the same set of hypotheses and the same conclusion, up to the
-    /// names of binders. All numbers have to be of this session, and the places those of the exports' conclusions.
+    /// Whether one of these exports is the theorem's sequent: the same set of hypotheses and the same conclusion, up
+    /// to the names of binders. All numbers have to be of this session, and the places those of the exports'
+    /// conclusions.
     pub fn is_exported(&self, exports: &[Export], places: &Places, theorem: ThmId) -> bool
         requires exports { All (λ e. e.th < length self.now.kernel.theorems) exports.now }
         requires placed { AreFirstPlaces self.now.kernel (concls_of self.now.kernel (map (λ e. e.th) exports.now)) places.now }
@@ -82,7 +89,8 @@ impl Session {
     fn is_same(&self, theorem: ThmId, other: ThmId) -> bool
         requires theorem { theorem < length self.now.kernel.theorems }
         requires other { other < length self.now.kernel.theorems }
-        ensures { result ≡ same_sequent names (theorem_at self.now.kernel theorem) (theorem_at self.now.kernel other) }
+        ensures { result ≡ same_sequent names (theorem_at self.now.kernel theorem)
+            (theorem_at self.now.kernel other) }
     {
         let hyps = self.kernel.hyps(other);
         let concl = self.kernel.concl(other);

@@ -31,7 +31,9 @@ impl Session {
         requires of { IsOf self.now machine.old }
         requires head { IsIn self.now.kernel (length machine.old.cells.items) head }
         requires tail { IsListIn (length machine.old.cells.items) tail }
-        ensures made { Makes self.now.kernel (λ l. a_list (list_at (lists_of self.now machine.new) l)) result (consed (object_of self.now.kernel (lists_of self.now machine.old) head) (list_at (lists_of self.now machine.old) tail)) }
+        ensures made { Makes self.now.kernel (λ l. a_list (list_at (lists_of self.now machine.new) l)) result
+            (consed (object_of self.now.kernel (lists_of self.now machine.old) head)
+            (list_at (lists_of self.now machine.old) tail)) }
         ensures inside { IfOk result (IsListIn (length machine.new.cells.items)) }
         ensures kept { article_of self.now machine.new ≡ article_of self.now machine.old }
         ensures of { IsOf self.now machine.new }
@@ -56,7 +58,8 @@ impl Session {
     pub(crate) fn constants(&self, machine: &mut Machine, names: &[NameId]) -> Result<List, Memory>
         requires of { IsOf self.now machine.old }
         requires names { All (λ n. n < length self.now.kernel.names) names.now }
-        ensures made { IfOk result (λ l. list_at (lists_of self.now machine.new) l ≡ constants_of (map (name_at self.now.kernel) names.now)) }
+        ensures made { IfOk result (λ l. list_at (lists_of self.now machine.new) l
+            ≡ constants_of (map (name_at self.now.kernel) names.now)) }
         ensures inside { IfOk result (IsListIn (length machine.new.cells.items)) }
         ensures kept { article_of self.now machine.new ≡ article_of self.now machine.old }
         ensures of { IsOf self.now machine.new }
@@ -109,7 +112,8 @@ impl Session {
         place: usize,
     ) -> Result<Vec<TypeId>, Fault>
         requires { IsOf self.now machine.now }
-        ensures found { Makes self.now.kernel (λ v. map (type_at self.now.kernel) v.items) result (types_on place (article_of self.now machine.now).stack) }
+        ensures found { Makes self.now.kernel (λ v. map (type_at self.now.kernel) v.items) result
+            (types_on place (article_of self.now machine.now).stack) }
         ensures inside { IfOk result (λ v. All (λ i. i < length self.now.kernel.types) v.items) }
     {
         let list = self.list_on(machine, place)?;
@@ -120,7 +124,8 @@ impl Session {
     fn types_of(&self, alloc: Global, machine: &Machine, list: List) -> Result<Vec<TypeId>, Fault>
         requires of { IsOf self.now machine.now }
         requires inside { IsListIn (length machine.now.cells.items) list }
-        ensures found { Makes self.now.kernel (λ v. map (type_at self.now.kernel) v.items) result (as_each as_type (list_at (lists_of self.now machine.now) list)) }
+        ensures found { Makes self.now.kernel (λ v. map (type_at self.now.kernel) v.items) result
+            (as_each as_type (list_at (lists_of self.now machine.now) list)) }
         ensures inside { IfOk result (λ v. All (λ i. i < length self.now.kernel.types) v.items) }
     {
         let mut types = Vec::new(alloc);
@@ -144,7 +149,8 @@ impl Session {
         place: usize,
     ) -> Result<(Vec<TermId>, StepId), Fault>
         requires { IsOf self.now machine.now }
-        ensures found { Makes self.now.kernel (λ p. map (term_at self.now.kernel) p.0.items) result (terms_on place (article_of self.now machine.now).stack) }
+        ensures found { Makes self.now.kernel (λ p. map (term_at self.now.kernel) p.0.items) result
+            (terms_on place (article_of self.now machine.now).stack) }
         ensures origin { IfOk result (λ p. origin_of self.now p.1 ≡ origin_at place (article_of self.now machine.now).stack) }
         ensures inside { IfOk result (λ p. All (λ i. i < length self.now.kernel.terms) p.0.items) }
         ensures step { IfOk result (λ p. p.1 < length self.now.trace) }
@@ -162,7 +168,8 @@ impl Session {
     ) -> Result<Vec<TermId>, Fault>
         requires of { IsOf self.now machine.now }
         requires inside { IsListIn (length machine.now.cells.items) list }
-        ensures found { Makes self.now.kernel (λ v. map (term_at self.now.kernel) v.items) result (as_each as_term (list_at (lists_of self.now machine.now) list)) }
+        ensures found { Makes self.now.kernel (λ v. map (term_at self.now.kernel) v.items) result
+            (as_each as_term (list_at (lists_of self.now machine.now) list)) }
         ensures inside { IfOk result (λ v. All (λ i. i < length self.now.kernel.terms) v.items) }
     {
         let mut terms = Vec::new(alloc);
@@ -186,7 +193,8 @@ impl Session {
         place: usize,
     ) -> Result<(Vec<NameId>, StepId), Fault>
         requires { IsOf self.now machine.now }
-        ensures found { Makes self.now.kernel (λ p. map (name_at self.now.kernel) p.0.items) result (names_on place (article_of self.now machine.now).stack) }
+        ensures found { Makes self.now.kernel (λ p. map (name_at self.now.kernel) p.0.items) result
+            (names_on place (article_of self.now machine.now).stack) }
         ensures origin { IfOk result (λ p. origin_of self.now p.1 ≡ origin_at place (article_of self.now machine.now).stack) }
         ensures inside { IfOk result (λ p. All (λ i. i < length self.now.kernel.names) p.0.items) }
         ensures step { IfOk result (λ p. p.1 < length self.now.trace) }
@@ -199,7 +207,8 @@ impl Session {
     fn names_of(&self, alloc: Global, machine: &Machine, list: List) -> Result<Vec<NameId>, Fault>
         requires of { IsOf self.now machine.now }
         requires inside { IsListIn (length machine.now.cells.items) list }
-        ensures found { Makes self.now.kernel (λ v. map (name_at self.now.kernel) v.items) result (as_each as_name (list_at (lists_of self.now machine.now) list)) }
+        ensures found { Makes self.now.kernel (λ v. map (name_at self.now.kernel) v.items) result
+            (as_each as_name (list_at (lists_of self.now machine.now) list)) }
         ensures inside { IfOk result (λ v. All (λ i. i < length self.now.kernel.names) v.items) }
     {
         let mut names = Vec::new(alloc);

@@ -5,7 +5,8 @@ ghost use Rattle.ot_scan.specs.Lines.{lines_of};
 ghost use Rattle.ot_scan.specs.Words.{word_value};
 ghost use Rattle.ot_machine.specs.States.{fresh_article};
 ghost use Rattle.ot_machine.specs.declared.session.Session.{Session as SessionState};
-ghost use Rattle.ot_machine.specs.Meaning.{article_of, state_of, command_at, version_of, IsRun, IsOf, Grows, IsCommandIn};
+ghost use Rattle.ot_machine.specs.Meaning.{article_of, state_of, command_at, version_of, IsRun, IsOf, Grows};
+ghost use Rattle.ot_machine.specs.Meaning.{IsCommandIn};
 ghost use Rattle.ot_machine.specs.Contexts.{context_of, IsContextOf};
 ghost use Rattle.ot_machine.specs.Step.{step, row, word_row, version_rule};
 ghost use Rattle.ot_machine.specs.Run.{line_step};
@@ -81,8 +82,8 @@ impl Machine {
         &self.exports
     }
 
-    /// One command. The first fault of the stated machine counts; after it, and after want of memory, the state is as before.
-    /// The machine's numbers, and the context's names and theorems, have to be of this session.
+    /// One command. The first fault of the stated machine counts; after it, and after want of memory, the state is as
+    /// before. The machine's numbers, and the context's names and theorems, have to be of this session.
     pub fn step(
         &mut self,
         session: &mut Session,
@@ -91,7 +92,8 @@ impl Machine {
     ) -> Result<(), Fault>
         requires of { IsOf session.old self.old }
         requires context { IsContextOf session.old ctx.now }
-        ensures moves { Moves session.new.kernel result (step (context_of session.old ctx.now) (state_of session.old self.old) (word_value word.entry)) (state_of session.old self.old) (state_of session.new self.new) }
+        ensures moves { Moves session.new.kernel result (step (context_of session.old ctx.now) (state_of session.old self.old)
+            (word_value word.entry)) (state_of session.old self.old) (state_of session.new self.new) }
         ensures of { IsOf session.new self.new }
         ensures grown { Grows session.old session.new }
     {
@@ -103,10 +105,11 @@ impl Machine {
         Ok(())
     }
 
-    /// Runs the lines of an article, up to the first fault, in one pass over a source. The fault has the line at which it stands,
-    /// and the state is as before that line; it is never want of memory, which is an answer of its own. `ReadFault` comes only
-    /// where the source failed in this call. After it, and after want of memory, the state is that of some number of the first
-    /// lines. The machine's numbers, and the context's names and theorems, have to be of this session.
+    /// Runs the lines of an article, up to the first fault, in one pass over a source. The fault has the line at
+    /// which it stands, and the state is as before that line; it is never want of memory, which is an answer of its
+    /// own. `ReadFault` comes only where the source failed in this call. After it, and after want of memory, the
+    /// state is that of some number of the first lines. The machine's numbers, and the context's names and theorems,
+    /// have to be of this session.
     pub fn run_article<S: Source>(
         &mut self,
         session: &mut Session,
@@ -117,8 +120,11 @@ impl Machine {
         requires of { IsOf session.old self.old }
         requires context { IsContextOf session.old ctx.now }
         requires max_bytes { max_bytes ≤ 2 ^ 32 }
-        ensures runs { IfSome (S.left source.old) (λ bytes. Runs session.new.kernel result (context_of session.old ctx.now) (lines_of max_bytes bytes) (state_of session.old self.old) (state_of session.new self.new)) }
-        ensures led { LeadsTo (context_of session.old ctx.now) (state_of session.old self.old) (state_of session.new self.new) }
+        ensures runs { IfSome (S.left source.old)
+            (λ bytes. Runs session.new.kernel result (context_of session.old ctx.now) (lines_of max_bytes bytes)
+            (state_of session.old self.old) (state_of session.new self.new)) }
+        ensures led { LeadsTo (context_of session.old ctx.now) (state_of session.old self.old)
+            (state_of session.new self.new) }
         ensures of { IsOf session.new self.new }
         ensures grown { Grows session.old session.new }
         ensures symbols { IfErr result (NamesSymbolIn session.new.kernel) }
@@ -149,7 +155,9 @@ impl Machine {
         requires of { IsOf session.old self.old }
         requires context { IsContextOf session.old ctx.now }
         requires some { 0 < length text.now }
-        ensures moves { Moves session.new.kernel result (line_step (context_of session.old ctx.now) (state_of session.old self.old) text.now) (state_of session.old self.old) (state_of session.new self.new) }
+        ensures moves { Moves session.new.kernel result
+            (line_step (context_of session.old ctx.now) (state_of session.old self.old) text.now)
+            (state_of session.old self.old) (state_of session.new self.new) }
         ensures of { IsOf session.new self.new }
         ensures grown { Grows session.old session.new }
     {
@@ -168,7 +176,9 @@ impl Machine {
         requires of { IsOf session.old self.old }
         requires context { IsContextOf session.old ctx.now }
         requires inside { IsCommandIn session.old.kernel command }
-        ensures { Turns result (row (version_of version) (context_of session.old ctx.now) (command_at session.old.kernel command)) session.old self.old session.new self.new }
+        ensures { Turns result
+            (row (version_of version) (context_of session.old ctx.now) (command_at session.old.kernel command))
+            session.old self.old session.new self.new }
     {
         match command {
             Command::Numeral(number) => {
@@ -190,7 +200,8 @@ impl Machine {
     ) -> Result<(), Fault>
         requires of { IsOf session.old self.old }
         requires context { IsContextOf session.old ctx.now }
-        ensures { Turns result (word_row (version_of version) (context_of session.old ctx.now) order) session.old self.old session.new self.new }
+        ensures { Turns result (word_row (version_of version) (context_of session.old ctx.now) order) session.old
+            self.old session.new self.new }
     {
         let alloc = self.alloc;
         match order {
@@ -234,7 +245,8 @@ impl Machine {
 /// The version behind a command, after so many: `6 version` makes an article of version 6, any other beginning one of
 /// version 5, and `version` stands nowhere else.
 fn version_behind(version: Version, count: u64, command: &Command) -> Result<Version, Fault>
-    ensures { (k : State) → Makes k version_of result (version_rule (version_of version) count (command_at k command.now)) }
+    ensures { (k : State)
+        → Makes k version_of result (version_rule (version_of version) count (command_at k command.now)) }
 {
     let is_version = matches!(command, Command::Order(Cmd::Version));
     let is_number = matches!(command, Command::Numeral(_));

@@ -52,7 +52,8 @@ impl Session {
     /// The command of a word.
     pub(crate) fn command(&mut self, machine: &Machine, word: Word<'_>) -> Result<Command, Fault>
         requires { IsOf self.old machine.now }
-        ensures made { Makes self.new.kernel (command_at self.new.kernel) result (command_of (word_value word.entry)) }
+        ensures made { Makes self.new.kernel (command_at self.new.kernel) result
+            (command_of (word_value word.entry)) }
         ensures inside { IfOk result (IsCommandIn self.new.kernel) }
         ensures kept { Leaves self.old self.new machine.now }
     {

@@ -27,7 +27,8 @@ pub enum Object {
     Theorem(ThmId),
 }
 
-/// An object, and the step that made it. A number alone may have none: it has its own when a command takes it as an operand.
+/// An object, and the step that made it. A number alone may have none: it has its own when a command takes it as an
+/// operand.
 #[derive(Clone, Copy)]
 pub struct Entry {
     pub object: Object,

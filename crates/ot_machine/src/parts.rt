@@ -45,7 +45,13 @@ impl Session {
     ) -> Result<(Object, Object), Fault>
         requires of { IsOf self.now machine.now }
         requires inside { IsListIn (length machine.now.cells.items) list }
-        ensures read { Makes self.now.kernel (λ p. (object_of self.now.kernel (lists_of self.now machine.now) p.0, object_of self.now.kernel (lists_of self.now machine.now) p.1)) result (two_of (bad_list form) (list_at (lists_of self.now machine.now) list)) }
+        ensures read { Makes self.now.kernel
+            (λ p. (
+              object_of self.now.kernel (lists_of self.now machine.now) p.0,
+              object_of self.now.kernel
+                  (lists_of self.now machine.now) p.1,
+            )) result
+            (two_of (bad_list form) (list_at (lists_of self.now machine.now) list)) }
         ensures first { IfOk result (λ p. IsIn self.now.kernel (length machine.now.cells.items) p.0) }
         ensures second { IfOk result (λ p. IsIn self.now.kernel (length machine.now.cells.items) p.1) }
     {
@@ -84,7 +90,8 @@ impl Session {
         form: ListForm,
     ) -> Result<List, Fault>
         requires { IsIn self.now.kernel (length machine.now.cells.items) object }
-        ensures read { Makes self.now.kernel (list_at (lists_of self.now machine.now)) result (or_bad (bad_list form) (as_list (object_of self.now.kernel (lists_of self.now machine.now) object))) }
+        ensures read { Makes self.now.kernel (list_at (lists_of self.now machine.now)) result
+            (or_bad (bad_list form) (as_list (object_of self.now.kernel (lists_of self.now machine.now) object))) }
         ensures inside { IfOk result (IsListIn (length machine.now.cells.items)) }
     {
         match object {
@@ -101,7 +108,8 @@ impl Session {
         form: ListForm,
     ) -> Result<NameId, Fault>
         requires { IsIn self.now.kernel (length machine.now.cells.items) object }
-        ensures read { Makes self.now.kernel (name_at self.now.kernel) result (or_bad (bad_list form) (as_name (object_of self.now.kernel (lists_of self.now machine.now) object))) }
+        ensures read { Makes self.now.kernel (name_at self.now.kernel) result
+            (or_bad (bad_list form) (as_name (object_of self.now.kernel (lists_of self.now machine.now) object))) }
         ensures inside { IfOk result (λ n. n < length self.now.kernel.names) }
     {
         match object {
@@ -118,7 +126,9 @@ impl Session {
         form: ListForm,
     ) -> Result<VarKey, Fault>
         requires { IsIn self.now.kernel (length machine.now.cells.items) object }
-        ensures read { Makes self.now.kernel (variable_at self.now.kernel) result (or_bad (bad_list form) (as_variable (object_of self.now.kernel (lists_of self.now machine.now) object))) }
+        ensures read { Makes self.now.kernel (variable_at self.now.kernel) result
+            (or_bad (bad_list form)
+            (as_variable (object_of self.now.kernel (lists_of self.now machine.now) object))) }
         ensures name { IfOk result (λ v. v.name < length self.now.kernel.names) }
         ensures ty { IfOk result (λ v. v.ty < length self.now.kernel.types) }
     {

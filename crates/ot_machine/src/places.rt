@@ -1,9 +1,12 @@
 // What stands on the stack of a machine of this session, and of which kind. 0 is the top.
 ghost use Rattle.std.specs.Prelude.{◌≡◌, ◌<◌, length, Ok, IfOk, OnOk, vec_len};
 ghost use Rattle.ot_kernel.specs.State.{name_at, type_at, variable_at, term_at, theorem_at};
-ghost use Rattle.ot_machine.specs.Meaning.{object_of, origin_of, entry_of, list_at, lists_of, article_of, IsNumber, IsOf, IsIn, IsEntryIn, IsListIn};
+ghost use Rattle.ot_machine.specs.Meaning.{object_of, origin_of, entry_of, list_at, lists_of, article_of, IsNumber};
+ghost use Rattle.ot_machine.specs.Meaning.{IsOf, IsIn, IsEntryIn, IsListIn};
 ghost use Rattle.ot_machine.specs.Rows.{origin_at};
-ghost use Rattle.ot_machine.specs.Places.{as_term, as_theorem, entry_at, list_entry, object_at, number_on, name_on, list_on, type_op_on, type_on, constant_on, variable_on, term_on, theorem_on};
+ghost use Rattle.ot_machine.specs.Places.{as_term, as_theorem, entry_at, list_entry, object_at, number_on, name_on};
+ghost use Rattle.ot_machine.specs.Places.{list_on, type_op_on, type_on, constant_on, variable_on, term_on};
+ghost use Rattle.ot_machine.specs.Places.{theorem_on};
 ghost use Rattle.ot_machine.specs.Answers.{Makes};
 
 use crate::fault::Fault;
@@ -20,7 +23,8 @@ impl Session {
     /// What stands at a place.
     pub(crate) fn entry_at(&self, machine: &Machine, place: usize) -> Result<Entry, Fault>
         requires { IsOf self.now machine.now }
-        ensures found { Makes self.now.kernel (entry_of self.now (lists_of self.now machine.now)) result (entry_at place (article_of self.now machine.now).stack) }
+        ensures found { Makes self.now.kernel (entry_of self.now (lists_of self.now machine.now)) result
+            (entry_at place (article_of self.now machine.now).stack) }
         ensures inside { IfOk result (IsEntryIn self.now (length machine.now.cells.items)) }
     {
         if place < machine.stack.len() {
@@ -34,7 +38,8 @@ impl Session {
     pub(crate) fn entry_inside(&self, machine: &Machine, place: usize) -> Entry
         requires of { IsOf self.now machine.now }
         requires there { place < vec_len machine.now.stack }
-        ensures found { entry_at place (article_of self.now machine.now).stack ≡ Ok (entry_of self.now (lists_of self.now machine.now) result) }
+        ensures found { entry_at place (article_of self.now machine.now).stack
+            ≡ Ok (entry_of self.now (lists_of self.now machine.now) result) }
         ensures inside { IsEntryIn self.now (length machine.now.cells.items) result }
     {
         machine.stack[machine.stack.len() - 1 - place]
@@ -43,7 +48,8 @@ impl Session {
     /// The object at a place.
     pub(crate) fn object_at(&self, machine: &Machine, place: usize) -> Result<Object, Fault>
         requires { IsOf self.now machine.now }
-        ensures found { Makes self.now.kernel (object_of self.now.kernel (lists_of self.now machine.now)) result (object_at place (article_of self.now machine.now).stack) }
+        ensures found { Makes self.now.kernel (object_of self.now.kernel (lists_of self.now machine.now)) result
+            (object_at place (article_of self.now machine.now).stack) }
         ensures inside { IfOk result (IsIn self.now.kernel (length machine.now.cells.items)) }
     {
         if place < machine.stack.len() {
@@ -67,7 +73,8 @@ impl Session {
     /// The name at a place.
     pub(crate) fn name_on(&self, machine: &Machine, place: usize) -> Result<NameId, Fault>
         requires { IsOf self.now machine.now }
-        ensures found { Makes self.now.kernel (name_at self.now.kernel) result (name_on place (article_of self.now machine.now).stack) }
+        ensures found { Makes self.now.kernel (name_at self.now.kernel) result
+            (name_on place (article_of self.now machine.now).stack) }
         ensures inside { IfOk result (λ n. n < length self.now.kernel.names) }
     {
         match self.object_at(machine, place)? {
@@ -79,7 +86,8 @@ impl Session {
     /// The list at a place.
     pub(crate) fn list_on(&self, machine: &Machine, place: usize) -> Result<List, Fault>
         requires { IsOf self.now machine.now }
-        ensures found { Makes self.now.kernel (list_at (lists_of self.now machine.now)) result (list_on place (article_of self.now machine.now).stack) }
+        ensures found { Makes self.now.kernel (list_at (lists_of self.now machine.now)) result
+            (list_on place (article_of self.now machine.now).stack) }
         ensures inside { IfOk result (IsListIn (length machine.now.cells.items)) }
     {
         match self.object_at(machine, place)? {
@@ -95,8 +103,10 @@ impl Session {
         place: usize,
     ) -> Result<(List, StepId), Fault>
         requires { IsOf self.now machine.now }
-        ensures found { Makes self.now.kernel (λ p. list_at (lists_of self.now machine.now) p.0) result (list_on place (article_of self.now machine.now).stack) }
-        ensures entry { Makes self.now.kernel (λ p. (list_at (lists_of self.now machine.now) p.0, origin_of self.now p.1)) result (list_entry place (article_of self.now machine.now).stack) }
+        ensures found { Makes self.now.kernel (λ p. list_at (lists_of self.now machine.now) p.0) result
+            (list_on place (article_of self.now machine.now).stack) }
+        ensures entry { Makes self.now.kernel (λ p. (list_at (lists_of self.now machine.now) p.0, origin_of self.now p.1))
+            result (list_entry place (article_of self.now machine.now).stack) }
         ensures origin { IfOk result (λ p. origin_of self.now p.1 ≡ origin_at place (article_of self.now machine.now).stack) }
         ensures inside { IfOk result (λ p. IsListIn (length machine.now.cells.items) p.0) }
         ensures step { IfOk result (λ p. p.1 < length self.now.trace) }
@@ -112,7 +122,8 @@ impl Session {
     /// The type operator at a place.
     pub(crate) fn type_op_on(&self, machine: &Machine, place: usize) -> Result<NameId, Fault>
         requires { IsOf self.now machine.now }
-        ensures found { Makes self.now.kernel (name_at self.now.kernel) result (type_op_on place (article_of self.now machine.now).stack) }
+        ensures found { Makes self.now.kernel (name_at self.now.kernel) result
+            (type_op_on place (article_of self.now machine.now).stack) }
         ensures inside { IfOk result (λ n. n < length self.now.kernel.names) }
     {
         match self.object_at(machine, place)? {
@@ -124,7 +135,8 @@ impl Session {
     /// The type at a place.
     pub(crate) fn type_on(&self, machine: &Machine, place: usize) -> Result<TypeId, Fault>
         requires { IsOf self.now machine.now }
-        ensures found { Makes self.now.kernel (type_at self.now.kernel) result (type_on place (article_of self.now machine.now).stack) }
+        ensures found { Makes self.now.kernel (type_at self.now.kernel) result
+            (type_on place (article_of self.now machine.now).stack) }
         ensures inside { IfOk result (λ t. t < length self.now.kernel.types) }
     {
         match self.object_at(machine, place)? {
@@ -136,7 +148,8 @@ impl Session {
     /// The constant at a place.
     pub(crate) fn constant_on(&self, machine: &Machine, place: usize) -> Result<NameId, Fault>
         requires { IsOf self.now machine.now }
-        ensures found { Makes self.now.kernel (name_at self.now.kernel) result (constant_on place (article_of self.now machine.now).stack) }
+        ensures found { Makes self.now.kernel (name_at self.now.kernel) result
+            (constant_on place (article_of self.now machine.now).stack) }
         ensures inside { IfOk result (λ n. n < length self.now.kernel.names) }
     {
         match self.object_at(machine, place)? {
@@ -148,7 +161,8 @@ impl Session {
     /// The variable at a place.
     pub(crate) fn variable_on(&self, machine: &Machine, place: usize) -> Result<VarKey, Fault>
         requires { IsOf self.now machine.now }
-        ensures found { Makes self.now.kernel (variable_at self.now.kernel) result (variable_on place (article_of self.now machine.now).stack) }
+        ensures found { Makes self.now.kernel (variable_at self.now.kernel) result
+            (variable_on place (article_of self.now machine.now).stack) }
         ensures name { IfOk result (λ v. v.name < length self.now.kernel.names) }
         ensures ty { IfOk result (λ v. v.ty < length self.now.kernel.types) }
     {
@@ -161,7 +175,8 @@ impl Session {
     /// The term at a place.
     pub(crate) fn term_on(&self, machine: &Machine, place: usize) -> Result<TermId, Fault>
         requires { IsOf self.now machine.now }
-        ensures found { Makes self.now.kernel (term_at self.now.kernel) result (term_on place (article_of self.now machine.now).stack) }
+        ensures found { Makes self.now.kernel (term_at self.now.kernel) result
+            (term_on place (article_of self.now machine.now).stack) }
         ensures inside { IfOk result (λ t. t < length self.now.kernel.terms) }
     {
         match self.object_at(machine, place)? {
@@ -173,7 +188,8 @@ impl Session {
     /// The theorem at a place.
     pub(crate) fn theorem_on(&self, machine: &Machine, place: usize) -> Result<ThmId, Fault>
         requires { IsOf self.now machine.now }
-        ensures found { Makes self.now.kernel (theorem_at self.now.kernel) result (theorem_on place (article_of self.now machine.now).stack) }
+        ensures found { Makes self.now.kernel (theorem_at self.now.kernel) result
+            (theorem_on place (article_of self.now machine.now).stack) }
         ensures inside { IfOk result (λ th. th < length self.now.kernel.theorems) }
     {
         match self.object_at(machine, place)? {
@@ -189,7 +205,8 @@ impl Session {
         place: usize,
     ) -> Result<(TermId, StepId), Fault>
         requires { IsOf self.now machine.now }
-        ensures found { Makes self.now.kernel (λ p. term_at self.now.kernel p.0) result (term_on place (article_of self.now machine.now).stack) }
+        ensures found { Makes self.now.kernel (λ p. term_at self.now.kernel p.0) result
+            (term_on place (article_of self.now machine.now).stack) }
         ensures origin { IfOk result (λ p. origin_of self.now p.1 ≡ origin_at place (article_of self.now machine.now).stack) }
         ensures inside { IfOk result (λ p. p.0 < length self.now.kernel.terms) }
         ensures step { IfOk result (λ p. p.1 < length self.now.trace) }
@@ -207,7 +224,8 @@ impl Session {
         place: usize,
     ) -> Result<(ThmId, StepId), Fault>
         requires { IsOf self.now machine.now }
-        ensures found { Makes self.now.kernel (λ p. theorem_at self.now.kernel p.0) result (theorem_on place (article_of self.now machine.now).stack) }
+        ensures found { Makes self.now.kernel (λ p. theorem_at self.now.kernel p.0) result
+            (theorem_on place (article_of self.now machine.now).stack) }
         ensures origin { IfOk result (λ p. origin_of self.now p.1 ≡ origin_at place (article_of self.now machine.now).stack) }
         ensures inside { IfOk result (λ p. p.0 < length self.now.kernel.theorems) }
         ensures step { IfOk result (λ p. p.1 < length self.now.trace) }
@@ -221,7 +239,8 @@ impl Session {
     /// An object that has to be a term.
     fn term_of(&self, machine: &Machine, object: Object) -> Result<TermId, Fault>
         requires { IsIn self.now.kernel (length machine.now.cells.items) object }
-        ensures found { Makes self.now.kernel (term_at self.now.kernel) result (as_term (object_of self.now.kernel (lists_of self.now machine.now) object)) }
+        ensures found { Makes self.now.kernel (term_at self.now.kernel) result
+            (as_term (object_of self.now.kernel (lists_of self.now machine.now) object)) }
         ensures made { OnOk result (IsNumber object → ⊥) }
         ensures inside { IfOk result (λ t. t < length self.now.kernel.terms) }
     {
@@ -234,7 +253,8 @@ impl Session {
     /// An object that has to be a theorem.
     fn theorem_of(&self, machine: &Machine, object: Object) -> Result<ThmId, Fault>
         requires { IsIn self.now.kernel (length machine.now.cells.items) object }
-        ensures found { Makes self.now.kernel (theorem_at self.now.kernel) result (as_theorem (object_of self.now.kernel (lists_of self.now machine.now) object)) }
+        ensures found { Makes self.now.kernel (theorem_at self.now.kernel) result
+            (as_theorem (object_of self.now.kernel (lists_of self.now machine.now) object)) }
         ensures made { OnOk result (IsNumber object → ⊥) }
         ensures inside { IfOk result (λ th. th < length self.now.kernel.theorems) }
     {

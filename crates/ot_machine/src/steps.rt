@@ -6,9 +6,11 @@ ghost use Rattle.ot_plain.specs.Names.{Name};
 ghost use Rattle.ot_plain.specs.Trees.{Sequent};
 ghost use Rattle.ot_plain.specs.Faults.{Fault as StatedFault};
 ghost use Rattle.ot_kernel.specs.State.{name_at};
-ghost use Rattle.ot_trace.specs.Origins.{Number, Named, Make, Define, Outcome, MoreOrigins, NoOrigins, from_list, make_one, operand, symbols};
+ghost use Rattle.ot_trace.specs.Origins.{Number, Named, Make, Define, Outcome, MoreOrigins, NoOrigins, from_list};
+ghost use Rattle.ot_trace.specs.Origins.{make_one, operand, symbols};
 ghost use Rattle.ot_trace.specs.Trace.{origin_at as number_origin, origins_at};
-ghost use Rattle.ot_machine.specs.Meaning.{object_of, origin_of, origin_or, lists_of, article_of, run_of, IsOf, IsIn, IsNumber, HasStep, Traces};
+ghost use Rattle.ot_machine.specs.Meaning.{object_of, origin_of, origin_or, lists_of, article_of, run_of, IsOf, IsIn};
+ghost use Rattle.ot_machine.specs.Meaning.{IsNumber, HasStep, Traces};
 ghost use Rattle.ot_machine.specs.Places.{replaced, top, origins_of};
 ghost use Rattle.ot_machine.specs.Rows.{origin_at};
 ghost use Rattle.ot_machine.specs.Step.{on_stack};
@@ -41,7 +43,8 @@ impl Session {
     pub(crate) fn operand_at(&mut self, machine: &Machine, place: usize) -> Result<StepId, Memory>
         requires of { IsOf self.old machine.now }
         requires there { place < vec_len machine.now.stack }
-        ensures made { IfOk result (λ i. origin_of self.new i ≡ origin_at place (article_of self.old machine.now).stack) }
+        ensures made { IfOk result
+            (λ i. origin_of self.new i ≡ origin_at place (article_of self.old machine.now).stack) }
         ensures inside { IfOk result (λ i. i < length self.new.trace) }
         ensures kept { Traces self.old self.new machine.now }
     {
@@ -55,7 +58,8 @@ impl Session {
     fn step_on(&self, machine: &Machine, place: usize) -> Result<StepId, i64>
         requires of { IsOf self.now machine.now }
         requires there { place < vec_len machine.now.stack }
-        ensures made { IfOk result (λ i. origin_of self.now i ≡ origin_at place (article_of self.now machine.now).stack) }
+        ensures made { IfOk result
+            (λ i. origin_of self.now i ≡ origin_at place (article_of self.now machine.now).stack) }
         ensures inside { IfOk result (λ i. i < length self.now.trace) }
         ensures number { IfErr result (λ k. Number k ≡ origin_at place (article_of self.now machine.now).stack) }
     {
@@ -117,7 +121,8 @@ impl Session {
         requires of { IsOf self.old machine.now }
         requires inside { All (λ i. i < length self.old.trace) operands.now }
         ensures number { IfOk result (λ i. number_origin self.new.trace i ≡ Make word (origins_at self.old.trace operands.now)) }
-        ensures made { IfOk result (λ i. origin_of self.new i ≡ Make word (from_list (map (origin_of self.old) operands.now))) }
+        ensures made { IfOk result
+            (λ i. origin_of self.new i ≡ Make word (from_list (map (origin_of self.old) operands.now))) }
         ensures inside { IfOk result (λ i. i < length self.new.trace) }
         ensures kept { Traces self.old self.new machine.now }
     {
@@ -144,8 +149,8 @@ impl Session {
         Ok((operand, symbol))
     }
 
-    /// The step of a definition by a word and the objects of these steps, the lowest first. `defined` are the steps of the
-    /// symbols that these name.
+    /// The step of a definition by a word and the objects of these steps, the lowest first. `defined` are the steps
+    /// of the symbols that these name.
     pub(crate) fn defining_step(
         &mut self,
         machine: &Machine,
@@ -156,8 +161,10 @@ impl Session {
         requires of { IsOf self.old machine.now }
         requires inside { All (λ i. i < length self.old.trace) operands.now }
         requires defined { All (λ i. i < length self.old.trace) defined.now }
-        requires symbols { map (number_origin self.old.trace) defined.now ≡ symbols (Define word (origins_at self.old.trace operands.now)) }
-        ensures made { IfOk result (λ i. origin_of self.new i ≡ Define word (from_list (map (origin_of self.old) operands.now))) }
+        requires symbols { map (number_origin self.old.trace) defined.now
+            ≡ symbols (Define word (origins_at self.old.trace operands.now)) }
+        ensures made { IfOk result
+            (λ i. origin_of self.new i ≡ Define word (from_list (map (origin_of self.old) operands.now))) }
         ensures inside { IfOk result (λ i. i < length self.new.trace) }
         ensures kept { Traces self.old self.new machine.now }
     {
@@ -184,7 +191,17 @@ impl Session {
         requires of { IsOf self.old machine.old }
         requires inside { IsIn self.old.kernel (length machine.old.cells.items) object }
         requires there { 1 ≤ vec_len machine.old.stack }
-        ensures ok { OnOk result (article_of self.new machine.new ≡ (let s = article_of self.old machine.old in record s { stack = replaced 1 (record { object = object_of self.old.kernel (lists_of self.old machine.old) object; origin = Make word (origins_of (top 1 s.stack)) }) s.stack })) }
+        ensures ok { OnOk result
+            (article_of self.new machine.new
+            ≡ (let s = article_of self.old machine.old in
+            record s {
+              stack = replaced 1
+                  (record {
+                    object = object_of self.old.kernel (lists_of self.old machine.old) object;
+                    origin = Make word
+                        (origins_of (top 1 s.stack));
+                  }) s.stack;
+            })) }
         ensures err { OnErr result (article_of self.new machine.new ≡ article_of self.old machine.old) }
         ensures kernel { self.new.kernel ≡ self.old.kernel }
         ensures run { run_of self.new ≡ run_of self.old }
@@ -207,7 +224,17 @@ impl Session {
         requires of { IsOf self.old machine.old }
         requires inside { IsIn self.old.kernel (length machine.old.cells.items) object }
         requires there { 2 ≤ vec_len machine.old.stack }
-        ensures ok { OnOk result (article_of self.new machine.new ≡ (let s = article_of self.old machine.old in record s { stack = replaced 2 (record { object = object_of self.old.kernel (lists_of self.old machine.old) object; origin = Make word (origins_of (top 2 s.stack)) }) s.stack })) }
+        ensures ok { OnOk result
+            (article_of self.new machine.new
+            ≡ (let s = article_of self.old machine.old in
+            record s {
+              stack = replaced 2
+                  (record {
+                    object = object_of self.old.kernel (lists_of self.old machine.old) object;
+                    origin = Make word
+                        (origins_of (top 2 s.stack));
+                  }) s.stack;
+            })) }
         ensures err { OnErr result (article_of self.new machine.new ≡ article_of self.old machine.old) }
         ensures kernel { self.new.kernel ≡ self.old.kernel }
         ensures run { run_of self.new ≡ run_of self.old }
@@ -231,7 +258,8 @@ impl Session {
         requires of { IsOf self.old machine.old }
         requires inside { IfOk answer (λ th. th < length self.old.kernel.theorems) }
         requires there { 1 ≤ vec_len machine.old.stack }
-        ensures { (stated : Result (Sequent Name) (StatedFault Name)) → Gives self.old.kernel answer stated → Turns result (on_stack (concluding 1 word stated)) self.old machine.old self.new machine.new }
+        ensures { (stated : Result (Sequent Name) (StatedFault Name)) → Gives self.old.kernel answer stated
+            → Turns result (on_stack (concluding 1 word stated)) self.old machine.old self.new machine.new }
     {
         match answer {
             Ok(theorem) => Ok(self.make_one(machine, word, Object::Theorem(theorem))?),
@@ -249,7 +277,8 @@ impl Session {
         requires of { IsOf self.old machine.old }
         requires inside { IfOk answer (λ th. th < length self.old.kernel.theorems) }
         requires there { 2 ≤ vec_len machine.old.stack }
-        ensures { (stated : Result (Sequent Name) (StatedFault Name)) → Gives self.old.kernel answer stated → Turns result (on_stack (concluding 2 word stated)) self.old machine.old self.new machine.new }
+        ensures { (stated : Result (Sequent Name) (StatedFault Name)) → Gives self.old.kernel answer stated
+            → Turns result (on_stack (concluding 2 word stated)) self.old machine.old self.new machine.new }
     {
         match answer {
             Ok(theorem) => Ok(self.make_two(machine, word, Object::Theorem(theorem))?),
@@ -269,7 +298,17 @@ impl Session {
         requires inside { IsIn self.old.kernel (length machine.old.cells.items) object }
         requires name { name < length self.old.kernel.names }
         requires there { 1 ≤ vec_len machine.old.stack }
-        ensures ok { OnOk result (article_of self.new machine.new ≡ (let s = article_of self.old machine.old in record s { stack = replaced 1 (record { object = object_of self.old.kernel (lists_of self.old machine.old) object; origin = Make word (MoreOrigins (Named (name_at self.old.kernel name)) NoOrigins) }) s.stack })) }
+        ensures ok { OnOk result
+            (article_of self.new machine.new
+            ≡ (let s = article_of self.old machine.old in
+            record s {
+              stack = replaced 1
+                  (record {
+                    object = object_of self.old.kernel (lists_of self.old machine.old) object;
+                    origin = Make word
+                        (MoreOrigins (Named (name_at self.old.kernel name)) NoOrigins);
+                  }) s.stack;
+            })) }
         ensures err { OnErr result (article_of self.new machine.new ≡ article_of self.old machine.old) }
         ensures kernel { self.new.kernel ≡ self.old.kernel }
         ensures run { run_of self.new ≡ run_of self.old }

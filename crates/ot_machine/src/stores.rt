@@ -27,7 +27,14 @@ impl Session {
         requires of { IsOf self.now machine.old }
         requires inside { IsIn self.now.kernel (length machine.old.cells.items) object }
         requires step { HasStep self.now.trace object step }
-        ensures ok { OnOk result (article_of self.now machine.new ≡ (let s = article_of self.now machine.old in record s { stack = pushed (entry_of self.now (lists_of self.now machine.old) (record { object = object; step = step })) s.stack })) }
+        ensures ok { OnOk result
+            (article_of self.now machine.new
+            ≡ (let s = article_of self.now machine.old in
+            record s {
+              stack = pushed
+                  (entry_of self.now (lists_of self.now machine.old) (record { object = object; step = step }))
+                  s.stack;
+            })) }
         ensures err { OnErr result (article_of self.now machine.new ≡ article_of self.now machine.old) }
         ensures of { IsOf self.now machine.new }
         ensures cells { machine.new.cells ≡ machine.old.cells }
@@ -49,7 +56,12 @@ impl Session {
         requires step { HasStep self.now.trace object step }
         requires some { 0 < count }
         requires there { count ≤ vec_len machine.old.stack }
-        ensures changed { article_of self.now machine.new ≡ (let s = article_of self.now machine.old in record s { stack = replaced count (entry_of self.now (lists_of self.now machine.old) (record { object = object; step = step })) s.stack }) }
+        ensures changed { article_of self.now machine.new
+            ≡ (let s = article_of self.now machine.old in
+            record s {
+              stack = replaced count
+                  (entry_of self.now (lists_of self.now machine.old) (record { object = object; step = step })) s.stack;
+            }) }
         ensures of { IsOf self.now machine.new }
     {
         let place = machine.stack.len() - count;
@@ -62,7 +74,12 @@ impl Session {
         requires of { IsOf self.now machine.old }
         requires inside { All (IsEntryIn self.now (length machine.old.cells.items)) entries.now }
         requires there { length entries.now ≤ vec_len machine.old.stack }
-        ensures changed { article_of self.now machine.new ≡ (let s = article_of self.now machine.old in record s { stack = exchanged (length entries.now) (map (entry_of self.now (lists_of self.now machine.old)) entries.now) s.stack }) }
+        ensures changed { article_of self.now machine.new
+            ≡ (let s = article_of self.now machine.old in
+            record s {
+              stack = exchanged (length entries.now)
+                  (map (entry_of self.now (lists_of self.now machine.old)) entries.now) s.stack;
+            }) }
         ensures of { IsOf self.now machine.new }
     {
         let place = machine.stack.len() - entries.len();
@@ -73,7 +90,8 @@ impl Session {
     pub(crate) fn drop_top(&self, machine: &mut Machine, count: usize)
         requires of { IsOf self.now machine.old }
         requires there { count ≤ vec_len machine.old.stack }
-        ensures changed { article_of self.now machine.new ≡ (let s = article_of self.now machine.old in record s { stack = dropped count s.stack }) }
+        ensures changed { article_of self.now machine.new
+            ≡ (let s = article_of self.now machine.old in record s { stack = dropped count s.stack }) }
         ensures of { IsOf self.now machine.new }
     {
         let rest = machine.stack.len() - count;
@@ -83,7 +101,8 @@ impl Session {
     /// What is stored under a key.
     pub(crate) fn stored(&self, machine: &Machine, key: i64) -> Result<Entry, Fault>
         requires { IsOf self.now machine.now }
-        ensures found { Makes self.now.kernel (entry_of self.now (lists_of self.now machine.now)) result (some_or (NoEntry key) (dictionaries.get (article_of self.now machine.now).dictionary key)) }
+        ensures found { Makes self.now.kernel (entry_of self.now (lists_of self.now machine.now)) result
+            (some_or (NoEntry key) (dictionaries.get (article_of self.now machine.now).dictionary key)) }
         ensures inside { IfOk result (IsEntryIn self.now (length machine.now.cells.items)) }
     {
         match machine.dictionary.get(&key) {
@@ -103,7 +122,12 @@ impl Session {
         requires of { IsOf self.now machine.old }
         requires inside { IsIn self.now.kernel (length machine.old.cells.items) object }
         requires step { HasStep self.now.trace object step }
-        ensures ok { OnOk result (article_of self.now machine.new ≡ (let s = article_of self.now machine.old in record s { dictionary = dictionaries.insert s.dictionary key (entry_of self.now (lists_of self.now machine.old) (record { object = object; step = step })) })) }
+        ensures ok { OnOk result
+            (article_of self.now machine.new
+            ≡ (let s = article_of self.now machine.old in record s {
+              dictionary = dictionaries.insert s.dictionary key
+                  (entry_of self.now (lists_of self.now machine.old) (record { object = object; step = step }));
+            })) }
         ensures err { OnErr result (article_of self.now machine.new ≡ article_of self.now machine.old) }
         ensures of { IsOf self.now machine.new }
         ensures stack { vec_len machine.new.stack ≡ vec_len machine.old.stack }
@@ -115,7 +139,9 @@ impl Session {
     /// Takes out what is stored under a key.
     pub(crate) fn forget(&self, machine: &mut Machine, key: i64)
         requires { IsOf self.now machine.old }
-        ensures changed { article_of self.now machine.new ≡ (let s = article_of self.now machine.old in record s { dictionary = dictionaries.remove s.dictionary key }) }
+        ensures changed { article_of self.now machine.new
+            ≡ (let s = article_of self.now machine.old in
+            record s { dictionary = dictionaries.remove s.dictionary key }) }
         ensures of { IsOf self.now machine.new }
     {
         machine.dictionary.swap_remove(&key);

@@ -30,7 +30,8 @@ impl Session {
     ) -> Result<Subst, Fault>
         requires of { IsOf self.now machine.now }
         requires inside { IsListIn (length machine.now.cells.items) list }
-        ensures read { Makes self.now.kernel (λ s. (type_pairs self.now.kernel s.types, term_pairs self.now.kernel s)) result (maps_of (list_at (lists_of self.now machine.now) list)) }
+        ensures read { Makes self.now.kernel (λ s. (type_pairs self.now.kernel s.types, term_pairs self.now.kernel s))
+            result (maps_of (list_at (lists_of self.now machine.now) list)) }
         ensures inside { IfOk result (IsSubstIn self.now.kernel) }
     {
         let (types, terms) = self.two_of(machine, list, ListForm::Substitution)?;
@@ -44,7 +45,8 @@ impl Session {
     fn types_onto(&self, alloc: Global, machine: &Machine, list: List) -> Result<TypeSubst, Fault>
         requires of { IsOf self.now machine.now }
         requires inside { IsListIn (length machine.now.cells.items) list }
-        ensures read { Makes self.now.kernel (type_pairs self.now.kernel) result (types_onto [] (list_at (lists_of self.now machine.now) list)) }
+        ensures read { Makes self.now.kernel (type_pairs self.now.kernel) result
+            (types_onto [] (list_at (lists_of self.now machine.now) list)) }
         ensures inside { IfOk result (AreTypePairs self.now.kernel) }
     {
         let mut types = TypeSubst::new(alloc);
@@ -68,7 +70,8 @@ impl Session {
         requires of { IsOf self.now machine.now }
         requires types { AreTypePairs self.now.kernel types }
         requires inside { IsListIn (length machine.now.cells.items) list }
-        ensures read { Makes self.now.kernel (term_pairs self.now.kernel) result (terms_onto [] (list_at (lists_of self.now machine.now) list)) }
+        ensures read { Makes self.now.kernel (term_pairs self.now.kernel) result
+            (terms_onto [] (list_at (lists_of self.now machine.now) list)) }
         ensures types { IfOk result (λ s. s.types ≡ types) }
         ensures inside { IfOk result (IsSubstIn self.now.kernel) }
     {
@@ -88,7 +91,8 @@ impl Session {
     fn type_pair(&self, machine: &Machine, pair: Object) -> Result<(NameId, TypeId), Fault>
         requires of { IsOf self.now machine.now }
         requires inside { IsIn self.now.kernel (length machine.now.cells.items) pair }
-        ensures read { Makes self.now.kernel (λ p. (name_at self.now.kernel p.0, type_at self.now.kernel p.1)) result (type_pair (object_of self.now.kernel (lists_of self.now machine.now) pair)) }
+        ensures read { Makes self.now.kernel (λ p. (name_at self.now.kernel p.0, type_at self.now.kernel p.1)) result
+            (type_pair (object_of self.now.kernel (lists_of self.now machine.now) pair)) }
         ensures name { IfOk result (λ p. p.0 < length self.now.kernel.names) }
         ensures ty { IfOk result (λ p. p.1 < length self.now.kernel.types) }
     {
@@ -103,7 +107,8 @@ impl Session {
     fn term_pair(&self, machine: &Machine, pair: Object) -> Result<(VarKey, TermId), Fault>
         requires of { IsOf self.now machine.now }
         requires inside { IsIn self.now.kernel (length machine.now.cells.items) pair }
-        ensures read { Makes self.now.kernel (λ p. (variable_at self.now.kernel p.0, term_at self.now.kernel p.1)) result (term_pair (object_of self.now.kernel (lists_of self.now machine.now) pair)) }
+        ensures read { Makes self.now.kernel (λ p. (variable_at self.now.kernel p.0, term_at self.now.kernel p.1))
+            result (term_pair (object_of self.now.kernel (lists_of self.now machine.now) pair)) }
         ensures name { IfOk result (λ p. p.0.name < length self.now.kernel.names) }
         ensures ty { IfOk result (λ p. p.0.ty < length self.now.kernel.types) }
         ensures term { IfOk result (λ p. p.1 < length self.now.kernel.terms) }
@@ -118,7 +123,8 @@ impl Session {
     /// An object that has to be a type.
     fn type_in(&self, machine: &Machine, object: Object) -> Result<TypeId, Fault>
         requires { IsIn self.now.kernel (length machine.now.cells.items) object }
-        ensures read { Makes self.now.kernel (type_at self.now.kernel) result (or_bad BadSubst (as_type (object_of self.now.kernel (lists_of self.now machine.now) object))) }
+        ensures read { Makes self.now.kernel (type_at self.now.kernel) result
+            (or_bad BadSubst (as_type (object_of self.now.kernel (lists_of self.now machine.now) object))) }
         ensures inside { IfOk result (λ t. t < length self.now.kernel.types) }
     {
         match object {
@@ -130,7 +136,8 @@ impl Session {
     /// An object that has to be a term.
     fn term_in(&self, machine: &Machine, object: Object) -> Result<TermId, Fault>
         requires { IsIn self.now.kernel (length machine.now.cells.items) object }
-        ensures read { Makes self.now.kernel (term_at self.now.kernel) result (or_bad BadSubst (as_term (object_of self.now.kernel (lists_of self.now machine.now) object))) }
+        ensures read { Makes self.now.kernel (term_at self.now.kernel) result
+            (or_bad BadSubst (as_term (object_of self.now.kernel (lists_of self.now machine.now) object))) }
         ensures inside { IfOk result (λ t. t < length self.now.kernel.terms) }
     {
         match object {

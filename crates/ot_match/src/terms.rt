@@ -50,7 +50,8 @@ fn is_bound(kernel: &Kernel, binders: &Binders<'_>, v: &VarKey) -> bool
 fn is_place(kernel: &Kernel, binders: &Binders<'_>, v: &VarKey, number: u64) -> bool
     requires key { IsKey kernel.now v.now }
     requires binders { AreKeys kernel.now binders.now }
-    ensures { IsTrue result ↔ (place names (binders_at kernel.now binders.now) (variable_at kernel.now v.now) ≡ Some number) }
+    ensures { IsTrue result
+        ↔ (place names (binders_at kernel.now binders.now) (variable_at kernel.now v.now) ≡ Some number) }
 {
     match binders {
         Binders::Outermost => false,
@@ -107,7 +108,8 @@ fn held_term(
     requires ty { ty < length kernel.now.types }
     requires vars { AreTermsIn kernel.now vars.now }
     ensures held { option_map (term_at kernel.now) result
-        ≡ lookup (same_var names (record { name = name.now; ty = type_at kernel.now ty })) (terms_of kernel.now vars.now) }
+        ≡ lookup (same_var names (record { name = name.now; ty = type_at kernel.now ty }))
+        (terms_of kernel.now vars.now) }
     ensures below { IfSome result (λ held. held < length kernel.now.terms) }
 {
     'each: for var in vars {
@@ -160,7 +162,8 @@ fn match_variable(
     requires binders { AreKeys kernel.now binders.now }
     requires maps { IsMatchIn kernel.now maps.old }
     ensures walk { IfOk result (λ b. walk_term names (Free (record { name = name.now; ty = type_of_tree ty.now }))
-        (nameless_in names (binders_at kernel.now binders.now) (named_at kernel.now.terms id)) (maps_of kernel.now maps.old)
+        (nameless_in names (binders_at kernel.now binders.now) (named_at kernel.now.terms id))
+        (maps_of kernel.now maps.old)
         ≡ answered b (maps_of kernel.now maps.new)) }
     ensures inside { OnOk result (IsMatchIn kernel.now maps.new) }
 {
@@ -185,7 +188,8 @@ fn match_constant(
 ) -> Result<bool, Memory>
     requires id { id < length kernel.now.terms }
     requires maps { IsMatchIn kernel.now maps.old }
-    ensures walk { IfOk result (λ b. (e : List (Variable NameValue)) → walk_term names (Con name.now (type_of_tree ty.now))
+    ensures walk { IfOk result
+        (λ b. (e : List (Variable NameValue)) → walk_term names (Con name.now (type_of_tree ty.now))
         (nameless_in names e (named_at kernel.now.terms id)) (maps_of kernel.now maps.old)
         ≡ answered b (maps_of kernel.now maps.new)) }
     ensures inside { OnOk result (IsMatchIn kernel.now maps.new) }
@@ -230,7 +234,8 @@ pub(crate) fn match_term(
     requires binders { AreKeys kernel.now binders.now }
     requires maps { IsMatchIn kernel.now maps.old }
     ensures walk { IfOk result (λ b. walk_term names (term_of_tree pattern.now)
-        (nameless_in names (binders_at kernel.now binders.now) (named_at kernel.now.terms id)) (maps_of kernel.now maps.old)
+        (nameless_in names (binders_at kernel.now binders.now) (named_at kernel.now.terms id))
+        (maps_of kernel.now maps.old)
         ≡ answered b (maps_of kernel.now maps.new)) }
     ensures inside { OnOk result (IsMatchIn kernel.now maps.new) }
 {

@@ -39,7 +39,8 @@ fn put_type(
 ) -> Result<bool, Memory>
     requires id { id < length kernel.now.types }
     requires types { AreTypesIn kernel.now types.old.items }
-    ensures put { IfOk result (λ b. put_type names name.now (type_at kernel.now id) (types_of kernel.now types.old.items)
+    ensures put { IfOk result
+        (λ b. put_type names name.now (type_at kernel.now id) (types_of kernel.now types.old.items)
         ≡ answered b (types_of kernel.now types.new.items)) }
     ensures inside { OnOk result (AreTypesIn kernel.now types.new.items) }
 {

@@ -11,13 +11,13 @@ use ot_write::{Roots, WriteRefusal, write_article};
 use ot_written::{same_origin_law, stored_enough_law};
 use std::alloc::Global;
 
-/// Appends the minimised article of a run: of version 6, with the exports in their order, behind the definitions that they
-/// need in their old order.
+/// Appends the minimised article of a run: of version 6, with the exports in their order, behind the definitions that
+/// they need in their old order.
 ///
-/// The exports are lawful over the run of the session, as those are that the run of an article or of a theory file gives.
-/// Run alone, the article ends and exports the same; its assumptions and its definitions are the needed ones; and none of its
-/// commands could be left out. `TooLarge` comes exactly where it has more than `max` bytes, and after a refusal `out` is as it
-/// was.
+/// The exports are lawful over the run of the session, as those are that the run of an article or of a theory file
+/// gives. Run alone, the article ends and exports the same; its assumptions and its definitions are the needed ones;
+/// and none of its commands could be left out. `TooLarge` comes exactly where it has more than `max` bytes, and after
+/// a refusal `out` is as it was.
 pub fn minimise(
     alloc: Global,
     session: &Session,
@@ -29,7 +29,8 @@ pub fn minimise(
     requires exports { All (IsExportIn session.now) exports.now }
     requires lawful { AreLawful (run_of session.now) (map (export_of session.now) exports.now) }
     requires max { max < 2 ^ 63 }
-    ensures writes { Writes result (minimised (run_of session.now) (map (export_of session.now) exports.now)) max out.old.items out.new.items }
+    ensures writes { Writes result (minimised (run_of session.now) (map (export_of session.now) exports.now)) max
+        out.old.items out.new.items }
     ensures minimised { let r = run_of session.now in let es = map (export_of session.now) exports.now in
         OnOk result (IsMinimised max r es (minimised r es)) }
 {

@@ -10,9 +10,9 @@ use ot_nodes::{Nodes, TermId};
 use ot_plain::Memory;
 use std::cmp::Ordering;
 
-/// The terms in the order of the bytes of their texts, each text once: of several terms with one text, the last of the list.
-/// The terms are of this table. Their texts are those that are printed, and may be too long for memory: none is made as a
-/// whole. The one error is want of memory.
+/// The terms in the order of the bytes of their texts, each text once: of several terms with one text, the last of
+/// the list. The terms are of this table. Their texts are those that are printed, and may be too long for memory:
+/// none is made as a whole. The one error is want of memory.
 pub fn sorted_by_text(nodes: &Nodes, terms: &[TermId]) -> Result<Vec<TermId>, Memory>
     requires { All (HasTerm nodes.now) terms.now }
     ensures has { IfOk result (λ found. All (HasTerm nodes.now) found.items) }

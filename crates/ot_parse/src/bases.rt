@@ -6,7 +6,8 @@ ghost use Rattle.ot_plain.specs.Names.{Name as NameValue};
 ghost use Rattle.ot_plain.specs.Trees.{Symbol};
 ghost use Rattle.ot_forms.specs.Words.{base};
 ghost use Rattle.ot_parse.specs.Symbols.{symbol_of};
-ghost use Rattle.ot_parse.specs.Bases.{AreBases, holder_of, holder_with, holders_among, is_no_rival, is_sole as sole_test, one_more, held};
+ghost use Rattle.ot_parse.specs.Bases.{AreBases, holder_of, holder_with, holders_among, is_no_rival};
+ghost use Rattle.ot_parse.specs.Bases.{is_sole as sole_test, one_more, held};
 
 use crate::names::base_of;
 use crate::notation::{WordKind, is_one_kind, is_shown};
@@ -44,7 +45,8 @@ impl<'a> Bases<'a> {
 
     /// Whether no other shown symbol of this kind has the base name of this one.
     pub fn is_alone(&self, kind: WordKind, name: &Name) -> bool
-        ensures { (shown : List NameValue) (symbols : List (Symbol NameValue)) → AreBases shown symbols self.now → result ≡ list_all (is_no_rival shown (symbol_of (kind, name.now))) symbols }
+        ensures { (shown : List NameValue) (symbols : List (Symbol NameValue)) → AreBases shown symbols self.now
+            → result ≡ list_all (is_no_rival shown (symbol_of (kind, name.now))) symbols }
     {
         match kind {
             WordKind::Con => is_sole(&self.constants, name),
@@ -71,7 +73,8 @@ fn holders<'a>(
     kind: WordKind,
     symbols: &'a [(WordKind, Name)],
 ) -> Result<HashMap<&'a [u8], Holder<'a>>, Memory>
-    ensures { IfOk result (λ holders. (text : List ℕ) → held holders text ≡ holders_among shown.now (symbol_of (kind, [])) text None (map symbol_of symbols.now)) }
+    ensures { IfOk result (λ holders. (text : List ℕ) → held holders text
+        ≡ holders_among shown.now (symbol_of (kind, [])) text None (map symbol_of symbols.now)) }
 {
     let mut holders = HashMap::new(alloc);
     for symbol in symbols {
@@ -87,7 +90,8 @@ fn add_holder<'a>(
     symbol: &'a (WordKind, Name),
     holders: &mut HashMap<&'a [u8], Holder<'a>>,
 ) -> Result<(), Memory>
-    ensures { OnOk result ((text : List ℕ) → held holders.new text ≡ holder_with shown.now (symbol_of (kind, [])) text (held holders.old text) (symbol_of symbol.now)) }
+    ensures { OnOk result ((text : List ℕ) → held holders.new text ≡ holder_with shown.now (symbol_of (kind, [])) text
+        (held holders.old text) (symbol_of symbol.now)) }
 {
     if !is_one_kind(kind, symbol.0) {
         return Ok(());

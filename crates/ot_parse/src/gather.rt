@@ -17,7 +17,8 @@ pub(crate) fn gathered(
     max: usize,
 ) -> Result<BTreeSet<Vec<u8>>, PrintFault>
     ensures ok { IfOk result (λ texts. texts_of texts ≡ ascending (map (λ t. tm_text (term_of_tree t)) terms.now)) }
-    ensures too_large { result ≡ Err PrintFault.TooLarge → max < bytes_in (ascending (map (λ t. tm_text (term_of_tree t)) terms.now)) }
+    ensures too_large { result ≡ Err PrintFault.TooLarge → max
+        < bytes_in (ascending (map (λ t. tm_text (term_of_tree t)) terms.now)) }
 {
     let mut texts = BTreeSet::new(alloc);
     let mut room = max;

@@ -4,10 +4,13 @@ ghost use Rattle.std.specs.Option.{option_map};
 ghost use Rattle.std.specs.List.{list_any};
 ghost use Rattle.ot_plain.specs.Names.{Name as NameValue, same_name, IsName};
 ghost use Rattle.ot_plain.specs.Trees.{Symbol};
-ghost use Rattle.ot_forms.specs.Words.{IsNotation, hidden_symbols, is_hidden_in as hidden_test, is_short as short_test, namespace, is_hidden as hidden_now, is_taken, is_bare as bare_test, dotted, same_symbol};
+ghost use Rattle.ot_forms.specs.Words.{IsNotation, hidden_symbols, is_hidden_in as hidden_test};
+ghost use Rattle.ot_forms.specs.Words.{is_short as short_test, namespace, is_hidden as hidden_now, is_taken};
+ghost use Rattle.ot_forms.specs.Words.{is_bare as bare_test, dotted, same_symbol};
 ghost use Rattle.ot_forms.specs.Reading.{with_base as based, is_spelled as spelled_test, settled, operators};
 ghost use Rattle.ot_parse.specs.Bases.{AreBases};
-ghost use Rattle.ot_parse.specs.Symbols.{symbol_of, kind_test, with_passing, AreNames, has_base as has_base_test, operator_base};
+ghost use Rattle.ot_parse.specs.Symbols.{symbol_of, kind_test, with_passing, AreNames, has_base as has_base_test};
+ghost use Rattle.ot_parse.specs.Symbols.{operator_base};
 
 use crate::bases::Bases;
 use crate::names::{are_same, base_of, copy_name, is_bare, namespace_of};
@@ -46,8 +49,9 @@ impl Model for Notation {
 }
 
 impl Notation {
-    /// The notation of a run with these symbols, where these namespaces are shown. A symbol is hidden where its namespace is
-    /// shown, its base name may stand alone, and no other symbol of its kind has the same base name and a shown namespace.
+    /// The notation of a run with these symbols, where these namespaces are shown. A symbol is hidden where its
+    /// namespace is shown, its base name may stand alone, and no other symbol of its kind has the same base name and
+    /// a shown namespace.
     pub fn new(
         alloc: Global,
         shown: &[Name],
@@ -83,8 +87,8 @@ impl Notation {
         None
     }
 
-    /// Whether the symbol's word is its spelling: it isn't hidden, and it has no bare word or that is the base name of a
-    /// hidden symbol of its kind.
+    /// Whether the symbol's word is its spelling: it isn't hidden, and it has no bare word or that is the base name
+    /// of a hidden symbol of its kind.
     pub fn is_spelled(&self, kind: WordKind, name: &Name) -> bool
         ensures { result ≡ spelled_test self.now (symbol_of (kind, name.now)) }
     {
@@ -93,14 +97,16 @@ impl Notation {
 
     // Whether the symbol's bare word is its own.
     fn is_plain(&self, kind: WordKind, name: &Name) -> bool
-        ensures { result ≡ (bare_test name.now && not (is_taken self.now (symbol_of (kind, name.now)) (dotted name.now))) }
+        ensures { result
+            ≡ (bare_test name.now && not (is_taken self.now (symbol_of (kind, name.now)) (dotted name.now))) }
     {
         is_bare(name) && !self.takes(kind, name)
     }
 
     // Whether the bare word is the base name of a hidden symbol of this kind.
     fn takes(&self, kind: WordKind, name: &Name) -> bool
-        ensures { bare_test name.now ≡ true → result ≡ is_taken self.now (symbol_of (kind, name.now)) (dotted name.now) }
+        ensures { bare_test name.now ≡ true → result ≡ is_taken self.now (symbol_of (kind, name.now))
+            (dotted name.now) }
     {
         self.sound();
         match name.components() {
@@ -147,8 +153,8 @@ impl Notation {
         Ok(words)
     }
 
-    /// A law: each hidden symbol has a namespace and a base name that may stand alone, and of one kind no two have one base
-    /// name.
+    /// A law: each hidden symbol has a namespace and a base name that may stand alone, and of one kind no two have
+    /// one base name.
     pub fn sound(&self)
         ensures { IsNotation self.now }
     {
@@ -221,7 +227,8 @@ fn push_hidden(
     hidden: &mut Vec<(WordKind, Name)>,
 ) -> Result<(), AllocError>
     ensures { OnOk result ((symbols : List (Symbol NameValue)) → AreBases shown.now symbols bases.now
-        → map symbol_of hidden.new.items ≡ with_passing (hidden_test shown.now symbols) (symbol_of symbol.now) (map symbol_of hidden.old.items)) }
+        → map symbol_of hidden.new.items ≡ with_passing (hidden_test shown.now symbols) (symbol_of symbol.now)
+        (map symbol_of hidden.old.items)) }
 {
     if !is_hidden_in(shown, bases, symbol) {
         return Ok(());
@@ -257,7 +264,8 @@ fn is_short(kind: WordKind, name: &Name) -> bool
 
 // Whether a symbol is hidden among those that these bases are of.
 fn is_hidden_in(shown: &[Name], bases: &Bases<'_>, symbol: &(WordKind, Name)) -> bool
-    ensures { (symbols : List (Symbol NameValue)) → AreBases shown.now symbols bases.now → result ≡ hidden_test shown.now symbols (symbol_of symbol.now) }
+    ensures { (symbols : List (Symbol NameValue)) → AreBases shown.now symbols bases.now → result
+        ≡ hidden_test shown.now symbols (symbol_of symbol.now) }
 {
     if !is_shown(shown, &symbol.1) {
         return false;

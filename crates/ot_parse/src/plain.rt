@@ -3,7 +3,8 @@ ghost use Rattle.std.specs.Prelude.{◌≡◌, ◌<◌, ◌++◌, codes, map, le
 ghost use Rattle.ot_plain.specs.Naming.{names};
 ghost use Rattle.ot_plain.specs.Names.{Name as NameValue};
 ghost use Rattle.ot_plain.specs.Trees.{TyOp, App, Tm as TermTree};
-ghost use Rattle.ot_text.specs.Texts.{name_text, ty_text, spaced_text, tm_text, argument_text, hyps_text, sequent_text, is_equation};
+ghost use Rattle.ot_text.specs.Texts.{name_text, ty_text, spaced_text, tm_text, argument_text, hyps_text};
+ghost use Rattle.ot_text.specs.Texts.{sequent_text, is_equation};
 ghost use Rattle.ot_text.specs.Gathered.{texts_of};
 ghost use Rattle.ot_text.specs.Pages.{IsPut, printed, Appended};
 ghost use Rattle.ot_plain.specs.PlainTrees.{type_of_tree, tys_of, term_of_tree};
@@ -17,7 +18,8 @@ use ot_text::{Page, PrintFault, put_hyps};
 use std::alloc::Global;
 use std::collections::BTreeSet;
 
-/// Appends the printed text of a sequent that was read. `TooLarge` exactly where it has more than `max` bytes. After a refusal
+/// Appends the printed text of a sequent that was read. `TooLarge` exactly where it has more than `max` bytes. After
+/// a refusal
 /// `out` is as it was.
 pub fn plain_text(
     alloc: Global,
@@ -41,8 +43,10 @@ fn write_sequent(
     max: usize,
     out: &mut Vec<u8>,
 ) -> Result<(), PrintFault>
-    ensures ok { OnOk result (Appended (hyps_text (texts_of texts.now) ++ tm_text (term_of_tree concl.now)) max out.old.items out.new.items) }
-    ensures too_large { result ≡ Err PrintFault.TooLarge → max < length (hyps_text (texts_of texts.now) ++ tm_text (term_of_tree concl.now)) }
+    ensures ok { OnOk result (Appended (hyps_text (texts_of texts.now) ++ tm_text (term_of_tree concl.now)) max
+        out.old.items out.new.items) }
+    ensures too_large { result ≡ Err PrintFault.TooLarge → max
+        < length (hyps_text (texts_of texts.now) ++ tm_text (term_of_tree concl.now)) }
     ensures err { OnErr result (out.new.items ≡ out.old.items) }
 {
     let mut page = Page::new(alloc, max);
@@ -52,7 +56,8 @@ fn write_sequent(
 
 // A sequent, of whose hypotheses these are the texts.
 fn put_sequent(page: &mut Page, texts: &BTreeSet<Vec<u8>>, concl: &Tm)
-    ensures { IsPut (hyps_text (texts_of texts.now) ++ tm_text (term_of_tree concl.now)) (printed page.old) (printed page.new) }
+    ensures { IsPut (hyps_text (texts_of texts.now) ++ tm_text (term_of_tree concl.now)) (printed page.old)
+        (printed page.new) }
 {
     put_hyps(page, texts);
     put_term(page, concl);
@@ -108,7 +113,8 @@ fn put_term(page: &mut Page, term: &Tm)
 // What stands before an argument: the function and a space, or the left side of an equation and `=`.
 #[cycle(terms)]
 fn put_front(page: &mut Page, f: &Tm)
-    ensures { (x : TermTree NameValue) → IsPut (front_text (term_of_tree f.now) x) (printed page.old) (printed page.new) }
+    ensures { (x : TermTree NameValue) → IsPut (front_text (term_of_tree f.now) x) (printed page.old)
+        (printed page.new) }
 {
     if !is_half_equation(f) {
         put_term(page, f);
@@ -180,7 +186,8 @@ fn is_equality_type(ty: &Ty) -> bool
 
 // A name and a type.
 fn put_typed(page: &mut Page, name: &Name, ty: &Ty)
-    ensures { IsPut (name_text name.now ++ codes ":" ++ ty_text (type_of_tree ty.now)) (printed page.old) (printed page.new) }
+    ensures { IsPut (name_text name.now ++ codes ":" ++ ty_text (type_of_tree ty.now)) (printed page.old)
+        (printed page.new) }
 {
     put_name(page, name);
     page.put(b":");
@@ -212,7 +219,8 @@ fn put_type(page: &mut Page, ty: &Ty)
 // An operator with its arguments.
 #[cycle(types)]
 fn put_operator(page: &mut Page, name: &Name, args: &Vec<Ty>)
-    ensures { IsPut (ty_text (TyOp name.now (tys_of (map type_of_tree args.now.items)))) (printed page.old) (printed page.new) }
+    ensures { IsPut (ty_text (TyOp name.now (tys_of (map type_of_tree args.now.items)))) (printed page.old)
+        (printed page.new) }
 {
     if args.is_empty() {
         put_name(page, name);
@@ -232,7 +240,9 @@ fn put_operator(page: &mut Page, name: &Name, args: &Vec<Ty>)
 // An operator and its arguments in parentheses.
 #[cycle(types)]
 fn put_arguments(page: &mut Page, name: &Name, args: &Vec<Ty>)
-    ensures { IsPut (codes "(" ++ name_text name.now ++ spaced_text (tys_of (map type_of_tree args.now.items)) ++ codes ")") (printed page.old) (printed page.new) }
+    ensures { IsPut
+        (codes "(" ++ name_text name.now ++ spaced_text (tys_of (map type_of_tree args.now.items)) ++ codes ")")
+        (printed page.old) (printed page.new) }
 {
     page.put(b"(");
     put_name(page, name);

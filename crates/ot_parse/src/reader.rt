@@ -8,7 +8,9 @@ ghost use Rattle.ot_forms.specs.Meaning.{meanings};
 ghost use Rattle.ot_forms.specs.Reading.{mapped, first_hyp_at};
 ghost use Rattle.ot_parse.specs.Gives.{Gives};
 ghost use Rattle.ot_parse.specs.Values.{meant_of};
-ghost use Rattle.ot_parse.specs.ReadLines.{kept_of, others, once, one_more, IsKept, terms, meant_at, hyps_meant, sequent_meant, IsSequent, IsWholeText, IsWholeLine, IsAt, IsHaltedAt, separator_at};
+ghost use Rattle.ot_parse.specs.ReadLines.{kept_of, others, once, one_more, IsKept, terms, meant_at, hyps_meant};
+ghost use Rattle.ot_parse.specs.ReadLines.{sequent_meant, IsSequent, IsWholeText, IsWholeLine, IsAt, IsHaltedAt};
+ghost use Rattle.ot_parse.specs.ReadLines.{separator_at};
 
 use crate::halt::Halt;
 use crate::notation::Notation;
@@ -25,11 +27,11 @@ use std::alloc::Global;
 
 /// The sequent that a line stands for under this notation: its hypotheses, each once, and its conclusion.
 ///
-/// A line is refused at a column, from 1. `Syntax`: it isn't of the forms, and stops being the front of a line of them with
-/// the byte there, or ends one byte before. `TooManyOpen`: the byte there opens the 8,193rd parenthesis or brace. The other
-/// faults come only in a line of the forms: of the refused parts the one that ends first counts, of two that end at one byte
-/// the inner one, and for one part the first of `Unbound`, `UnknownOperator`, `BadTypes`, `TooDeep`; the column is that of the
-/// part's first byte.
+/// A line is refused at a column, from 1. `Syntax`: it isn't of the forms, and stops being the front of a line of
+/// them with the byte there, or ends one byte before. `TooManyOpen`: the byte there opens the 8,193rd parenthesis or
+/// brace. The other faults come only in a line of the forms: of the refused parts the one that ends first counts, of
+/// two that end at one byte the inner one, and for one part the first of `Unbound`, `UnknownOperator`, `BadTypes`,
+/// `TooDeep`; the column is that of the part's first byte.
 pub fn read_sequent(
     alloc: Global,
     notation: &Notation,
@@ -169,7 +171,8 @@ fn read_some_hyps<'a>(
     notation: &Notation,
     line: &'a [u8],
 ) -> Result<(Hyps, &'a [u8]), Halt<'a>>
-    ensures read { Gives (λ x. kept_of x.0) (λ x. x.1.now) result (mapped (λ hs. once (meanings notation.now 0 hs)) (first_hyp_at (terms notation.now) line.now)) }
+    ensures read { Gives (λ x. kept_of x.0) (λ x. x.1.now) result
+        (mapped (λ hs. once (meanings notation.now 0 hs)) (first_hyp_at (terms notation.now) line.now)) }
     ensures shorter { IfOk result (λ x. length x.1.now ≤ length line.now) }
 {
     notation.sound();

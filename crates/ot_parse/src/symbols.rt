@@ -1,7 +1,9 @@
 //! The words of symbols in a text.
 ghost use Rattle.std.specs.Prelude.{◌≡◌, ℕ, List, map, IfOk};
 ghost use Rattle.std.specs.Option.{option_map};
-ghost use Rattle.ot_forms.specs.Reading.{operator_at, constant_at, quoted_at, bare_symbol_at, is_spelled as spelled_test, sign_word_at, operators, narrowed as narrowed_by, ended, ended_at};
+ghost use Rattle.ot_forms.specs.Reading.{operator_at, constant_at, quoted_at, bare_symbol_at};
+ghost use Rattle.ot_forms.specs.Reading.{is_spelled as spelled_test, sign_word_at, operators};
+ghost use Rattle.ot_forms.specs.Reading.{narrowed as narrowed_by, ended, ended_at};
 ghost use Rattle.ot_parse.specs.Gives.{Gives};
 ghost use Rattle.ot_parse.specs.Symbols.{symbol_of, behind_byte};
 
@@ -40,7 +42,8 @@ fn quoted_symbol<'a>(
     kind: WordKind,
     text: &'a [u8],
 ) -> Result<(Name, &'a [u8]), Halt<'a>>
-    ensures { Gives (λ x. x.0) (λ x. x.1.now) result (quoted_at (λ n. spelled_test notation.now (symbol_of (kind, n))) text.now) }
+    ensures { Gives (λ x. x.0) (λ x. x.1.now) result
+        (quoted_at (λ n. spelled_test notation.now (symbol_of (kind, n))) text.now) }
 {
     match spelled(alloc, text) {
         Err(halt) => Err(halt),
@@ -63,7 +66,8 @@ fn bare_symbol<'a>(
     kind: WordKind,
     text: &'a [u8],
 ) -> Result<(Name, &'a [u8]), Halt<'a>>
-    ensures { Gives (λ x. x.0) (λ x. x.1.now) result (bare_symbol_at notation.now (λ n. symbol_of (kind, n)) text.now) }
+    ensures { Gives (λ x. x.0) (λ x. x.1.now) result
+        (bare_symbol_at notation.now (λ n. symbol_of (kind, n)) text.now) }
 {
     match bare(alloc, text) {
         Err(halt) => Err(halt),
@@ -132,7 +136,8 @@ fn narrowed<'a>(
     byte: u8,
     candidates: &[(&'a [u8], &'a Name)],
 ) -> Result<Vec<(&'a [u8], &'a Name)>, AllocError>
-    ensures { IfOk result (λ v. map (λ c. (c.0.now, c.1.now)) v.items ≡ narrowed_by byte (map (λ c. (c.0.now, c.1.now)) candidates.now)) }
+    ensures { IfOk result (λ v. map (λ c. (c.0.now, c.1.now)) v.items
+        ≡ narrowed_by byte (map (λ c. (c.0.now, c.1.now)) candidates.now)) }
 {
     let mut narrower = Vec::new(alloc);
     for candidate in candidates {
@@ -159,7 +164,8 @@ fn ended_word<'a>(
     candidates: &[(&[u8], &Name)],
     text: &'a [u8],
 ) -> Result<(Name, &'a [u8]), Halt<'a>>
-    ensures { Gives (λ x. x.0) (λ x. x.1.now) result (ended_at (ended (map (λ c. (c.0.now, c.1.now)) candidates.now)) text.now) }
+    ensures { Gives (λ x. x.0) (λ x. x.1.now) result
+        (ended_at (ended (map (λ c. (c.0.now, c.1.now)) candidates.now)) text.now) }
 {
     for candidate in candidates {
         if candidate.0.is_empty() {

@@ -1,5 +1,6 @@
 //! Terms in a text, with what is open around them kept in a list.
-ghost use Rattle.std.specs.Prelude.{◌≡◌, ◌≤◌, ◌<◌, ◌+◌, ◌-◌, ◌==◌, ◌||◌, ℕ, suc, List, [], ◌∷◌, length, IfOk, IfNone, IfSome};
+ghost use Rattle.std.specs.Prelude.{◌≡◌, ◌≤◌, ◌<◌, ◌+◌, ◌-◌, ◌==◌, ◌||◌, ℕ, suc, List, [], ◌∷◌, length, IfOk, IfNone};
+ghost use Rattle.std.specs.Prelude.{IfSome};
 ghost use Rattle.ot_plain.specs.Names.{Name as NameValue};
 ghost use Rattle.ot_plain.specs.Trees.{Symbol};
 ghost use Rattle.ot_forms.specs.Forms.{FreeAs, ConAs};
@@ -8,10 +9,15 @@ ghost use Rattle.ot_forms.specs.Refusals.{open_limit};
 ghost use Rattle.ot_forms.specs.Reading.{Got, mapped, part_at, first_part, is_single as single_test};
 ghost use Rattle.ot_parse.specs.Gives.{Gives};
 ghost use Rattle.ot_plain.specs.PlainTrees.{type_of_tree};
-ghost use Rattle.ot_parse.specs.Meant.{place_at, raw, bound_of, is_relation as relation_test, sides_of as sides_meaning};
+ghost use Rattle.ot_parse.specs.Meant.{place_at, raw, bound_of, is_relation as relation_test};
+ghost use Rattle.ot_parse.specs.Meant.{sides_of as sides_meaning};
 ghost use Rattle.ot_parse.specs.Values.{IsMeant, IsMade, meant_of};
-ghost use Rattle.ot_parse.specs.TermFrames.{First, Right, Argument, Body, inner_of, around, closed, begun, operated, behind, after, binder_at, closed_free_at, closed_variable_at, closed_constant_at, closed_term, binding_reading, named_reading, is_free_at};
-ghost use Rattle.ot_parse.specs.TermCode.{frame_of, reversed, frames_of, IsKept, AreKept, IsLeaf, IsInside, IsFront, IsBack, IsClosed, IsOn, HasEnded, IsNext};
+ghost use Rattle.ot_parse.specs.TermFrames.{First, Right, Argument, Body, inner_of, around, closed, begun, operated};
+ghost use Rattle.ot_parse.specs.TermFrames.{behind, after, binder_at, closed_free_at, closed_variable_at};
+ghost use Rattle.ot_parse.specs.TermFrames.{closed_constant_at, closed_term, binding_reading, named_reading};
+ghost use Rattle.ot_parse.specs.TermFrames.{is_free_at};
+ghost use Rattle.ot_parse.specs.TermCode.{frame_of, reversed, frames_of, IsKept, AreKept, IsLeaf, IsInside, IsFront};
+ghost use Rattle.ot_parse.specs.TermCode.{IsBack, IsClosed, IsOn, HasEnded, IsNext};
 
 use crate::halt::Halt;
 use crate::notation::Notation;
@@ -64,7 +70,8 @@ pub(crate) enum Back<'a> {
     Further(Open<'a>, &'a [u8]),
 }
 
-/// What the term at the front of the text means before it is whole, and the bytes behind it; in a text of so many bytes.
+/// What the term at the front of the text means before it is whole, and the bytes behind it; in a text of so many
+/// bytes.
 pub(crate) fn read_part<'a>(
     alloc: Global,
     notation: &Notation,
@@ -106,7 +113,8 @@ fn next_of<'a>(
     text: &'a [u8],
 ) -> Result<Next<'a>, Halt<'a>>
     requires { length frames.old.items ≤ open_limit }
-    ensures { (start : List ℕ) → IsOn total notation.now start frames.old.items text.now → IsNext total notation.now start frames.new.items result }
+    ensures { (start : List ℕ) → IsOn total notation.now start frames.old.items text.now
+        → IsNext total notation.now start frames.new.items result }
 {
     notation.sound();
     let room = OPEN_LIMIT - frames.len();
@@ -133,7 +141,8 @@ fn ended<'a>(
     part: Meant,
     text: &'a [u8],
 ) -> Result<Next<'a>, Halt<'a>>
-    ensures { (start : List ℕ) → HasEnded total notation.now start frames.old.items part text.now → IsNext total notation.now start frames.new.items result }
+    ensures { (start : List ℕ) → HasEnded total notation.now start frames.old.items part text.now
+        → IsNext total notation.now start frames.new.items result }
 {
     match close(alloc, notation, total, frames, part, text) {
         Err(halt) => Err(halt),
@@ -161,7 +170,8 @@ fn front_of<'a>(
     room: usize,
     text: &'a [u8],
 ) -> Result<Front<'a>, Halt<'a>>
-    ensures { length text.now ≤ total → IsFront total notation.now room (around (frames_of frames.now)) text.now result }
+    ensures { length text.now ≤ total → IsFront total notation.now room (around (frames_of frames.now)) text.now
+        result }
 {
     match text.split_first() {
         None => Err(Halt::Syntax(text)),
@@ -191,7 +201,8 @@ fn place_front<'a>(
     frames: &[Open<'a>],
     text: &'a [u8],
 ) -> Result<Front<'a>, Halt<'a>>
-    ensures { let l = around (frames_of frames.now) in IsLeaf l (mapped (bound_of l (place_at total text.now)) (part_at text.now)) result }
+    ensures { let l = around (frames_of frames.now) in IsLeaf l
+        (mapped (bound_of l (place_at total text.now)) (part_at text.now)) result }
 {
     match part(text) {
         Err(halt) => Err(halt),
@@ -226,7 +237,8 @@ fn bound_part(alloc: Global, frames: &[Open<'_>], at: u64, name: &[u8]) -> Resul
 // The variable of an abstraction, where that is open.
 fn variable_of<'a>(inside: &'a Open<'_>) -> Option<(&'a [u8], &'a Ty)>
     ensures none { IfNone result ((l : Around) → inner_of (frame_of inside.now) l ≡ l) }
-    ensures some { IfSome result (λ v. (l : Around) → inner_of (frame_of inside.now) l ≡ (v.0.now, type_of_tree v.1.now) ∷ l) }
+    ensures some { IfSome result (λ v. (l : Around) → inner_of (frame_of inside.now) l
+        ≡ (v.0.now, type_of_tree v.1.now) ∷ l) }
 {
     match inside {
         Open::First(_, _) => None,
@@ -243,7 +255,8 @@ fn constant_front<'a>(
     room: usize,
     text: &'a [u8],
 ) -> Result<Front<'a>, Halt<'a>>
-    ensures { (k : ℕ) (l : Around) → IsLeaf l (mapped (raw notation.now l k) (closed_constant_at notation.now room text.now)) result }
+    ensures { (k : ℕ) (l : Around)
+        → IsLeaf l (mapped (raw notation.now l k) (closed_constant_at notation.now room text.now)) result }
 {
     match constant(alloc, notation, room, text) {
         Err(halt) => Err(halt),
@@ -261,7 +274,8 @@ fn constant<'a>(
     room: usize,
     text: &'a [u8],
 ) -> Result<(Name, Ty, &'a [u8]), Halt<'a>>
-    ensures { Gives (λ x. ConAs x.0 (type_of_tree x.1)) (λ x. x.2.now) result (closed_constant_at notation.now room text.now) }
+    ensures { Gives (λ x. ConAs x.0 (type_of_tree x.1)) (λ x. x.2.now) result
+        (closed_constant_at notation.now room text.now) }
 {
     match constant_word(alloc, notation, text) {
         Err(halt) => Err(halt),
@@ -288,7 +302,10 @@ fn inside<'a>(
     at: u64,
     text: &'a [u8],
 ) -> Result<Front<'a>, Halt<'a>>
-    ensures { length text.now < total → at ≡ total - suc (length text.now) → IsInside total notation.now room (around (frames_of frames.now)) (mapped (raw notation.now (around (frames_of frames.now)) at) (closed_term notation.now room text.now)) result }
+    ensures { length text.now < total → at ≡ total - suc (length text.now)
+        → IsInside total notation.now room (around (frames_of frames.now))
+        (mapped (raw notation.now (around (frames_of frames.now)) at) (closed_term notation.now room text.now))
+        result }
 {
     notation.sound();
     match text.split_first() {
@@ -323,7 +340,9 @@ fn binding_front<'a>(
     room: usize,
     text: &'a [u8],
 ) -> Result<Front<'a>, Halt<'a>>
-    ensures { (k : ℕ) (l : Around) → suc (length text.now) < total → k ≡ total - suc (suc (length text.now)) → IsInside total notation.now room l (mapped (raw notation.now l k) (binding_reading notation.now room text.now)) result }
+    ensures { (k : ℕ) (l : Around) → suc (length text.now) < total → k ≡ total - suc (suc (length text.now))
+        → IsInside total notation.now room l
+        (mapped (raw notation.now l k) (binding_reading notation.now room text.now)) result }
 {
     notation.sound();
     match binder(alloc, notation, room, text) {
@@ -366,7 +385,8 @@ fn variable_front<'a>(
     room: usize,
     text: &'a [u8],
 ) -> Result<Front<'a>, Halt<'a>>
-    ensures { (k : ℕ) (l : Around) → IsLeaf l (mapped (raw notation.now l k) (closed_variable_at notation.now room text.now)) result }
+    ensures { (k : ℕ) (l : Around)
+        → IsLeaf l (mapped (raw notation.now l k) (closed_variable_at notation.now room text.now)) result }
 {
     match quoted_variable(alloc, notation, room, text) {
         Err(halt) => Err(halt),
@@ -383,7 +403,8 @@ fn quoted_variable<'a>(
     room: usize,
     text: &'a [u8],
 ) -> Result<(Name, Ty, &'a [u8]), Halt<'a>>
-    ensures { Gives (λ x. FreeAs x.0 (type_of_tree x.1)) (λ x. x.2.now) result (closed_variable_at notation.now room text.now) }
+    ensures { Gives (λ x. FreeAs x.0 (type_of_tree x.1)) (λ x. x.2.now) result
+        (closed_variable_at notation.now room text.now) }
 {
     match variable_word(alloc, text) {
         Err(halt) => Err(halt),
@@ -402,7 +423,8 @@ fn free<'a>(
     name: Name,
     text: &'a [u8],
 ) -> Result<(Name, Ty, &'a [u8]), Halt<'a>>
-    ensures { Gives (λ x. FreeAs x.0 (type_of_tree x.1)) (λ x. x.2.now) result (closed_free_at notation.now room name text.now) }
+    ensures { Gives (λ x. FreeAs x.0 (type_of_tree x.1)) (λ x. x.2.now) result
+        (closed_free_at notation.now room name text.now) }
 {
     match literal(text, b": ") {
         Err(halt) => Err(halt),
@@ -426,7 +448,10 @@ fn named<'a>(
     at: u64,
     text: &'a [u8],
 ) -> Result<Front<'a>, Halt<'a>>
-    ensures { length text.now < total → at ≡ total - suc (length text.now) → IsInside total notation.now room (around (frames_of frames.now)) (mapped (raw notation.now (around (frames_of frames.now)) at) (named_reading notation.now room text.now)) result }
+    ensures { length text.now < total → at ≡ total - suc (length text.now)
+        → IsInside total notation.now room (around (frames_of frames.now))
+        (mapped (raw notation.now (around (frames_of frames.now)) at) (named_reading notation.now room text.now))
+        result }
 {
     notation.sound();
     match bare(alloc, text) {
@@ -471,7 +496,8 @@ fn free_front<'a>(
     name: Name,
     text: &'a [u8],
 ) -> Result<Front<'a>, Halt<'a>>
-    ensures { (k : ℕ) (l : Around) → IsLeaf l (mapped (raw notation.now l k) (closed_free_at notation.now room name text.now)) result }
+    ensures { (k : ℕ) (l : Around)
+        → IsLeaf l (mapped (raw notation.now l k) (closed_free_at notation.now room name text.now)) result }
 {
     match free(alloc, notation, room, name, text) {
         Err(halt) => Err(halt),
@@ -499,7 +525,9 @@ fn close<'a>(
     part: Meant,
     text: &'a [u8],
 ) -> Result<Back<'a>, Halt<'a>>
-    ensures { AreKept (reversed frames.old.items) → IsMeant (around (frames_of frames.old.items)) part → length text.now ≤ total → IsClosed total notation.now (reversed frames.old.items) (reversed frames.new.items) (Got (meant_of part) text.now) result }
+    ensures { AreKept (reversed frames.old.items) → IsMeant (around (frames_of frames.old.items)) part
+        → length text.now ≤ total → IsClosed total notation.now (reversed frames.old.items)
+        (reversed frames.new.items) (Got (meant_of part) text.now) result }
 {
     let mut part = part;
     let mut rest = text;
@@ -527,7 +555,9 @@ fn back_of<'a>(
     part: Meant,
     text: &'a [u8],
 ) -> Result<Back<'a>, Halt<'a>>
-    ensures { (m : ℕ) (l : Around) → IsKept l inside.entry → IsMeant (inner_of (frame_of inside.entry) l) part → length text.now ≤ total → IsBack total notation.now m l (after total notation.now m l (frame_of inside.entry) (meant_of part) text.now) result }
+    ensures { (m : ℕ) (l : Around) → IsKept l inside.entry → IsMeant (inner_of (frame_of inside.entry) l) part
+        → length text.now ≤ total → IsBack total notation.now m l
+        (after total notation.now m l (frame_of inside.entry) (meant_of part) text.now) result }
 {
     match inside {
         Open::First(at, place) => back_of_first(total, at, place, part, text),
@@ -556,7 +586,8 @@ fn back_of_first<'a>(
     part: Meant,
     text: &'a [u8],
 ) -> Result<Back<'a>, Halt<'a>>
-    ensures { (h : List (Symbol NameValue)) (m : ℕ) (l : Around) → place ≡ at + 1 → IsMeant l part → length text.now ≤ total → IsBack total h m l (after total h m l (First at) (meant_of part) text.now) result }
+    ensures { (h : List (Symbol NameValue)) (m : ℕ) (l : Around) → place ≡ at + 1 → IsMeant l part → length text.now
+        ≤ total → IsBack total h m l (after total h m l (First at) (meant_of part) text.now) result }
 {
     match literal(text, b" ") {
         Err(halt) => Err(halt),
@@ -572,7 +603,8 @@ fn behind_first<'a>(
     part: Meant,
     text: &'a [u8],
 ) -> Result<Back<'a>, Halt<'a>>
-    ensures { (h : List (Symbol NameValue)) (m : ℕ) (l : Around) → place ≡ at + 1 → IsMeant l part → length text.now ≤ total → IsBack total h m l (closed (behind total h m l at (meant_of part) text.now)) result }
+    ensures { (h : List (Symbol NameValue)) (m : ℕ) (l : Around) → place ≡ at + 1 → IsMeant l part → length text.now
+        ≤ total → IsBack total h m l (closed (behind total h m l at (meant_of part) text.now)) result }
 {
     match text.split_first() {
         None => Err(Halt::Syntax(text)),
@@ -595,7 +627,8 @@ fn operator<'a>(
     part: Meant,
     text: &'a [u8],
 ) -> Result<Back<'a>, Halt<'a>>
-    ensures { (h : List (Symbol NameValue)) (m : ℕ) (l : Around) → place ≡ at + 1 → IsMeant l part → length text.now ≤ total → IsBack total h m l (closed (operated total h m l at (meant_of part) text.now)) result }
+    ensures { (h : List (Symbol NameValue)) (m : ℕ) (l : Around) → place ≡ at + 1 → IsMeant l part → length text.now
+        ≤ total → IsBack total h m l (closed (operated total h m l at (meant_of part) text.now)) result }
 {
     match signs(text) {
         Err(halt) => Err(halt),
@@ -621,7 +654,8 @@ fn back_of_right<'a>(
     part: Meant,
     text: &'a [u8],
 ) -> Result<Back<'a>, Halt<'a>>
-    ensures { (n m : ℕ) (l : Around) → IsMeant l left → IsMeant l part → length text.now ≤ n → IsBack n notation.now m l (after n notation.now m l (Right at place operator.now (meant_of left)) (meant_of part) text.now) result }
+    ensures { (n m : ℕ) (l : Around) → IsMeant l left → IsMeant l part → length text.now ≤ n → IsBack n notation.now m
+        l (after n notation.now m l (Right at place operator.now (meant_of left)) (meant_of part) text.now) result }
 {
     match literal(text, b")") {
         Err(halt) => Err(halt),
@@ -642,7 +676,8 @@ fn sides_of(
     left: Meant,
     right: Meant,
 ) -> Result<Meant, Memory>
-    ensures { (l : Around) → IsMeant l left → IsMeant l right → IsMade l (sides_meaning notation.now l at operator.now (meant_of left) (meant_of right)) result }
+    ensures { (l : Around) → IsMeant l left → IsMeant l right
+        → IsMade l (sides_meaning notation.now l at operator.now (meant_of left) (meant_of right)) result }
 {
     if is_same(operator, b"=") {
         equation(alloc, at, left, right)
@@ -662,7 +697,9 @@ fn back_of_argument<'a>(
     part: Meant,
     text: &'a [u8],
 ) -> Result<Back<'a>, Halt<'a>>
-    ensures { (m : ℕ) (l : Around) → IsMeant l function → IsMeant l part → length text.now ≤ total → IsBack total notation.now m l (after total notation.now m l (Argument at place (meant_of function)) (meant_of part) text.now) result }
+    ensures { (m : ℕ) (l : Around) → IsMeant l function → IsMeant l part → length text.now ≤ total
+        → IsBack total notation.now m l
+        (after total notation.now m l (Argument at place (meant_of function)) (meant_of part) text.now) result }
 {
     notation.sound();
     let argument = whole(false, place, part);
@@ -692,7 +729,9 @@ fn back_of_body<'a>(
     part: Meant,
     text: &'a [u8],
 ) -> Result<Back<'a>, Halt<'a>>
-    ensures { (n : ℕ) (h : List (Symbol NameValue)) (m : ℕ) (l : Around) → IsMeant ((name.now, type_of_tree ty) ∷ l) part → length text.now ≤ n → IsBack n h m l (after n h m l (Body place name.now (type_of_tree ty)) (meant_of part) text.now) result }
+    ensures { (n : ℕ) (h : List (Symbol NameValue)) (m : ℕ) (l : Around)
+        → IsMeant ((name.now, type_of_tree ty) ∷ l) part → length text.now ≤ n
+        → IsBack n h m l (after n h m l (Body place name.now (type_of_tree ty)) (meant_of part) text.now) result }
 {
     let _ = name;
     match literal(text, b")") {

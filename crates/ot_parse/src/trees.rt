@@ -36,7 +36,8 @@ pub(crate) fn same_type(left: &Ty, right: &Ty) -> bool
 
 #[cycle(same)]
 fn same_types(left: &Vec<Ty>, right: &Vec<Ty>) -> bool
-    ensures { result ≡ same_tys names (tys_of (map type_of_tree left.now.items)) (tys_of (map type_of_tree right.now.items)) }
+    ensures { result ≡ same_tys names (tys_of (map type_of_tree left.now.items))
+        (tys_of (map type_of_tree right.now.items)) }
 {
     if left.len() != right.len() {
         return false;
@@ -68,7 +69,8 @@ pub(crate) fn is_bool(ty: &Ty) -> bool
 /// The argument type and the result type of a function type.
 pub(crate) fn function_parts(ty: &Ty) -> Option<(&Ty, &Ty)>
     ensures none { IfNone result (is_function names (type_of_tree ty.now) ≡ false) }
-    ensures some { IfSome result (λ p. type_of_tree ty.now ≡ fun_ty names (type_of_tree p.0.now) (type_of_tree p.1.now)) }
+    ensures some { IfSome result
+        (λ p. type_of_tree ty.now ≡ fun_ty names (type_of_tree p.0.now) (type_of_tree p.1.now)) }
 {
     match ty {
         Ty::Op(name, args) => {

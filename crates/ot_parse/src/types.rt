@@ -1,5 +1,6 @@
 //! Types in a text, with what is open around them kept in a list.
-ghost use Rattle.std.specs.Prelude.{◌≡◌, ◌≤◌, length, ◌==◌, ◌||◌, ℕ, false, IfNone, IfSome, List, ◌++◌, ◌∷◌, [], IfOk, map};
+ghost use Rattle.std.specs.Prelude.{◌≡◌, ◌≤◌, length, ◌==◌, ◌||◌, ℕ, false, IfNone, IfSome, List, ◌++◌, ◌∷◌, []};
+ghost use Rattle.std.specs.Prelude.{IfOk, map};
 ghost use Rattle.ot_plain.specs.Names.{Name as NameValue};
 ghost use Rattle.ot_plain.specs.Trees.{Ty as TypeTree, TyVar, TyOp, NoTys};
 ghost use Rattle.ot_plain.specs.Naming.{names};
@@ -7,7 +8,8 @@ ghost use Rattle.ot_plain.specs.Hol.{fun_ty};
 ghost use Rattle.ot_forms.specs.Reading.{Got, mapped, variable_at, operator_at, behind_word_at, further_at, type_at};
 ghost use Rattle.ot_parse.specs.Gives.{Gives};
 ghost use Rattle.ot_plain.specs.PlainTrees.{type_of_tree};
-ghost use Rattle.ot_parse.specs.Frames.{Domain, Range, Argument, frame_of, frames_of, closed, word_first, is_spaced, IsFrontOf, IsLeafOf, IsInside, IsInsideOf, IsBackOf, IsClosed, IsOn, IsNext};
+ghost use Rattle.ot_parse.specs.Frames.{Domain, Range, Argument, frame_of, frames_of, closed, word_first, is_spaced};
+ghost use Rattle.ot_parse.specs.Frames.{IsFrontOf, IsLeafOf, IsInside, IsInsideOf, IsBackOf, IsClosed, IsOn, IsNext};
 
 use crate::halt::Halt;
 use crate::notation::Notation;
@@ -87,7 +89,8 @@ fn next_of<'a>(
     text: &'a [u8],
 ) -> Result<Next<'a>, Halt<'a>>
     requires { length frames.old.items ≤ room }
-    ensures { (start : List ℕ) → IsOn notation.now room start frames.old.items text.now → IsNext notation.now room start frames.new.items result }
+    ensures { (start : List ℕ) → IsOn notation.now room start frames.old.items text.now
+        → IsNext notation.now room start frames.new.items result }
 {
     match front_of(alloc, notation, room - frames.len(), text) {
         Err(halt) => Err(halt),
@@ -185,7 +188,8 @@ fn inside_word<'a>(
     notation: &Notation,
     text: &'a [u8],
 ) -> Result<Front<'a>, Halt<'a>>
-    ensures { (m : ℕ) → IsInsideOf (closed (word_first notation.now (type_at notation.now m) text.now)) notation.now m result }
+    ensures { (m : ℕ) → IsInsideOf (closed (word_first notation.now (type_at notation.now m) text.now)) notation.now m
+        result }
 {
     match operator_word(alloc, notation, text) {
         Err(halt) => Err(halt),
@@ -203,7 +207,8 @@ fn behind_word<'a>(
     name: Name,
     text: &'a [u8],
 ) -> Result<Front<'a>, Halt<'a>>
-    ensures { (m : ℕ) → IsInsideOf (closed (behind_word_at notation.now (type_at notation.now m) name text.now)) notation.now m result }
+    ensures { (m : ℕ) → IsInsideOf (closed (behind_word_at notation.now (type_at notation.now m) name text.now))
+        notation.now m result }
 {
     let _ = notation;
     match text.split_first() {
@@ -231,7 +236,8 @@ fn close<'a>(
     ty: Ty,
     text: &'a [u8],
 ) -> Result<Back<'a>, Halt<'a>>
-    ensures { IsClosed notation.now (frames_of frames.old.items) (frames_of frames.new.items) (Got (type_of_tree ty) text.now) result }
+    ensures { IsClosed notation.now (frames_of frames.old.items) (frames_of frames.new.items)
+        (Got (type_of_tree ty) text.now) result }
 {
     let mut ty = ty;
     let mut rest = text;
@@ -310,7 +316,8 @@ fn back_of_argument<'a>(
     ty: Ty,
     text: &'a [u8],
 ) -> Result<Back<'a>, Halt<'a>>
-    ensures { (m : ℕ) → IsBackOf notation.now m (Argument name (map type_of_tree args.items)) (type_of_tree ty) text.now result }
+    ensures { (m : ℕ) → IsBackOf notation.now m (Argument name (map type_of_tree args.items)) (type_of_tree ty)
+        text.now result }
 {
     let mut args = args;
     args.push(ty)?;
@@ -324,7 +331,8 @@ fn behind_arguments<'a>(
     args: Vec<Ty>,
     text: &'a [u8],
 ) -> Result<Back<'a>, Halt<'a>>
-    ensures { (m : ℕ) (ts : List (TypeTree NameValue)) (t : TypeTree NameValue) → map type_of_tree args.items ≡ ts ++ t ∷ [] → IsBackOf notation.now m (Argument name ts) t text.now result }
+    ensures { (m : ℕ) (ts : List (TypeTree NameValue)) (t : TypeTree NameValue) → map type_of_tree args.items ≡ ts
+        ++ t ∷ [] → IsBackOf notation.now m (Argument name ts) t text.now result }
 {
     notation.sound();
     match next_argument(text) {
@@ -351,7 +359,9 @@ fn end_arguments<'a>(
     args: Vec<Ty>,
     text: &'a [u8],
 ) -> Result<Back<'a>, Halt<'a>>
-    ensures { (m : ℕ) (ts : List (TypeTree NameValue)) (t : TypeTree NameValue) → map type_of_tree args.items ≡ ts ++ t ∷ [] → further_at notation.now (type_at notation.now m) 0 text.now ≡ Got NoTys text.now → IsBackOf notation.now m (Argument name ts) t text.now result }
+    ensures { (m : ℕ) (ts : List (TypeTree NameValue)) (t : TypeTree NameValue) → map type_of_tree args.items ≡ ts
+        ++ t ∷ [] → further_at notation.now (type_at notation.now m) 0 text.now ≡ Got NoTys text.now
+        → IsBackOf notation.now m (Argument name ts) t text.now result }
 {
     let _ = notation;
     if is_arrow(&name, &args) {

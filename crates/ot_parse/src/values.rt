@@ -3,12 +3,15 @@ ghost use Rattle.std.specs.Prelude.{◌≡◌, ◌≤◌, ℕ, suc, min, List, �
 ghost use Rattle.std.specs.Option.{option_map};
 ghost use Rattle.ot_plain.specs.Naming.{names};
 ghost use Rattle.ot_plain.specs.Names.{Name as NameValue};
-ghost use Rattle.ot_plain.specs.Trees.{Ty as TypeTree, Free as FreeTree, Con as ConTree, Bound as BoundTree, App as AppTree, Abs as AbsTree};
+ghost use Rattle.ot_plain.specs.Trees.{Ty as TypeTree, Free as FreeTree, Con as ConTree, Bound as BoundTree};
+ghost use Rattle.ot_plain.specs.Trees.{App as AppTree, Abs as AbsTree};
 ghost use Rattle.ot_plain.specs.Hol.{bool_ty, result_ty, depth_ty, depth_limit};
 ghost use Rattle.ot_forms.specs.Meaning.{Around, fits as fits_test};
 ghost use Rattle.ot_plain.specs.PlainTrees.{type_of_tree, term_of_tree};
-ghost use Rattle.ot_parse.specs.Meant.{equal_of, infix_of, apply_of, abstracted as abstracted_value, relation_of, related_at};
-ghost use Rattle.ot_parse.specs.Values.{IsValue, IsBoundTo, IsMeant, meant_of, deeper, IsWholly, IsApplied, IsMade, IsRelated};
+ghost use Rattle.ot_parse.specs.Meant.{equal_of, infix_of, apply_of, abstracted as abstracted_value, relation_of};
+ghost use Rattle.ot_parse.specs.Meant.{related_at};
+ghost use Rattle.ot_parse.specs.Values.{IsValue, IsBoundTo, IsMeant, meant_of, deeper, IsWholly, IsApplied, IsMade};
+ghost use Rattle.ot_parse.specs.Values.{IsRelated};
 
 use crate::names::copy_name;
 use crate::notation::{Notation, WordKind};
@@ -148,7 +151,8 @@ fn type_depth(ty: &Ty, limit: u64) -> u64
     }
 }
 
-/// What a whole part stands for that begins at this place: a proposition, where one is wanted, within the nesting limit.
+/// What a whole part stands for that begins at this place: a proposition, where one is wanted, within the nesting
+/// limit.
 pub(crate) fn whole(wanted: bool, at: u64, part: Meant) -> Meant
     ensures { (l : Around) → IsMeant l part → IsWholly l wanted at (meant_of part) result }
 {
@@ -197,7 +201,8 @@ fn result_type(function: Ty, argument: &Ty) -> Option<Ty>
 
 // An application, where it fits.
 fn applied(alloc: Global, function: Value, argument: Value) -> Result<Option<Value>, Memory>
-    ensures { (l : Around) → IsValue l function → IsValue l argument → IsApplied l (term_of_tree function.term) (term_of_tree argument.term) result }
+    ensures { (l : Around) → IsValue l function → IsValue l argument
+        → IsApplied l (term_of_tree function.term) (term_of_tree argument.term) result }
 {
     let depth = one_deeper(function.depth, argument.depth);
     let are_shallow = function.has_shallow_types && argument.has_shallow_types;
@@ -233,7 +238,8 @@ pub(crate) fn application(
     function: Meant,
     argument: Meant,
 ) -> Result<Meant, Memory>
-    ensures { (l : Around) → IsMeant l function → IsMeant l argument → IsMade l (apply_of l at (meant_of function) (meant_of argument)) result }
+    ensures { (l : Around) → IsMeant l function → IsMeant l argument
+        → IsMade l (apply_of l at (meant_of function) (meant_of argument)) result }
 {
     match (function, argument) {
         (Meant::Wrong(place, fault), _) => Ok(Meant::Wrong(place, fault)),
@@ -262,7 +268,8 @@ fn related(
     right: Value,
 ) -> Result<Option<Value>, Memory>
     ensures { (l : Around) (n : NameValue) (t : TypeTree NameValue)
-        → term_of_tree relation.term ≡ ConTree n (relation_of t) → IsValue l relation → IsValue l left → IsValue l right
+        → term_of_tree relation.term ≡ ConTree n (relation_of t) → IsValue l relation → IsValue l left
+        → IsValue l right
         → IsRelated l (related_at n t (term_of_tree left.term) (term_of_tree right.term)) result }
 {
     match applied(alloc, relation, left)? {
@@ -273,7 +280,8 @@ fn related(
 
 /// An equation that begins at this place.
 pub(crate) fn equation(alloc: Global, at: u64, left: Meant, right: Meant) -> Result<Meant, Memory>
-    ensures { (l : Around) → IsMeant l left → IsMeant l right → IsMade l (equal_of l at (meant_of left) (meant_of right)) result }
+    ensures { (l : Around) → IsMeant l left → IsMeant l right
+        → IsMade l (equal_of l at (meant_of left) (meant_of right)) result }
 {
     match (left, right) {
         (Meant::Wrong(place, fault), _) => Ok(Meant::Wrong(place, fault)),
@@ -283,7 +291,8 @@ pub(crate) fn equation(alloc: Global, at: u64, left: Meant, right: Meant) -> Res
 }
 
 fn equated(alloc: Global, at: u64, left: Value, right: Value) -> Result<Meant, Memory>
-    ensures { (l : Around) → IsValue l left → IsValue l right → IsMade l (equal_of l at (Ok (term_of_tree left.term)) (Ok (term_of_tree right.term))) result }
+    ensures { (l : Around) → IsValue l left → IsValue l right
+        → IsMade l (equal_of l at (Ok (term_of_tree left.term)) (Ok (term_of_tree right.term))) result }
 {
     let equality = equality(alloc, &left.ty)?;
     match related(alloc, equality, left, right)? {
@@ -309,7 +318,8 @@ pub(crate) fn operation(
     left: Meant,
     right: Meant,
 ) -> Result<Meant, Memory>
-    ensures { (l : Around) → IsMeant l left → IsMeant l right → IsMade l (infix_of notation.now l at operator.now (meant_of left) (meant_of right)) result }
+    ensures { (l : Around) → IsMeant l left → IsMeant l right
+        → IsMade l (infix_of notation.now l at operator.now (meant_of left) (meant_of right)) result }
 {
     match (left, right) {
         (Meant::Wrong(place, fault), _) => Ok(Meant::Wrong(place, fault)),
@@ -326,7 +336,9 @@ fn operated(
     left: Value,
     right: Value,
 ) -> Result<Meant, Memory>
-    ensures { (l : Around) → IsValue l left → IsValue l right → IsMade l (infix_of notation.now l at operator.now (Ok (term_of_tree left.term)) (Ok (term_of_tree right.term))) result }
+    ensures { (l : Around) → IsValue l left → IsValue l right
+        → IsMade l (infix_of notation.now l at operator.now (Ok (term_of_tree left.term))
+        (Ok (term_of_tree right.term))) result }
 {
     match notation.with_base(WordKind::Con, operator) {
         None => Ok(Meant::Wrong(at, TextFault::UnknownOperator)),
@@ -336,7 +348,8 @@ fn operated(
 
 // A constant of this name at two propositions.
 fn joined(alloc: Global, name: &Name, left: Value, right: Value) -> Result<Meant, Memory>
-    ensures { (l : Around) → IsValue l left → IsValue l right → IsMade l (Ok (related_at name.now (bool_ty names) (term_of_tree left.term) (term_of_tree right.term))) result }
+    ensures { (l : Around) → IsValue l left → IsValue l right → IsMade l
+        (Ok (related_at name.now (bool_ty names) (term_of_tree left.term) (term_of_tree right.term))) result }
 {
     let connective = connective(alloc, name)?;
     match related(alloc, connective, left, right)? {
@@ -356,7 +369,8 @@ fn connective(alloc: Global, name: &Name) -> Result<Value, AllocError>
 
 /// An abstraction over a variable of this type.
 pub(crate) fn abstraction(alloc: Global, ty: Ty, body: Meant) -> Result<Meant, Memory>
-    ensures { (l : Around) (x : List ℕ) → IsMeant ((x, type_of_tree ty) ∷ l) body → IsMade l (abstracted_value (type_of_tree ty) (meant_of body)) result }
+    ensures { (l : Around) (x : List ℕ) → IsMeant ((x, type_of_tree ty) ∷ l) body
+        → IsMade l (abstracted_value (type_of_tree ty) (meant_of body)) result }
 {
     match body {
         Meant::Wrong(place, fault) => Ok(Meant::Wrong(place, fault)),
@@ -365,7 +379,8 @@ pub(crate) fn abstraction(alloc: Global, ty: Ty, body: Meant) -> Result<Meant, M
 }
 
 fn abstracted(alloc: Global, ty: Ty, body: Value) -> Result<Meant, Memory>
-    ensures { (l : Around) (x : List ℕ) → IsValue ((x, type_of_tree ty) ∷ l) body → IsMade l (Ok (AbsTree (type_of_tree ty) (term_of_tree body.term))) result }
+    ensures { (l : Around) (x : List ℕ) → IsValue ((x, type_of_tree ty) ∷ l) body
+        → IsMade l (Ok (AbsTree (type_of_tree ty) (term_of_tree body.term))) result }
 {
     let type_depth = one_deeper(type_depth(&ty, DEPTH_LIMIT as u64), body.type_depth);
     let whole = function_type(alloc, copy_type(alloc, &ty)?, body.ty)?;

@@ -1,7 +1,8 @@
 //! Bytes of words.
 ghost use Rattle.std.specs.Prelude.{◌≡◌};
 ghost use Rattle.std.specs.List.{list_all};
-ghost use Rattle.ot_forms.specs.Words.{is_letter as letter_test, is_inner as inner_test, is_sign as sign_test, is_part as part_test, is_operator as operator_test, same_text as text_test};
+ghost use Rattle.ot_forms.specs.Words.{is_letter as letter_test, is_inner as inner_test, is_sign as sign_test};
+ghost use Rattle.ot_forms.specs.Words.{is_part as part_test, is_operator as operator_test, same_text as text_test};
 
 /// A byte of `A` to `Z` or `a` to `z`.
 pub(crate) fn is_letter(byte: u8) -> bool

@@ -21,7 +21,15 @@ pub const DEPTH_LIMIT: u32 = 4096;
 impl Limits {
     /// The limits of the program.
     pub fn standard() -> Limits
-        ensures { result ≡ record { article_bytes = 4294967296; theory_bytes = 1048576; package_depth = 16; summary_bytes = 67108864; written_bytes = 4294967296 } }
+        ensures { result
+            ≡ record {
+              article_bytes = 4294967296;
+              theory_bytes = 1048576;
+              package_depth = 16;
+              summary_bytes =
+                  67108864;
+              written_bytes = 4294967296;
+            } }
     {
         Limits {
             article_bytes: 4_294_967_296,

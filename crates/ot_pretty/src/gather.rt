@@ -21,7 +21,8 @@ pub(crate) fn gathered<T: Readable>(
 ) -> Result<BTreeSet<Vec<u8>>, PrintFault>
     requires { All (T.is_inside kernel.now) items.now }
     ensures ok { IfOk result (λ texts. texts_of texts ≡ ascending (map (T.text notation.now kernel.now) items.now)) }
-    ensures too_large { result ≡ Err PrintFault.TooLarge → max < bytes_in (ascending (map (T.text notation.now kernel.now) items.now)) }
+    ensures too_large { result ≡ Err PrintFault.TooLarge → max
+        < bytes_in (ascending (map (T.text notation.now kernel.now) items.now)) }
 {
     let mut texts = BTreeSet::new(alloc);
     let mut room = max;

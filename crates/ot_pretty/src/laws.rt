@@ -10,7 +10,8 @@ ghost use Rattle.ot_pretty.specs.Back.{ReadsBackAs};
 use ot_kernel::{Kernel, ThmId};
 use ot_parse::Notation;
 
-/// A law: the readable text of a theorem's sequent under a notation reads as its hypotheses, as a set, and its conclusion.
+/// A law: the readable text of a theorem's sequent under a notation reads as its hypotheses, as a set, and its
+/// conclusion.
 pub fn reads_back(kernel: &Kernel, notation: &Notation, th: ThmId)
     requires { th < length kernel.now.theorems }
     ensures { ReadsBackAs notation.now (theorem_at kernel.now th) }
@@ -22,7 +23,8 @@ pub fn reads_back(kernel: &Kernel, notation: &Notation, th: ThmId)
 /// The law for each of these theorems, under any notation.
 pub(crate) fn each_reads_back(kernel: &Kernel, theorems: &[ThmId])
     requires { All (λ th. th < length kernel.now.theorems) theorems.now }
-    ensures { (hidden : List (Symbol Name)) → IsNotation hidden → All (ReadsBackAs hidden) (map (theorem_at kernel.now) theorems.now) }
+    ensures { (hidden : List (Symbol Name)) → IsNotation hidden
+        → All (ReadsBackAs hidden) (map (theorem_at kernel.now) theorems.now) }
 {
     for th in theorems {
         one_reads_back(kernel, *th);

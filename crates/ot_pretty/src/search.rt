@@ -6,7 +6,8 @@ ghost use Rattle.ot_plain.specs.Naming.{names};
 ghost use Rattle.ot_plain.specs.Hol.{symbols_tm, symbols_ty};
 ghost use Rattle.ot_kernel.specs.State.{type_at, term_at};
 ghost use Rattle.ot_pretty.specs.Run.{named_symbol};
-ghost use Rattle.ot_pretty.specs.Found.{term_symbols, IsSearch, Finds, Reaches, AddsSymbol, AddsType, AddsTerm, AddsTypes, AddsTerms};
+ghost use Rattle.ot_pretty.specs.Found.{term_symbols, IsSearch, Finds, Reaches, AddsSymbol, AddsType, AddsTerm};
+ghost use Rattle.ot_pretty.specs.Found.{AddsTypes, AddsTerms};
 
 use indexmap::IndexSet;
 use ot_kernel::Kernel;
@@ -84,7 +85,8 @@ impl Search {
     // Adds the symbol of a term, its types and the terms in it.
     fn look_at_term(&mut self, kernel: &Kernel, id: TermId) -> Result<(), Memory>
         requires { id < length kernel.now.terms }
-        ensures { OnOk result (Finds kernel.now id (length kernel.now.types) self.old self.new (symbols_tm names (term_at kernel.now id))) }
+        ensures { OnOk result (Finds kernel.now id (length kernel.now.types) self.old self.new
+            (symbols_tm names (term_at kernel.now id))) }
     {
         match *term_node(kernel, id) {
             TermNode::Var(v) => self.add_type(v.ty),

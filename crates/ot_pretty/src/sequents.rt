@@ -12,8 +12,8 @@ use ot_parse::Notation;
 use ot_text::{Page, PrintFault, put_hyps};
 use std::alloc::Global;
 
-/// Appends the readable text of a theorem's sequent under a notation. `TooLarge` exactly where it has more than `max` bytes.
-/// After a refusal `out` is as it was.
+/// Appends the readable text of a theorem's sequent under a notation. `TooLarge` exactly where it has more than `max`
+/// bytes. After a refusal `out` is as it was.
 pub fn readable_text(
     alloc: Global,
     kernel: &Kernel,
@@ -23,7 +23,8 @@ pub fn readable_text(
     out: &mut Vec<u8>,
 ) -> Result<(), PrintFault>
     requires { th < length kernel.now.theorems }
-    ensures ok { OnOk result (Appended (text_of notation.now (theorem_at kernel.now th)) max out.old.items out.new.items) }
+    ensures ok { OnOk result
+        (Appended (text_of notation.now (theorem_at kernel.now th)) max out.old.items out.new.items) }
     ensures too_large { result ≡ Err PrintFault.TooLarge → max < length (text_of notation.now (theorem_at kernel.now th)) }
     ensures err { OnErr result (out.new.items ≡ out.old.items) }
 {

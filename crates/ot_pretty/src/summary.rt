@@ -20,8 +20,9 @@ use ot_text::{Page, PrintFault};
 use std::alloc::Global;
 use std::collections::BTreeSet;
 
-/// Appends the readable summary of a run that exports these theorems, where these namespaces are shown: the assumptions, in the
-/// order of the bytes of their texts, and the theorems, in the order given. The notation is that of the run's symbols.
+/// Appends the readable summary of a run that exports these theorems, where these namespaces are shown: the
+/// assumptions, in the order of the bytes of their texts, and the theorems, in the order given. The notation is that
+/// of the run's symbols.
 /// `TooLarge` exactly where the summary has more than `max` bytes. After a refusal `out` is as it was. Each text reads back as
 /// the sequent that it was printed for.
 pub fn readable_summary(
@@ -33,11 +34,14 @@ pub fn readable_summary(
     out: &mut Vec<u8>,
 ) -> Result<(), PrintFault>
     requires { All (λ th. th < length kernel.now.theorems) theorems.now }
-    ensures ok { OnOk result (Appended (summary_at kernel.now (hidden_at kernel.now shown.now theorems.now) theorems.now) max out.old.items out.new.items) }
+    ensures ok { OnOk result
+        (Appended (summary_at kernel.now (hidden_at kernel.now shown.now theorems.now) theorems.now) max out.old.items
+        out.new.items) }
     ensures too_large { result ≡ Err PrintFault.TooLarge
         → max < length (summary_at kernel.now (hidden_at kernel.now shown.now theorems.now) theorems.now) }
     ensures err { OnErr result (out.new.items ≡ out.old.items) }
-    ensures reads_back { OnOk result (ReadBack (hidden_at kernel.now shown.now theorems.now) kernel.now.assumptions (map (theorem_at kernel.now) theorems.now)) }
+    ensures reads_back { OnOk result (ReadBack (hidden_at kernel.now shown.now theorems.now) kernel.now.assumptions
+        (map (theorem_at kernel.now) theorems.now)) }
 {
     match run_notation(alloc, kernel, shown, theorems) {
         Ok(notation) => {
@@ -50,8 +54,8 @@ pub fn readable_summary(
     }
 }
 
-/// The notation of a run that exports these theorems, where these namespaces are shown: it hides those of the run's symbols that may
-/// be written short.
+/// The notation of a run that exports these theorems, where these namespaces are shown: it hides those of the run's
+/// symbols that may be written short.
 pub fn run_notation(
     alloc: Global,
     kernel: &Kernel,
@@ -75,7 +79,8 @@ fn summary_text(
     out: &mut Vec<u8>,
 ) -> Result<(), PrintFault>
     requires { All (λ th. th < length kernel.now.theorems) theorems.now }
-    ensures ok { OnOk result (Appended (summary_at kernel.now notation.now theorems.now) max out.old.items out.new.items) }
+    ensures ok { OnOk result
+        (Appended (summary_at kernel.now notation.now theorems.now) max out.old.items out.new.items) }
     ensures too_large { result ≡ Err PrintFault.TooLarge → max < length (summary_at kernel.now notation.now theorems.now) }
     ensures err { OnErr result (out.new.items ≡ out.old.items) }
 {
@@ -101,7 +106,9 @@ fn put_summary(
 
 // The assumptions. Their texts together cost no more than the limit.
 fn put_assumptions(page: &mut Page, alloc: Global, kernel: &Kernel, notation: &Notation)
-    ensures { IsPut (section_text true (codes "assumptions") (ascending (map (text_of notation.now) kernel.now.assumptions))) (printed page.old) (printed page.new) }
+    ensures { IsPut
+        (section_text true (codes "assumptions") (ascending (map (text_of notation.now) kernel.now.assumptions)))
+        (printed page.old) (printed page.new) }
 {
     if page.is_stopped() {
         return;
@@ -133,7 +140,9 @@ fn put_theorems(
     theorems: &[ThmId],
 )
     requires { All (λ th. th < length kernel.now.theorems) theorems.now }
-    ensures { IsPut (section_text true (codes "theorems") (map (text_of notation.now) (map (theorem_at kernel.now) theorems.now))) (printed page.old) (printed page.new) }
+    ensures { IsPut
+        (section_text true (codes "theorems") (map (text_of notation.now) (map (theorem_at kernel.now) theorems.now)))
+        (printed page.old) (printed page.new) }
 {
     put_title(page, b"theorems", theorems.len());
     for th in theorems {

@@ -17,8 +17,8 @@ use ot_plain::{Memory, Name};
 use ot_term::{Symbol, SymbolKind, TermId};
 use std::alloc::{AllocError, Global};
 
-/// The symbols of a run that exports these theorems, each once: those that occur in its assumptions, in the exports, or in a
-/// premise or a theorem of its definitions.
+/// The symbols of a run that exports these theorems, each once: those that occur in its assumptions, in the exports,
+/// or in a premise or a theorem of its definitions.
 pub fn run_symbols(
     alloc: Global,
     kernel: &Kernel,
@@ -43,7 +43,9 @@ fn add_theorems(
     roots: &mut Vec<TermId>,
 ) -> Result<(), AllocError>
     requires { All (λ th. th < length kernel.now.theorems) theorems.now }
-    ensures { OnOk result (Adds kernel.now roots.old.items roots.new.items (symbols_in names (map (theorem_at kernel.now) theorems.now))) }
+    ensures { OnOk result
+        (Adds kernel.now roots.old.items roots.new.items
+        (symbols_in names (map (theorem_at kernel.now) theorems.now))) }
 {
     for th in theorems {
         add_theorem(kernel, *th, roots)?;
@@ -54,7 +56,8 @@ fn add_theorems(
 // Adds the terms of a theorem.
 fn add_theorem(kernel: &Kernel, th: ThmId, roots: &mut Vec<TermId>) -> Result<(), AllocError>
     requires { th < length kernel.now.theorems }
-    ensures { OnOk result (Adds kernel.now roots.old.items roots.new.items (symbols_of names (theorem_at kernel.now th))) }
+    ensures { OnOk result
+        (Adds kernel.now roots.old.items roots.new.items (symbols_of names (theorem_at kernel.now th))) }
 {
     roots.extend_from_slice(kernel.hyps(th))?;
     roots.push(kernel.concl(th))?;
@@ -63,7 +66,8 @@ fn add_theorem(kernel: &Kernel, th: ThmId, roots: &mut Vec<TermId>) -> Result<()
 
 // Adds the terms of the premises and the theorems of the definitions.
 fn add_definitions(kernel: &Kernel, roots: &mut Vec<TermId>) -> Result<(), AllocError>
-    ensures { OnOk result (Adds kernel.now roots.old.items roots.new.items (flat_map (used names) kernel.now.definitions)) }
+    ensures { OnOk result
+        (Adds kernel.now roots.old.items roots.new.items (flat_map (used names) kernel.now.definitions)) }
 {
     let definitions = kernel.definitions();
     for definition in definitions {
@@ -72,14 +76,16 @@ fn add_definitions(kernel: &Kernel, roots: &mut Vec<TermId>) -> Result<(), Alloc
     Ok(())
 }
 
-// Adds the terms of a definition's premise and of its theorems. The term that a constant is defined by stands in its theorem.
+// Adds the terms of a definition's premise and of its theorems. The term that a constant is defined by stands in its
+// theorem.
 fn add_definition(
     kernel: &Kernel,
     definition: &Definition,
     roots: &mut Vec<TermId>,
 ) -> Result<(), AllocError>
     requires { IsHeld kernel.now definition.now }
-    ensures { OnOk result (Adds kernel.now roots.old.items roots.new.items (used names (definition_at kernel.now definition.now))) }
+    ensures { OnOk result
+        (Adds kernel.now roots.old.items roots.new.items (used names (definition_at kernel.now definition.now))) }
 {
     match definition {
         Definition::Con { th, .. } => add_theorem(kernel, *th, roots),

@@ -29,7 +29,8 @@ pub(crate) fn put_whole(page: &mut Page, kernel: &Kernel, notation: &Notation, i
     put_term(page, kernel, notation, &Binders::Outermost, 0, id);
 }
 
-// A term with so many binders around it. Nothing is read once the page takes no more, so a term costs no more than the limit.
+// A term with so many binders around it. Nothing is read once the page takes no more, so a term costs no more than
+// the limit.
 #[cycle(terms_text)]
 fn put_term(
     page: &mut Page,
@@ -43,7 +44,8 @@ fn put_term(
     requires binders { AreKeys kernel.now binders.now }
     requires depth { depth ≡ length (binders_at kernel.now binders.now) }
     requires fits { depth + id < 2 ^ 64 }
-    ensures { IsPut (text_at notation.now depth (bound_term kernel.now binders.now id)) (printed page.old) (printed page.new) }
+    ensures { IsPut (text_at notation.now depth (bound_term kernel.now binders.now id)) (printed page.old)
+        (printed page.new) }
 {
     if page.is_stopped() {
         return;
@@ -78,8 +80,8 @@ fn put_term(
     }
 }
 
-// What stands before a function's argument: the left side and the operator of a relation, or the function with its other
-// arguments.
+// What stands before a function's argument: the left side and the operator of a relation, or the function with its
+// other arguments.
 #[cycle(terms_text)]
 fn put_front(
     page: &mut Page,
@@ -93,7 +95,8 @@ fn put_front(
     requires binders { AreKeys kernel.now binders.now }
     requires depth { depth ≡ length (binders_at kernel.now binders.now) }
     requires fits { depth + id < 2 ^ 64 }
-    ensures { IsPut (front_text notation.now depth (bound_term kernel.now binders.now id)) (printed page.old) (printed page.new) }
+    ensures { IsPut (front_text notation.now depth (bound_term kernel.now binders.now id)) (printed page.old)
+        (printed page.new) }
 {
     if let Some((name, left)) = relation_parts(kernel, notation, id) {
         put_term(page, kernel, notation, binders, depth, left);
@@ -120,7 +123,8 @@ fn put_spine(
     requires binders { AreKeys kernel.now binders.now }
     requires depth { depth ≡ length (binders_at kernel.now binders.now) }
     requires fits { depth + id < 2 ^ 64 }
-    ensures { IsPut (spine_text notation.now depth (bound_term kernel.now binders.now id)) (printed page.old) (printed page.new) }
+    ensures { IsPut (spine_text notation.now depth (bound_term kernel.now binders.now id)) (printed page.old)
+        (printed page.new) }
 {
     if page.is_stopped() {
         return;
@@ -149,7 +153,8 @@ fn put_leaf(
     requires key { IsKey kernel.now v.now }
     requires binders { AreKeys kernel.now binders.now }
     requires depth { depth ≡ length (binders_at kernel.now binders.now) }
-    ensures { IsPut (text_at notation.now depth (bound_variable kernel.now binders.now v.now)) (printed page.old) (printed page.new) }
+    ensures { IsPut (text_at notation.now depth (bound_variable kernel.now binders.now v.now)) (printed page.old)
+        (printed page.new) }
 {
     match place(kernel, binders, v) {
         Some(number) => put_binder(page, depth - 1 - number),
@@ -168,7 +173,8 @@ fn put_binder(page: &mut Page, number: usize)
 // A free variable.
 fn put_free(page: &mut Page, kernel: &Kernel, notation: &Notation, v: &VarKey)
     requires { IsKey kernel.now v.now }
-    ensures { IsPut (term_text notation.now (FreeAs (name_at kernel.now v.now.name) (type_at kernel.now v.now.ty))) (printed page.old) (printed page.new) }
+    ensures { IsPut (term_text notation.now (FreeAs (name_at kernel.now v.now.name) (type_at kernel.now v.now.ty)))
+        (printed page.old) (printed page.new) }
 {
     page.put(b"(");
     put_variable(page, kernel, v.name);
@@ -181,7 +187,8 @@ fn put_free(page: &mut Page, kernel: &Kernel, notation: &Notation, v: &VarKey)
 fn put_constant(page: &mut Page, kernel: &Kernel, notation: &Notation, name: NameId, ty: TypeId)
     requires name { name < length kernel.now.names }
     requires ty { ty < length kernel.now.types }
-    ensures { IsPut (term_text notation.now (ConAs (name_at kernel.now name) (type_at kernel.now ty))) (printed page.old) (printed page.new) }
+    ensures { IsPut (term_text notation.now (ConAs (name_at kernel.now name) (type_at kernel.now ty)))
+        (printed page.old) (printed page.new) }
 {
     page.put(b"{");
     put_symbol(page, kernel, notation, WordKind::Con, name);

@@ -20,7 +20,8 @@ pub(crate) fn put_symbol(
     name: NameId,
 )
     requires { name < length kernel.now.names }
-    ensures { IsPut (word notation.now (symbol_of (kind, name_at kernel.now name))) (printed page.old) (printed page.new) }
+    ensures { IsPut (word notation.now (symbol_of (kind, name_at kernel.now name))) (printed page.old)
+        (printed page.new) }
 {
     put_word(page, notation, kind, kernel.names().get(name));
 }

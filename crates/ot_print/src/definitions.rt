@@ -2,9 +2,11 @@
 ghost use Rattle.std.specs.Prelude.{◌≡◌, ◌<◌, ◌++◌, codes, length, map};
 ghost use Rattle.std.specs.List.{All};
 ghost use Rattle.ot_kernel.specs.State.{name_at, variable_at, theorem_at};
-ghost use Rattle.ot_kernel.specs.Definitions.{definition_at, theorems_at, pairs_at, IsDefinitionIn, IsHeld, ArePairsIn};
+ghost use Rattle.ot_kernel.specs.Definitions.{definition_at, theorems_at, pairs_at, IsDefinitionIn, IsHeld};
+ghost use Rattle.ot_kernel.specs.Definitions.{ArePairsIn};
 ghost use Rattle.ot_text.specs.Texts.{sequent_text};
-ghost use Rattle.ot_text.specs.Sections.{pair_text, pairs_text, names_text, head_text, theorems_text, definition_text};
+ghost use Rattle.ot_text.specs.Sections.{pair_text, pairs_text, names_text, head_text, theorems_text};
+ghost use Rattle.ot_text.specs.Sections.{definition_text};
 ghost use Rattle.ot_print.specs.Nodes.{IsKey};
 ghost use Rattle.ot_text.specs.Pages.{IsPut, printed};
 
@@ -35,8 +37,10 @@ pub(crate) fn put_definition(
     kernel: &Kernel,
     definition: &Definition,
 )
-    requires { IsDefinitionIn (length kernel.now.names) (length kernel.now.types) (length kernel.now.theorems) definition.now }
-    ensures { IsPut (head_text (definition_at kernel.now definition.now) ++ codes " : " ++ theorems_text (theorems_at kernel.now definition.now)) (printed page.old) (printed page.new) }
+    requires { IsDefinitionIn (length kernel.now.names) (length kernel.now.types) (length kernel.now.theorems)
+        definition.now }
+    ensures { IsPut (head_text (definition_at kernel.now definition.now) ++ codes " : "
+        ++ theorems_text (theorems_at kernel.now definition.now)) (printed page.old) (printed page.new) }
 {
     put_head(page, alloc, kernel, definition);
     page.put(b" : ");
@@ -45,7 +49,8 @@ pub(crate) fn put_definition(
 
 // What is defined, and from what.
 fn put_head(page: &mut Page, alloc: Global, kernel: &Kernel, definition: &Definition)
-    requires { IsDefinitionIn (length kernel.now.names) (length kernel.now.types) (length kernel.now.theorems) definition.now }
+    requires { IsDefinitionIn (length kernel.now.names) (length kernel.now.types) (length kernel.now.theorems)
+        definition.now }
     ensures { IsPut (head_text (definition_at kernel.now definition.now)) (printed page.old) (printed page.new) }
 {
     match definition {
@@ -87,7 +92,8 @@ fn put_head(page: &mut Page, alloc: Global, kernel: &Kernel, definition: &Defini
 // The theorem from which something is defined.
 fn put_premise(page: &mut Page, alloc: Global, kernel: &Kernel, th: ThmId)
     requires { th < length kernel.now.theorems }
-    ensures { IsPut (codes " from " ++ sequent_text (theorem_at kernel.now th)) (printed page.old) (printed page.new) }
+    ensures { IsPut (codes " from " ++ sequent_text (theorem_at kernel.now th)) (printed page.old)
+        (printed page.new) }
 {
     page.put(b" from ");
     put_sequent(page, alloc, kernel, th);
@@ -95,7 +101,8 @@ fn put_premise(page: &mut Page, alloc: Global, kernel: &Kernel, th: ThmId)
 
 // The theorems of a definition, a semicolon between two.
 fn put_theorems(page: &mut Page, alloc: Global, kernel: &Kernel, definition: &Definition)
-    requires { IsDefinitionIn (length kernel.now.names) (length kernel.now.types) (length kernel.now.theorems) definition.now }
+    requires { IsDefinitionIn (length kernel.now.names) (length kernel.now.types) (length kernel.now.theorems)
+        definition.now }
     ensures { IsPut (theorems_text (theorems_at kernel.now definition.now)) (printed page.old) (printed page.new) }
 {
     match definition {
@@ -126,7 +133,8 @@ fn put_pairs(page: &mut Page, kernel: &Kernel, names: &[NameId], vars: &[VarKey]
 fn put_pair(page: &mut Page, kernel: &Kernel, name: NameId, v: &VarKey)
     requires name { name < length kernel.now.names }
     requires variable { IsKey kernel.now v.now }
-    ensures { IsPut (pair_text (name_at kernel.now name, variable_at kernel.now v.now)) (printed page.old) (printed page.new) }
+    ensures { IsPut (pair_text (name_at kernel.now name, variable_at kernel.now v.now)) (printed page.old)
+        (printed page.new) }
 {
     page.put(b" ");
     put_name(page, kernel, name);

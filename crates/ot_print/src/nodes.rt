@@ -37,7 +37,8 @@ pub fn type_node(kernel: &Kernel, id: TypeId) -> &TypeNode
 pub fn function_parts(kernel: &Kernel, id: TypeId) -> Option<(TypeId, TypeId)>
     requires { id < length kernel.now.types }
     ensures none { IfNone result (is_function names (type_at kernel.now id) ≡ false) }
-    ensures parts { IfSome result (λ p. type_at kernel.now id ≡ fun_ty names (type_at kernel.now p.0) (type_at kernel.now p.1)) }
+    ensures parts { IfSome result (λ p. type_at kernel.now id
+        ≡ fun_ty names (type_at kernel.now p.0) (type_at kernel.now p.1)) }
     ensures below { IfSome result (λ p. (p.0 < id) × (p.1 < id)) }
 {
     kernel.sound();
@@ -57,8 +58,11 @@ pub fn term_node(kernel: &Kernel, id: TermId) -> &TermNode
 /// The two sides of an equation.
 pub fn equation_sides(kernel: &Kernel, id: TermId) -> Option<(TermId, TermId)>
     requires { id < length kernel.now.terms }
-    ensures none { IfNone result ((e : List (Variable Name)) → is_equation names (nameless_in names e (named_at kernel.now.terms id)) ≡ false) }
-    ensures sides { IfSome result (λ p. (ty : Ty Name) × (named_at kernel.now.terms id ≡ equation_of ty (named_at kernel.now.terms p.0) (named_at kernel.now.terms p.1))) }
+    ensures none { IfNone result ((e : List (Variable Name))
+        → is_equation names (nameless_in names e (named_at kernel.now.terms id)) ≡ false) }
+    ensures sides { IfSome result (λ p. (ty : Ty Name)
+        × (named_at kernel.now.terms id ≡ equation_of ty (named_at kernel.now.terms p.0)
+        (named_at kernel.now.terms p.1))) }
     ensures below { IfSome result (λ p. (p.0 < id) × (p.1 < id)) }
 {
     kernel.sound();

@@ -11,8 +11,8 @@ use ot_kernel::{Kernel, ThmId};
 use ot_text::{Page, PrintFault, put_hyps};
 use std::alloc::Global;
 
-/// Appends the text of a theorem's sequent. `TooLarge` exactly where it has more than `max` bytes. After a refusal `out`
-/// is as it was.
+/// Appends the text of a theorem's sequent. `TooLarge` exactly where it has more than `max` bytes. After a refusal
+/// `out` is as it was.
 pub fn sequent_text(
     alloc: Global,
     kernel: &Kernel,

@@ -16,10 +16,10 @@ use ot_text::{Page, PrintFault};
 use std::alloc::Global;
 use std::collections::BTreeSet;
 
-/// Appends the summary of a kernel's assumptions and definitions and of these theorems, with the sections that are asked
-/// for. Assumptions come in the order of the bytes of their texts, definitions in the order in which they were accepted,
-/// theorems in the order given. `TooLarge` exactly where the summary has more than `max` bytes. After a refusal `out` is as
-/// it was.
+/// Appends the summary of a kernel's assumptions and definitions and of these theorems, with the sections that are
+/// asked for. Assumptions come in the order of the bytes of their texts, definitions in the order in which they were
+/// accepted, theorems in the order given. `TooLarge` exactly where the summary has more than `max` bytes. After a
+/// refusal `out` is as it was.
 pub fn summary_text(
     alloc: Global,
     kernel: &Kernel,
@@ -29,8 +29,11 @@ pub fn summary_text(
     out: &mut Vec<u8>,
 ) -> Result<(), PrintFault>
     requires { All (λ i. i < length kernel.now.theorems) theorems.now }
-    ensures ok { OnOk result (Appended (text_of sections kernel.now.assumptions kernel.now.definitions (map (theorem_at kernel.now) theorems.now)) max out.old.items out.new.items) }
-    ensures too_large { result ≡ Err PrintFault.TooLarge → max < length (text_of sections kernel.now.assumptions kernel.now.definitions (map (theorem_at kernel.now) theorems.now)) }
+    ensures ok { OnOk result
+        (Appended (text_of sections kernel.now.assumptions kernel.now.definitions
+        (map (theorem_at kernel.now) theorems.now)) max out.old.items out.new.items) }
+    ensures too_large { result ≡ Err PrintFault.TooLarge → max < length
+        (text_of sections kernel.now.assumptions kernel.now.definitions (map (theorem_at kernel.now) theorems.now)) }
     ensures err { OnErr result (out.new.items ≡ out.old.items) }
 {
     let mut page = Page::new(alloc, max);
@@ -47,7 +50,8 @@ fn put_summary(
     sections: Sections,
 )
     requires { All (λ i. i < length kernel.now.theorems) theorems.now }
-    ensures { IsPut (text_of sections kernel.now.assumptions kernel.now.definitions (map (theorem_at kernel.now) theorems.now)) (printed page.old) (printed page.new) }
+    ensures { IsPut (text_of sections kernel.now.assumptions kernel.now.definitions
+        (map (theorem_at kernel.now) theorems.now)) (printed page.old) (printed page.new) }
 {
     put_assumptions(page, alloc, kernel, sections.assumptions);
     put_section(
@@ -70,7 +74,9 @@ fn put_summary(
 
 // The assumptions, where they are asked for. Their texts together cost no more than the limit.
 fn put_assumptions(page: &mut Page, alloc: Global, kernel: &Kernel, is_asked: bool)
-    ensures { IsPut (section_text is_asked (codes "assumptions") (ascending (map sequent_text kernel.now.assumptions))) (printed page.old) (printed page.new) }
+    ensures { IsPut
+        (section_text is_asked (codes "assumptions") (ascending (map sequent_text kernel.now.assumptions)))
+        (printed page.old) (printed page.new) }
 {
     if !is_asked {
         return;
@@ -106,7 +112,8 @@ fn put_section<T: Printable>(
     items: &[T],
 )
     requires { All (T.is_inside kernel.now) items.now }
-    ensures { IsPut (section_text is_asked title.now (map (T.text kernel.now) items.now)) (printed page.old) (printed page.new) }
+    ensures { IsPut (section_text is_asked title.now (map (T.text kernel.now) items.now)) (printed page.old)
+        (printed page.new) }
 {
     if !is_asked {
         return;

@@ -24,7 +24,8 @@ pub enum Binders<'a> {
     Inside(&'a VarKey, &'a Binders<'a>),
 }
 
-/// Appends the text of a term. `TooLarge` exactly where it has more than `max` bytes. After a refusal `out` is as it was.
+/// Appends the text of a term. `TooLarge` exactly where it has more than `max` bytes. After a refusal `out` is as it
+/// was.
 pub fn term_text(
     alloc: Global,
     kernel: &Kernel,
@@ -63,7 +64,8 @@ fn put_term(page: &mut Page, kernel: &Kernel, binders: &Binders<'_>, id: TermId)
     requires inside { id < length kernel.now.terms }
     requires binders { AreKeys kernel.now binders.now }
     requires fits { length (binders_at kernel.now binders.now) + id < 2 ^ 64 }
-    ensures { IsPut (tm_text (nameless_in names (binders_at kernel.now binders.now) (named_at kernel.now.terms id))) (printed page.old) (printed page.new) }
+    ensures { IsPut (tm_text (nameless_in names (binders_at kernel.now binders.now) (named_at kernel.now.terms id)))
+        (printed page.old) (printed page.new) }
 {
     if page.is_stopped() {
         return;
@@ -105,7 +107,10 @@ fn put_variable(page: &mut Page, kernel: &Kernel, binders: &Binders<'_>, v: &Var
     requires key { IsKey kernel.now v.now }
     requires binders { AreKeys kernel.now binders.now }
     requires fits { length (binders_at kernel.now binders.now) < 2 ^ 64 }
-    ensures { IsPut (tm_text (at_place names (variable_at kernel.now v.now) (place_of names (binders_at kernel.now binders.now) (variable_at kernel.now v.now)))) (printed page.old) (printed page.new) }
+    ensures { IsPut
+        (tm_text (at_place names (variable_at kernel.now v.now)
+        (place_of names (binders_at kernel.now binders.now) (variable_at kernel.now v.now)))) (printed page.old)
+        (printed page.new) }
 {
     match place(kernel, binders, v) {
         Some(number) => {
@@ -142,7 +147,8 @@ pub fn place(kernel: &Kernel, binders: &Binders<'_>, v: &VarKey) -> Option<usize
 pub(crate) fn put_typed(page: &mut Page, kernel: &Kernel, name: NameId, ty: TypeId)
     requires name { name < length kernel.now.names }
     requires ty { ty < length kernel.now.types }
-    ensures { IsPut (name_text (name_at kernel.now name) ++ codes ":" ++ ty_text (type_at kernel.now ty)) (printed page.old) (printed page.new) }
+    ensures { IsPut (name_text (name_at kernel.now name) ++ codes ":" ++ ty_text (type_at kernel.now ty))
+        (printed page.old) (printed page.new) }
 {
     put_name(page, kernel, name);
     page.put(b":");

@@ -10,7 +10,8 @@ use ot_kernel::Kernel;
 use ot_text::{Page, PrintFault};
 use ot_type::{TypeId, TypeNode};
 
-/// Appends the text of a type. `TooLarge` exactly where it has more than `max` bytes. After a refusal `out` is as it was.
+/// Appends the text of a type. `TooLarge` exactly where it has more than `max` bytes. After a refusal `out` is as it
+/// was.
 pub fn type_text(
     kernel: &Kernel,
     id: TypeId,

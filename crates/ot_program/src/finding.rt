@@ -1,5 +1,6 @@
 //! The search for a pattern among the exports of an input and of the packages that it requires.
-ghost use Rattle.std.specs.Prelude.{◌≡◌, ◌⊎◌, ◌++◌, ℕ, List, [], Option, Ok, true, map, string_bytes, IfOk, IfErr, IfSome, OnOk};
+ghost use Rattle.std.specs.Prelude.{◌≡◌, ◌⊎◌, ◌++◌, ℕ, List, [], Option, Ok, true, map, string_bytes, IfOk, IfErr};
+ghost use Rattle.std.specs.Prelude.{IfSome, OnOk};
 ghost use Rattle.std.specs.List.{All};
 ghost use Rattle.ot_plain.specs.PlainTrees.{term_of_tree};
 ghost use Rattle.ot_io.specs.Causes.{Rose};
@@ -12,9 +13,12 @@ ghost use Rattle.ot_repo.specs.Answers.{ArePackages, names_of};
 ghost use Rattle.ot_text.specs.Laws.{OneSequent, OneSequentInFront};
 ghost use Rattle.ot_program.specs.Reply.{FindPattern, exports_of, noted_at, run_lists, pattern_path};
 ghost use Rattle.ot_program.specs.Texts.{column_line};
-ghost use Rattle.ot_program.specs.Answer.{FailedAt, FailedIn, IsProved, LeavesOther, LastInput, KeepsFiles, KeepsSource};
-ghost use Rattle.ot_program.specs.Verdicts.{noted_of, ran_from, ending_of, IfEnded, AreRequired, AreSearched, FoundEndsAs, HasMatches, HasSearched, IsPattern, IsSaid};
-ghost use Rattle.ot_program.specs.Verdicts.{IsWalkVerdict, HasEndedWalk, HasEndedInput, HasEndedPattern, HasEndedRun, HasEndedRuns, HasEndedSearch, IsSearched, IsTaskVerdict};
+ghost use Rattle.ot_program.specs.Answer.{FailedAt, FailedIn, IsProved, LeavesOther, LastInput, KeepsFiles};
+ghost use Rattle.ot_program.specs.Answer.{KeepsSource};
+ghost use Rattle.ot_program.specs.Verdicts.{noted_of, ran_from, ending_of, IfEnded, AreRequired, AreSearched};
+ghost use Rattle.ot_program.specs.Verdicts.{FoundEndsAs, HasMatches, HasSearched, IsPattern, IsSaid};
+ghost use Rattle.ot_program.specs.Verdicts.{IsWalkVerdict, HasEndedWalk, HasEndedInput, HasEndedPattern, HasEndedRun};
+ghost use Rattle.ot_program.specs.Verdicts.{HasEndedRuns, HasEndedSearch, IsSearched, IsTaskVerdict};
 
 use crate::input::run_theory;
 use crate::noted::{NotedRun, run_noted};
@@ -78,8 +82,9 @@ impl From<AllocError> for Ending {
     }
 }
 
-/// Runs an input in a fresh session, and each package that it requires in a session of its own, and makes the text of those of
-/// their exports that the pattern matches. What the input requires is looked at first; the packages are run behind the pattern.
+/// Runs an input in a fresh session, and each package that it requires in a session of its own, and makes the text of
+/// those of their exports that the pattern matches. What the input requires is looked at first; the packages are run
+/// behind the pattern.
 pub fn run_finding<F: Files, S: Source>(
     alloc: Global,
     query: Query<'_>,
@@ -110,7 +115,8 @@ fn searched<F: Files, S: Source>(
 ) -> Result<Search, Ending>
     ensures ended { IfErr result (IfEnded (HasEndedSearch query.entry.packages.now query.entry.pattern.now query.entry.path.now
         (F.folder files.old) (S.left input.old) (F.at files.new)
-        (FailedAt query.entry.path.now (S.faults input.old) (S.faults input.new) (F.faults files.old) (F.faults files.new))
+        (FailedAt query.entry.path.now (S.faults input.old) (S.faults input.new) (F.faults files.old)
+        (F.faults files.new))
         (Rose (F.misses files.old) (F.misses files.new)))) }
     ensures searched { IfOk result (HasSearched query.entry.packages.now query.entry.pattern.now
         query.entry.path.now (F.folder files.old) (S.left input.old)) }
@@ -118,7 +124,8 @@ fn searched<F: Files, S: Source>(
     ensures source { KeepsSource S.folder S.faults S.misses S.at input.old input.new }
     ensures other { LeavesOther query.entry.path.now files.old files.new input.old input.new }
     ensures at { OnOk result (LastInput query.entry.path.now (F.folder files.old) (F.at files.new)) }
-    ensures last { IfErr result (IfEnded (λ v. LastInput query.entry.path.now (F.folder files.old) (F.at files.new))) }
+    ensures last { IfErr result
+        (IfEnded (λ v. LastInput query.entry.path.now (F.folder files.old) (F.at files.new))) }
 {
     let fulls = required_packages(alloc, query.packages, query.path, files)?;
     let mut session = Session::new(alloc)?;
@@ -140,7 +147,8 @@ fn search_input<F: Files, S: Source>(
     requires fresh { run_of session.old ≡ fresh_run }
     ensures ended { IfErr result (IfEnded (HasEndedSearch query.entry.packages.now query.entry.pattern.now query.entry.path.now
         (F.folder files.old) (S.left input.old) (F.at files.new)
-        (FailedAt query.entry.path.now (S.faults input.old) (S.faults input.new) (F.faults files.old) (F.faults files.new))
+        (FailedAt query.entry.path.now (S.faults input.old) (S.faults input.new) (F.faults files.old)
+        (F.faults files.new))
         (Rose (F.misses files.old) (F.misses files.new)))) }
     ensures searched { IfOk result (HasSearched query.entry.packages.now query.entry.pattern.now
         query.entry.path.now (F.folder files.old) (S.left input.old)) }
@@ -148,7 +156,8 @@ fn search_input<F: Files, S: Source>(
     ensures source { KeepsSource S.folder S.faults S.misses S.at input.old input.new }
     ensures other { LeavesOther query.entry.path.now files.old files.new input.old input.new }
     ensures at { OnOk result (LastInput query.entry.path.now (F.folder files.old) (F.at files.new)) }
-    ensures last { IfErr result (IfEnded (λ v. LastInput query.entry.path.now (F.folder files.old) (F.at files.new))) }
+    ensures last { IfErr result
+        (IfEnded (λ v. LastInput query.entry.path.now (F.folder files.old) (F.at files.new))) }
 {
     let noted = input_run(alloc, session, query.packages, query.path, files, input)?;
     search_run(alloc, query, fulls, session, &noted, files)

@@ -8,7 +8,8 @@ ghost use Rattle.ot_machine.specs.States.{fresh_run};
 ghost use Rattle.ot_machine.specs.Meaning.{run_of, IsRun};
 ghost use Rattle.ot_program.specs.Reply.{outcome, article_run, theory_run, stop_status};
 ghost use Rattle.ot_program.specs.Answer.{FailedAt, LeavesOther, LastPath, KeepsFiles, KeepsSource};
-ghost use Rattle.ot_program.specs.Verdicts.{job_task, end_of, IsAnswer, IsEnd, IsPlace, IsOwnEnd, IsNeeded, HasCause, IsLawfulEnd};
+ghost use Rattle.ot_program.specs.Verdicts.{job_task, end_of, IsAnswer, IsEnd, IsPlace, IsOwnEnd, IsNeeded, HasCause};
+ghost use Rattle.ot_program.specs.Verdicts.{IsLawfulEnd};
 
 use crate::task::Job;
 use ot_args::is_theory;
@@ -21,8 +22,8 @@ use std::alloc::Global;
 /// The name of standard input.
 pub const STANDARD: &str = "-";
 
-/// Runs the input of a job, up to its first fault, and gives its exports: `-` is an article on `input`, a name that ends
-/// in `.thy` a theory file over packages in a folder, and any other name an article file. The session is fresh.
+/// Runs the input of a job, up to its first fault, and gives its exports: `-` is an article on `input`, a name that
+/// ends in `.thy` a theory file over packages in a folder, and any other name an article file. The session is fresh.
 pub fn run_input<F: Files, S: Source>(
     alloc: Global,
     session: &mut Session,
@@ -32,7 +33,8 @@ pub fn run_input<F: Files, S: Source>(
 ) -> Result<Vec<Export>, LinkFault>
     requires session { IsRun session.old }
     requires fresh { run_of session.old ≡ fresh_run }
-    ensures end { IfSome (end_of session.new result) (IsEnd (job_task job.entry) (F.folder files.old) (S.left input.old)) }
+    ensures end { IfSome (end_of session.new result)
+        (IsEnd (job_task job.entry) (F.folder files.old) (S.left input.old)) }
     ensures place { IfSome (end_of session.new result) (IsPlace (job_task job.entry) (F.folder files.old) (F.at files.new)) }
     ensures session { IsRun session.new }
     ensures exports { IfOk result (AreExportsIn session.new) }
@@ -45,7 +47,8 @@ pub fn run_input<F: Files, S: Source>(
     ensures files { KeepsFiles F.folder F.faults F.misses F.left files.old files.new }
     ensures source { KeepsSource S.folder S.faults S.misses S.at input.old input.new }
     ensures other { LeavesOther job.entry.path.now files.old files.new input.old input.new }
-    ensures at { IfSome (end_of session.new result) (λ _. LastPath (job_task job.entry) (F.folder files.old) (F.at files.new)) }
+    ensures at { IfSome (end_of session.new result)
+        (λ _. LastPath (job_task job.entry) (F.folder files.old) (F.at files.new)) }
 {
     let path = job.path;
     if path == STANDARD {
@@ -73,7 +76,8 @@ fn run_standard<S: Source>(
     ensures exports { IfOk result (AreExportsIn session.new) }
     ensures lawful { IfOk result (IsLawfulEnd session.new) }
     ensures symbols { IfErr result (NamesSymbolIn session.new.kernel) }
-    ensures cause { IfSome (end_of session.new result) (HasCause stop_status (Rose (S.faults input.old) (S.faults input.new)) ⊥) }
+    ensures cause { IfSome (end_of session.new result)
+        (HasCause stop_status (Rose (S.faults input.old) (S.faults input.new)) ⊥) }
     ensures source { KeepsSource S.folder S.faults S.misses S.at input.old input.new }
 {
     let path = String::from_str(alloc, path)?;
@@ -100,7 +104,8 @@ pub fn run_theory<F: Files>(
     ensures lawful { IfOk result (IsLawfulEnd session.new) }
     ensures symbols { IfErr result (NamesSymbolIn session.new.kernel) }
     ensures cause { IfSome (end_of session.new result)
-        (HasCause stop_status (Rose (F.faults files.old) (F.faults files.new)) (Rose (F.misses files.old) (F.misses files.new))) }
+        (HasCause stop_status (Rose (F.faults files.old) (F.faults files.new))
+        (Rose (F.misses files.old) (F.misses files.new))) }
     ensures files { KeepsFiles F.folder F.faults F.misses F.left files.old files.new }
     ensures closed { F.left files.new ≡ Some [] }
 {
@@ -125,7 +130,8 @@ fn run_file<F: Files>(
     ensures lawful { IfOk result (IsLawfulEnd session.new) }
     ensures symbols { IfErr result (NamesSymbolIn session.new.kernel) }
     ensures cause { IfSome (end_of session.new result)
-        (HasCause stop_status (Rose (F.faults files.old) (F.faults files.new)) (Rose (F.misses files.old) (F.misses files.new))) }
+        (HasCause stop_status (Rose (F.faults files.old) (F.faults files.new))
+        (Rose (F.misses files.old) (F.misses files.new))) }
     ensures files { KeepsFiles F.folder F.faults F.misses F.left files.old files.new }
     ensures at { IfSome (end_of session.new result) (λ _. F.at files.new ≡ path_asked (F.folder files.old) path.now) }
 {

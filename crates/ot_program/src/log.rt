@@ -33,7 +33,8 @@ pub fn check_log<F: Files, S: Source>(
     files: &mut F,
     input: &mut S,
 ) -> Result<Verified, LogRefusal>
-    ensures end { IfSome (log_end_of path.now result) (IsEnd (CheckLog path.now) (F.folder files.old) (S.left input.old)) }
+    ensures end { IfSome (log_end_of path.now result)
+        (IsEnd (CheckLog path.now) (F.folder files.old) (S.left input.old)) }
     ensures place { IfSome (log_end_of path.now result) (IsPlace (CheckLog path.now) (F.folder files.old) (F.at files.new)) }
     ensures proved { IfOk result AreProved }
     ensures cause { IfSome (log_end_of path.now result) (HasCause log_status
@@ -42,7 +43,8 @@ pub fn check_log<F: Files, S: Source>(
     ensures files { KeepsFiles F.folder F.faults F.misses F.left files.old files.new }
     ensures source { KeepsSource S.folder S.faults S.misses S.at input.old input.new }
     ensures other { LeavesOther path.now files.old files.new input.old input.new }
-    ensures at { IfSome (log_end_of path.now result) (λ _. LastPath (CheckLog path.now) (F.folder files.old) (F.at files.new)) }
+    ensures at { IfSome (log_end_of path.now result)
+        (λ _. LastPath (CheckLog path.now) (F.folder files.old) (F.at files.new)) }
 {
     if path == STANDARD {
         check_source(alloc, input)
@@ -57,7 +59,8 @@ fn check_file<F: Files>(alloc: Global, path: &str, files: &mut F) -> Result<Veri
         IfSome (log_end_of path.now result) (IsAnswer (check_file path.now folder))) }
     ensures proved { IfOk result AreProved }
     ensures cause { IfSome (log_end_of path.now result)
-        (HasCause log_status (Rose (F.faults files.old) (F.faults files.new)) (Rose (F.misses files.old) (F.misses files.new))) }
+        (HasCause log_status (Rose (F.faults files.old) (F.faults files.new))
+        (Rose (F.misses files.old) (F.misses files.new))) }
     ensures files { KeepsFiles F.folder F.faults F.misses F.left files.old files.new }
     ensures at { F.at files.new ≡ path_asked (F.folder files.old) path.now }
 {

@@ -53,7 +53,8 @@ pub fn run_noted<F: Files, S: Source>(
     ensures files { KeepsFiles F.folder F.faults F.misses F.left files.old files.new }
     ensures source { KeepsSource S.folder S.faults S.misses S.at input.old input.new }
     ensures other { LeavesOther path.now files.old files.new input.old input.new }
-    ensures at { IfSome (noted_end_of session.new result) (λ _. LastInput path.now (F.folder files.old) (F.at files.new)) }
+    ensures at { IfSome (noted_end_of session.new result)
+        (λ _. LastInput path.now (F.folder files.old) (F.at files.new)) }
 {
     match shown_names(alloc, path, files) {
         Ok(names) => {
@@ -73,7 +74,8 @@ pub fn run_noted<F: Files, S: Source>(
 
 /// The namespaces that an input shows: those of a theory file's tags, and of an article none.
 fn shown_names<F: Files>(alloc: Global, path: &str, files: &mut F) -> Result<Vec<Name>, LinkFault>
-    ensures comes { IfSome (shown_at path.now (F.folder files.old)) (λ l. (k : State) → Comes k (λ names. names.items) result l) }
+    ensures comes { IfSome (shown_at path.now (F.folder files.old))
+        (λ l. (k : State) → Comes k (λ names. names.items) result l) }
     ensures theory { IfErr result (λ _. is_theory path.now ≡ true) }
     ensures symbols { IfErr result (λ e. (k : State) → NamesSymbolIn k e) }
     ensures cause { IfErr result (λ e. HasLinkCause e (F.misses files.old)

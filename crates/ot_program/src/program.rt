@@ -4,7 +4,8 @@ ghost use Rattle.ot_io.specs.Causes.{Rose, HasCause};
 ghost use Rattle.ot_io.specs.Sinks.{FlushesAll, AppendsFront};
 ghost use Rattle.ot_args.specs.Grammar.{texts_of, command_of};
 ghost use Rattle.ot_program.specs.Reply.{task_of, result_of, answer};
-ghost use Rattle.ot_program.specs.Answer.{MatchesReply, IsSilent, IsVerdict, IsLine, Prints, Writes, WritesLine, WritesSome, FailedIn, LeavesAlone, LastPath, KeepsFiles, KeepsSource};
+ghost use Rattle.ot_program.specs.Answer.{MatchesReply, IsSilent, IsVerdict, IsLine, Prints, Writes, WritesLine};
+ghost use Rattle.ot_program.specs.Answer.{WritesSome, FailedIn, LeavesAlone, LastPath, KeepsFiles, KeepsSource};
 ghost use Rattle.ot_program.specs.Verdicts.{task_value, IsSized, IsTaskVerdict, Ends, error_line};
 
 use crate::finding::{Query, run_finding};
@@ -24,15 +25,16 @@ use ot_machine::Session;
 use ot_plain::Memory;
 use std::alloc::Global;
 
-/// All that the program does with the command's words, without the program's name. `check` runs an input and reports how
-/// many theorems, assumptions and definitions it has; `info` reports which, and with `--readable` in a form that reads back. `-`
-/// is an article on `input`, a name that ends in `.thy` a theory file over packages in a folder, and any other name an article
-/// file. `read` runs an input, and prints the sequents that the lines of a readable text stand for. `find` runs an input and the
-/// packages that it requires, and prints those of their exports whose conclusion a pattern matches. `link` and `minimise` run an
-/// input and write an article of its exports that has what they need and nothing else, and `prove` writes a proof log of them;
+/// All that the program does with the command's words, without the program's name. `check` runs an input and reports
+/// how many theorems, assumptions and definitions it has; `info` reports which, and with `--readable` in a form that
+/// reads back. `-` is an article on `input`, a name that ends in `.thy` a theory file over packages in a folder, and
+/// any other name an article file. `read` runs an input, and prints the sequents that the lines of a readable text
+/// stand for. `find` runs an input and the packages that it requires, and prints those of their exports whose
+/// conclusion a pattern matches. `link` and `minimise` run an input and write an article of its exports that has what
+/// they need and nothing else, and `prove` writes a proof log of them;
 /// `sample` makes an article of a size, runs it and rewrites it. `verify` checks a proof log, on `input` for `-` and else in a
-/// file, and reports what it proves. The text is made whole, then written to `out` and flushed; each status but `Accepted` has its
-/// line on `err`. Whether `err` takes it changes no status.
+/// file, and reports what it proves. The text is made whole, then written to `out` and flushed; each status but
+/// `Accepted` has its line on `err`. Whether `err` takes it changes no status.
 ///
 /// - `Accepted`: the run or the log ended, and all of the text was written and flushed.
 /// - `Refused`: the run stopped, at the first fault and its line by the article format or the theory file format, in the file
@@ -67,7 +69,8 @@ pub fn run<F: Files, S: Source, O: Sink, E: Sink>(
     // What is printed is a report on the run, or on the log: its theorems are derivable from its assumptions under its
     // definitions, told or not, and readable text reads back; no other status prints.
     ensures proved { ¬ IsSilent result → IsSomeAnd (task_of (texts_of words.now))
-        (λ t. Prints result t (result_of t (F.folder files.old) (S.left input.old)) (O.written out.old) (O.written out.new)) }
+        (λ t. Prints result t (result_of t (F.folder files.old) (S.left input.old)) (O.written out.old)
+        (O.written out.new)) }
     ensures silent { IsSilent result → out.new ≡ out.old }
     ensures flushed { result ≡ Status.Accepted → FlushesAll (O.flushed out.old) (O.written out.new) (O.flushed out.new) }
 
@@ -77,7 +80,8 @@ pub fn run<F: Files, S: Source, O: Sink, E: Sink>(
         (IsLine result (task_of (texts_of words.now)) (F.folder files.old) (S.left input.old) (F.at files.new))
         E.written E.faults err.old err.new }
 
-    // Statuses 3, 4 and 5 come only where the device that they name counted it; all else is as stated, or memory ran out.
+    // Statuses 3, 4 and 5 come only where the device that they name counted it; all else is as stated, or memory ran
+    // out.
     ensures missing { result ≡ Status.NoFile → Rose (F.misses files.old) (F.misses files.new) }
     ensures read { result ≡ Status.ReadFault → IfSome (task_of (texts_of words.now))
         (λ t. FailedIn t (S.faults input.old) (S.faults input.new) (F.faults files.old) (F.faults files.new)) }
@@ -111,7 +115,8 @@ pub fn run<F: Files, S: Source, O: Sink, E: Sink>(
     }
 }
 
-/// Runs an input or a sample in a fresh session, makes a sample, or checks a log, and makes the text for what that came to.
+/// Runs an input or a sample in a fresh session, makes a sample, or checks a log, and makes the text for what that
+/// came to.
 fn run_task<F: Files, S: Source>(
     alloc: Global,
     task: Task<'_>,
@@ -120,7 +125,8 @@ fn run_task<F: Files, S: Source>(
 ) -> Result<Verdict, Memory>
     requires { IsSized (task_value task) }
     ensures verdict { IfOk result (IsTaskVerdict (task_value task.entry) (F.folder files.old) (S.left input.old) (F.at files.new)
-        (FailedIn (task_value task.entry) (S.faults input.old) (S.faults input.new) (F.faults files.old) (F.faults files.new))
+        (FailedIn (task_value task.entry) (S.faults input.old) (S.faults input.new) (F.faults files.old)
+        (F.faults files.new))
         (Rose (F.misses files.old) (F.misses files.new))) }
     ensures files { KeepsFiles F.folder F.faults F.misses F.left files.old files.new }
     ensures source { KeepsSource S.folder S.faults S.misses S.at input.old input.new }

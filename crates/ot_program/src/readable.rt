@@ -25,7 +25,8 @@ pub fn readable_verdict(
     requires session { IsRun session.now }
     requires exports { IfOk ran (λ r. All (IsExportIn session.now) r.exports.items) }
     requires symbols { IfErr ran (NamesSymbolIn session.now.kernel) }
-    ensures { (packages : List ℕ) → IfOk result (IsVerdictOf (ShowReadable packages path.now) (noted_end_of session.now ran)) }
+    ensures { (packages : List ℕ)
+        → IfOk result (IsVerdictOf (ShowReadable packages path.now) (noted_end_of session.now ran)) }
 {
     match ran {
         Ok(noted) => {
@@ -40,9 +41,11 @@ pub fn readable_verdict(
 fn summary(alloc: Global, path: &str, session: &Session, run: &NotedRun) -> Result<Verdict, Memory>
     requires session { IsRun session.now }
     requires exports { All (IsExportIn session.now) run.now.exports.items }
-    ensures ends { IfOk result (ReadableEndsAs path.now (noted_from run.now.names.items session.now run.now.exports.items)) }
+    ensures ends { IfOk result
+        (ReadableEndsAs path.now (noted_from run.now.names.items session.now run.now.exports.items)) }
     ensures read_back { OnOk result
-        (nat_le (length (readable (noted_from run.now.names.items session.now run.now.exports.items))) summary_limit ≡ true
+        (nat_le (length (readable (noted_from run.now.names.items session.now run.now.exports.items))) summary_limit
+        ≡ true
         → AreReadBack (noted_from run.now.names.items session.now run.now.exports.items)) }
 {
     let theorems = theorems_of(alloc, &run.exports)?;

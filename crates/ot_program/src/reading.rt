@@ -10,7 +10,8 @@ ghost use Rattle.ot_read.specs.Laws.{StandFor};
 ghost use Rattle.ot_read.specs.Lines.{lines_read, IsLineRefusal};
 ghost use Rattle.ot_program.specs.Reply.{ReadLines, notation, read_in, read_status, text_in};
 ghost use Rattle.ot_program.specs.Answer.{FailedIn, LeavesAlone, KeepsFiles, KeepsSource};
-ghost use Rattle.ot_program.specs.Verdicts.{noted_of, read_end_of, IsAnswer, HasCause, IsVerdictOf, IsTextRefusal, IsTextCause, IsPrintedAs, IsTaskVerdict};
+ghost use Rattle.ot_program.specs.Verdicts.{noted_of, read_end_of, IsAnswer, HasCause, IsVerdictOf, IsTextRefusal};
+ghost use Rattle.ot_program.specs.Verdicts.{IsTextCause, IsPrintedAs, IsTaskVerdict};
 
 use crate::noted::{NotedRun, run_noted};
 use crate::report::{
@@ -54,8 +55,8 @@ pub enum ReadingRefusal {
     Memory,
 }
 
-/// Runs an input in a fresh session, reads the lines of the text of a path under the notation of the run, and makes the printed
-/// texts of the sequents that they stand for.
+/// Runs an input in a fresh session, reads the lines of the text of a path under the notation of the run, and makes
+/// the printed texts of the sequents that they stand for.
 pub fn run_reading<F: Files, S: Source>(
     alloc: Global,
     packages: &str,
@@ -98,7 +99,8 @@ fn read_text<F: Files>(
     ensures stand { IfOk result (λ r. StandFor (notation (noted_of session.now run.now))
         (lines_of r.bytes.items) (map sequent_of r.sequents.items)) }
     ensures cause { IfSome (read_end_of text.now (noted_of session.now run.now) result)
-        (HasCause read_status (Rose (F.faults files.old) (F.faults files.new)) (Rose (F.misses files.old) (F.misses files.new))) }
+        (HasCause read_status (Rose (F.faults files.old) (F.faults files.new))
+        (Rose (F.misses files.old) (F.misses files.new))) }
     ensures files { KeepsFiles F.folder F.faults F.misses F.left files.old files.new }
     ensures at { F.at files.new ≡ path_asked (F.folder files.old) text.now }
 {
@@ -124,10 +126,12 @@ fn read_text<F: Files>(
 
 /// The bytes of the text of a path, which are within the limit. No more than one byte past it is read.
 fn bytes_of<F: Files>(alloc: Global, text: &str, files: &mut F) -> Result<Vec<u8>, ReadingRefusal>
-    ensures ok { IfSome (F.folder files.old) (λ folder. IfOk result (λ bytes. text_in text.now folder ≡ Ok bytes.items)) }
+    ensures ok { IfSome (F.folder files.old)
+        (λ folder. IfOk result (λ bytes. text_in text.now folder ≡ Ok bytes.items)) }
     ensures refused { IfSome (F.folder files.old) (λ folder. IfErr result (IsTextRefusal (text_in text.now folder))) }
     ensures cause { IfErr result
-        (λ e. IsTextCause e (Rose (F.faults files.old) (F.faults files.new)) (Rose (F.misses files.old) (F.misses files.new))) }
+        (λ e. IsTextCause e (Rose (F.faults files.old) (F.faults files.new))
+        (Rose (F.misses files.old) (F.misses files.new))) }
     ensures files { KeepsFiles F.folder F.faults F.misses F.left files.old files.new }
     ensures at { F.at files.new ≡ path_asked (F.folder files.old) text.now }
 {

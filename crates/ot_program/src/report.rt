@@ -1,4 +1,5 @@
-ghost use Rattle.std.specs.Prelude.{◌≡◌, ◌++◌, true, false, [], length, map, IfOk, IfErr, IfSome, IfNone, IsSomeAnd, OnOk};
+ghost use Rattle.std.specs.Prelude.{◌≡◌, ◌++◌, true, false, [], length, map, IfOk, IfErr, IfSome, IfNone, IsSomeAnd};
+ghost use Rattle.std.specs.Prelude.{OnOk};
 ghost use Rattle.std.specs.List.{All};
 ghost use Rattle.ot_link.specs.Answers.{AreExportsIn, NamesSymbolIn};
 ghost use Rattle.ot_machine.specs.Meaning.{IsRun, IsExportIn};
@@ -7,10 +8,14 @@ ghost use Rattle.ot_verify.specs.Verifying.{AreProved};
 ghost use Rattle.ot_plain.specs.Naming.{names};
 ghost use Rattle.ot_plain.specs.Hol.{Accepted as AcceptedLists};
 ghost use Rattle.ot_sample.specs.Sample.{sample};
-ghost use Rattle.ot_program.specs.Reply.{RunSample, CheckLog, line_of_counts, sample_front, sample_back, line_count, article_text, article_fits, log_fits, run_fits, run_lists};
-ghost use Rattle.ot_program.specs.Texts.{large_line, large_article_line, large_log_line, missing_line, read_fault_line};
+ghost use Rattle.ot_program.specs.Reply.{RunSample, CheckLog, line_of_counts, sample_front, sample_back, line_count};
+ghost use Rattle.ot_program.specs.Reply.{article_text, article_fits, log_fits, run_fits, run_lists};
+ghost use Rattle.ot_program.specs.Texts.{large_line, large_article_line, large_log_line, missing_line};
+ghost use Rattle.ot_program.specs.Texts.{read_fault_line};
 ghost use Rattle.ot_program.specs.Answer.{IsProved, IsRewritten, IsLogged, IsPromisedIn, AreSupported};
-ghost use Rattle.ot_program.specs.Verdicts.{job_task, ran_from, AreCounts, end_at, end_of, log_end_of, IsVerdictOf, IsStopVerdict, IsSaid, EndsAs, SummaryEndsAs, UsesEndsAs, ArticleEndsAs, LogEndsAs, IsLawfulEnd, IsLawfulEnds};
+ghost use Rattle.ot_program.specs.Verdicts.{job_task, ran_from, AreCounts, end_at, end_of, log_end_of, IsVerdictOf};
+ghost use Rattle.ot_program.specs.Verdicts.{IsStopVerdict, IsSaid, EndsAs, SummaryEndsAs, UsesEndsAs, ArticleEndsAs};
+ghost use Rattle.ot_program.specs.Verdicts.{LogEndsAs, IsLawfulEnd, IsLawfulEnds};
 
 use crate::log::LogRefusal;
 use crate::sample::SAMPLE;
@@ -83,8 +88,8 @@ pub fn log_verdict(
     }
 }
 
-/// A law: each theorem of these exports is derivable from the session's assumptions under its definitions, and these are
-/// accepted; and a text is that of one sequent.
+/// A law: each theorem of these exports is derivable from the session's assumptions under its definitions, and these
+/// are accepted; and a text is that of one sequent.
 pub fn proved(session: &Session, exports: &[Export])
     requires session { IsRun session.now }
     requires exports { All (IsExportIn session.now) exports.now }
@@ -214,7 +219,8 @@ fn counts_of(session: &Session, exports: &[Export]) -> Counts
 
 /// The line for these counts.
 fn count_line(alloc: Global, counts: Counts) -> Result<Vec<u8>, Memory>
-    ensures { IfOk result (λ line. line.items ≡ line_of_counts counts.theorems counts.assumptions counts.definitions) }
+    ensures { IfOk result
+        (λ line. line.items ≡ line_of_counts counts.theorems counts.assumptions counts.definitions) }
 {
     let Counts {
         theorems,
@@ -423,7 +429,8 @@ fn line_count(text: &[u8]) -> usize
     text.iter().filter(|b| **b == b'\n').count()
 }
 
-/// The line for a sample of a size: how many lines its article has, its counts, and how many lines its written article has.
+/// The line for a sample of a size: how many lines its article has, its counts, and how many lines its written
+/// article has.
 fn sample_line(
     alloc: Global,
     size: u64,

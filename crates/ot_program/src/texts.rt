@@ -6,7 +6,8 @@ ghost use Rattle.ot_term.specs.Symbols.{symbol_of};
 ghost use Rattle.ot_machine.specs.Faults.{fault_of};
 ghost use Rattle.ot_machine.specs.Answers.{IsSymbolIn};
 ghost use Rattle.ot_verify.specs.Taking.{fault_of as log_fault_of};
-ghost use Rattle.ot_program.specs.Texts.{kind_text, symbol_text, fault_text, theory_text, structure_text, log_text, readable_text, column_line, line_of, line_at, fault_line};
+ghost use Rattle.ot_program.specs.Texts.{kind_text, symbol_text, fault_text, theory_text, structure_text, log_text};
+ghost use Rattle.ot_program.specs.Texts.{readable_text, column_line, line_of, line_at, fault_line};
 ghost use Rattle.ot_program.specs.Wording.{kind_word, line_start};
 
 use ot_blocks::StructureFault;
@@ -167,7 +168,8 @@ fn kind_text(kind: Kind) -> &'static str
 fn add_fault(alloc: Global, kernel: &Kernel, fault: Fault, out: &mut Vec<u8>) -> Result<(), Memory>
     requires symbol { IsSymbolIn kernel.now fault }
     requires apart { fault ≢ Fault.Memory }
-    ensures { OnOk result (IsSomeAnd (fault_of (name_at kernel.now) fault) (λ f. out.new.items ≡ out.old.items ++ fault_text f)) }
+    ensures { OnOk result
+        (IsSomeAnd (fault_of (name_at kernel.now) fault) (λ f. out.new.items ≡ out.old.items ++ fault_text f)) }
 {
     match fault {
         Fault::LineTooLong => add(out, "line longer than 65535 bytes"),
@@ -229,7 +231,8 @@ fn add_about(
 ) -> Result<(), Memory>
     requires { symbol.name < length kernel.now.names }
     ensures { OnOk result (out.new.items
-        ≡ out.old.items ++ (before.now ++ symbol_text (map_symbol (name_at kernel.now) (symbol_of symbol)) ++ after.now)) }
+        ≡ out.old.items
+        ++ (before.now ++ symbol_text (map_symbol (name_at kernel.now) (symbol_of symbol)) ++ after.now)) }
 {
     add(out, before)?;
     add_symbol(kernel, symbol, out)?;
@@ -250,7 +253,8 @@ fn add_kinds(wanted: Kind, found: Kind, out: &mut Vec<u8>) -> Result<(), Memory>
 /// Appends a symbol: which of the two it is, and how its name is spelled.
 fn add_symbol(kernel: &Kernel, symbol: Symbol, out: &mut Vec<u8>) -> Result<(), Memory>
     requires { symbol.name < length kernel.now.names }
-    ensures { OnOk result (out.new.items ≡ out.old.items ++ symbol_text (map_symbol (name_at kernel.now) (symbol_of symbol))) }
+    ensures { OnOk result
+        (out.new.items ≡ out.old.items ++ symbol_text (map_symbol (name_at kernel.now) (symbol_of symbol))) }
 {
     add(out, kind_word(symbol.kind))?;
     kernel.names().get(symbol.name).spell(out)

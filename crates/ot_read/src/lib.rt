@@ -1,4 +1,5 @@
-//! The lines of a readable text: the sequents that they stand for, or the first refusal, and the texts that are printed of them.
+//! The lines of a readable text: the sequents that they stand for, or the first refusal, and the texts that are
+//! printed of them.
 #![tactic(auto)]
 
 mod laws;

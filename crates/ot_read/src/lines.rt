@@ -22,9 +22,9 @@ pub enum LineRefusal {
     Memory,
 }
 
-/// The sequents that the lines of a text stand for under this notation, in order. Lines end at a line feed, are trimmed, and are
-/// passed over where they are empty or begin with `#`. The first line that is refused counts, with the refusal of
-/// [`read_sequent`].
+/// The sequents that the lines of a text stand for under this notation, in order. Lines end at a line feed, are
+/// trimmed, and are passed over where they are empty or begin with `#`. The first line that is refused counts, with
+/// the refusal of [`read_sequent`].
 pub fn read_lines(
     alloc: Global,
     notation: &Notation,

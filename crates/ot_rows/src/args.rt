@@ -3,8 +3,8 @@ use ot_args::{Command, Sections, is_theory};
 use std::alloc::{AllocError, Global};
 use std::test::Fail;
 
-/// The words of a line, with `|` between them, and after ` => ` what they write: the word of a command, its texts, and of
-/// the sections assumptions, definitions and theorems the first letters.
+/// The words of a line, with `|` between them, and after ` => ` what they write: the word of a command, its texts,
+/// and of the sections assumptions, definitions and theorems the first letters.
 const COMMANDS: &str = "\
 check|- => check|packages|-|
 check|a.art => check|packages|a.art|

@@ -1,5 +1,6 @@
 //! Worked rows of the crates that know no kernel: their public calls, tried against values from
-//! outside. These are the formats' own examples, or worked by hand. The crate is tests alone: it has no code of its own.
+//! outside. These are the formats' own examples, or worked by hand. The crate is tests alone: it has no code of its
+//! own.
 #![tactic(auto)]
 
 #[cfg(test)]

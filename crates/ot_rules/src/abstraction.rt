@@ -62,7 +62,8 @@ fn closed(
     requires id { HasTerm nodes.old id }
     requires v { HasVariable nodes.old v.now }
     requires done { IsDone nodes.old (Closing (variable_at nodes.old v.now)) done.old }
-    ensures ok { IfOk result (λ r. IsTerm nodes.new r (close names (variable_at nodes.old v.now) (term_at nodes.old id))) }
+    ensures ok { IfOk result
+        (λ r. IsTerm nodes.new r (close names (variable_at nodes.old v.now) (term_at nodes.old id))) }
     ensures extends { Extends nodes.old nodes.new }
     ensures done { OnOk result (IsDone nodes.new (Closing (variable_at nodes.new v.now)) done.new) }
     ensures v { OnOk result (HasVariable nodes.new v.now) }
@@ -81,7 +82,8 @@ fn is_free_in_some(
     requires ids { All (HasTerm nodes.old) ids.now }
     requires v { HasVariable nodes.old v.now }
     requires done { IsDone nodes.old (Closing (variable_at nodes.old v.now)) done.old }
-    ensures ok { IfOk result (λ b. b ≡ is_free_in_some names (variable_at nodes.old v.now) (terms_at nodes.old ids.now)) }
+    ensures ok { IfOk result
+        (λ b. b ≡ is_free_in_some names (variable_at nodes.old v.now) (terms_at nodes.old ids.now)) }
     ensures extends { Extends nodes.old nodes.new }
     ensures done { OnOk result (IsDone nodes.new (Closing (variable_at nodes.new v.now)) done.new) }
     ensures v { OnOk result (HasVariable nodes.new v.now) }

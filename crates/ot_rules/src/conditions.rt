@@ -6,7 +6,9 @@ ghost use Rattle.ot_plain.specs.Names.{Name};
 ghost use Rattle.ot_plain.specs.Naming.{names};
 ghost use Rattle.ot_plain.specs.Trees.{Definition as StatedDefinition, ConSymbol, Tm, Free};
 ghost use Rattle.ot_plain.specs.Hol.{type_in, type_of, vars_tm, same_var, same_tm, as_equation, symbols_of};
-ghost use Rattle.ot_laws.specs.Conditions.{are_distinct, is_closed, is_closed_but, keeps_type_vars, are_names_of, given, given_by, only, terms_given, checked_const, checked_list, checked_type};
+ghost use Rattle.ot_laws.specs.Conditions.{are_distinct, is_closed, is_closed_but, keeps_type_vars, are_names_of};
+ghost use Rattle.ot_laws.specs.Conditions.{given, given_by, only, terms_given, checked_const, checked_list};
+ghost use Rattle.ot_laws.specs.Conditions.{checked_type};
 ghost use Rattle.ot_records.specs.Steps.{all_defined, all_used};
 ghost use Rattle.ot_nodes.specs.Items.{HasName, HasType, HasTerm, name_at, type_at, term_at};
 ghost use Rattle.ot_nodes.specs.Changing.{variable_at, HasVariable};
@@ -15,7 +17,8 @@ ghost use Rattle.ot_rules.specs.Definitions.{pairs_at, HasPairs, names_at};
 ghost use Rattle.ot_rules.specs.Limits.{AreWellTyped};
 ghost use Rattle.ot_rules.specs.Parts.{marks_tm, HasMark, IsOf};
 ghost use Rattle.ot_rules.specs.Symbols.{passes, IsSignature, IsSymbolMark, symbol_of, are_fresh};
-ghost use Rattle.ot_rules.specs.Conditions.{is_allowed, is_var_of, is_kept_var, listed, IsTypedTerm, IsGivenTerm, given_term, given_terms, may_be_given};
+ghost use Rattle.ot_rules.specs.Conditions.{is_allowed, is_var_of, is_kept_var, listed, IsTypedTerm, IsGivenTerm};
+ghost use Rattle.ot_rules.specs.Conditions.{given_term, given_terms, may_be_given};
 ghost use Rattle.ot_rules.specs.declared.parts.Mark.TheVariants.{Constant};
 
 use crate::parts::{Mark, Parts, marks_in, marks_of, marks_of_type};
@@ -41,7 +44,8 @@ pub(crate) fn may_be_constant(
     requires ty { HasType nodes.now ty }
     requires typed { type_in names [] (term_at nodes.now term) ≡ Some (type_at nodes.now ty) }
     ensures { IfOk result (λ b. (dl : List (StatedDefinition Name)) → IsSignature nodes.now dl signature.now
-        → b ≡ passes (checked_const names (all_defined names dl) (all_used names dl) (name_at nodes.now name) (term_at nodes.now term))) }
+        → b ≡ passes (checked_const names (all_defined names dl) (all_used names dl) (name_at nodes.now name)
+        (term_at nodes.now term))) }
 {
     let premise = marks_in(nodes, term)?;
     let fresh = signature.may_define(nodes.allocator(), nodes, &premise, &[Mark::Constant(name)])?;
@@ -50,7 +54,8 @@ pub(crate) fn may_be_constant(
     Ok(fresh & (closed & kept))
 }
 
-/// Whether constants may be defined for the variables of these pairs, which the hypotheses of a theorem give their terms.
+/// Whether constants may be defined for the variables of these pairs, which the hypotheses of a theorem give their
+/// terms.
 pub(crate) fn may_be_constants(
     signature: &Signature,
     nodes: &Nodes,
@@ -61,7 +66,9 @@ pub(crate) fn may_be_constants(
     requires premise { HasStatement nodes.now premise.now }
     requires typed { AreWellTyped (sequent_at nodes.now premise.now) }
     ensures { IfOk result (λ b. (dl : List (StatedDefinition Name)) → IsSignature nodes.now dl signature.now
-        → b ≡ passes (checked_list names (all_defined names dl) (all_used names dl) (map (λ p. p.0) (pairs_at nodes.now pairs.now)) (map (λ p. p.1) (pairs_at nodes.now pairs.now)) (sequent_at nodes.now premise.now))) }
+        → b ≡ passes (checked_list names (all_defined names dl) (all_used names dl)
+        (map (λ p. p.0) (pairs_at nodes.now pairs.now)) (map (λ p. p.1) (pairs_at nodes.now pairs.now))
+        (sequent_at nodes.now premise.now))) }
 {
     let alloc = nodes.allocator();
     let constants = names_of(alloc, pairs)?;
@@ -89,7 +96,8 @@ fn may_be_for(
     requires premise { HasStatement nodes.now premise.now }
     requires typed { AreWellTyped (sequent_at nodes.now premise.now) }
     ensures { IfOk result (λ b. (dl : List (StatedDefinition Name)) → IsSignature nodes.now dl signature.now
-        → b ≡ passes (checked_list names (all_defined names dl) (all_used names dl) (names_at nodes.now constants.now) (map (variable_at nodes.now) vars.now) (sequent_at nodes.now premise.now))) }
+        → b ≡ passes (checked_list names (all_defined names dl) (all_used names dl) (names_at nodes.now constants.now)
+        (map (variable_at nodes.now) vars.now) (sequent_at nodes.now premise.now))) }
 {
     let paired = are_pairs(nodes, constants, vars, &premise.hyps)?;
     if !paired {
@@ -141,7 +149,9 @@ pub(crate) fn may_be_type(
     requires vars { All (HasName nodes.now) vars.now }
     requires premise { HasStatement nodes.now premise.now }
     ensures { IfOk result (λ b. (dl : List (StatedDefinition Name)) → IsSignature nodes.now dl signature.now
-        → b ≡ passes (checked_type names (all_defined names dl) (all_used names dl) (name_at nodes.now name) (name_at nodes.now abs) (name_at nodes.now rep) (names_at nodes.now vars.now) (sequent_at nodes.now premise.now))) }
+        → b ≡ passes (checked_type names (all_defined names dl) (all_used names dl) (name_at nodes.now name)
+        (name_at nodes.now abs) (name_at nodes.now rep) (names_at nodes.now vars.now)
+        (sequent_at nodes.now premise.now))) }
 {
     if !premise.hyps.as_slice().is_empty() {
         return Ok(false);
@@ -174,7 +184,8 @@ pub(crate) struct Given {
 // Whether no variable is free but these, by what occurs.
 fn is_closed_but(nodes: &Nodes, vars: &[VariableNode], parts: &Parts) -> bool
     requires { All (HasVariable nodes.now) vars.now }
-    ensures { (t : Tm Name) → IsOf nodes.now (marks_tm t) parts.now → result ≡ is_closed_but names (map (variable_at nodes.now) vars.now) t }
+    ensures { (t : Tm Name) → IsOf nodes.now (marks_tm t) parts.now → result
+        ≡ is_closed_but names (map (variable_at nodes.now) vars.now) t }
 {
     nodes.primitives();
     are_allowed(vars, parts.marks.as_slice())
@@ -200,7 +211,8 @@ fn is_allowed(vars: &[VariableNode], mark: &Mark) -> bool
 // Whether each type variable that occurs in a term of this type occurs in the type.
 fn keeps_type_vars(nodes: &Nodes, parts: &Parts, ty: TypeId) -> Result<bool, Memory>
     requires { HasType nodes.now ty }
-    ensures { IfOk result (λ b. (t : Tm Name) → IsOf nodes.now (marks_tm t) parts.now → type_of names t ≡ type_at nodes.now ty → b ≡ keeps_type_vars names t) }
+    ensures { IfOk result (λ b. (t : Tm Name) → IsOf nodes.now (marks_tm t) parts.now → type_of names t
+        ≡ type_at nodes.now ty → b ≡ keeps_type_vars names t) }
 {
     nodes.primitives();
     let own = marks_of_type(nodes, ty)?;
@@ -228,7 +240,8 @@ fn is_kept_var(own: &IndexSet<Mark>, mark: &Mark) -> bool
 fn are_vars_listed(nodes: &Nodes, parts: &Parts, vars: &[NameId]) -> Result<bool, Memory>
     requires { All (HasName nodes.now) vars.now }
     ensures { IfOk result (λ b. (t : Tm Name) → IsOf nodes.now (marks_tm t) parts.now
-        → b ≡ (are_distinct names.same (names_at nodes.now vars.now) && are_names_of names (vars_tm names t) (names_at nodes.now vars.now))) }
+        → b ≡ (are_distinct names.same (names_at nodes.now vars.now)
+        && are_names_of names (vars_tm names t) (names_at nodes.now vars.now))) }
 {
     nodes.primitives();
     let distinct = are_distinct(nodes.allocator(), vars)?;
@@ -262,7 +275,9 @@ fn are_pairs(
 ) -> Result<bool, Memory>
     requires constants { All (HasName nodes.now) constants.now }
     requires vars { All (HasVariable nodes.now) vars.now }
-    ensures { IfOk result (λ b. b ≡ (are_distinct names.same (names_at nodes.now constants.now) && are_distinct (same_var names) (map (variable_at nodes.now) vars.now)
+    ensures { IfOk result
+        (λ b. b ≡ (are_distinct names.same (names_at nodes.now constants.now)
+        && are_distinct (same_var names) (map (variable_at nodes.now) vars.now)
         && (length hyps.now == length vars.now))) }
 {
     nodes.primitives();
@@ -283,7 +298,8 @@ fn are_constants_fresh(
     requires constants { All (HasName nodes.now) constants.now }
     requires premise { HasStatement nodes.now premise.now }
     ensures { IfOk result (λ b. (dl : List (StatedDefinition Name)) → IsSignature nodes.now dl signature.now
-        → b ≡ are_fresh (all_defined names dl) (all_used names dl) (symbols_of names (sequent_at nodes.now premise.now)) (map ConSymbol (names_at nodes.now constants.now))) }
+        → b ≡ are_fresh (all_defined names dl) (all_used names dl)
+        (symbols_of names (sequent_at nodes.now premise.now)) (map ConSymbol (names_at nodes.now constants.now))) }
 {
     let symbols = constant_marks(nodes.allocator(), constants)?;
     let fresh = are_symbols_fresh(signature, nodes, symbols.as_slice(), premise)?;
@@ -300,7 +316,8 @@ fn are_symbols_fresh(
     requires symbols { All (IsSymbolMark nodes.now) symbols.now }
     requires premise { HasStatement nodes.now premise.now }
     ensures { IfOk result (λ b. (dl : List (StatedDefinition Name)) → IsSignature nodes.now dl signature.now
-        → b ≡ are_fresh (all_defined names dl) (all_used names dl) (symbols_of names (sequent_at nodes.now premise.now)) (map (symbol_of nodes.now) symbols.now)) }
+        → b ≡ are_fresh (all_defined names dl) (all_used names dl)
+        (symbols_of names (sequent_at nodes.now premise.now)) (map (symbol_of nodes.now) symbols.now)) }
 {
     let parts = marks_of(nodes, premise)?;
     let fresh = signature.may_define(nodes.allocator(), nodes, &parts, symbols)?;
@@ -345,7 +362,8 @@ fn terms_given(
 fn only_given(nodes: &Nodes, hyps: &[TermId], variable: &VariableNode) -> Option<Given>
     requires variable { HasVariable nodes.now variable.now }
     requires hyps { All (IsTypedTerm nodes.now) hyps.now }
-    ensures given { option_map (given_term nodes.now) result ≡ only (given names (terms_at nodes.now hyps.now) (variable_at nodes.now variable.now)) }
+    ensures given { option_map (given_term nodes.now) result
+        ≡ only (given names (terms_at nodes.now hyps.now) (variable_at nodes.now variable.now)) }
     ensures typed { IfSome result (IsGivenTerm nodes.now) }
 {
     let mut found = None;
@@ -364,7 +382,8 @@ fn only_given(nodes: &Nodes, hyps: &[TermId], variable: &VariableNode) -> Option
 fn given_by(nodes: &Nodes, hyp: TermId, variable: &VariableNode) -> Option<Given>
     requires variable { HasVariable nodes.now variable.now }
     requires hyp { IsTypedTerm nodes.now hyp }
-    ensures given { given_by names (variable_at nodes.now variable.now) (as_equation names (term_at nodes.now hyp)) ≡ listed (option_map (given_term nodes.now) result) }
+    ensures given { given_by names (variable_at nodes.now variable.now) (as_equation names (term_at nodes.now hyp))
+        ≡ listed (option_map (given_term nodes.now) result) }
     ensures typed { IfSome result (IsGivenTerm nodes.now) }
 {
     let Some(equation) = as_equation(nodes, hyp) else {
@@ -402,7 +421,9 @@ fn are_given(
     requires vars { All (HasVariable nodes.now) vars.now }
     requires given { All (IsGivenTerm nodes.now) given.now }
     requires concl { HasTerm nodes.now concl }
-    ensures { IfOk result (λ b. b ≡ (list_all (may_be_given names) (given_terms nodes.now given.now) && is_closed_but names (map (variable_at nodes.now) vars.now) (term_at nodes.now concl))) }
+    ensures { IfOk result
+        (λ b. b ≡ (list_all (may_be_given names) (given_terms nodes.now given.now)
+        && is_closed_but names (map (variable_at nodes.now) vars.now) (term_at nodes.now concl))) }
 {
     for item in given {
         let fits = may_be_given(nodes, *item)?;

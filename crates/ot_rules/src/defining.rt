@@ -3,11 +3,13 @@ ghost use Rattle.std.specs.Prelude.{◌≡◌, List, map, IfOk};
 ghost use Rattle.std.specs.List.{All};
 ghost use Rattle.ot_plain.specs.Names.{Name};
 ghost use Rattle.ot_plain.specs.Naming.{names};
-ghost use Rattle.ot_plain.specs.Trees.{Definition as StatedDefinition, ConDef, ListDef, TyDef, TyOp, Con, Bound, App, Abs};
+ghost use Rattle.ot_plain.specs.Trees.{Definition as StatedDefinition, ConDef, ListDef, TyDef, TyOp, Con, Bound, App};
+ghost use Rattle.ot_plain.specs.Trees.{Abs};
 ghost use Rattle.ot_plain.specs.Hol.{fun_ty, bool_ty, equation, tys_of_vars, constants_for, type_theorems};
 ghost use Rattle.ot_plain.specs.Table.{Extends};
 ghost use Rattle.ot_records.specs.Steps.{constant_step, constants_step, type_operator_step};
-ghost use Rattle.ot_nodes.specs.Items.{HasName, HasType, HasTerm, IsType, IsTerm, name_at, type_at, types_at, term_at};
+ghost use Rattle.ot_nodes.specs.Items.{HasName, HasType, HasTerm, IsType, IsTerm, name_at, type_at, types_at};
+ghost use Rattle.ot_nodes.specs.Items.{term_at};
 ghost use Rattle.ot_nodes.specs.Changing.{HasTerms, term_map};
 ghost use Rattle.ot_nodes.specs.Typing.{AreTypings};
 ghost use Rattle.ot_rules.specs.Statements.{sequent_at, HasStatement};
@@ -38,7 +40,8 @@ pub fn constant(
     requires term { HasTerm nodes.old term }
     requires known { AreTypings nodes.old typings.old.known.entries }
     ensures defines { (dl : List (StatedDefinition Name)) → IsSignature nodes.old dl signature.now
-        → Defines result (ConDef (name_at nodes.old name) (term_at nodes.old term)) (constant_step names dl (name_at nodes.old name) (term_at nodes.old term)) nodes.new }
+        → Defines result (ConDef (name_at nodes.old name) (term_at nodes.old term))
+        (constant_step names dl (name_at nodes.old name) (term_at nodes.old term)) nodes.new }
     ensures extends { Extends nodes.old nodes.new }
     ensures known { AreTypings nodes.new typings.new.known.entries }
 {
@@ -68,7 +71,8 @@ pub fn constants(
     requires premise { HasStatement nodes.old premise.now }
     requires typed { AreWellTyped (sequent_at nodes.old premise.now) }
     ensures defines { (dl : List (StatedDefinition Name)) → IsSignature nodes.old dl signature.now
-        → Defines result (ListDef (pairs_at nodes.old pairs.now) (sequent_at nodes.old premise.now)) (constants_step names dl (pairs_at nodes.old pairs.now) (sequent_at nodes.old premise.now)) nodes.new }
+        → Defines result (ListDef (pairs_at nodes.old pairs.now) (sequent_at nodes.old premise.now))
+        (constants_step names dl (pairs_at nodes.old pairs.now) (sequent_at nodes.old premise.now)) nodes.new }
     ensures extends { Extends nodes.old nodes.new }
 {
     let may = may_be_constants(signature, nodes, pairs, premise)?;
@@ -122,8 +126,10 @@ pub fn type_operator(
     requires typed { AreWellTyped (sequent_at nodes.old premise.now) }
     requires known { AreTypings nodes.old typings.old.known.entries }
     ensures defines { (dl : List (StatedDefinition Name)) → IsSignature nodes.old dl signature.now
-        → Defines result (TyDef (name_at nodes.old name) (name_at nodes.old abs) (name_at nodes.old rep) (names_at nodes.old vars.now) (sequent_at nodes.old premise.now))
-        (type_operator_step names dl (name_at nodes.old name) (name_at nodes.old abs) (name_at nodes.old rep) (names_at nodes.old vars.now) (sequent_at nodes.old premise.now)) nodes.new }
+        → Defines result (TyDef (name_at nodes.old name) (name_at nodes.old abs) (name_at nodes.old rep)
+        (names_at nodes.old vars.now) (sequent_at nodes.old premise.now))
+        (type_operator_step names dl (name_at nodes.old name) (name_at nodes.old abs) (name_at nodes.old rep)
+        (names_at nodes.old vars.now) (sequent_at nodes.old premise.now)) nodes.new }
     ensures extends { Extends nodes.old nodes.new }
     ensures known { AreTypings nodes.new typings.new.known.entries }
 {
@@ -160,7 +166,8 @@ fn type_theorems(
     requires predicate { HasTerm nodes.old predicate }
     ensures has { IfOk result (λ v. All (HasStatement nodes.new) v.items) }
     ensures ok { IfOk result (λ v. map (sequent_at nodes.new) v.items
-        ≡ type_theorems names (TyOp (name_at nodes.old name) (tys_of_vars names (names_at nodes.old vars.now))) (type_at nodes.old old) (name_at nodes.old abs) (name_at nodes.old rep) (term_at nodes.old predicate)) }
+        ≡ type_theorems names (TyOp (name_at nodes.old name) (tys_of_vars names (names_at nodes.old vars.now)))
+        (type_at nodes.old old) (name_at nodes.old abs) (name_at nodes.old rep) (term_at nodes.old predicate)) }
     ensures extends { Extends nodes.old nodes.new }
 {
     let new = operator_over(nodes, name, vars)?;
@@ -178,7 +185,9 @@ fn type_theorems(
 fn operator_over(nodes: &mut Nodes, name: NameId, vars: &[NameId]) -> Result<TypeId, Memory>
     requires name { HasName nodes.old name }
     requires vars { All (HasName nodes.old) vars.now }
-    ensures ok { IfOk result (λ id. IsType nodes.new id (TyOp (name_at nodes.old name) (tys_of_vars names (names_at nodes.old vars.now)))) }
+    ensures ok { IfOk result
+        (λ id. IsType nodes.new id
+        (TyOp (name_at nodes.old name) (tys_of_vars names (names_at nodes.old vars.now)))) }
     ensures extends { Extends nodes.old nodes.new }
 {
     let args = type_vars(nodes, vars)?;
@@ -210,7 +219,9 @@ fn constant_between(
     requires name { HasName nodes.old name }
     requires from { HasType nodes.old from }
     requires to { HasType nodes.old to }
-    ensures ok { IfOk result (λ id. IsTerm nodes.new id (Con (name_at nodes.old name) (fun_ty names (type_at nodes.old from) (type_at nodes.old to)))) }
+    ensures ok { IfOk result
+        (λ id. IsTerm nodes.new id
+        (Con (name_at nodes.old name) (fun_ty names (type_at nodes.old from) (type_at nodes.old to)))) }
     ensures extends { Extends nodes.old nodes.new }
 {
     let ty = nodes.fun(from, to)?;
@@ -228,7 +239,8 @@ fn there_and_back(
     requires abs { HasTerm nodes.old abs }
     requires rep { HasTerm nodes.old rep }
     ensures ok { IfOk result (λ id. IsTerm nodes.new id (let ty = type_at nodes.old new in
-        equation names (fun_ty names ty ty) (Abs ty (App (term_at nodes.old abs) (App (term_at nodes.old rep) (Bound 0)))) (Abs ty (Bound 0)))) }
+        equation names (fun_ty names ty ty)
+        (Abs ty (App (term_at nodes.old abs) (App (term_at nodes.old rep) (Bound 0)))) (Abs ty (Bound 0)))) }
     ensures extends { Extends nodes.old nodes.new }
 {
     let place = nodes.bound(0)?;

@@ -107,7 +107,8 @@ impl Kept {
         ensures kept { AreKeyed self.new }
         ensures all { All (HasStatement nodes.now) self.new.statements.items }
         ensures ok { OnOk result (map (sequent_at nodes.now) self.new.statements.items
-            ≡ kept_once names (map (sequent_at nodes.now) self.old.statements.items) (sequent_at nodes.now statement.now)) }
+            ≡ kept_once names (map (sequent_at nodes.now) self.old.statements.items)
+            (sequent_at nodes.now statement.now)) }
         ensures err { OnErr result (self.new.statements.items ≡ self.old.statements.items) }
     {
         nodes.primitives();

@@ -2,7 +2,8 @@
 ghost use Rattle.std.specs.Prelude.{◌≡◌, ◌<◌, List, [], ◌∷◌, map, OnOk, IfOk};
 ghost use Rattle.std.specs.List.{All};
 ghost use Rattle.ot_nodes.specs.Items.{HasType, HasTerm, type_at, term_at, types_at};
-ghost use Rattle.ot_rules.specs.Parts.{marks_ty, marks_all, marks_tm, marks_each, marks_sequent, marks_sequents, HasMark, mark_at, IsGoneOver, Gathers, IsOf};
+ghost use Rattle.ot_rules.specs.Parts.{marks_ty, marks_all, marks_tm, marks_each, marks_sequent, marks_sequents};
+ghost use Rattle.ot_rules.specs.Parts.{HasMark, mark_at, IsGoneOver, Gathers, IsOf};
 ghost use Rattle.ot_rules.specs.Statements.{terms_at, sequent_at, HasStatement};
 
 use crate::statement::Statement;
@@ -110,7 +111,8 @@ impl Parts {
     ) -> Result<(), Memory>
         requires has { HasStatement nodes.now statement.now }
         requires gone { IsGoneOver nodes.now self.old }
-        ensures { OnOk result (Gathers nodes.now (marks_sequent (sequent_at nodes.now statement.now)) self.old self.new) }
+        ensures { OnOk result
+            (Gathers nodes.now (marks_sequent (sequent_at nodes.now statement.now)) self.old self.new) }
     {
         self.add_terms(nodes, &statement.hyps)?;
         self.add_term(nodes, statement.concl)
@@ -136,7 +138,8 @@ impl Parts {
     ) -> Result<(), Memory>
         requires has { All (HasStatement nodes.now) statements.now }
         requires gone { IsGoneOver nodes.now self.old }
-        ensures { OnOk result (Gathers nodes.now (marks_sequents (map (sequent_at nodes.now) statements.now)) self.old self.new) }
+        ensures { OnOk result
+            (Gathers nodes.now (marks_sequents (map (sequent_at nodes.now) statements.now)) self.old self.new) }
     {
         for statement in statements {
             self.add_statement(nodes, statement)?;

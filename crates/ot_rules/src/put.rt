@@ -8,7 +8,8 @@ ghost use Rattle.ot_plain.specs.Rules.{has_type};
 ghost use Rattle.ot_plain.specs.Table.{Extends};
 ghost use Rattle.ot_records.specs.Steps.{subst_step};
 ghost use Rattle.ot_nodes.specs.Items.{HasTerm, type_at, term_at};
-ghost use Rattle.ot_nodes.specs.Changing.{changed, changing, type_map, term_map, HasVariable, HasTypes, HasTerms, HasChange, IsDone};
+ghost use Rattle.ot_nodes.specs.Changing.{changed, changing, type_map, term_map, HasVariable, HasTypes, HasTerms};
+ghost use Rattle.ot_nodes.specs.Changing.{HasChange, IsDone};
 ghost use Rattle.ot_nodes.specs.Typing.{AreTypings};
 ghost use Rattle.ot_rules.specs.Statements.{terms_at, sequent_at, HasStatement, Gives};
 ghost use Rattle.ot_rules.specs.Putting.{firsts, with_new, IsPut, IsChanged};
@@ -34,7 +35,8 @@ pub fn subst(
     requires terms { HasTerms nodes.old terms.now }
     requires a { HasStatement nodes.old a.now }
     requires known { AreTypings nodes.old typings.old.known.entries }
-    ensures gives { Gives result (subst_step names (type_map nodes.old types.now) (term_map nodes.old terms.now) (sequent_at nodes.old a.now)) nodes.new }
+    ensures gives { Gives result (subst_step names (type_map nodes.old types.now) (term_map nodes.old terms.now)
+        (sequent_at nodes.old a.now)) nodes.new }
     ensures extends { Extends nodes.old nodes.new }
     ensures known { AreTypings nodes.new typings.new.known.entries }
 {
@@ -88,7 +90,8 @@ fn are_typed(
 ) -> Result<bool, Memory>
     requires terms { HasTerms nodes.old terms.now.entries }
     requires known { AreTypings nodes.old typings.old.known.entries }
-    ensures ok { IfOk result (λ b. b ≡ list_all (λ p. has_type names p.1 p.0.ty) (term_map nodes.old terms.now.entries)) }
+    ensures ok { IfOk result
+        (λ b. b ≡ list_all (λ p. has_type names p.1 p.0.ty) (term_map nodes.old terms.now.entries)) }
     ensures extends { Extends nodes.old nodes.new }
     ensures known { AreTypings nodes.new typings.new.known.entries }
 {
@@ -175,7 +178,8 @@ fn change_each(
     requires ids { All (HasTerm nodes.old) ids.now }
     requires change { HasChange nodes.old change.now }
     requires done { IsDone nodes.old (changing nodes.old change.now) done.old }
-    ensures ok { IfOk result (λ v. terms_at nodes.new v.items ≡ map (changed (changing nodes.old change.now) 0) (terms_at nodes.old ids.now)) }
+    ensures ok { IfOk result (λ v. terms_at nodes.new v.items ≡ map (changed (changing nodes.old change.now) 0)
+        (terms_at nodes.old ids.now)) }
     ensures has { IfOk result (λ v. All (HasTerm nodes.new) v.items) }
     ensures extends { Extends nodes.old nodes.new }
     ensures done { OnOk result (IsDone nodes.new (changing nodes.new change.now) done.new) }

@@ -5,7 +5,8 @@ ghost use Rattle.ot_plain.specs.Naming.{names};
 ghost use Rattle.ot_plain.specs.Trees.{Ty, Tm, App, Abs};
 ghost use Rattle.ot_plain.specs.Hol.{equation, opened};
 ghost use Rattle.ot_plain.specs.Table.{Extends};
-ghost use Rattle.ot_records.specs.Steps.{refl_step, assume_step, eq_mp_step, app_thm_step, deduct_antisym_step, beta_step};
+ghost use Rattle.ot_records.specs.Steps.{refl_step, assume_step, eq_mp_step, app_thm_step, deduct_antisym_step};
+ghost use Rattle.ot_records.specs.Steps.{beta_step};
 ghost use Rattle.ot_nodes.specs.Items.{HasType, HasTerm, IsTerm, type_at, term_at};
 ghost use Rattle.ot_nodes.specs.Typing.{AreTypings};
 ghost use Rattle.ot_rules.specs.Statements.{sequent_at, HasStatement, Gives};
@@ -103,7 +104,8 @@ pub fn deduct_antisym(
 ) -> Result<Statement, StepFault>
     requires a { HasStatement nodes.old a.now }
     requires b { HasStatement nodes.old b.now }
-    ensures gives { Gives result (deduct_antisym_step names (sequent_at nodes.old a.now) (sequent_at nodes.old b.now)) nodes.new }
+    ensures gives { Gives result (deduct_antisym_step names (sequent_at nodes.old a.now) (sequent_at nodes.old b.now))
+        nodes.new }
     ensures extends { Extends nodes.old nodes.new }
 {
     nodes.primitives();
@@ -146,7 +148,8 @@ pub fn beta_conv(
 // The type and the body of an abstraction.
 fn as_abs(nodes: &Nodes, id: TermId) -> Option<(TypeId, TermId)>
     requires { HasTerm nodes.now id }
-    ensures { MatchOption result ((a : Ty Name) (b : Tm Name) → term_at nodes.now id ≢ Abs a b) (λ p. IsAbs nodes.now id p.0 p.1) }
+    ensures { MatchOption result ((a : Ty Name) (b : Tm Name) → term_at nodes.now id ≢ Abs a b)
+        (λ p. IsAbs nodes.now id p.0 p.1) }
 {
     match nodes.term_node(id) {
         TermNode::Abs(ty, body) => Some((ty, body)),
@@ -158,7 +161,8 @@ fn as_abs(nodes: &Nodes, id: TermId) -> Option<(TypeId, TermId)>
 fn opened(nodes: &mut Nodes, body: TermId, argument: TermId) -> Result<TermId, Memory>
     requires body { HasTerm nodes.old body }
     requires argument { HasTerm nodes.old argument }
-    ensures ok { IfOk result (λ r. IsTerm nodes.new r (opened names (term_at nodes.old body) (term_at nodes.old argument))) }
+    ensures ok { IfOk result
+        (λ r. IsTerm nodes.new r (opened names (term_at nodes.old body) (term_at nodes.old argument))) }
     ensures extends { Extends nodes.old nodes.new }
 {
     let change = Change::Open(argument);

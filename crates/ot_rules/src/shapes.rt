@@ -21,7 +21,8 @@ pub struct Sides {
 /// The function and the argument of an application.
 pub(crate) fn as_app(nodes: &Nodes, id: TermId) -> Option<(TermId, TermId)>
     requires { HasTerm nodes.now id }
-    ensures { MatchOption result ((f x : Tm Name) → term_at nodes.now id ≢ App f x) (λ p. IsApp nodes.now id p.0 p.1) }
+    ensures { MatchOption result ((f x : Tm Name) → term_at nodes.now id ≢ App f x)
+        (λ p. IsApp nodes.now id p.0 p.1) }
 {
     match nodes.term_node(id) {
         TermNode::App(f, x) => Some((f, x)),
@@ -61,7 +62,8 @@ fn as_equals(nodes: &Nodes, id: TermId) -> Option<TypeId>
 /// The type of the arguments, where the type is that of relations over one type.
 fn as_relation(nodes: &Nodes, ty: TypeId) -> Option<TypeId>
     requires { HasType nodes.now ty }
-    ensures { MatchOption result ((a : Ty Name) → type_at nodes.now ty ≢ fun_ty names a (fun_ty names a (bool_ty names))) (IsRelation nodes.now ty) }
+    ensures { MatchOption result ((a : Ty Name)
+        → type_at nodes.now ty ≢ fun_ty names a (fun_ty names a (bool_ty names))) (IsRelation nodes.now ty) }
 {
     nodes.primitives();
     let (first, predicate) = nodes.as_fun(ty)?;

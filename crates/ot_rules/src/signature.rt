@@ -10,7 +10,8 @@ ghost use Rattle.ot_nodes.specs.Items.{HasName};
 ghost use Rattle.ot_rules.specs.Definitions.{definition_at, HasDefinition};
 ghost use Rattle.ot_rules.specs.Parts.{marks_premise, marks_sequents, HasMark, marks_at, Gathers, IsGoneOver, IsOf};
 ghost use Rattle.ot_rules.specs.Statements.{sequent_at, HasStatement};
-ghost use Rattle.ot_rules.specs.Symbols.{HasSymbols, IsSignature, IsSymbolMark, KeepsSymbols, mark_eq, symbol_of, are_fresh, is_primitive_mark, is_marked};
+ghost use Rattle.ot_rules.specs.Symbols.{HasSymbols, IsSignature, IsSymbolMark, KeepsSymbols, mark_eq, symbol_of};
+ghost use Rattle.ot_rules.specs.Symbols.{are_fresh, is_primitive_mark, is_marked};
 ghost use Rattle.indexmap.specs.IndexSet.{insert_all};
 ghost use Rattle.ot_rules.specs.declared.parts.Mark.TheVariants.{Constant};
 
@@ -43,8 +44,8 @@ impl Signature {
         }
     }
 
-    // Whether these symbols may be defined from a premise in which this occurs: none has a meaning of its own, is defined,
-    // stands twice, or occurs in the premise or in a definition.
+    // Whether these symbols may be defined from a premise in which this occurs: none has a meaning of its own, is
+    // defined, stands twice, or occurs in the premise or in a definition.
     pub(crate) fn may_define(
         &self,
         alloc: Global,
@@ -54,7 +55,8 @@ impl Signature {
     ) -> Result<bool, Memory>
         requires symbols { All (IsSymbolMark nodes.now) symbols.now }
         requires premise { All (HasMark nodes.now) premise.now.marks.keys }
-        ensures { IfOk result (λ b. (dl : List (StatedDefinition Name)) (ss : List (Symbol Name)) → IsSignature nodes.now dl self.now → HasSymbols ss (marks_at nodes.now premise.now)
+        ensures { IfOk result (λ b. (dl : List (StatedDefinition Name)) (ss : List (Symbol Name))
+            → IsSignature nodes.now dl self.now → HasSymbols ss (marks_at nodes.now premise.now)
             → b ≡ are_fresh (all_defined names dl) (all_used names dl) ss (map (symbol_of nodes.now) symbols.now)) }
     {
         nodes.primitives();
@@ -70,7 +72,9 @@ impl Signature {
 
     // Whether a symbol may be defined after some.
     fn is_fresh(&self, before: &IndexSet<Mark>, premise: &Parts, symbol: &Mark) -> bool
-        ensures { result ≡ (not (is_primitive_mark symbol.now) && (not (is_marked symbol.now before.now.keys || is_marked symbol.now self.now.defined.keys)
+        ensures { result
+            ≡ (not (is_primitive_mark symbol.now)
+            && (not (is_marked symbol.now before.now.keys || is_marked symbol.now self.now.defined.keys)
             && not (is_marked symbol.now premise.now.marks.keys || is_marked symbol.now self.now.used.keys))) }
     {
         let taken = before.contains(symbol) | self.defined.contains(symbol);
@@ -117,7 +121,8 @@ impl Signature {
 // The symbols that a definition defines.
 fn symbols_of(nodes: &Nodes, definition: &Definition) -> Result<Vec<Mark>, Memory>
     requires { HasDefinition nodes.now definition.now }
-    ensures are { IfOk result (λ v. map (symbol_of nodes.now) v.items ≡ defined names (definition_at nodes.now definition.now)) }
+    ensures are { IfOk result
+        (λ v. map (symbol_of nodes.now) v.items ≡ defined names (definition_at nodes.now definition.now)) }
     ensures marks { IfOk result (λ v. All (IsSymbolMark nodes.now) v.items) }
 {
     let alloc = nodes.allocator();
@@ -157,7 +162,9 @@ fn constant_marks(alloc: Global, pairs: &[(NameId, VariableNode)]) -> Result<Vec
 fn occurring_in(nodes: &Nodes, definition: &Definition, made: &[Statement]) -> Result<Parts, Memory>
     requires definition { HasDefinition nodes.now definition.now }
     requires made { All (HasStatement nodes.now) made.now }
-    ensures { IfOk result (IsOf nodes.now (marks_premise (definition_at nodes.now definition.now) ++ marks_sequents (map (sequent_at nodes.now) made.now))) }
+    ensures { IfOk result
+        (IsOf nodes.now (marks_premise (definition_at nodes.now definition.now)
+        ++ marks_sequents (map (sequent_at nodes.now) made.now))) }
 {
     let mut occurring = Parts::new(nodes.allocator());
     add_premise(&mut occurring, nodes, definition)?;
@@ -169,7 +176,8 @@ fn occurring_in(nodes: &Nodes, definition: &Definition, made: &[Statement]) -> R
 fn add_premise(parts: &mut Parts, nodes: &Nodes, definition: &Definition) -> Result<(), Memory>
     requires definition { HasDefinition nodes.now definition.now }
     requires gone { IsGoneOver nodes.now parts.old }
-    ensures { OnOk result (Gathers nodes.now (marks_premise (definition_at nodes.now definition.now)) parts.old parts.new) }
+    ensures { OnOk result
+        (Gathers nodes.now (marks_premise (definition_at nodes.now definition.now)) parts.old parts.new) }
 {
     match definition {
         Definition::Constant { name: _name, term } => parts.add_term(nodes, *term),

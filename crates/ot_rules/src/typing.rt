@@ -106,7 +106,8 @@ pub fn are_statements_within(
     requires has { All (HasStatement nodes.old) statements.now }
     requires typed { All (λ q. AreWellTyped (sequent_at nodes.old q)) statements.now }
     requires known { AreTypings nodes.old typings.old.known.entries }
-    ensures ok { IfOk result (λ b. b ≡ list_all (is_sequent_within names) (map (sequent_at nodes.old) statements.now)) }
+    ensures ok { IfOk result
+        (λ b. b ≡ list_all (is_sequent_within names) (map (sequent_at nodes.old) statements.now)) }
     ensures extends { Extends nodes.old nodes.new }
     ensures known { AreTypings nodes.new typings.new.known.entries }
 {

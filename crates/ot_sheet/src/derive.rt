@@ -20,7 +20,8 @@ use std::alloc::Global;
 /// From `G |- t = u`, `u = t`, where the word isn't refused.
 pub fn sym(nodes: &mut Nodes, a: &Statement) -> Result<Statement, StepFault>
     requires a { HasStatement nodes.old a.now }
-    ensures made { (r : Sequent Name) → sym_rule names (sequent_at nodes.old a.now) ≡ Ok r → Derives result nodes.new r }
+    ensures made { (r : Sequent Name) → sym_rule names (sequent_at nodes.old a.now) ≡ Ok r
+        → Derives result nodes.new r }
     ensures extends { Extends nodes.old nodes.new }
 {
     let Some(e) = as_equation(nodes, a.concl) else {
@@ -31,11 +32,13 @@ pub fn sym(nodes: &mut Nodes, a: &Statement) -> Result<Statement, StepFault>
     Ok(Statement { hyps, concl })
 }
 
-/// From two theorems that are equations with a side in common, the equation of the other sides, where the word isn't refused.
+/// From two theorems that are equations with a side in common, the equation of the other sides, where the word isn't
+/// refused.
 pub fn trans(nodes: &mut Nodes, lower: &Statement, top: &Statement) -> Result<Statement, StepFault>
     requires lower { HasStatement nodes.old lower.now }
     requires top { HasStatement nodes.old top.now }
-    ensures made { (r : Sequent Name) → trans_rule names (sequent_at nodes.old lower.now) (sequent_at nodes.old top.now) ≡ Ok r
+    ensures made { (r : Sequent Name) → trans_rule names (sequent_at nodes.old lower.now)
+        (sequent_at nodes.old top.now) ≡ Ok r
         → Derives result nodes.new r }
     ensures extends { Extends nodes.old nodes.new }
 {
@@ -65,7 +68,8 @@ fn outer_sides(nodes: &mut Nodes, lower: Sides, top: Sides) -> Result<TermId, Me
     }
 }
 
-/// Whether the lower theorem is the lemma for the top one: its conclusion is a hypothesis there, and not the other way round.
+/// Whether the lower theorem is the lemma for the top one: its conclusion is a hypothesis there, and not the other
+/// way round.
 pub fn is_lower_lemma(nodes: &Nodes, lower: &Statement, top: &Statement) -> bool
     requires lower { HasStatement nodes.now lower.now }
     requires top { HasStatement nodes.now top.now }

@@ -3,7 +3,8 @@ ghost use Rattle.std.specs.Prelude.{[], ◌∷◌, IfOk};
 ghost use Rattle.ot_plain.specs.Table.{Extends};
 ghost use Rattle.ot_nodes.specs.Items.{HasType, HasTerm, IsTerm, type_at, term_at};
 ghost use Rattle.ot_rules.specs.Shapes.{HasSides};
-ghost use Rattle.ot_entries.specs.Expansions.{of_term, of_two, equals_at, sym_entries, trans_entries, prove_hyp_entries};
+ghost use Rattle.ot_entries.specs.Expansions.{of_term, of_two, equals_at, sym_entries, trans_entries};
+ghost use Rattle.ot_entries.specs.Expansions.{prove_hyp_entries};
 ghost use Rattle.ot_sheet.specs.Sheets.{Adds};
 
 use crate::operand::Operand;
@@ -21,7 +22,8 @@ pub fn write_of_term(
     term: TermId,
 ) -> Result<usize, Memory>
     requires term { HasTerm nodes.now term }
-    ensures adds { IfOk result (Adds nodes.now nodes.now sheet.old sheet.new (λ x. of_term word (term_at nodes.now term) ∷ [])) }
+    ensures adds { IfOk result
+        (Adds nodes.now nodes.now sheet.old sheet.new (λ x. of_term word (term_at nodes.now term) ∷ [])) }
 {
     sheet.write_sequent(nodes, word, &[Operand::Term(term)])
 }
@@ -77,8 +79,8 @@ pub fn write_sym(
     Ok(number)
 }
 
-/// The records of `trans` for a first theorem with these sides, and a second. The answer is the number of the last one's
-/// sequent.
+/// The records of `trans` for a first theorem with these sides, and a second. The answer is the number of the last
+/// one's sequent.
 pub fn write_trans(
     sheet: &mut Sheet,
     nodes: &mut Nodes,
@@ -106,7 +108,8 @@ pub fn write_prove_hyp(
     lemma: usize,
     other: usize,
 ) -> Result<usize, Memory>
-    ensures adds { IfOk result (Adds nodes.now nodes.now sheet.old sheet.new (λ x. prove_hyp_entries x.sequents lemma other)) }
+    ensures adds { IfOk result
+        (Adds nodes.now nodes.now sheet.old sheet.new (λ x. prove_hyp_entries x.sequents lemma other)) }
 {
     let equal = write_of_two(sheet, nodes, RecordWord::DeductAntisym, lemma, other)?;
     let number = write_of_two(sheet, nodes, RecordWord::EqMp, equal, lemma)?;

@@ -6,8 +6,10 @@ ghost use Rattle.ot_nodes.specs.Items.{HasName, HasType, HasTerm, name_at, type_
 ghost use Rattle.ot_records.specs.Tokens.{Number, Named, Word, spelling};
 ghost use Rattle.ot_text.specs.Pages.{Appended};
 ghost use Rattle.ot_entries.specs.Entries.{AType, ATerm, type_entry, term_entry, type_list};
-ghost use Rattle.ot_entries.specs.Entries.{type_parts, types_nodes, type_nodes, term_parts, term_nodes, operand_nodes};
-ghost use Rattle.ot_entries.specs.Logged.{Log, header, put, add_tokens, token_of, write_nodes, write_entry, count_sequent};
+ghost use Rattle.ot_entries.specs.Entries.{type_parts, types_nodes, type_nodes, term_parts, term_nodes};
+ghost use Rattle.ot_entries.specs.Entries.{operand_nodes};
+ghost use Rattle.ot_entries.specs.Logged.{Log, header, put, add_tokens, token_of, write_nodes, write_entry};
+ghost use Rattle.ot_entries.specs.Logged.{count_sequent};
 ghost use Rattle.ot_entries.specs.Bytes.{bytes_of};
 ghost use Rattle.ot_sheet.specs.Sheets.{operand_at, entry_at, HasOperand, Shows, Moves, Adds};
 
@@ -73,7 +75,8 @@ impl Sheet {
         operands: &[Operand],
     ) -> Result<usize, Memory>
         requires operands { All (HasOperand nodes.now) operands.now }
-        ensures adds { IfOk result (Adds nodes.now nodes.now self.old self.new (λ x. entry_at nodes.now word operands.now ∷ [])) }
+        ensures adds { IfOk result
+            (Adds nodes.now nodes.now self.old self.new (λ x. entry_at nodes.now word operands.now ∷ [])) }
     {
         let number = self.sequents;
         self.write(nodes, word, operands)?;
@@ -163,7 +166,8 @@ impl Sheet {
     fn write_types(&mut self, nodes: &Nodes, bound: TypeId, ids: &[TypeId]) -> Result<(), Memory>
         requires ids { All (HasType nodes.now) ids.now }
         requires below { All (λ i. i < bound) ids.now }
-        ensures moves { OnOk result (Moves nodes.now self.old self.new (write_nodes (types_nodes (types_at nodes.now ids.now)))) }
+        ensures moves { OnOk result (Moves nodes.now self.old self.new
+            (write_nodes (types_nodes (types_at nodes.now ids.now)))) }
     {
         for id in ids {
             self.write_type(nodes, *id)?;
@@ -361,7 +365,8 @@ impl Sheet {
     pub fn finish(self, out: &mut Vec<u8>) -> Result<(), PrintFault>
         ensures ok { (ts : List Item) (max : ℕ) (x : Log) → Shows ts max self x
             → OnOk result (Appended (bytes_of x.tokens) max out.old.items out.new.items) }
-        ensures too_large { (ts : List Item) (max : ℕ) (x : Log) → Shows ts max self x → result ≡ Err PrintFault.TooLarge
+        ensures too_large { (ts : List Item) (max : ℕ) (x : Log) → Shows ts max self x → result
+            ≡ Err PrintFault.TooLarge
             → max < length (bytes_of x.tokens) }
         ensures err { OnErr result (out.new.items ≡ out.old.items) }
     {

@@ -34,9 +34,13 @@ fn put_in<N: Nodes<L>, L>(
     requires inside { t < length (N.table terms.old).terms }
     requires subst { IsSubstOf (N.table terms.old) s.now }
     requires below { NamesBelow (length names.old) (N.table terms.old) }
-    ensures ok { IfOk result (λ id. HasForm (N.table terms.new) id (substituted (N.table terms.old) s.now (nameless numbers (term_at (N.table terms.old).terms t)))) }
-    ensures nesting { result ≡ Err TableFault.Nesting → is_shallow numbers (substituted (N.table terms.old) s.now (nameless numbers (term_at (N.table terms.old).terms t))) ≡ false }
-    ensures counted { HasNoClash numbers (type_part (N.table terms.old) s.now) (variable_part (N.table terms.old) s.now) (term_at (N.table terms.old).terms t)
+    ensures ok { IfOk result
+        (λ id. HasForm (N.table terms.new) id
+        (substituted (N.table terms.old) s.now (nameless numbers (term_at (N.table terms.old).terms t)))) }
+    ensures nesting { result ≡ Err TableFault.Nesting → is_shallow numbers
+        (substituted (N.table terms.old) s.now (nameless numbers (term_at (N.table terms.old).terms t))) ≡ false }
+    ensures counted { HasNoClash numbers (type_part (N.table terms.old) s.now)
+        (variable_part (N.table terms.old) s.now) (term_at (N.table terms.old).terms t)
         → CountsParts (N.table terms.old) [] steps.old steps.new (term_at (N.table terms.old).terms t) (suc t) }
     ensures later { IsLater names.old names.new (N.table terms.old) (N.table terms.new) }
     ensures name_table { IsNameTable names.new }
@@ -63,9 +67,13 @@ fn put_in_open<N: Nodes<L>, L>(
     requires inside { t < length (N.table terms.old).terms }
     requires subst { IsSubstOf (N.table terms.old) s.now }
     requires below { NamesBelow (length names.old) (N.table terms.old) }
-    ensures ok { IfOk result (λ id. HasForm (N.table terms.new) id (substituted (N.table terms.old) s.now (nameless numbers (term_at (N.table terms.old).terms t)))) }
-    ensures nesting { result ≡ Err TableFault.Nesting → is_shallow numbers (substituted (N.table terms.old) s.now (nameless numbers (term_at (N.table terms.old).terms t))) ≡ false }
-    ensures counted { HasNoClash numbers (type_part (N.table terms.old) s.now) (variable_part (N.table terms.old) s.now) (term_at (N.table terms.old).terms t)
+    ensures ok { IfOk result
+        (λ id. HasForm (N.table terms.new) id
+        (substituted (N.table terms.old) s.now (nameless numbers (term_at (N.table terms.old).terms t)))) }
+    ensures nesting { result ≡ Err TableFault.Nesting → is_shallow numbers
+        (substituted (N.table terms.old) s.now (nameless numbers (term_at (N.table terms.old).terms t))) ≡ false }
+    ensures counted { HasNoClash numbers (type_part (N.table terms.old) s.now)
+        (variable_part (N.table terms.old) s.now) (term_at (N.table terms.old).terms t)
         → CountsParts (N.table terms.old) [] steps.old steps.new (term_at (N.table terms.old).terms t) (suc t) }
     ensures later { IsLater names.old names.new (N.table terms.old) (N.table terms.new) }
     ensures name_table { IsNameTable names.new }
@@ -88,9 +96,9 @@ fn put_in_open<N: Nodes<L>, L>(
 ///
 /// The numbers of `t` and of the substitution are of this table, each term of the substitution has its variable's type,
 /// and the names of the table are those of `names`. A binder that clashes with the substitution takes a new name; which
-/// one is open. `Nesting` exactly where the result would pass the nesting limit; never `NotRedex`. Where no binder clashes,
-/// no more steps are taken than the term has distinct subterms. Names and terms that are there keep their numbers, and
-/// there may be more of them, after a refusal too.
+/// one is open. `Nesting` exactly where the result would pass the nesting limit; never `NotRedex`. Where no binder
+/// clashes, no more steps are taken than the term has distinct subterms. Names and terms that are there keep their
+/// numbers, and there may be more of them, after a refusal too.
 pub fn apply<N: Nodes<L>, L>(
     alloc: Global,
     terms: &mut N,
@@ -103,11 +111,15 @@ pub fn apply<N: Nodes<L>, L>(
     requires inside { t < length (N.table terms.old).terms }
     requires subst { IsSubstOf (N.table terms.old) s.now }
     requires below { NamesBelow (length names.old) (N.table terms.old) }
-    ensures ok { IfOk result (λ id. HasForm (N.table terms.new) id (substituted (N.table terms.old) s.now (nameless numbers (term_at (N.table terms.old).terms t)))) }
-    ensures nesting { result ≡ Err SubstFault.Nesting → is_shallow numbers (substituted (N.table terms.old) s.now (nameless numbers (term_at (N.table terms.old).terms t))) ≡ false }
+    ensures ok { IfOk result
+        (λ id. HasForm (N.table terms.new) id
+        (substituted (N.table terms.old) s.now (nameless numbers (term_at (N.table terms.old).terms t)))) }
+    ensures nesting { result ≡ Err SubstFault.Nesting → is_shallow numbers
+        (substituted (N.table terms.old) s.now (nameless numbers (term_at (N.table terms.old).terms t))) ≡ false }
     ensures redex { result ≢ Err SubstFault.NotRedex }
 
-    ensures steps { HasNoClash numbers (type_part (N.table terms.old) s.now) (variable_part (N.table terms.old) s.now) (term_at (N.table terms.old).terms t)
+    ensures steps { HasNoClash numbers (type_part (N.table terms.old) s.now) (variable_part (N.table terms.old) s.now)
+        (term_at (N.table terms.old).terms t)
         → steps.new ≤ steps.old + size numbers (term_at (N.table terms.old).terms t) }
 
     ensures grows { Grows (N.table terms.old) (N.table terms.new) }
@@ -122,10 +134,10 @@ pub fn apply<N: Nodes<L>, L>(
 
 /// The body of an abstraction with the argument put in for the variable.
 ///
-/// The number of `t` is of this table, and the names of the table are those of `names`. `NotRedex` exactly where `t` is no
-/// abstraction applied to a term, `Nesting` exactly where it is one and the result would pass the nesting limit. Where no
-/// binder of the body clashes with the argument, no more steps are taken than the term has distinct subterms. Names and
-/// terms that are there keep their numbers, and there may be more of them, after a refusal too.
+/// The number of `t` is of this table, and the names of the table are those of `names`. `NotRedex` exactly where `t`
+/// is no abstraction applied to a term, `Nesting` exactly where it is one and the result would pass the nesting
+/// limit. Where no binder of the body clashes with the argument, no more steps are taken than the term has distinct
+/// subterms. Names and terms that are there keep their numbers, and there may be more of them, after a refusal too.
 pub fn beta<N: Nodes<L>, L>(
     alloc: Global,
     terms: &mut N,
@@ -136,11 +148,17 @@ pub fn beta<N: Nodes<L>, L>(
 ) -> Result<TermId, SubstFault>
     requires inside { t < length (N.table terms.old).terms }
     requires below { NamesBelow (length names.old) (N.table terms.old) }
-    ensures ok { IfOk result (λ id. (x : Tm _) × (contracted (nameless numbers (term_at (N.table terms.old).terms t)) ≡ Some x) × HasForm (N.table terms.new) id x) }
-    ensures not_redex { result ≡ Err SubstFault.NotRedex → contracted (nameless numbers (term_at (N.table terms.old).terms t)) ≡ None }
-    ensures nesting { result ≡ Err SubstFault.Nesting → (x : Tm _) × (contracted (nameless numbers (term_at (N.table terms.old).terms t)) ≡ Some x) × (is_shallow numbers x ≡ false) }
+    ensures ok { IfOk result
+        (λ id. (x : Tm _) × (contracted (nameless numbers (term_at (N.table terms.old).terms t)) ≡ Some x)
+        × HasForm (N.table terms.new) id x) }
+    ensures not_redex { result ≡ Err SubstFault.NotRedex
+        → contracted (nameless numbers (term_at (N.table terms.old).terms t)) ≡ None }
+    ensures nesting { result ≡ Err SubstFault.Nesting → (x : Tm _)
+        × (contracted (nameless numbers (term_at (N.table terms.old).terms t)) ≡ Some x)
+        × (is_shallow numbers x ≡ false) }
 
-    ensures steps { HasNoBetaClash (term_at (N.table terms.old).terms t) → steps.new ≤ steps.old + size numbers (term_at (N.table terms.old).terms t) }
+    ensures steps { HasNoBetaClash (term_at (N.table terms.old).terms t) → steps.new ≤ steps.old
+        + size numbers (term_at (N.table terms.old).terms t) }
 
     ensures grows { Grows (N.table terms.old) (N.table terms.new) }
     ensures table { IsTermTable (N.table terms.new) }

@@ -64,7 +64,8 @@ fn any_coincides<N: Nodes<L>, L>(
     requires pairs { All (λ p. p.1 < length (N.table terms.old).types) subst.now.types }
     requires binder { w.now.ty < length (N.table terms.old).types }
     requires variables { All (λ x. x.ty < length (N.table terms.old).types) xs.now }
-    ensures ok { IfOk result (λ b. MatchBool b ((x : _) × IsMember x xs.now × Coincides (N.table terms.old) subst.now v.now w.now x)
+    ensures ok { IfOk result
+        (λ b. MatchBool b ((x : _) × IsMember x xs.now × Coincides (N.table terms.old) subst.now v.now w.now x)
         ((x : _) → IsMember x xs.now → ¬ (Coincides (N.table terms.old) subst.now v.now w.now x))) }
     ensures grows { Grows (N.table terms.old) (N.table terms.new) }
     ensures names { NamesUpTo 0 (N.table terms.old) (N.table terms.new) }
@@ -78,8 +79,8 @@ fn any_coincides<N: Nodes<L>, L>(
     Ok(false)
 }
 
-// Whether the binder `v` of a body, which is `w` after the type part, has to be renamed. Without renamed binders around, it
-// has to be only where it clashes.
+// Whether the binder `v` of a body, which is `w` after the type part, has to be renamed. Without renamed binders
+// around, it has to be only where it clashes.
 pub(crate) fn clashes<N: Nodes<L>, L>(
     terms: &mut N,
     work: &Work<'_>,
@@ -92,9 +93,12 @@ pub(crate) fn clashes<N: Nodes<L>, L>(
     requires frees { AreKnown (N.table terms.old) work.now.subst.now frees.old }
     requires binder { v.now.ty < length (N.table terms.old).types }
     requires new { w.now.ty < length (N.table terms.old).types }
-    requires instance { variable_of (N.table terms.old).types w.now ≡ inst_var numbers (type_part (N.table terms.old) work.now.subst.now) (variable_of (N.table terms.old).types v.now) }
+    requires instance { variable_of (N.table terms.old).types w.now ≡ inst_var numbers
+        (type_part (N.table terms.old) work.now.subst.now) (variable_of (N.table terms.old).types v.now) }
     requires body { body < length (N.table terms.old).terms }
-    ensures ok { IfOk result (λ b. MatchBool b (pairs_of work.now.renamed.now ≡ [] → ¬ (IsUnclashing (N.table terms.old) work.now.subst.now v.now body))
+    ensures ok { IfOk result
+        (λ b. MatchBool b
+        (pairs_of work.now.renamed.now ≡ [] → ¬ (IsUnclashing (N.table terms.old) work.now.subst.now v.now body))
         (MayStay (N.table terms.old) work.now.subst.now (pairs_of work.now.renamed.now) v.now body)) }
     ensures frees { OnOk result (AreKnown (N.table terms.new) work.now.subst.now frees.new) }
     ensures grows { Grows (N.table terms.old) (N.table terms.new) }
@@ -115,8 +119,8 @@ pub(crate) fn clashes<N: Nodes<L>, L>(
     any_coincides(terms, work.subst, v, w, &xs)
 }
 
-// Whether a variable is free in a term of the substitution. The first question gathers the variables that are, since most
-// walks meet no binder and ask none.
+// Whether a variable is free in a term of the substitution. The first question gathers the variables that are, since
+// most walks meet no binder and ask none.
 fn is_put_in<N: Nodes<L>, L>(
     alloc: Global,
     terms: &N,

@@ -23,8 +23,12 @@ pub(crate) fn image_of<N: Nodes<L>, L>(
 ) -> Result<TermId, TableFault>
     requires ready { AreReady (N.table terms.old) subst.now (pairs_of renamed.now) }
     requires variable { v.ty < length (N.table terms.old).types }
-    ensures ok { IfOk result (λ id. HasForm (N.table terms.new) id (becomes (N.table terms.old) subst.now (pairs_of renamed.now) (Free (variable_of (N.table terms.old).types v)))) }
-    ensures nesting { result ≡ Err TableFault.Nesting → is_shallow numbers (becomes (N.table terms.old) subst.now (pairs_of renamed.now) (Free (variable_of (N.table terms.old).types v))) ≡ false }
+    ensures ok { IfOk result
+        (λ id. HasForm (N.table terms.new) id (becomes (N.table terms.old) subst.now (pairs_of renamed.now)
+        (Free (variable_of (N.table terms.old).types v)))) }
+    ensures nesting { result ≡ Err TableFault.Nesting
+        → is_shallow numbers (becomes (N.table terms.old) subst.now (pairs_of renamed.now)
+        (Free (variable_of (N.table terms.old).types v))) ≡ false }
     ensures grows { Grows (N.table terms.old) (N.table terms.new) }
     ensures names { NamesUpTo (max (v.name + 1) (bound_of (pairs_of renamed.now))) (N.table terms.old) (N.table terms.new) }
     ensures table { IsTermTable (N.table terms.new) }
@@ -51,8 +55,12 @@ pub(crate) fn constant_of<N: Nodes<L>, L>(
 ) -> Result<TermId, TableFault>
     requires ready { AreReady (N.table terms.old) subst.now (pairs_of renamed.now) }
     requires ty { ty < length (N.table terms.old).types }
-    ensures ok { IfOk result (λ id. HasForm (N.table terms.new) id (becomes (N.table terms.old) subst.now (pairs_of renamed.now) (Con name (type_at (N.table terms.old).types ty)))) }
-    ensures nesting { result ≡ Err TableFault.Nesting → is_shallow numbers (becomes (N.table terms.old) subst.now (pairs_of renamed.now) (Con name (type_at (N.table terms.old).types ty))) ≡ false }
+    ensures ok { IfOk result
+        (λ id. HasForm (N.table terms.new) id (becomes (N.table terms.old) subst.now (pairs_of renamed.now)
+        (Con name (type_at (N.table terms.old).types ty)))) }
+    ensures nesting { result ≡ Err TableFault.Nesting
+        → is_shallow numbers (becomes (N.table terms.old) subst.now (pairs_of renamed.now)
+        (Con name (type_at (N.table terms.old).types ty))) ≡ false }
     ensures grows { Grows (N.table terms.old) (N.table terms.new) }
     ensures names { NamesUpTo (name + 1) (N.table terms.old) (N.table terms.new) }
     ensures table { IsTermTable (N.table terms.new) }

@@ -1,5 +1,5 @@
-//! Substitution and beta on named terms. The results are those of the definitions on nameless forms, where nothing is ever
-//! renamed; here a binder is renamed where it clashes.
+//! Substitution and beta on named terms. The results are those of the definitions on nameless forms, where nothing is
+//! ever renamed; here a binder is renamed where it clashes.
 #![tactic(auto)]
 
 mod applying;

@@ -8,8 +8,8 @@ use ot_term::TermId;
 use std::alloc::Global;
 use std::marker::Model;
 
-/// A map from terms to terms. A table holds the place of each term's pair, so that nothing is hashed, and all pairs can be
-/// forgotten at once.
+/// A map from terms to terms. A table holds the place of each term's pair, so that nothing is hashed, and all pairs
+/// can be forgotten at once.
 #[derive(Drop)]
 pub(crate) struct Placed {
     pairs: Vec<(TermId, TermId)>,

@@ -9,14 +9,15 @@ use ot_term::TermId;
 use std::alloc::Global;
 use std::marker::Model;
 
-/// What terms have become by a substitution, each term once. Whoever substitutes often keeps one of these for all calls.
+/// What terms have become by a substitution, each term once. Whoever substitutes often keeps one of these for all
+/// calls.
 #[derive(Drop)]
 pub struct Results {
     found: Found,
 }
 
-// A walk looks terms up by place. The body of a renamed binder has results of its own, which are hashed: they take no more
-// room than there are of them, however many binders are renamed inside each other.
+// A walk looks terms up by place. The body of a renamed binder has results of its own, which are hashed: they take no
+// more room than there are of them, however many binders are renamed inside each other.
 #[derive(Drop)]
 enum Found {
     Placed(Placed),

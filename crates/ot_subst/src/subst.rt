@@ -46,8 +46,8 @@ impl Subst {
         }
     }
 
-    /// Adds a variable and its term, a term of this table that has the variable's type. A variable that is there keeps its
-    /// term. After want of memory the substitution is as it was.
+    /// Adds a variable and its term, a term of this table that has the variable's type. A variable that is there
+    /// keeps its term. After want of memory the substitution is as it was.
     pub fn add(&mut self, terms: &Terms, v: VarKey, t: TermId) -> Result<(), Memory>
         requires term { t < length terms.now.terms }
         requires variable { v.ty < length terms.now.types }

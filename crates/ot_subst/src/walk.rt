@@ -1,10 +1,12 @@
 //! The walk that puts a substitution into a term, node by node.
-ghost use Rattle.std.specs.Prelude.{◌≡◌, ℕ, ◌<◌, ◌≤◌, ◌+◌, ◌++◌, ◌∷◌, [], suc, max, None, Some, Err, IfOk, OnOk, OnErr, length, slice_get, false, nat_eq};
+ghost use Rattle.std.specs.Prelude.{◌≡◌, ℕ, ◌<◌, ◌≤◌, ◌+◌, ◌++◌, ◌∷◌, [], suc, max, None, Some, Err, IfOk, OnOk};
+ghost use Rattle.std.specs.Prelude.{OnErr, length, slice_get, false, nat_eq};
 ghost use Rattle.ot_plain.specs.Trees.{Ty, NApp, NAbs};
 ghost use Rattle.ot_plain.specs.Hol.{is_shallow, nameless, named_type, fun_ty};
 ghost use Rattle.ot_plain.specs.Naming.{numbers};
 ghost use Rattle.ot_plain.specs.Bounds.{bound_named};
-ghost use Rattle.ot_term.specs.TermTable.{term_at, term_of, variable_of, is_within_limit, AreBelow, Grows, NamesUpTo, IsTermTable};
+ghost use Rattle.ot_term.specs.TermTable.{term_at, term_of, variable_of, is_within_limit, AreBelow, Grows, NamesUpTo};
+ghost use Rattle.ot_term.specs.TermTable.{IsTermTable};
 ghost use Rattle.ot_subst.specs.Renamed.{pairs_of};
 ghost use Rattle.ot_subst.specs.Walk.{becomes, IsSetUp, IsLater};
 ghost use Rattle.ot_subst.specs.Clash.{AreKnown};
@@ -24,8 +26,10 @@ fn join<N: Nodes<L>, L>(terms: &mut N, f: TermId, x: TermId) -> Result<TermId, T
     requires x { x < length (N.table terms.old).terms }
     requires typed { (a b : Ty ℕ) × (named_type numbers (term_at (N.table terms.old).terms f) ≡ Some (fun_ty numbers a b))
         × (named_type numbers (term_at (N.table terms.old).terms x) ≡ Some a) }
-    ensures ok { IfOk result (λ id. slice_get (N.table terms.new).terms id ≡ Some (NApp (term_at (N.table terms.old).terms f) (term_at (N.table terms.old).terms x))) }
-    ensures nesting { result ≡ Err TableFault.Nesting → is_within_limit (NApp (term_at (N.table terms.old).terms f) (term_at (N.table terms.old).terms x)) ≡ false }
+    ensures ok { IfOk result (λ id. slice_get (N.table terms.new).terms id
+        ≡ Some (NApp (term_at (N.table terms.old).terms f) (term_at (N.table terms.old).terms x))) }
+    ensures nesting { result ≡ Err TableFault.Nesting
+        → is_within_limit (NApp (term_at (N.table terms.old).terms f) (term_at (N.table terms.old).terms x)) ≡ false }
     ensures grows { Grows (N.table terms.old) (N.table terms.new) }
     ensures names { NamesUpTo 0 (N.table terms.old) (N.table terms.new) }
     ensures table { IsTermTable (N.table terms.new) }
@@ -55,10 +59,20 @@ fn application<N: Nodes<L>, L>(
     requires frees { AreKnown (N.table terms.old) work.now.subst.now frees.old }
     requires f { f < length (N.table terms.old).terms }
     requires x { x < length (N.table terms.old).terms }
-    requires typed { (ty : Ty ℕ) × (named_type numbers (NApp (term_at (N.table terms.old).terms f) (term_at (N.table terms.old).terms x)) ≡ Some ty) }
-    ensures ok { IfOk result (IsWalked (N.table terms.old) (N.table terms.new) work.now.subst.now (pairs_of work.now.renamed.now) memory.old memory.new steps.old steps.new (NApp (term_at (N.table terms.old).terms f) (term_at (N.table terms.old).terms x)) (suc (max f x))) }
-    ensures nesting { result ≡ Err TableFault.Nesting → is_shallow numbers (becomes (N.table terms.old) work.now.subst.now (pairs_of work.now.renamed.now) (nameless numbers (NApp (term_at (N.table terms.old).terms f) (term_at (N.table terms.old).terms x)))) ≡ false }
-    ensures refused { OnErr result (IsCounted (N.table terms.old) work.now.subst.now (pairs_of work.now.renamed.now) memory.old steps.old steps.new (NApp (term_at (N.table terms.old).terms f) (term_at (N.table terms.old).terms x)) (suc (max f x))) }
+    requires typed { (ty : Ty ℕ) × (named_type numbers
+        (NApp (term_at (N.table terms.old).terms f) (term_at (N.table terms.old).terms x)) ≡ Some ty) }
+    ensures ok { IfOk result
+        (IsWalked (N.table terms.old) (N.table terms.new) work.now.subst.now (pairs_of work.now.renamed.now)
+        memory.old memory.new steps.old steps.new
+        (NApp (term_at (N.table terms.old).terms f) (term_at (N.table terms.old).terms x)) (suc (max f x))) }
+    ensures nesting { result ≡ Err TableFault.Nesting
+        → is_shallow numbers
+        (becomes (N.table terms.old) work.now.subst.now (pairs_of work.now.renamed.now)
+        (nameless numbers (NApp (term_at (N.table terms.old).terms f) (term_at (N.table terms.old).terms x))))
+        ≡ false }
+    ensures refused { OnErr result (IsCounted (N.table terms.old) work.now.subst.now (pairs_of work.now.renamed.now) memory.old
+        steps.old steps.new (NApp (term_at (N.table terms.old).terms f) (term_at (N.table terms.old).terms x))
+        (suc (max f x))) }
     ensures frees { OnOk result (AreKnown (N.table terms.new) work.now.subst.now frees.new) }
     ensures later { IsLater names.old names.new (N.table terms.old) (N.table terms.new) }
 {
@@ -84,11 +98,22 @@ fn abstraction<N: Nodes<L>, L>(
     requires frees { AreKnown (N.table terms.old) work.now.subst.now frees.old }
     requires v { v.ty < length (N.table terms.old).types }
     requires body { body < length (N.table terms.old).terms }
-    requires typed { (ty : Ty ℕ) × (named_type numbers (NAbs (variable_of (N.table terms.old).types v) (term_at (N.table terms.old).terms body)) ≡ Some ty) }
-    requires bound { bound_named (NAbs (variable_of (N.table terms.old).types v) (term_at (N.table terms.old).terms body)) ≤ length names.old }
-    ensures ok { IfOk result (IsWalked (N.table terms.old) (N.table terms.new) work.now.subst.now (pairs_of work.now.renamed.now) memory.old memory.new steps.old steps.new (NAbs (variable_of (N.table terms.old).types v) (term_at (N.table terms.old).terms body)) (suc body)) }
-    ensures nesting { result ≡ Err TableFault.Nesting → is_shallow numbers (becomes (N.table terms.old) work.now.subst.now (pairs_of work.now.renamed.now) (nameless numbers (NAbs (variable_of (N.table terms.old).types v) (term_at (N.table terms.old).terms body)))) ≡ false }
-    ensures refused { OnErr result (IsCounted (N.table terms.old) work.now.subst.now (pairs_of work.now.renamed.now) memory.old steps.old steps.new (NAbs (variable_of (N.table terms.old).types v) (term_at (N.table terms.old).terms body)) (suc body)) }
+    requires typed { (ty : Ty ℕ) × (named_type numbers
+        (NAbs (variable_of (N.table terms.old).types v) (term_at (N.table terms.old).terms body)) ≡ Some ty) }
+    requires bound { bound_named (NAbs (variable_of (N.table terms.old).types v) (term_at (N.table terms.old).terms body))
+        ≤ length names.old }
+    ensures ok { IfOk result
+        (IsWalked (N.table terms.old) (N.table terms.new) work.now.subst.now (pairs_of work.now.renamed.now)
+        memory.old memory.new steps.old steps.new
+        (NAbs (variable_of (N.table terms.old).types v) (term_at (N.table terms.old).terms body)) (suc body)) }
+    ensures nesting { result ≡ Err TableFault.Nesting
+        → is_shallow numbers
+        (becomes (N.table terms.old) work.now.subst.now (pairs_of work.now.renamed.now)
+        (nameless numbers (NAbs (variable_of (N.table terms.old).types v) (term_at (N.table terms.old).terms body))))
+        ≡ false }
+    ensures refused { OnErr result (IsCounted (N.table terms.old) work.now.subst.now (pairs_of work.now.renamed.now) memory.old
+        steps.old steps.new (NAbs (variable_of (N.table terms.old).types v) (term_at (N.table terms.old).terms body))
+        (suc body)) }
     ensures frees { OnOk result (AreKnown (N.table terms.new) work.now.subst.now frees.new) }
     ensures later { IsLater names.old names.new (N.table terms.old) (N.table terms.new) }
 {
@@ -127,11 +152,19 @@ fn image_of_node<N: Nodes<L>, L>(
     requires remembered { IsMemory (N.table terms.old) work.now.subst.now (pairs_of work.now.renamed.now) memory.old }
     requires frees { AreKnown (N.table terms.old) work.now.subst.now frees.old }
     requires below { AreBelow (length (N.table terms.old).types) (length (N.table terms.old).terms) node }
-    requires typed { (ty : Ty ℕ) × (named_type numbers (term_of (N.table terms.old).types (N.table terms.old).terms node) ≡ Some ty) }
-    requires bound { bound_named (term_of (N.table terms.old).types (N.table terms.old).terms node) ≤ length names.old }
-    ensures ok { IfOk result (IsWalked (N.table terms.old) (N.table terms.new) work.now.subst.now (pairs_of work.now.renamed.now) memory.old memory.new steps.old steps.new (term_of (N.table terms.old).types (N.table terms.old).terms node) (above node)) }
-    ensures nesting { result ≡ Err TableFault.Nesting → is_shallow numbers (becomes (N.table terms.old) work.now.subst.now (pairs_of work.now.renamed.now) (nameless numbers (term_of (N.table terms.old).types (N.table terms.old).terms node))) ≡ false }
-    ensures refused { OnErr result (IsCounted (N.table terms.old) work.now.subst.now (pairs_of work.now.renamed.now) memory.old steps.old steps.new (term_of (N.table terms.old).types (N.table terms.old).terms node) (above node)) }
+    requires typed { (ty : Ty ℕ)
+        × (named_type numbers (term_of (N.table terms.old).types (N.table terms.old).terms node) ≡ Some ty) }
+    requires bound { bound_named (term_of (N.table terms.old).types (N.table terms.old).terms node)
+        ≤ length names.old }
+    ensures ok { IfOk result
+        (IsWalked (N.table terms.old) (N.table terms.new) work.now.subst.now (pairs_of work.now.renamed.now)
+        memory.old memory.new steps.old steps.new (term_of (N.table terms.old).types (N.table terms.old).terms node)
+        (above node)) }
+    ensures nesting { result ≡ Err TableFault.Nesting
+        → is_shallow numbers (becomes (N.table terms.old) work.now.subst.now (pairs_of work.now.renamed.now)
+        (nameless numbers (term_of (N.table terms.old).types (N.table terms.old).terms node))) ≡ false }
+    ensures refused { OnErr result (IsCounted (N.table terms.old) work.now.subst.now (pairs_of work.now.renamed.now) memory.old
+        steps.old steps.new (term_of (N.table terms.old).types (N.table terms.old).terms node) (above node)) }
     ensures frees { OnOk result (AreKnown (N.table terms.new) work.now.subst.now frees.new) }
     ensures later { IsLater names.old names.new (N.table terms.old) (N.table terms.new) }
 {
@@ -158,9 +191,14 @@ pub(crate) fn walk<N: Nodes<L>, L>(
     requires remembered { IsMemory (N.table terms.old) work.now.subst.now (pairs_of work.now.renamed.now) memory.old }
     requires frees { AreKnown (N.table terms.old) work.now.subst.now frees.old }
     requires inside { id < length (N.table terms.old).terms }
-    ensures ok { IfOk result (IsWalked (N.table terms.old) (N.table terms.new) work.now.subst.now (pairs_of work.now.renamed.now) memory.old memory.new steps.old steps.new (term_at (N.table terms.old).terms id) (suc id)) }
-    ensures nesting { result ≡ Err TableFault.Nesting → is_shallow numbers (becomes (N.table terms.old) work.now.subst.now (pairs_of work.now.renamed.now) (nameless numbers (term_at (N.table terms.old).terms id))) ≡ false }
-    ensures refused { OnErr result (IsCounted (N.table terms.old) work.now.subst.now (pairs_of work.now.renamed.now) memory.old steps.old steps.new (term_at (N.table terms.old).terms id) (suc id)) }
+    ensures ok { IfOk result
+        (IsWalked (N.table terms.old) (N.table terms.new) work.now.subst.now (pairs_of work.now.renamed.now)
+        memory.old memory.new steps.old steps.new (term_at (N.table terms.old).terms id) (suc id)) }
+    ensures nesting { result ≡ Err TableFault.Nesting
+        → is_shallow numbers (becomes (N.table terms.old) work.now.subst.now (pairs_of work.now.renamed.now)
+        (nameless numbers (term_at (N.table terms.old).terms id))) ≡ false }
+    ensures refused { OnErr result (IsCounted (N.table terms.old) work.now.subst.now (pairs_of work.now.renamed.now) memory.old
+        steps.old steps.new (term_at (N.table terms.old).terms id) (suc id)) }
     ensures frees { OnOk result (AreKnown (N.table terms.new) work.now.subst.now frees.new) }
     ensures later { IsLater names.old names.new (N.table terms.old) (N.table terms.new) }
 {

@@ -1,5 +1,6 @@
 //! The table of terms as substitution sees it.
-ghost use Rattle.std.specs.Prelude.{◌≡◌, ◌≢◌, ◌↔◌, ℕ, ◌<◌, ◌+◌, ◌-◌, ◌^◌, min, max, map, Some, Err, slice_get, length, IfOk, OnErr, false, Decides};
+ghost use Rattle.std.specs.Prelude.{◌≡◌, ◌≢◌, ◌↔◌, ℕ, ◌<◌, ◌+◌, ◌-◌, ◌^◌, min, max, map, Some, Err, slice_get};
+ghost use Rattle.std.specs.Prelude.{length, IfOk, OnErr, false, Decides};
 ghost use Rattle.std.specs.List.{All};
 ghost use Rattle.ot_plain.specs.Lists.{IsMember, AreDistinct};
 ghost use Rattle.ot_plain.specs.Trees.{Ty, Variable, NVar, NConst, NApp, NAbs};
@@ -7,7 +8,8 @@ ghost use Rattle.ot_plain.specs.Hol.{fun_ty, named_type, nameless, IsClosed, IsF
 ghost use Rattle.ot_plain.specs.Naming.{numbers};
 ghost use Rattle.ot_type.specs.TypeTable.{type_at, images};
 ghost use Rattle.ot_term.specs.Term.{TermTable};
-ghost use Rattle.ot_term.specs.TermTable.{term_at, term_of, variable_of, is_within_limit, AreBelow, Grows, NamesUpTo, IsTermTable};
+ghost use Rattle.ot_term.specs.TermTable.{term_at, term_of, variable_of, is_within_limit, AreBelow, Grows, NamesUpTo};
+ghost use Rattle.ot_term.specs.TermTable.{IsTermTable};
 
 use crate::steps::Steps;
 use crate::table::Terms;
@@ -24,7 +26,8 @@ pub trait Nodes<L> {
     /// The node of a term, for one step. Its parts have lower numbers.
     fn take(&self, id: TermId, steps: &mut Steps<L>) -> TermNode
         requires { id < length (table self.now).terms }
-        ensures tree { slice_get (table self.now).terms id ≡ Some (term_of (table self.now).types (table self.now).terms result) }
+        ensures tree { slice_get (table self.now).terms id
+            ≡ Some (term_of (table self.now).types (table self.now).terms result) }
         ensures below { AreBelow (length (table self.now).types) id result }
         ensures counted { steps.new ≡ min (steps.old + 1) (2 ^ 64 - 1) }
         ensures table { IsTermTable (table self.now) };
@@ -33,27 +36,33 @@ pub trait Nodes<L> {
     fn type_of(&self, id: TermId) -> TypeId
         requires { id < length (table self.now).terms }
         ensures below { result < length (table self.now).types }
-        ensures typed { named_type numbers (term_at (table self.now).terms id) ≡ Some (type_at (table self.now).types result) }
+        ensures typed { named_type numbers (term_at (table self.now).terms id)
+            ≡ Some (type_at (table self.now).types result) }
         ensures table { IsTermTable (table self.now) };
 
     /// Whether a term is this variable.
     fn is_var(&self, id: TermId, v: &VarKey) -> bool
         requires term { id < length (table self.now).terms }
         requires ty { v.now.ty < length (table self.now).types }
-        ensures { Decides result (term_at (table self.now).terms id ≡ NVar (variable_of (table self.now).types v.now)) };
+        ensures { Decides result
+            (term_at (table self.now).terms id ≡ NVar (variable_of (table self.now).types v.now)) };
 
     /// The free variables of a term, each once.
     fn free_vars(&self, alloc: Global, id: TermId) -> Result<Vec<VarKey>, Memory>
         requires { id < length (table self.now).terms }
         ensures within { IfOk result (λ vars. All (λ v. v.ty < length (table self.now).types) vars.items) }
-        ensures free { IfOk result (λ vars. (w : Variable ℕ) → IsMember w (map (variable_of (table self.now).types) vars.items) ↔ IsFree numbers w (nameless numbers (term_at (table self.now).terms id))) }
+        ensures free { IfOk result
+            (λ vars. (w : Variable ℕ) → IsMember w (map (variable_of (table self.now).types) vars.items)
+            ↔ IsFree numbers w (nameless numbers (term_at (table self.now).terms id))) }
         ensures once { IfOk result (λ vars. AreDistinct vars.items) };
 
     /// The free variables of a term that have a name, each once.
     fn free_named(&self, alloc: Global, name: NameId, id: TermId) -> Result<Vec<VarKey>, Memory>
         requires { id < length (table self.now).terms }
         ensures within { IfOk result (λ vars. All (λ v. v.ty < length (table self.now).types) vars.items) }
-        ensures free { IfOk result (λ vars. (w : Variable ℕ) → IsMember w (map (variable_of (table self.now).types) vars.items) ↔ ((w.name ≡ name) × IsFree numbers w (nameless numbers (term_at (table self.now).terms id)))) }
+        ensures free { IfOk result
+            (λ vars. (w : Variable ℕ) → IsMember w (map (variable_of (table self.now).types) vars.items)
+            ↔ ((w.name ≡ name) × IsFree numbers w (nameless numbers (term_at (table self.now).terms id)))) }
         ensures once { IfOk result (λ vars. AreDistinct vars.items) };
 
     /// Whether no variable is free in a term.
@@ -65,8 +74,10 @@ pub trait Nodes<L> {
     fn type_inst(&mut self, s: &TypeSubst, id: TypeId) -> Result<TypeId, TableFault>
         requires id { id < length (table self.old).types }
         requires pairs { All (λ p. p.1 < length (table self.old).types) s.now }
-        ensures ok { IfOk result (λ r. slice_get (table self.new).types r ≡ Some (inst numbers (images (table self.old).types s.now) (type_at (table self.old).types id))) }
-        ensures nesting { result ≡ Err TableFault.Nesting → depth_limit < depth_ty numbers (inst numbers (images (table self.old).types s.now) (type_at (table self.old).types id)) }
+        ensures ok { IfOk result (λ r. slice_get (table self.new).types r
+            ≡ Some (inst numbers (images (table self.old).types s.now) (type_at (table self.old).types id))) }
+        ensures nesting { result ≡ Err TableFault.Nesting → depth_limit < depth_ty numbers
+            (inst numbers (images (table self.old).types s.now) (type_at (table self.old).types id)) }
         ensures terms { (table self.new).terms ≡ (table self.old).terms }
         ensures grows { Grows (table self.old) (table self.new) }
         ensures names { NamesUpTo 0 (table self.old) (table self.new) }
@@ -75,7 +86,8 @@ pub trait Nodes<L> {
     /// A variable.
     fn var(&mut self, v: VarKey) -> Result<TermId, Memory>
         requires { v.ty < length (table self.old).types }
-        ensures ok { IfOk result (λ id. slice_get (table self.new).terms id ≡ Some (NVar (variable_of (table self.old).types v))) }
+        ensures ok { IfOk result
+            (λ id. slice_get (table self.new).terms id ≡ Some (NVar (variable_of (table self.old).types v))) }
         ensures types { (table self.new).types ≡ (table self.old).types }
         ensures grows { Grows (table self.old) (table self.new) }
         ensures names { NamesUpTo (v.name + 1) (table self.old) (table self.new) }
@@ -85,7 +97,8 @@ pub trait Nodes<L> {
     /// A constant at a type.
     fn constant(&mut self, name: NameId, ty: TypeId) -> Result<TermId, Memory>
         requires { ty < length (table self.old).types }
-        ensures ok { IfOk result (λ id. slice_get (table self.new).terms id ≡ Some (NConst name (type_at (table self.old).types ty))) }
+        ensures ok { IfOk result
+            (λ id. slice_get (table self.new).terms id ≡ Some (NConst name (type_at (table self.old).types ty))) }
         ensures types { (table self.new).types ≡ (table self.old).types }
         ensures grows { Grows (table self.old) (table self.new) }
         ensures names { NamesUpTo (name + 1) (table self.old) (table self.new) }
@@ -96,12 +109,16 @@ pub trait Nodes<L> {
     fn app(&mut self, f: TermId, x: TermId) -> Result<TermId, TermFault>
         requires f { f < length (table self.old).terms }
         requires x { x < length (table self.old).terms }
-        ensures ok { IfOk result (λ id. slice_get (table self.new).terms id ≡ Some (NApp (term_at (table self.old).terms f) (term_at (table self.old).terms x))) }
-        ensures not_function { result ≡ Err TermFault.NotFunction → (a b : Ty ℕ) → named_type numbers (term_at (table self.old).terms f) ≢ Some (fun_ty numbers a b) }
+        ensures ok { IfOk result (λ id. slice_get (table self.new).terms id
+            ≡ Some (NApp (term_at (table self.old).terms f) (term_at (table self.old).terms x))) }
+        ensures not_function { result ≡ Err TermFault.NotFunction → (a b : Ty ℕ)
+            → named_type numbers (term_at (table self.old).terms f) ≢ Some (fun_ty numbers a b) }
         ensures argument_type { result ≡ Err TermFault.ArgumentType → (a b : Ty ℕ)
-            × (named_type numbers (term_at (table self.old).terms f) ≡ Some (fun_ty numbers a b)) × (named_type numbers (term_at (table self.old).terms x) ≢ Some a) }
+            × (named_type numbers (term_at (table self.old).terms f) ≡ Some (fun_ty numbers a b))
+            × (named_type numbers (term_at (table self.old).terms x) ≢ Some a) }
         ensures nesting { result ≡ Err TermFault.Nesting → (b : Ty ℕ)
-            × (named_type numbers (NApp (term_at (table self.old).terms f) (term_at (table self.old).terms x)) ≡ Some b)
+            × (named_type numbers (NApp (term_at (table self.old).terms f) (term_at (table self.old).terms x))
+            ≡ Some b)
             × (is_within_limit (NApp (term_at (table self.old).terms f) (term_at (table self.old).terms x)) ≡ false) }
         ensures types { (table self.new).types ≡ (table self.old).types }
         ensures grows { Grows (table self.old) (table self.new) }
@@ -113,8 +130,10 @@ pub trait Nodes<L> {
     fn abs(&mut self, v: VarKey, body: TermId) -> Result<TermId, TableFault>
         requires ty { v.ty < length (table self.old).types }
         requires body { body < length (table self.old).terms }
-        ensures ok { IfOk result (λ id. slice_get (table self.new).terms id ≡ Some (NAbs (variable_of (table self.old).types v) (term_at (table self.old).terms body))) }
-        ensures nesting { result ≡ Err TableFault.Nesting → is_within_limit (NAbs (variable_of (table self.old).types v) (term_at (table self.old).terms body)) ≡ false }
+        ensures ok { IfOk result (λ id. slice_get (table self.new).terms id
+            ≡ Some (NAbs (variable_of (table self.old).types v) (term_at (table self.old).terms body))) }
+        ensures nesting { result ≡ Err TableFault.Nesting → is_within_limit
+            (NAbs (variable_of (table self.old).types v) (term_at (table self.old).terms body)) ≡ false }
         ensures grows { Grows (table self.old) (table self.new) }
         ensures names { NamesUpTo (max (v.name + 1) 1) (table self.old) (table self.new) }
         ensures err { OnErr result ((table self.new).terms ≡ (table self.old).terms) }

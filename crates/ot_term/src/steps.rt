@@ -3,8 +3,8 @@ ghost use Rattle.std.specs.Prelude.{◌≡◌, ◌+◌, ◌-◌, ◌^◌, min};
 
 use std::marker::Model;
 
-/// A count of steps, over a ledger of the counter's owner. A value of the ledger is wanted to begin a count, so code that
-/// is generic over the ledger can go on with a count and can't make one.
+/// A count of steps, over a ledger of the counter's owner. A value of the ledger is wanted to begin a count, so code
+/// that is generic over the ledger can go on with a count and can't make one.
 #[derive(Drop)]
 pub struct Steps<L> {
     count: u64,

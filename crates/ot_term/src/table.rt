@@ -1,5 +1,6 @@
 //! The table: its nodes, what stands beside them, and how they are read.
-ghost use Rattle.std.specs.Prelude.{◌≡◌, ℕ, ◌<◌, ◌≤◌, max, [], Some, slice_get, slice_index_or, length, IfOk, IfSome, OnErr, Decides};
+ghost use Rattle.std.specs.Prelude.{◌≡◌, ℕ, ◌<◌, ◌≤◌, max, [], Some, slice_get, slice_index_or, length, IfOk, IfSome};
+ghost use Rattle.std.specs.Prelude.{OnErr, Decides};
 ghost use Rattle.ot_plain.specs.Table.{Extends, IsInjective};
 ghost use Rattle.ot_plain.specs.Trees.{NVar};
 ghost use Rattle.ot_plain.specs.Hol.{named_type, named_depth, depth_limit};
@@ -140,7 +141,8 @@ impl Terms {
 
     // The number of a node that the table has.
     fn find(&self, node: &TermNode) -> Option<TermId>
-        ensures found { IfSome result (λ id. slice_get self.now.terms id ≡ Some (term_of self.now.types self.now.terms node.now)) }
+        ensures found { IfSome result (λ id. slice_get self.now.terms id
+            ≡ Some (term_of self.now.types self.now.terms node.now)) }
         ensures table { IsTermTable self.now }
     {
         match self.nodes.get_index_of(node) {
@@ -153,10 +155,12 @@ impl Terms {
     fn intern(&mut self, node: TermNode, ty: TypeId, depth: u32) -> Result<TermId, Memory>
         requires below { AreBelow (length self.old.types) (length self.old.terms) node }
         requires suits { Suits self.old.types (term_of self.old.types self.old.terms node) ty depth }
-        ensures ok { IfOk result (λ id. slice_get self.new.terms id ≡ Some (term_of self.old.types self.old.terms node)) }
+        ensures ok { IfOk result
+            (λ id. slice_get self.new.terms id ≡ Some (term_of self.old.types self.old.terms node)) }
         ensures types { self.new.types ≡ self.old.types }
         ensures grows { Grows self.old self.new }
-        ensures names { names_in_terms self.new.terms ≤ max (names_in_terms self.old.terms) (bound_named (term_of self.old.types self.old.terms node)) }
+        ensures names { names_in_terms self.new.terms
+            ≤ max (names_in_terms self.old.terms) (bound_named (term_of self.old.types self.old.terms node)) }
         ensures err { OnErr result (self.new ≡ self.old) }
         ensures table { IsTermTable self.new }
     {
@@ -179,8 +183,10 @@ fn class_of(
     node: &TermNode,
 ) -> Result<ClassId, Memory>
     requires parts { PartsBelow (length nodes.now.entries) node.now }
-    requires classes { (i : ℕ) → i < length nodes.now.entries → slice_index_or (classes_of nodes.now.entries) i 0 < length classes.old }
-    ensures ok { IfOk result (λ c. slice_get classes.new c ≡ Some (form_of classes.old (classes_of nodes.now.entries) node.now)) }
+    requires classes { (i : ℕ) → i < length nodes.now.entries → slice_index_or (classes_of nodes.now.entries) i 0
+        < length classes.old }
+    ensures ok { IfOk result
+        (λ c. slice_get classes.new c ≡ Some (form_of classes.old (classes_of nodes.now.entries) node.now)) }
     ensures extends { Extends classes.old classes.new }
     ensures once { IsInjective classes.new }
 {

@@ -7,16 +7,18 @@ ghost use Rattle.ot_text.specs.Gathered.{texts_of, bytes_in};
 use crate::fault::PrintFault;
 use std::collections::BTreeSet;
 
-/// Puts a text among the others, if it isn't there, and takes its bytes off the room. `TooLarge` where they have more bytes
-/// than there is room for.
+/// Puts a text among the others, if it isn't there, and takes its bytes off the room. `TooLarge` where they have more
+/// bytes than there is room for.
 pub fn add_text(
     texts: &mut BTreeSet<Vec<u8>>,
     room: &mut usize,
     text: Vec<u8>,
 ) -> Result<(), PrintFault>
     ensures ok { OnOk result (texts_of texts.new ≡ insert_key order (texts_of texts.old) text.items) }
-    ensures room { OnOk result (room.new + bytes_in (insert_key order (texts_of texts.old) text.items) ≡ room.old + bytes_in (texts_of texts.old)) }
-    ensures too_large { result ≡ Err PrintFault.TooLarge → room.old + bytes_in (texts_of texts.old) < bytes_in (insert_key order (texts_of texts.old) text.items) }
+    ensures room { OnOk result (room.new + bytes_in (insert_key order (texts_of texts.old) text.items) ≡ room.old
+        + bytes_in (texts_of texts.old)) }
+    ensures too_large { result ≡ Err PrintFault.TooLarge → room.old + bytes_in (texts_of texts.old)
+        < bytes_in (insert_key order (texts_of texts.old) text.items) }
 {
     let len = text.len();
     if !texts.insert(text)? {

@@ -35,7 +35,8 @@ pub fn uses(
 fn tally_where(counts: &mut Vec<u8>, is_marked: bool, step: &Step)
     requires { All (λ i. i < length counts.old.items) (operand_numbers step.now) }
     ensures length { length counts.new.items ≡ length counts.old.items }
-    ensures tally { (is : List ℕ) → IsTallied is counts.old.items → IsTallied (is ++ cond is_marked (operand_numbers step.now) []) counts.new.items }
+    ensures tally { (is : List ℕ) → IsTallied is counts.old.items
+        → IsTallied (is ++ cond is_marked (operand_numbers step.now) []) counts.new.items }
 {
     if is_marked {
         tally_all(counts, step.operands());

@@ -49,8 +49,12 @@ impl Walk {
     fn follow(&mut self, trace: &Trace, definers: &Definers, id: StepId) -> Result<(), Memory>
         requires id { id < length trace.now }
         requires marks { length self.old.marks.items ≡ length trace.now }
-        requires definers { (s d : ℕ) → IsNoted definers.now.first.entries definers.now.further.items s d → d < length trace.now }
-        ensures { OnOk result ((ds : List ℕ) → AreDefiners trace.now ds definers.now.first.entries definers.now.further.items → Visits (StepLeadsTo trace.now ds id) self.old.marks.items self.old.pending.items self.new.marks.items self.new.pending.items) }
+        requires definers { (s d : ℕ) → IsNoted definers.now.first.entries definers.now.further.items s d → d
+            < length trace.now }
+        ensures { OnOk result
+            ((ds : List ℕ) → AreDefiners trace.now ds definers.now.first.entries definers.now.further.items
+            → Visits (StepLeadsTo trace.now ds id) self.old.marks.items self.old.pending.items self.new.marks.items
+            self.new.pending.items) }
     {
         self.visit_parts(trace.step(id))?;
         self.visit_definers(definers, id)
@@ -59,7 +63,8 @@ impl Walk {
     // Meets the operands of a step, or the definition of a theorem.
     fn visit_parts(&mut self, step: &Step) -> Result<(), Memory>
         requires { IsBelow (length self.old.marks.items) step.now }
-        ensures { OnOk result (Visits (IsPartNumber step.now) self.old.marks.items self.old.pending.items self.new.marks.items self.new.pending.items) }
+        ensures { OnOk result (Visits (IsPartNumber step.now) self.old.marks.items self.old.pending.items
+            self.new.marks.items self.new.pending.items) }
     {
         match step {
             Step::Number(_) | Step::Name(_) => Ok(()),
@@ -71,8 +76,10 @@ impl Walk {
 
     // Meets the definitions of a symbol.
     fn visit_definers(&mut self, definers: &Definers, symbol: StepId) -> Result<(), Memory>
-        requires { (s d : ℕ) → IsNoted definers.now.first.entries definers.now.further.items s d → d < length self.old.marks.items }
-        ensures { OnOk result (Visits (λ i. IsNoted definers.now.first.entries definers.now.further.items symbol i) self.old.marks.items self.old.pending.items self.new.marks.items self.new.pending.items) }
+        requires { (s d : ℕ) → IsNoted definers.now.first.entries definers.now.further.items s d → d
+            < length self.old.marks.items }
+        ensures { OnOk result (Visits (λ i. IsNoted definers.now.first.entries definers.now.further.items symbol i)
+            self.old.marks.items self.old.pending.items self.new.marks.items self.new.pending.items) }
     {
         self.visit_first(definers.first.get(&symbol).copied())?;
         self.visit_further(definers.further.as_slice(), symbol)
@@ -81,7 +88,8 @@ impl Walk {
     // Meets a step, if there is one.
     fn visit_first(&mut self, id: Option<StepId>) -> Result<(), Memory>
         requires { (i : ℕ) → id ≡ Some i → i < length self.old.marks.items }
-        ensures { OnOk result (Visits (λ i. id ≡ Some i) self.old.marks.items self.old.pending.items self.new.marks.items self.new.pending.items) }
+        ensures { OnOk result (Visits (λ i. id ≡ Some i) self.old.marks.items self.old.pending.items
+            self.new.marks.items self.new.pending.items) }
     {
         match id {
             Some(id) => self.visit(id),
@@ -92,7 +100,9 @@ impl Walk {
     // Meets the definitions that these pairs have for a symbol.
     fn visit_further(&mut self, pairs: &[(StepId, StepId)], symbol: StepId) -> Result<(), Memory>
         requires { (s d : ℕ) → IsMember (s, d) pairs.now → d < length self.old.marks.items }
-        ensures { OnOk result (Visits (λ i. IsMember (symbol, i) pairs.now) self.old.marks.items self.old.pending.items self.new.marks.items self.new.pending.items) }
+        ensures { OnOk result
+            (Visits (λ i. IsMember (symbol, i) pairs.now) self.old.marks.items self.old.pending.items
+            self.new.marks.items self.new.pending.items) }
     {
         for pair in pairs {
             self.visit_where(pair.0 == symbol, pair.1)?;
@@ -103,7 +113,8 @@ impl Walk {
     // Meets a step, where it is asked for.
     fn visit_where(&mut self, is_asked: bool, id: StepId) -> Result<(), Memory>
         requires { id < length self.old.marks.items }
-        ensures { OnOk result (Visits (λ i. (is_asked ≡ true) × (i ≡ id)) self.old.marks.items self.old.pending.items self.new.marks.items self.new.pending.items) }
+        ensures { OnOk result (Visits (λ i. (is_asked ≡ true) × (i ≡ id)) self.old.marks.items self.old.pending.items
+            self.new.marks.items self.new.pending.items) }
     {
         if is_asked { self.visit(id) } else { Ok(()) }
     }
@@ -111,7 +122,8 @@ impl Walk {
     // Meets each of the steps.
     fn visit_all(&mut self, ids: &[StepId]) -> Result<(), Memory>
         requires { All (λ i. i < length self.old.marks.items) ids.now }
-        ensures { OnOk result (Visits (λ i. IsMember i ids.now) self.old.marks.items self.old.pending.items self.new.marks.items self.new.pending.items) }
+        ensures { OnOk result (Visits (λ i. IsMember i ids.now) self.old.marks.items self.old.pending.items
+            self.new.marks.items self.new.pending.items) }
     {
         for id in ids {
             self.visit(*id)?;
@@ -122,7 +134,8 @@ impl Walk {
     // Meets a step: it is marked, and waits where it was not.
     fn visit(&mut self, id: StepId) -> Result<(), Memory>
         requires { id < length self.old.marks.items }
-        ensures { OnOk result (Visits (λ i. i ≡ id) self.old.marks.items self.old.pending.items self.new.marks.items self.new.pending.items) }
+        ensures { OnOk result (Visits (λ i. i ≡ id) self.old.marks.items self.old.pending.items self.new.marks.items
+            self.new.pending.items) }
     {
         if !self.marks[id.0] {
             self.pending.push(id)?;
@@ -158,7 +171,8 @@ fn find_definers(alloc: Global, trace: &Trace, definitions: &[StepId]) -> Result
 impl Definers {
     // Notes the symbols of a step that is a definition.
     fn note_step(&mut self, step: &Step, id: StepId) -> Result<(), Memory>
-        ensures { OnOk result (Notes (symbol_numbers step.now) id self.old.first.entries self.old.further.items self.new.first.entries self.new.further.items) }
+        ensures { OnOk result (Notes (symbol_numbers step.now) id self.old.first.entries self.old.further.items
+            self.new.first.entries self.new.further.items) }
     {
         match step {
             Step::Number(_) | Step::Name(_) | Step::Make(_, _) | Step::Outcome(_, _) => Ok(()),
@@ -168,7 +182,8 @@ impl Definers {
 
     // Notes the symbols of a definition.
     fn note_all(&mut self, symbols: &[StepId], definition: StepId) -> Result<(), Memory>
-        ensures { OnOk result (Notes symbols.now definition self.old.first.entries self.old.further.items self.new.first.entries self.new.further.items) }
+        ensures { OnOk result (Notes symbols.now definition self.old.first.entries self.old.further.items
+            self.new.first.entries self.new.further.items) }
     {
         for symbol in symbols {
             self.note(*symbol, definition)?;
@@ -178,7 +193,8 @@ impl Definers {
 
     // Notes a symbol of a definition.
     fn note(&mut self, symbol: StepId, definition: StepId) -> Result<(), Memory>
-        ensures { OnOk result (Notes (symbol ∷ []) definition self.old.first.entries self.old.further.items self.new.first.entries self.new.further.items) }
+        ensures { OnOk result (Notes (symbol ∷ []) definition self.old.first.entries self.old.further.items
+            self.new.first.entries self.new.further.items) }
     {
         match self.first.get(&symbol) {
             Some(first) => {

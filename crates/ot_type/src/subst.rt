@@ -1,4 +1,5 @@
-ghost use Rattle.std.specs.Prelude.{◌≡◌, ◌↔◌, ◌<◌, ℕ, ◌++◌, ◌∷◌, [], IsTrue, OnOk, OnErr, nat_eq, is_some, if◌then◌else◌};
+ghost use Rattle.std.specs.Prelude.{◌≡◌, ◌↔◌, ◌<◌, ℕ, ◌++◌, ◌∷◌, [], IsTrue, OnOk, OnErr, nat_eq, is_some};
+ghost use Rattle.std.specs.Prelude.{if◌then◌else◌};
 ghost use Rattle.std.specs.Map.{lookup};
 ghost use Rattle.std.specs.List.{All};
 
@@ -34,7 +35,8 @@ impl TypeSubst {
 
     /// Adds a name and its type at the end. A name that is there keeps its type; after want of memory all is as before.
     pub fn add(&mut self, name: NameId, ty: TypeId) -> Result<(), Memory>
-        ensures ok { OnOk result (self.new ≡ (if is_some (lookup (nat_eq name) self.old) then self.old else self.old ++ (name, ty) ∷ [])) }
+        ensures ok { OnOk result
+            (self.new ≡ (if is_some (lookup (nat_eq name) self.old) then self.old else self.old ++ (name, ty) ∷ [])) }
         ensures err { OnErr result (self.new ≡ self.old) }
         // For the condition of `Types::inst`.
         ensures within { (n : ℕ) → ty < n → All (λ p. p.1 < n) self.old → All (λ p. p.1 < n) self.new }

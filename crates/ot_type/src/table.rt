@@ -1,4 +1,5 @@
-ghost use Rattle.std.specs.Prelude.{◌≡◌, ℕ, ◌<◌, ◌≤◌, ◌+◌, max, ◌∷◌, [], Some, Err, slice_get, length, IfOk, OnErr, MatchOption, ◌≢◌};
+ghost use Rattle.std.specs.Prelude.{◌≡◌, ℕ, ◌<◌, ◌≤◌, ◌+◌, max, ◌∷◌, [], Some, Err, slice_get, length, IfOk, OnErr};
+ghost use Rattle.std.specs.Prelude.{MatchOption, ◌≢◌};
 ghost use Rattle.std.specs.List.{All};
 ghost use Rattle.ot_plain.specs.Table.{Extends};
 ghost use Rattle.ot_plain.specs.Trees.{Ty, TyOp, TyVar};
@@ -38,12 +39,13 @@ struct Beside {
     ground: bool,
 }
 
-/// The types of higher-order logic, as the OpenTheory article format has them: a type is a type variable with a name, or
-/// a type operator with a name and a list of types.
+/// The types of higher-order logic, as the OpenTheory article format has them: a type is a type variable with a name,
+/// or a type operator with a name and a list of types.
 ///
-/// Each number keeps its type after every call, refused or not, and two numbers are equal exactly where the types are. A
-/// call that takes a number has the condition that it is one of this table. No type is nested deeper than 4,096: a
-/// variable and an operator without arguments have depth 1, another operator has 1 more than its deepest argument.
+/// Each number keeps its type after every call, refused or not, and two numbers are equal exactly where the types
+/// are. A call that takes a number has the condition that it is one of this table. No type is nested deeper than
+/// 4,096: a variable and an operator without arguments have depth 1, another operator has 1 more than its deepest
+/// argument.
 #[derive(Drop)]
 pub struct Types {
     nodes: IndexMap<TypeNode, Beside>,
@@ -100,7 +102,8 @@ impl Types {
         requires { All (λ i. i < length self.old) args.now }
         ensures ok { IfOk result (λ id. slice_get self.new id ≡ Some (TyOp name (types_at self.old args.now))) }
         ensures names { names_in self.new ≤ max (names_in self.old) (name + 1) }
-        ensures nesting { result ≡ Err TableFault.Nesting → depth_limit < depth_ty numbers (TyOp name (types_at self.old args.now)) }
+        ensures nesting { result ≡ Err TableFault.Nesting → depth_limit
+            < depth_ty numbers (TyOp name (types_at self.old args.now)) }
         ensures extends { Extends self.old self.new }
         ensures err { OnErr result (self.new ≡ self.old) }
         ensures table { IsTypeTable self.new }
@@ -123,9 +126,11 @@ impl Types {
     pub fn fun(&mut self, a: TypeId, b: TypeId) -> Result<TypeId, TableFault>
         requires from { a < length self.old }
         requires to { b < length self.old }
-        ensures ok { IfOk result (λ id. slice_get self.new id ≡ Some (fun_ty numbers (type_at self.old a) (type_at self.old b))) }
+        ensures ok { IfOk result
+            (λ id. slice_get self.new id ≡ Some (fun_ty numbers (type_at self.old a) (type_at self.old b))) }
         ensures names { names_in self.new ≤ max (names_in self.old) 1 }
-        ensures nesting { result ≡ Err TableFault.Nesting → depth_limit < depth_ty numbers (fun_ty numbers (type_at self.old a) (type_at self.old b)) }
+        ensures nesting { result ≡ Err TableFault.Nesting → depth_limit
+            < depth_ty numbers (fun_ty numbers (type_at self.old a) (type_at self.old b)) }
         ensures extends { Extends self.old self.new }
         ensures err { OnErr result (self.new ≡ self.old) }
         ensures table { IsTypeTable self.new }
@@ -167,7 +172,8 @@ impl Types {
     pub fn as_fun(&self, id: TypeId) -> Option<(TypeId, TypeId)>
         requires { id < length self.now }
         ensures { MatchOption result ((a b : Ty ℕ) → type_at self.now id ≢ fun_ty numbers a b)
-            (λ p. (type_at self.now id ≡ fun_ty numbers (type_at self.now p.0) (type_at self.now p.1)) × (p.0 < id) × (p.1 < id)) }
+            (λ p. (type_at self.now id ≡ fun_ty numbers (type_at self.now p.0) (type_at self.now p.1)) × (p.0 < id)
+            × (p.1 < id)) }
     {
         match self.node(id) {
             TypeNode::Var(_) => None,
@@ -251,7 +257,8 @@ impl Types {
 
 // The arguments of `->`, where these are its name and two arguments.
 fn two_of_arrow(name: NameId, args: &[TypeId]) -> Option<(TypeId, TypeId)>
-    ensures { MatchOption result ((a b : ℕ) → name ≡ 0 → args.now ≢ a ∷ b ∷ []) (λ p. (name ≡ 0) × (args.now ≡ p.0 ∷ p.1 ∷ [])) }
+    ensures { MatchOption result ((a b : ℕ) → name ≡ 0 → args.now ≢ a ∷ b ∷ [])
+        (λ p. (name ≡ 0) × (args.now ≡ p.0 ∷ p.1 ∷ [])) }
 {
     match args {
         [a, b] if name == NameId::ARROW => Some((*a, *b)),

@@ -8,9 +8,9 @@ use ot_plain::Memory;
 use ot_trace::{StepId, reach};
 use std::alloc::Global;
 
-/// What the theorem rests on whose step is the root: the definitions whose theorems or symbols are among its parts or among
-/// the operands of such a definition, and the assumptions whose `axiom` commands are. Of several definitions with one origin
-/// the first alone is named.
+/// What the theorem rests on whose step is the root: the definitions whose theorems or symbols are among its parts or
+/// among the operands of such a definition, and the assumptions whose `axiom` commands are. Of several definitions
+/// with one origin the first alone is named.
 ///
 /// The root is a step of the session's trace. The trace is walked once. `Memory` is the only error.
 pub fn uses(alloc: Global, session: &Session, root: StepId) -> Result<Uses, Memory>

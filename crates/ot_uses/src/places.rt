@@ -7,7 +7,8 @@ use ot_plain::Memory;
 use ot_trace::StepId;
 use std::alloc::Global;
 
-/// What a theorem rests on: places in the session's list of assumptions and in its list of definitions, in rising order.
+/// What a theorem rests on: places in the session's list of assumptions and in its list of definitions, in rising
+/// order.
 #[derive(Drop)]
 pub struct Uses {
     pub assumptions: Vec<usize>,

@@ -20,10 +20,12 @@ use ot_text::Page;
 use std::alloc::Global;
 use std::collections::BTreeSet;
 
-/// Appends for each export its number, counted from 1, its sequent, and the assumptions and the definitions that it rests on:
-/// the assumptions in the order of the bytes of their texts, the definitions in the order in which they were accepted.
+/// Appends for each export its number, counted from 1, its sequent, and the assumptions and the definitions that it
+/// rests on: the assumptions in the order of the bytes of their texts, the definitions in the order in which they
+/// were accepted.
 ///
-/// The exports are of the session. The trace is walked once for each export, and nothing is printed that isn't in the text.
+/// The exports are of the session. The trace is walked once for each export, and nothing is printed that isn't in the
+/// text.
 /// `TooLarge` exactly where the text has more than `max` bytes. After a refusal `out` is as it was.
 pub fn uses_text(
     alloc: Global,
@@ -106,7 +108,8 @@ fn put_support(
 // The assumptions at these places. Their texts together cost no more than the limit.
 fn put_assumptions(page: &mut Page, alloc: Global, kernel: &Kernel, places: &[usize])
     requires { All (λ i. i < length kernel.now.assumptions) places.now }
-    ensures { IsPut (counted_text (codes "assumptions") (ascending (map sequent_text (picked kernel.now.assumptions places.now))))
+    ensures { IsPut
+        (counted_text (codes "assumptions") (ascending (map sequent_text (picked kernel.now.assumptions places.now))))
         (printed page.old) (printed page.new) }
 {
     if page.is_stopped() {
@@ -126,7 +129,8 @@ fn assumption_texts(
     max: usize,
 ) -> Result<BTreeSet<Vec<u8>>, PrintFault>
     requires { All (λ i. i < length kernel.now.assumptions) places.now }
-    ensures ok { IfOk result (λ texts. texts_of texts ≡ ascending (map sequent_text (picked kernel.now.assumptions places.now))) }
+    ensures ok { IfOk result
+        (λ texts. texts_of texts ≡ ascending (map sequent_text (picked kernel.now.assumptions places.now))) }
     ensures too_large { result ≡ Err PrintFault.TooLarge
         → max < bytes_in (ascending (map sequent_text (picked kernel.now.assumptions places.now))) }
 {

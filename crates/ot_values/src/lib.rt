@@ -1,5 +1,5 @@
-//! The names, variables, types and terms that the steps of a trace made, and the elements of their lists, as numbers of a
-//! node table.
+//! The names, variables, types and terms that the steps of a trace made, and the elements of their lists, as numbers
+//! of a node table.
 #![tactic(auto)]
 
 mod lists;

@@ -3,7 +3,8 @@ ghost use Rattle.std.specs.Prelude.{◌≡◌, ◌<◌, length, IfOk, OnOk};
 ghost use Rattle.ot_plain.specs.Table.{Extends};
 ghost use Rattle.ot_machine.specs.Meaning.{IsRun};
 ghost use Rattle.ot_values.specs.Lists.{AreMapsOf};
-ghost use Rattle.ot_values.specs.Reading.{IsTypePairOf, IsTermPairOf, AreTypePairsOf, AreTermPairsOf, with_first, all_first};
+ghost use Rattle.ot_values.specs.Reading.{IsTypePairOf, IsTermPairOf, AreTypePairsOf, AreTermPairsOf, with_first};
+ghost use Rattle.ot_values.specs.Reading.{all_first};
 ghost use Rattle.ot_values.specs.Known.{AreKnown};
 
 use crate::steps::{elements, name, two_elements};
@@ -17,8 +18,8 @@ use std::alloc::Global;
 use std::hash::Hash;
 
 impl Values {
-    /// The types of names and the terms of variables of a substitution, which is the list of a step. Of several for one name
-    /// or variable the first alone is given.
+    /// The types of names and the terms of variables of a substitution, which is the list of a step. Of several for
+    /// one name or variable the first alone is given.
     pub fn maps(
         &mut self,
         nodes: &mut Nodes,

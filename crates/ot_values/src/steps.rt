@@ -105,7 +105,8 @@ pub(crate) fn constant(nodes: &mut Nodes, session: &Session, id: StepId) -> Resu
 /// step made no list.
 pub fn elements(alloc: Global, session: &Session, list: StepId) -> Result<Vec<StepId>, Memory>
     requires { list < length session.now.trace }
-    ensures made { IfOk result (λ is. AreElementsOf (origin_of session.now list) (map (origin_of session.now) is.items)) }
+    ensures made { IfOk result
+        (λ is. AreElementsOf (origin_of session.now list) (map (origin_of session.now) is.items)) }
     ensures below { IfOk result (λ is. All (λ i. i < list) is.items) }
 {
     let mut found = Vec::new(alloc);

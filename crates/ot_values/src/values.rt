@@ -20,10 +20,11 @@ use ot_plain::{Cmd, Memory};
 use ot_trace::StepId;
 use std::alloc::Global;
 
-/// The types and terms that were found of steps: what is shared is worked on once. What is known of a node table stays known
-/// while that grows.
+/// The types and terms that were found of steps: what is shared is worked on once. What is known of a node table
+/// stays known while that grows.
 ///
-/// Each call takes a step of the session's trace. It fails only for want of memory, or where the step made no such object.
+/// Each call takes a step of the session's trace. It fails only for want of memory, or where the step made no such
+/// object.
 #[derive(Drop)]
 pub struct Values {
     pub(crate) types: IndexMap<StepId, TypeId>,

@@ -1,15 +1,20 @@
 //! What the records of a log made, by number.
-ghost use Rattle.std.specs.Prelude.{◌≡◌, ◌<◌, ◌≤◌, ◌+◌, ◌++◌, ◌∷◌, [], List, length, slice_get, map, vec_len, vec_capacity, Ok, Err, Some, None, IfOk, OnOk, OnErr, MatchResult};
+ghost use Rattle.std.specs.Prelude.{◌≡◌, ◌<◌, ◌≤◌, ◌+◌, ◌++◌, ◌∷◌, [], List, length, slice_get, map, vec_len};
+ghost use Rattle.std.specs.Prelude.{vec_capacity, Ok, Err, Some, None, IfOk, OnOk, OnErr, MatchResult};
 ghost use Rattle.std.specs.List.{All};
 ghost use Rattle.ot_plain.specs.Names.{Name as NameValue};
 ghost use Rattle.ot_plain.specs.Naming.{names};
 ghost use Rattle.ot_plain.specs.Trees.{Ty, TyVar, TyOp, Variable, Tm, Free, Con, Bound, App, Abs, Sequent};
-ghost use Rattle.ot_records.specs.Steps.{refl_step, assume_step, eq_mp_step, abs_thm_step, app_thm_step, deduct_antisym_step, beta_step, subst_step, assumption_step, constant_step, constants_step, type_operator_step};
-ghost use Rattle.ot_records.specs.State.{nothing_made, makes_type, makes_term, makes_sequent, makes_assumption, makes_definition, makes_result};
+ghost use Rattle.ot_records.specs.Steps.{refl_step, assume_step, eq_mp_step, abs_thm_step, app_thm_step};
+ghost use Rattle.ot_records.specs.Steps.{deduct_antisym_step, beta_step, subst_step, assumption_step, constant_step};
+ghost use Rattle.ot_records.specs.Steps.{constants_step, type_operator_step};
+ghost use Rattle.ot_records.specs.State.{nothing_made, makes_type, makes_term, makes_sequent, makes_assumption};
+ghost use Rattle.ot_records.specs.State.{makes_definition, makes_result};
 ghost use Rattle.ot_records.specs.Sound.{IsProved};
 ghost use Rattle.ot_nodes.specs.Items.{HasType, HasTerm, type_at, term_at};
 ghost use Rattle.ot_rules.specs.Statements.{terms_at, sequent_at, HasStatement, Gives};
-ghost use Rattle.ot_verify.specs.Logged.{IsNamed, IsVariable, IsTypePair, IsTermPair, IsConstantPair, MeetsNames, MadeBy};
+ghost use Rattle.ot_verify.specs.Logged.{IsNamed, IsVariable, IsTypePair, IsTermPair, IsConstantPair, MeetsNames};
+ghost use Rattle.ot_verify.specs.Logged.{MadeBy};
 ghost use Rattle.ot_records.specs.Records.{arguments};
 ghost use Rattle.ot_verify.specs.Asking.{IsAt, AreEach};
 ghost use Rattle.ot_listing.specs.Summaries.{summary_text};
@@ -553,7 +558,8 @@ impl Log {
         requires gives { Gives made
             (assumption_step names (terms_at self.old.items hyps.now) (term_at self.old.items concl)) self.old.items }
         ensures { MadeBy result
-            (makes_assumption names (assumption_step names (terms_at self.old.items hyps.now) (term_at self.old.items concl)))
+            (makes_assumption names
+            (assumption_step names (terms_at self.old.items hyps.now) (term_at self.old.items concl)))
             self.old.state self.new.state }
     {
         match made {

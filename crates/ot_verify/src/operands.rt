@@ -2,7 +2,8 @@
 //! these.
 ghost use Rattle.std.specs.Prelude.{◌≡◌, ◌≤◌, Err, IfOk};
 ghost use Rattle.ot_io.specs.Causes.{Rose};
-ghost use Rattle.ot_records.specs.Records.{AskName, AskType, AskTerm, AskSequent, ask_list, ask_variable, ask_type_pair, ask_term_pair, ask_constant_pair};
+ghost use Rattle.ot_records.specs.Records.{AskName, AskType, AskTerm, AskSequent, ask_list, ask_variable};
+ghost use Rattle.ot_records.specs.Records.{ask_type_pair, ask_term_pair, ask_constant_pair};
 ghost use Rattle.ot_verify.specs.Asking.{AnsweredFrom, IsAt, AreEach};
 ghost use Rattle.ot_verify.specs.Logged.{IsNamed, IsVariable, IsTypePair, IsTermPair, IsConstantPair, MeetsNames};
 ghost use Rattle.ot_verify.specs.Going.{Advances};

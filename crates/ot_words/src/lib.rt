@@ -1,5 +1,5 @@
-//! The records of theorems and of definitions in a proof log, by the words of an article that make them, over a table of names,
-//! types and terms.
+//! The records of theorems and of definitions in a proof log, by the words of an article that make them, over a table
+//! of names, types and terms.
 #![tactic(auto)]
 
 mod definitions;

@@ -36,7 +36,8 @@ pub fn write_axiom(
     requires concl { HasTerm nodes.old concl }
     requires known { AreTypings nodes.old typings.old.known.entries }
     ensures records { (os : Objects) → as_each as_term os ≡ Ok (terms_at nodes.old hyps.now)
-        → IfOk result (Records nodes.old nodes.new sheet.old sheet.new words.Axiom (list os ∷ term (term_at nodes.old concl) ∷ [])
+        → IfOk result
+        (Records nodes.old nodes.new sheet.old sheet.new words.Axiom (list os ∷ term (term_at nodes.old concl) ∷ [])
         []) }
     ensures accepts { (os : Objects) → as_each as_term os ≡ Ok (terms_at nodes.old hyps.now)
         → Accepts result words.Axiom (list os ∷ term (term_at nodes.old concl) ∷ []) }
@@ -55,7 +56,8 @@ fn assumption_operands(
     hyps: &[TermId],
     concl: TermId,
 ) -> Result<Vec<Operand>, Memory>
-    ensures { IfOk result (λ v. v.items ≡ operand.Term concl ∷ operand.Count (length hyps.now) ∷ map operand.Term hyps.now) }
+    ensures { IfOk result (λ v. v.items ≡ operand.Term concl ∷ operand.Count (length hyps.now)
+        ∷ map operand.Term hyps.now) }
 {
     let mut operands = Vec::new(alloc);
     operands.push(Operand::Term(concl))?;

@@ -17,8 +17,9 @@ use std::alloc::Global;
 
 /// Appends the article of exports, of version 6: the definitions that they need, in their order, and the exports.
 ///
-/// The roots and the definitions are steps of the trace, whose names are of the table. What has two uses or more is stored,
-/// and nothing else but the theorems of definitions that have a use. `TooLarge` comes exactly where the article has more than
+/// The roots and the definitions are steps of the trace, whose names are of the table. What has two uses or more is
+/// stored, and nothing else but the theorems of definitions that have a use. `TooLarge` comes exactly where the
+/// article has more than
 /// `max` bytes; no more of it is made then. After a refusal `out` is as it was.
 pub fn write_article(
     alloc: Global,
@@ -32,7 +33,8 @@ pub fn write_article(
     requires named { AreNamed (length names.now) trace.now }
     requires definitions { All (λ i. i < length trace.now) definitions.now }
     requires exports { All (AreRootsInside (length trace.now)) exports.now }
-    ensures { Writes result (article_bytes names.now trace.now definitions.now exports.now) max out.old.items out.new.items }
+    ensures { Writes result (article_bytes names.now trace.now definitions.now exports.now) max out.old.items
+        out.new.items }
 {
     let count = trace.count();
     let roots = root_steps(alloc, exports)?;
@@ -55,7 +57,8 @@ pub fn needed_steps(
     requires exports { All (AreRootsInside (length trace.now)) exports.now }
     ensures some { IfOk result (λ needed. IsPart needed.items definitions.now) }
     ensures needed { IfOk result (λ needed. map (origin_at trace.now) needed.items
-        ≡ needed_definitions same (roots_of (map (roots_at trace.now) exports.now)) (map (origin_at trace.now) definitions.now)) }
+        ≡ needed_definitions same (roots_of (map (roots_at trace.now) exports.now))
+        (map (origin_at trace.now) definitions.now)) }
 {
     let count = trace.count();
     let roots = root_steps(alloc, exports)?;
@@ -113,7 +116,8 @@ fn write_counted(
     requires counted { length counts.now ≡ length trace.now }
     requires definitions { AllByRecursion (λ i. i < length trace.now) definitions.now }
     requires exports { AllByRecursion (AreRootsInside (length trace.now)) exports.now }
-    ensures { Writes result (counted_bytes (given names.now trace.now counts.now) definitions.now exports.now) max out.old.items out.new.items }
+    ensures { Writes result (counted_bytes (given names.now trace.now counts.now) definitions.now exports.now) max
+        out.old.items out.new.items }
 {
     let mut writer = Writer::new(alloc, trace.count(), max)?;
     writer.text.put_key(6)?;

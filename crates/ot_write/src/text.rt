@@ -101,7 +101,8 @@ impl Text {
     /// Takes the bytes behind the first `len` from the room.
     fn count(&mut self, len: usize)
         requires { len ≤ length self.old.bytes.items }
-        ensures { limited self.new ≡ put (drop len self.old.bytes.items) (cond self.old.is_full Full (Bytes (take len self.old.bytes.items) self.old.room)) }
+        ensures { limited self.new ≡ put (drop len self.old.bytes.items)
+            (cond self.old.is_full Full (Bytes (take len self.old.bytes.items) self.old.room)) }
     {
         let added = (self.bytes.len() - len) as u64;
         if added > self.room {
@@ -113,7 +114,8 @@ impl Text {
 
     /// Appends the whole text. Where nothing stands before it, its bytes aren't copied.
     pub(crate) fn append_to(self, out: &mut Vec<u8>) -> Result<(), WriteRefusal>
-        ensures { (x : List ℕ) (max : ℕ) → limited self ≡ put x (Bytes [] max) → Writes result x max out.old.items out.new.items }
+        ensures { (x : List ℕ) (max : ℕ) → limited self ≡ put x (Bytes [] max)
+            → Writes result x max out.old.items out.new.items }
     {
         if self.is_full {
             return Err(WriteRefusal::TooLarge);

@@ -1,16 +1,19 @@
 //! The writer of origins, with a work list of its own.
-ghost use Rattle.std.specs.Prelude.{◌≡◌, ◌+◌, ◌<◌, ◌++◌, ◌∷◌, [], ℕ, List, cond, length, map, nat_le, reverse, OnOk, IfOk, pos};
+ghost use Rattle.std.specs.Prelude.{◌≡◌, ◌+◌, ◌<◌, ◌++◌, ◌∷◌, [], ℕ, List, cond, length, map, nat_le, reverse, OnOk};
+ghost use Rattle.std.specs.Prelude.{IfOk, pos};
 ghost use Rattle.ot_plain.specs.Names.{Name};
 ghost use Rattle.ot_trace.specs.Origins as origin;
 ghost use Rattle.ot_trace.specs.Origins.{Origin};
 ghost use Rattle.ot_trace.specs.Trace.{IsStepTable, origin_at};
 ghost use Rattle.ot_plain.specs.declared.command.Cmd.TheVariants as words;
-ghost use Rattle.ot_written.specs.Written.{put, make, store, keep_made, emit, emit_definition, emit_exports, pops, theorem_count, symbol_count};
+ghost use Rattle.ot_written.specs.Written.{put, make, store, keep_made, emit, emit_definition, emit_exports, pops};
+ghost use Rattle.ot_written.specs.Written.{theorem_count, symbol_count};
 ghost use Rattle.ot_written.specs.Written as written;
 ghost use Rattle.ot_write.specs.Bytes.{AreNamed, AreRootsInside, roots_at};
 ghost use Rattle.ot_write.specs.Limited.{Bytes, limited};
 ghost use Rattle.ot_write.specs.declared.writer.Task.TheVariants as task;
-ghost use Rattle.ot_write.specs.Emitting.{Given, HasKeys, IsInside, Moves, Replaces, begin, close, cost, given, keep, used, perform, place_of, rest, same, stored_from, task_cost, total};
+ghost use Rattle.ot_write.specs.Emitting.{Given, HasKeys, IsInside, Moves, Replaces, begin, close, cost, given, keep};
+ghost use Rattle.ot_write.specs.Emitting.{used, perform, place_of, rest, same, stored_from, task_cost, total};
 
 use crate::roots::Roots;
 use crate::text::Text;
@@ -52,7 +55,9 @@ impl Writer {
     /// Writes an origin that has a key.
     fn recall(&mut self, key: u64) -> Result<(), Memory>
         ensures same { (self.new.keys.items ≡ self.old.keys.items) × (self.new.stored.items ≡ self.old.stored.items) }
-        ensures moves { (g : Given) → OnOk result (Moves g self.old self.new (λ t. put same (written.Order words.Ref) (put same (written.Numeral (pos key)) t))) }
+        ensures moves { (g : Given) → OnOk result
+            (Moves g self.old self.new
+            (λ t. put same (written.Order words.Ref) (put same (written.Numeral (pos key)) t))) }
     {
         self.text.put_key(key)?;
         self.text.put_word(Cmd::Ref)
@@ -64,7 +69,8 @@ impl Writer {
         requires inside { id < length trace.now }
         requires keys { HasKeys trace.now self.old.keys.items self.old.stored.items }
         ensures keys { HasKeys trace.now self.new.keys.items self.new.stored.items }
-        ensures moves { (ns : List Name) (cs : List ℕ) → OnOk result (Moves (given ns trace.now cs) self.old self.new (store same (origin_at trace.now id))) }
+        ensures moves { (ns : List Name) (cs : List ℕ)
+            → OnOk result (Moves (given ns trace.now cs) self.old self.new (store same (origin_at trace.now id))) }
     {
         let key = self.stored.len() as u64;
         self.text.put_key(key)?;
@@ -141,7 +147,8 @@ impl Writer {
         ensures work { OnOk result (IsInside (length trace.now) work.new.items) }
         ensures moves { let g = given names.now trace.now counts.now in
             OnOk result (Replaces g self.old self.new work.old.items work.new.items (perform g task)) }
-        ensures cheaper { OnOk result (total trace.now work.new.items < total trace.now work.old.items + task_cost trace.now task) }
+        ensures cheaper { OnOk result (total trace.now work.new.items < total trace.now work.old.items
+            + task_cost trace.now task) }
     {
         match task {
             Task::Write(id) => self.open(trace, names, counts, id, work),
@@ -167,8 +174,10 @@ impl Writer {
         ensures keys { HasKeys trace.now self.new.keys.items self.new.stored.items }
         ensures work { OnOk result (IsInside (length trace.now) work.new.items) }
         ensures moves { let g = given names.now trace.now counts.now in
-            OnOk result (Replaces g self.old self.new work.old.items work.new.items (emit same (keep g) (origin_at trace.now id))) }
-        ensures cheaper { OnOk result (total trace.now work.new.items < total trace.now work.old.items + cost (origin_at trace.now id)) }
+            OnOk result (Replaces g self.old self.new work.old.items work.new.items
+            (emit same (keep g) (origin_at trace.now id))) }
+        ensures cheaper { OnOk result (total trace.now work.new.items < total trace.now work.old.items
+            + cost (origin_at trace.now id)) }
     {
         let at = id.index();
         match self.keys[at] {
@@ -195,8 +204,10 @@ impl Writer {
         ensures keys { HasKeys trace.now self.new.keys.items self.new.stored.items }
         ensures work { OnOk result (IsInside (length trace.now) work.new.items) }
         ensures moves { let g = given names.now trace.now counts.now in
-            OnOk result (Replaces g self.old self.new work.old.items work.new.items (begin g (origin_at trace.now id))) }
-        ensures cheaper { OnOk result (total trace.now work.new.items < total trace.now work.old.items + cost (origin_at trace.now id)) }
+            OnOk result (Replaces g self.old self.new work.old.items work.new.items
+            (begin g (origin_at trace.now id))) }
+        ensures cheaper { OnOk result (total trace.now work.new.items < total trace.now work.old.items
+            + cost (origin_at trace.now id)) }
     {
         match trace.step(id) {
             Step::Number(k) => self.text.put_number(*k),
@@ -250,7 +261,8 @@ impl Writer {
         requires keys { HasKeys trace.now self.old.keys.items self.old.stored.items }
         ensures keys { HasKeys trace.now self.new.keys.items self.new.stored.items }
         ensures moves { (ns : List Name) → let g = given ns trace.now counts.now in
-            OnOk result (Moves g self.old self.new (written.outcomes same (keep g) (used g) (origin_at trace.now id) count)) }
+            OnOk result (Moves g self.old self.new
+            (written.outcomes same (keep g) (used g) (origin_at trace.now id) count)) }
     {
         let mut left = count;
         while left > 0 {
@@ -274,7 +286,9 @@ impl Writer {
         requires keys { HasKeys trace.now self.old.keys.items self.old.stored.items }
         ensures keys { HasKeys trace.now self.new.keys.items self.new.stored.items }
         ensures moves { (ns : List Name) → let g = given ns trace.now counts.now in
-            OnOk result (Moves g self.old self.new (λ t. put same (written.Order words.Pop) (stored_from g 1 (origin.Outcome place (origin_at trace.now id)) t))) }
+            OnOk result (Moves g self.old self.new
+            (λ t. put same (written.Order words.Pop)
+            (stored_from g 1 (origin.Outcome place (origin_at trace.now id)) t))) }
     {
         self.store_used(trace, counts, place, id)?;
         self.text.put_word(Cmd::Pop)
@@ -294,7 +308,8 @@ impl Writer {
         requires keys { HasKeys trace.now self.old.keys.items self.old.stored.items }
         ensures keys { HasKeys trace.now self.new.keys.items self.new.stored.items }
         ensures moves { (ns : List Name) → let g = given ns trace.now counts.now in
-            OnOk result (Moves g self.old self.new (stored_from g 1 (origin.Outcome place (origin_at trace.now id)))) }
+            OnOk result (Moves g self.old self.new
+            (stored_from g 1 (origin.Outcome place (origin_at trace.now id)))) }
     {
         let outcome = Step::Outcome(place, id);
         match trace.find(&outcome) {
@@ -332,7 +347,8 @@ impl Writer {
         requires keys { HasKeys trace.now self.old.keys.items self.old.stored.items }
         ensures keys { HasKeys trace.now self.new.keys.items self.new.stored.items }
         ensures moves { let g = given names.now trace.now counts.now in
-            OnOk result (Moves g self.old self.new (emit_definition same (keep g) (used g) (origin_at trace.now id))) }
+            OnOk result (Moves g self.old self.new
+            (emit_definition same (keep g) (used g) (origin_at trace.now id))) }
     {
         match trace.step(id) {
             Step::Define(_, operands, _) => {
@@ -363,7 +379,8 @@ impl Writer {
         requires keys { HasKeys trace.now self.old.keys.items self.old.stored.items }
         ensures keys { HasKeys trace.now self.new.keys.items self.new.stored.items }
         ensures moves { let g = given names.now trace.now counts.now in
-            OnOk result (Moves g self.old self.new (emit_exports same (keep g) (used g) (roots_at trace.now export ∷ []))) }
+            OnOk result (Moves g self.old self.new
+            (emit_exports same (keep g) (used g) (roots_at trace.now export ∷ []))) }
     {
         let mut work = Vec::new(alloc);
         work.push(Task::Write(export.term))?;
@@ -376,7 +393,8 @@ impl Writer {
 
 /// Asks for the operands, from the first on, and then for the line of the step.
 fn ask(id: StepId, operands: &[StepId], work: &mut Vec<Task>) -> Result<(), Memory>
-    ensures { OnOk result (work.new.items ≡ (work.old.items ++ task.Close id ∷ []) ++ reverse (map task.Write operands.now)) }
+    ensures { OnOk result (work.new.items ≡ (work.old.items ++ task.Close id ∷ [])
+        ++ reverse (map task.Write operands.now)) }
 {
     work.push(Task::Close(id))?;
     let mut left = operands.len();

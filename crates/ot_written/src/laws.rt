@@ -3,8 +3,8 @@ ghost use Rattle.std.specs.Prelude.{ℕ};
 ghost use Rattle.ot_plain.specs.Names.{Name};
 ghost use Rattle.ot_written.specs.Laws.{NeededSetLaw, RenamedArticleLaw, SameOriginLaw, StoredEnoughLaw};
 
-/// The needed definitions are those that the roots lead to, the least closed set, in their old order and each once; among
-/// themselves they are all needed. The needed origins are those that the roots lead to.
+/// The needed definitions are those that the roots lead to, the least closed set, in their old order and each once;
+/// among themselves they are all needed. The needed origins are those that the roots lead to.
 pub fn needed_set_law()
     ensures of_names { NeededSetLaw Name }
     ensures of_numbers { NeededSetLaw ℕ }

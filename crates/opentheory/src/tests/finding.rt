@@ -57,8 +57,8 @@ const ARTICLES: &[(&[u8], &[u8], &str, Status, &[u8])] = &[
     ),
 ];
 
-/// A theory file that requires a package whose article runs in its context alone, one that requires none that is installed,
-/// and one that requires a package which runs.
+/// A theory file that requires a package whose article runs in its context alone, one that requires none that is
+/// installed, and one that requires a package which runs.
 const FILES: [Entry; 9] = [
     (
         "u.thy",

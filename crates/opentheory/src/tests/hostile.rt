@@ -8,7 +8,8 @@ use ot_program::Status;
 use std::alloc::Global;
 use std::test::Fail;
 
-/// Which call of an output that takes ten bytes a call fails, and how many bytes stand then. The seventh call is the flush.
+/// Which call of an output that takes ten bytes a call fails, and how many bytes stand then. The seventh call is the
+/// flush.
 const FAILING_WRITES: &[(u64, usize)] = &[
     (1, 0),
     (2, 10),

@@ -2,8 +2,8 @@
 use super::tables::{NONE, ONE, P, P5};
 use ot_program::Status;
 
-/// What is said first, what is said so many times, and what is said last, a space for the end of a line; with the command
-/// on standard input, and the answer.
+/// What is said first, what is said so many times, and what is said last, a space for the end of a line; with the
+/// command on standard input, and the answer.
 pub type Repeated = (
     &'static [&'static [u8]],
     &'static [u8],
@@ -92,8 +92,8 @@ pub const REPEATED: [Repeated; 11] = [
         Status::Refused,
         b"opentheory: -:32801: nested deeper than 4096\n",
     ),
-    // A type operator of version 5: the deepest term of its derivation is the redex `(\\r. p r) r` as the left side of an
-    // equation, five deeper than p.
+    // A type operator of version 5: the deepest term of its derivation is the redex `(\\r. p r) r` as the left side
+    // of an equation, five deeper than p.
     (
         &[P5, P_AT_D],
         P_DEEPER,

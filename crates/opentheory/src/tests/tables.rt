@@ -241,7 +241,8 @@ const ABSTRACTED: &[&[u8]] = &[
     b"11 ref 6 ref absTerm appTerm 11 ref 7 ref absTerm appTerm thm",
 ];
 
-/// An operator with an argument, `=` at another type than an equality's and with one argument, and a type with variables.
+/// An operator with an argument, `=` at another type than an equality's and with one argument, and a type with
+/// variables.
 const FORMS: &[&[u8]] = &[
     P,
     b"\"list\" typeOp 5 ref nil cons opType 6 def pop \"x\" 6 ref var varTerm 7 def refl nil 4 ref 0 ref 6 ref 0 \

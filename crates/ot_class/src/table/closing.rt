@@ -35,7 +35,8 @@ impl Classes {
         requires id { id < length self.old }
         requires room { depth + id < 2 ^ 64 }
         requires done { IsClosing self.old v done.old.entries }
-        ensures ok { IfOk result (λ r. slice_get self.new r ≡ Some (close_at numbers depth (variable_of v) (class_at self.old id))) }
+        ensures ok { IfOk result
+            (λ r. slice_get self.new r ≡ Some (close_at numbers depth (variable_of v) (class_at self.old id))) }
         ensures extends { Extends self.old self.new }
         ensures once { IsInjective self.new }
         ensures done { OnOk result (IsClosing self.new v done.new.entries) }
@@ -68,7 +69,8 @@ impl Classes {
         requires id { id < length self.old }
         requires room { depth + id < 2 ^ 64 }
         requires done { IsClosing self.old v done.old.entries }
-        ensures ok { IfOk result (λ r. slice_get self.new r ≡ Some (close_at numbers depth (variable_of v) (class_at self.old id))) }
+        ensures ok { IfOk result
+            (λ r. slice_get self.new r ≡ Some (close_at numbers depth (variable_of v) (class_at self.old id))) }
         ensures extends { Extends self.old self.new }
         ensures once { IsInjective self.new }
         ensures done { OnOk result (IsClosing self.new v done.new.entries) }

@@ -21,7 +21,8 @@ impl Classes {
     /// part is passed over.
     pub fn free_vars(&self, alloc: Global, id: ClassId) -> Result<IndexSet<Key>, Memory>
         requires { id < length self.now }
-        ensures free { IfOk result (λ vars. (v : Key) → IsMember v vars.keys ↔ IsFree numbers (variable_of v) (class_at self.now id)) }
+        ensures free { IfOk result
+            (λ vars. (v : Key) → IsMember v vars.keys ↔ IsFree numbers (variable_of v) (class_at self.now id)) }
         ensures once { IfOk result (λ vars. AreDistinct vars.keys) }
     {
         let mut seen = IndexSet::new(alloc);
@@ -86,11 +87,12 @@ impl Classes {
         }
     }
 
-    /// The types at which variables of a name are free in a nameless term, each once. A part that is shared is looked at
-    /// once, or is small.
+    /// The types at which variables of a name are free in a nameless term, each once. A part that is shared is looked
+    /// at once, or is small.
     pub fn types_of(&self, alloc: Global, name: NameId, id: ClassId) -> Result<Vec<TypeId>, Memory>
         requires { id < length self.now }
-        ensures free { IfOk result (λ types. (t : ℕ) → IsMember t types.items ↔ IsFree numbers (variable_by name t) (class_at self.now id)) }
+        ensures free { IfOk result
+            (λ types. (t : ℕ) → IsMember t types.items ↔ IsFree numbers (variable_by name t) (class_at self.now id)) }
         ensures once { IfOk result (λ types. AreDistinct types.items) }
     {
         let mut seen = IndexSet::new(alloc);
@@ -99,7 +101,8 @@ impl Classes {
         Ok(types)
     }
 
-    // Adds the types at which variables of a name are free in a nameless term. Great trees are kept that were looked at.
+    // Adds the types at which variables of a name are free in a nameless term. Great trees are kept that were looked
+    // at.
     #[cycle(add_types)]
     fn add_types(
         &self,

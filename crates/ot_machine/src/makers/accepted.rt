@@ -1,5 +1,5 @@
-// Definitions that the kernel accepts for a machine of this session. Each has its step from then on; after a refusal the run
-// is as before.
+// Definitions that the kernel accepts for a machine of this session. Each has its step from then on; after a refusal
+// the run is as before.
 ghost use Rattle.std.specs.Prelude.{◌≡◌, ◌<◌, ◌∷◌, [], length, map, IfOk, OnErr};
 ghost use Rattle.std.specs.List.{All};
 ghost use Rattle.ot_plain.specs.Naming.{names};
@@ -31,8 +31,14 @@ impl Session {
         requires name { name < length self.old.kernel.names }
         requires term { term < length self.old.kernel.terms }
         requires definition { definition < length self.old.trace }
-        ensures made { Makes self.new.kernel (λ th. (theorem_entries (origin_of self.old definition) 0 (theorem_at self.new.kernel th ∷ []), run_of self.new)) result
-            (defined (λ ds. const_definition names ds (name_at self.old.kernel name) (term_at self.old.kernel term)) (origin_of self.old definition) (run_of self.old)) }
+        ensures made { Makes self.new.kernel
+            (λ th. (
+              theorem_entries (origin_of self.old definition) 0 (theorem_at self.new.kernel th ∷ []),
+              run_of
+                  self.new,
+            )) result
+            (defined (λ ds. const_definition names ds (name_at self.old.kernel name) (term_at self.old.kernel term))
+            (origin_of self.old definition) (run_of self.old)) }
         ensures refused { OnErr result (run_of self.new ≡ run_of self.old) }
         ensures theorem { IfOk result (λ th. th < length self.new.kernel.theorems) }
         ensures grown { Grows self.old self.new }
@@ -60,12 +66,20 @@ impl Session {
     ) -> Result<ThmId, Fault>
         requires of { IsOf self.old machine.now }
         requires constants { All (λ n. n < length self.old.kernel.names) constants.now }
-        requires variables { All (λ v. (v.name < length self.old.kernel.names) × (v.ty < length self.old.kernel.types)) variables.now }
+        requires variables { All (λ v. (v.name < length self.old.kernel.names) × (v.ty < length self.old.kernel.types))
+            variables.now }
         requires pairs { length constants.now ≡ length variables.now }
         requires premise { premise < length self.old.kernel.theorems }
         requires definition { definition < length self.old.trace }
-        ensures made { Makes self.new.kernel (λ th. (theorem_entries (origin_of self.old definition) 0 (theorem_at self.new.kernel th ∷ []), run_of self.new)) result
-            (defined (λ ds. list_definition names ds (map (name_at self.old.kernel) constants.now) (map (variable_at self.old.kernel) variables.now) (theorem_at self.old.kernel premise)) (origin_of self.old definition) (run_of self.old)) }
+        ensures made { Makes self.new.kernel
+            (λ th. (
+              theorem_entries (origin_of self.old definition) 0 (theorem_at self.new.kernel th ∷ []),
+              run_of
+                  self.new,
+            )) result
+            (defined (λ ds. list_definition names ds (map (name_at self.old.kernel) constants.now)
+            (map (variable_at self.old.kernel) variables.now) (theorem_at self.old.kernel premise))
+            (origin_of self.old definition) (run_of self.old)) }
         ensures refused { OnErr result (run_of self.new ≡ run_of self.old) }
         ensures theorem { IfOk result (λ th. th < length self.new.kernel.theorems) }
         ensures grown { Grows self.old self.new }
@@ -100,8 +114,15 @@ impl Session {
         requires variables { All (λ n. n < length self.old.kernel.names) variables.now }
         requires premise { premise < length self.old.kernel.theorems }
         requires definition { definition < length self.old.trace }
-        ensures made { Makes self.new.kernel (λ p. (theorem_entries (origin_of self.old definition) 0 (theorem_at self.new.kernel p.0 ∷ theorem_at self.new.kernel p.1 ∷ []), run_of self.new)) result
-            (closed_defined (name_at self.old.kernel name) (name_at self.old.kernel abs) (name_at self.old.kernel rep) (map (name_at self.old.kernel) variables.now) (theorem_at self.old.kernel premise) (origin_of self.old definition) (run_of self.old)) }
+        ensures made { Makes self.new.kernel
+            (λ p. (
+              theorem_entries (origin_of self.old definition) 0
+                  (theorem_at self.new.kernel p.0 ∷ theorem_at self.new.kernel p.1 ∷ []),
+              run_of self.new,
+            )) result
+            (closed_defined (name_at self.old.kernel name) (name_at self.old.kernel abs) (name_at self.old.kernel rep)
+            (map (name_at self.old.kernel) variables.now) (theorem_at self.old.kernel premise)
+            (origin_of self.old definition) (run_of self.old)) }
         ensures refused { OnErr result (run_of self.new ≡ run_of self.old) }
         ensures first { IfOk result (λ p. p.0 < length self.new.kernel.theorems) }
         ensures second { IfOk result (λ p. p.1 < length self.new.kernel.theorems) }

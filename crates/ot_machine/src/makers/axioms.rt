@@ -1,5 +1,6 @@
 // What the run takes for a sequent that an article states as an axiom.
-ghost use Rattle.std.specs.Prelude.{◌≡◌, ◌<◌, ◌≤◌, length, map, None, Ok, Err, IfOk, IfSome, OnErr, MatchBool, vec_len};
+ghost use Rattle.std.specs.Prelude.{◌≡◌, ◌<◌, ◌≤◌, length, map, None, Ok, Err, IfOk, IfSome, OnErr, MatchBool};
+ghost use Rattle.std.specs.Prelude.{vec_len};
 ghost use Rattle.std.specs.List.{All};
 ghost use Rattle.std.specs.Option.{option_map};
 ghost use Rattle.ot_plain.specs.Faults.{NotBool};
@@ -27,9 +28,9 @@ use ot_term::TermId;
 use ot_trace::StepId;
 
 impl Session {
-    /// What is used for hypotheses, whose list has this step, and a conclusion: the first theorem of the context with this
-    /// conclusion and hypotheses among these, derived with the others; else the assumption of the sequent, which the run has
-    /// from then on. The command's operands stand on the top of the stack.
+    /// What is used for hypotheses, whose list has this step, and a conclusion: the first theorem of the context with
+    /// this conclusion and hypotheses among these, derived with the others; else the assumption of the sequent, which
+    /// the run has from then on. The command's operands stand on the top of the stack.
     pub(crate) fn axiom(
         &mut self,
         machine: &Machine,
@@ -44,7 +45,10 @@ impl Session {
         requires list_step { list_step < length self.old.trace }
         requires concl { concl < length self.old.kernel.terms }
         requires there { 2 ≤ vec_len machine.now.stack }
-        ensures made { Makes self.new.kernel (λ g. (theorem_entry (given_of self.new g), run_of self.new)) result (used (context_of self.old ctx.now) (map (term_at self.old.kernel) hyps.now) (term_at self.old.kernel concl) (origin_of self.old list_step) (origins_of (top 2 (article_of self.old machine.now).stack)) (run_of self.old)) }
+        ensures made { Makes self.new.kernel (λ g. (theorem_entry (given_of self.new g), run_of self.new)) result
+            (used (context_of self.old ctx.now) (map (term_at self.old.kernel) hyps.now)
+            (term_at self.old.kernel concl) (origin_of self.old list_step)
+            (origins_of (top 2 (article_of self.old machine.now).stack)) (run_of self.old)) }
         ensures refused { OnErr result (run_of self.new ≡ run_of self.old) }
         ensures theorem { IfOk result (λ g. g.th < length self.new.kernel.theorems) }
         ensures step { IfOk result (λ g. g.step < length self.new.trace) }
@@ -69,8 +73,10 @@ impl Session {
         requires of { IsOf self.old machine.now }
         requires hyps { All (λ t. t < length self.old.kernel.terms) hyps.now }
         requires concl { concl < length self.old.kernel.terms }
-        ensures proper { IfOk result (λ b. let hs = map (term_at self.old.kernel) hyps.now in let p = term_at self.old.kernel concl in
-            MatchBool b (axiom_rule hs p ≡ Ok (record { hyps = once_each names hs; concl = p })) (axiom_rule hs p ≡ Err NotBool)) }
+        ensures proper { IfOk result (λ b. let hs = map (term_at self.old.kernel) hyps.now in let p = term_at self.old.kernel
+            concl in
+            MatchBool b (axiom_rule hs p ≡ Ok (record { hyps = once_each names hs; concl = p }))
+            (axiom_rule hs p ≡ Err NotBool)) }
         ensures stays { Stays self.old self.new machine.now }
     {
         let proposed = self.kernel.is_proposition(concl)?;
@@ -95,8 +101,12 @@ impl Session {
         requires list_step { list_step < length self.old.trace }
         requires concl { concl < length self.old.kernel.terms }
         requires there { 2 ≤ vec_len machine.now.stack }
-        requires proper { let hs = map (term_at self.old.kernel) hyps.now in let p = term_at self.old.kernel concl in axiom_rule hs p ≡ Ok (record { hyps = once_each names hs; concl = p }) }
-        ensures made { Makes self.new.kernel (λ g. (theorem_entry (given_of self.new g), run_of self.new)) result (used (context_of self.old ctx.now) (map (term_at self.old.kernel) hyps.now) (term_at self.old.kernel concl) (origin_of self.old list_step) (origins_of (top 2 (article_of self.old machine.now).stack)) (run_of self.old)) }
+        requires proper { let hs = map (term_at self.old.kernel) hyps.now in let p = term_at self.old.kernel concl in
+            axiom_rule hs p ≡ Ok (record { hyps = once_each names hs; concl = p }) }
+        ensures made { Makes self.new.kernel (λ g. (theorem_entry (given_of self.new g), run_of self.new)) result
+            (used (context_of self.old ctx.now) (map (term_at self.old.kernel) hyps.now)
+            (term_at self.old.kernel concl) (origin_of self.old list_step)
+            (origins_of (top 2 (article_of self.old machine.now).stack)) (run_of self.old)) }
         ensures refused { OnErr result (run_of self.new ≡ run_of self.old) }
         ensures theorem { IfOk result (λ g. g.th < length self.new.kernel.theorems) }
         ensures step { IfOk result (λ g. g.step < length self.new.trace) }
@@ -120,7 +130,12 @@ impl Session {
         requires concl { concl < length self.now.kernel.terms }
         ensures theorem { IfSome result (λ g. g.th < length self.now.kernel.theorems) }
         ensures step { IfSome result (λ g. g.step < length self.now.trace) }
-        ensures first { option_map (given_of self.now) result ≡ given_as (record { hyps = map (term_at self.now.kernel) hyps.now; concl = term_at self.now.kernel concl }) (run_of self.now).assumptions }
+        ensures first { option_map (given_of self.now) result
+            ≡ given_as (record {
+              hyps = map (term_at self.now.kernel) hyps.now;
+              concl = term_at self.now.kernel
+                  concl;
+            }) (run_of self.now).assumptions }
     {
         let theorems = self.kernel.assumptions();
         for place in self.kernel.first_place(concl)..theorems.len() {
@@ -146,8 +161,15 @@ impl Session {
         requires hyps { All (λ t. t < length self.old.kernel.terms) hyps.now }
         requires concl { concl < length self.old.kernel.terms }
         requires there { 2 ≤ vec_len machine.now.stack }
-        requires new { None ≡ given_as (record { hyps = map (term_at self.old.kernel) hyps.now; concl = term_at self.old.kernel concl }) (run_of self.old).assumptions }
-        ensures made { Makes self.new.kernel (λ g. (theorem_entry (given_of self.new g), run_of self.new)) result (assumed_new (map (term_at self.old.kernel) hyps.now) (term_at self.old.kernel concl) (Make words.Axiom (origins_of (top 2 (article_of self.old machine.now).stack))) (run_of self.old)) }
+        requires new { None
+            ≡ given_as (record {
+              hyps = map (term_at self.old.kernel) hyps.now;
+              concl = term_at self.old.kernel
+                  concl;
+            }) (run_of self.old).assumptions }
+        ensures made { Makes self.new.kernel (λ g. (theorem_entry (given_of self.new g), run_of self.new)) result
+            (assumed_new (map (term_at self.old.kernel) hyps.now) (term_at self.old.kernel concl)
+            (Make words.Axiom (origins_of (top 2 (article_of self.old machine.now).stack))) (run_of self.old)) }
         ensures refused { OnErr result (run_of self.new ≡ run_of self.old) }
         ensures theorem { IfOk result (λ g. g.th < length self.new.kernel.theorems) }
         ensures step { IfOk result (λ g. g.step < length self.new.trace) }
@@ -173,8 +195,15 @@ impl Session {
         requires hyps { All (λ t. t < length self.old.kernel.terms) hyps.now }
         requires concl { concl < length self.old.kernel.terms }
         requires step { step < length self.old.trace }
-        requires new { None ≡ given_as (record { hyps = map (term_at self.old.kernel) hyps.now; concl = term_at self.old.kernel concl }) (run_of self.old).assumptions }
-        ensures made { Makes self.new.kernel (λ g. (theorem_entry (given_of self.new g), run_of self.new)) result (assumed_new (map (term_at self.old.kernel) hyps.now) (term_at self.old.kernel concl) (origin_of self.old step) (run_of self.old)) }
+        requires new { None
+            ≡ given_as (record {
+              hyps = map (term_at self.old.kernel) hyps.now;
+              concl = term_at self.old.kernel
+                  concl;
+            }) (run_of self.old).assumptions }
+        ensures made { Makes self.new.kernel (λ g. (theorem_entry (given_of self.new g), run_of self.new)) result
+            (assumed_new (map (term_at self.old.kernel) hyps.now) (term_at self.old.kernel concl)
+            (origin_of self.old step) (run_of self.old)) }
         ensures refused { OnErr result (run_of self.new ≡ run_of self.old) }
         ensures theorem { IfOk result (λ g. g.th < length self.new.kernel.theorems) }
         ensures step { IfOk result (λ g. g.step < length self.new.trace) }

@@ -160,7 +160,8 @@ impl Session {
         requires of { IsOf self.old machine.now }
         requires name { name < length self.old.kernel.names }
         requires ty { ty < length self.old.trace }
-        ensures made { IfOk result (λ i. origin_of self.new i ≡ make_two words.Var (Named (name_at self.old.kernel name)) (origin_of self.old ty)) }
+        ensures made { IfOk result (λ i. origin_of self.new i
+            ≡ make_two words.Var (Named (name_at self.old.kernel name)) (origin_of self.old ty)) }
         ensures inside { IfOk result (λ i. i < length self.new.trace) }
         ensures kept { Traces self.old self.new machine.now }
     {
@@ -178,7 +179,9 @@ impl Session {
         requires of { IsOf self.old machine.now }
         requires name { name < length self.old.kernel.names }
         requires ty { ty < length self.old.trace }
-        ensures made { IfOk result (λ i. origin_of self.new i ≡ make_two words.ConstTerm (constant_origin (Named (name_at self.old.kernel name))) (origin_of self.old ty)) }
+        ensures made { IfOk result
+            (λ i. origin_of self.new i ≡ make_two words.ConstTerm
+            (constant_origin (Named (name_at self.old.kernel name))) (origin_of self.old ty)) }
         ensures inside { IfOk result (λ i. i < length self.new.trace) }
         ensures kept { Traces self.old self.new machine.now }
     {
@@ -202,7 +205,8 @@ impl Session {
     fn binder_step(&mut self, machine: &Machine, depth: usize, ty: StepId) -> Result<StepId, Memory>
         requires of { IsOf self.old machine.now }
         requires ty { ty < length self.old.trace }
-        ensures made { IfOk result (λ i. origin_of self.new i ≡ make_two words.Var (Named (decimal depth ∷ [])) (origin_of self.old ty)) }
+        ensures made { IfOk result
+            (λ i. origin_of self.new i ≡ make_two words.Var (Named (decimal depth ∷ [])) (origin_of self.old ty)) }
         ensures inside { IfOk result (λ i. i < length self.new.trace) }
         ensures kept { Adds self.old self.new machine.now }
     {
@@ -214,8 +218,11 @@ impl Session {
     fn binder_of(&self, binders: &[Binder], v: &VarKey) -> Option<StepId>
         requires key { IsKey self.now.kernel v.now }
         requires binders { All (IsBinderIn self.now) binders.now }
-        ensures some { IfSome result (λ i. origin_of self.now i ≡ variable_in (binders_at self.now binders.now) (variable_at self.now.kernel v.now)) }
-        ensures none { IfNone result (var_origin (name_at self.now.kernel v.now.name) (type_at self.now.kernel v.now.ty) ≡ variable_in (binders_at self.now binders.now) (variable_at self.now.kernel v.now)) }
+        ensures some { IfSome result (λ i. origin_of self.now i ≡ variable_in (binders_at self.now binders.now)
+            (variable_at self.now.kernel v.now)) }
+        ensures none { IfNone result
+            (var_origin (name_at self.now.kernel v.now.name) (type_at self.now.kernel v.now.ty)
+            ≡ variable_in (binders_at self.now binders.now) (variable_at self.now.kernel v.now)) }
         ensures inside { IfSome result (λ i. i < length self.now.trace) }
     {
         let mut rest = binders;
@@ -240,7 +247,8 @@ impl Session {
         requires key { IsKey self.old.kernel v }
         requires binders { All (IsBinderIn self.old) binders.now }
         requires known { AreKnown self.old known.old }
-        ensures made { IfOk result (λ i. origin_of self.new i ≡ variable_in (binders_at self.old binders.now) (variable_at self.old.kernel v)) }
+        ensures made { IfOk result (λ i. origin_of self.new i ≡ variable_in (binders_at self.old binders.now)
+            (variable_at self.old.kernel v)) }
         ensures inside { IfOk result (λ i. i < length self.new.trace) }
         ensures kept { Traces self.old self.new machine.now }
         ensures known { OnOk result (AreKnown self.new known.new) }
@@ -266,7 +274,8 @@ impl Session {
         requires binders { All (IsBinderIn self.now) binders.now }
         requires known { AreOccurrences self.now.kernel known.old.entries }
         ensures inside { IfOk result (λ bs. All (IsBinderIn self.now) bs.items) }
-        ensures same { IfOk result (λ bs. (v : Variable NameValue) → IsFreeIn names v (named_at self.now.kernel.terms id)
+        ensures same { IfOk result
+            (λ bs. (v : Variable NameValue) → IsFreeIn names v (named_at self.now.kernel.terms id)
             → variable_in (binders_at self.now bs.items) v ≡ variable_in (binders_at self.now binders.now) v) }
         ensures known { OnOk result (AreOccurrences self.now.kernel known.new.entries) }
     {
@@ -297,7 +306,8 @@ impl Session {
         requires room { depth + id < 2 ^ 64 }
         requires binders { All (IsBinderIn self.old) binders.now }
         requires known { AreKnown self.old known.old }
-        ensures made { IfOk result (λ i. origin_of self.new i ≡ canon_in depth (binders_at self.old binders.now) (named_at self.old.kernel.terms id)) }
+        ensures made { IfOk result (λ i. origin_of self.new i ≡ canon_in depth (binders_at self.old binders.now)
+            (named_at self.old.kernel.terms id)) }
         ensures inside { IfOk result (λ i. i < length self.new.trace) }
         ensures kept { Adds self.old self.new machine.now }
         ensures known { OnOk result (AreKnown self.new known.new) }
@@ -327,7 +337,8 @@ impl Session {
         requires room { depth + id < 2 ^ 64 }
         requires binders { All (IsBinderIn self.old) binders.now }
         requires known { AreKnown self.old known.old }
-        ensures made { IfOk result (λ i. origin_of self.new i ≡ canon_in depth (binders_at self.old binders.now) (named_at self.old.kernel.terms id)) }
+        ensures made { IfOk result (λ i. origin_of self.new i ≡ canon_in depth (binders_at self.old binders.now)
+            (named_at self.old.kernel.terms id)) }
         ensures inside { IfOk result (λ i. i < length self.new.trace) }
         ensures kept { Adds self.old self.new machine.now }
         ensures known { OnOk result (AreKnown self.new known.new) }

@@ -1,5 +1,5 @@
-// Definitions that the kernel accepts for a machine of this session, with their steps. Each names its symbols, so numbers
-// keep their names.
+// Definitions that the kernel accepts for a machine of this session, with their steps. Each names its symbols, so
+// numbers keep their names.
 ghost use Rattle.std.specs.Prelude.{◌≡◌, ◌<◌, ◌∷◌, [], length, map, IfOk, OnErr};
 ghost use Rattle.std.specs.List.{All};
 ghost use Rattle.ot_plain.specs.Naming.{names};
@@ -9,7 +9,8 @@ ghost use Rattle.ot_plain.specs.declared.command.Cmd.TheVariants as words;
 ghost use Rattle.ot_interp.specs.Interpretation.{renamed};
 ghost use Rattle.ot_trace.specs.Origins.{Named, Define, from_list, constant_origin, renamed_pairs};
 ghost use Rattle.ot_machine.specs.Objects.{theorem};
-ghost use Rattle.ot_machine.specs.Rows.{defined, const_defining, list_defining, type_defining, constants_origin, origin_at};
+ghost use Rattle.ot_machine.specs.Rows.{defined, const_defining, list_defining, type_defining, constants_origin};
+ghost use Rattle.ot_machine.specs.Rows.{origin_at};
 ghost use Rattle.ot_machine.specs.Defining.{closed_defined, operator_theorems, AreOperatorSteps, IsOperatorOf};
 ghost use Rattle.ot_machine.specs.Contexts.{context_of, IsContextOf};
 ghost use Rattle.ot_machine.specs.Meaning.{article_of, origin_of, run_of, IsOf, Grows, Traces};
@@ -32,8 +33,8 @@ pub(crate) struct DefinedConstant {
     pub step: StepId,
 }
 
-/// A type operator that was defined: the steps of the operator and of the two constants, and the two theorems with their
-/// steps.
+/// A type operator that was defined: the steps of the operator and of the two constants, and the two theorems with
+/// their steps.
 #[derive(Clone, Copy)]
 pub(crate) struct DefinedOperator {
     pub op: StepId,
@@ -55,8 +56,8 @@ pub(crate) struct OperatorSteps {
 }
 
 impl Session {
-    /// The theorem of a constant that is defined as the term on the top of the stack. The run has the definition from then
-    /// on.
+    /// The theorem of a constant that is defined as the term on the top of the stack. The run has the definition from
+    /// then on.
     pub(crate) fn constant_definition(
         &mut self,
         machine: &Machine,
@@ -69,8 +70,20 @@ impl Session {
         requires term { term < length self.old.kernel.terms }
         requires term_step { term_step < length self.old.trace }
         requires origin { origin_of self.old term_step ≡ origin_at 0 (article_of self.old machine.now).stack }
-        ensures made { Makes self.new.kernel (λ d. (record { object = theorem (theorem_at self.new.kernel d.theorem); origin = origin_of self.new d.step } ∷ [], run_of self.new)) result (defined (λ ds. const_definition names ds (name_at self.old.kernel name) (term_at self.old.kernel term)) (const_defining (name_at self.old.kernel name) (article_of self.old machine.now).stack) (run_of self.old)) }
-        ensures symbol { IfOk result (λ d. origin_of self.new d.symbol ≡ constant_origin (Named (name_at self.old.kernel name))) }
+        ensures made { Makes self.new.kernel
+            (λ d. (
+              record {
+                object = theorem (theorem_at self.new.kernel d.theorem);
+                origin = origin_of self.new
+                    d.step;
+              } ∷ [],
+              run_of self.new,
+            )) result
+            (defined (λ ds. const_definition names ds (name_at self.old.kernel name) (term_at self.old.kernel term))
+            (const_defining (name_at self.old.kernel name) (article_of self.old machine.now).stack)
+            (run_of self.old)) }
+        ensures symbol { IfOk result (λ d. origin_of self.new d.symbol
+            ≡ constant_origin (Named (name_at self.old.kernel name))) }
         ensures refused { OnErr result (run_of self.new ≡ run_of self.old) }
         ensures name { name_at self.new.kernel name ≡ name_at self.old.kernel name }
         ensures inside { name < length self.new.kernel.names }
@@ -102,7 +115,8 @@ impl Session {
         requires name { name < length self.old.kernel.names }
         requires term_step { term_step < length self.old.trace }
         ensures symbol { IfOk result (λ p. origin_of self.new p.0 ≡ constant_origin (Named (name_at self.old.kernel name))) }
-        ensures definition { IfOk result (λ p. origin_of self.new p.1 ≡ Define words.DefineConst (from_list (Named (name_at self.old.kernel name) ∷ origin_of self.old term_step ∷ []))) }
+        ensures definition { IfOk result (λ p. origin_of self.new p.1 ≡ Define words.DefineConst
+            (from_list (Named (name_at self.old.kernel name) ∷ origin_of self.old term_step ∷ []))) }
         ensures symbol_step { IfOk result (λ p. p.0 < length self.new.trace) }
         ensures definition_step { IfOk result (λ p. p.1 < length self.new.trace) }
         ensures kept { Traces self.old self.new machine.now }
@@ -125,7 +139,8 @@ impl Session {
     ) -> Result<StepId, Memory>
         requires of { IsOf self.old machine.now }
         requires inside { All (λ n. n < length self.old.kernel.names) constants.now }
-        ensures made { IfOk result (λ i. origin_of self.new i ≡ constants_origin (map (name_at self.old.kernel) constants.now)) }
+        ensures made { IfOk result
+            (λ i. origin_of self.new i ≡ constants_origin (map (name_at self.old.kernel) constants.now)) }
         ensures inside { IfOk result (λ i. i < length self.new.trace) }
         ensures kept { Traces self.old self.new machine.now }
     {
@@ -139,8 +154,8 @@ impl Session {
         Ok(list)
     }
 
-    /// The theorem of constants that are defined for the variables of the theorem on the top of the stack, with its step.
-    /// Below it stands the list of their names and variables. The run has the definition from then on.
+    /// The theorem of constants that are defined for the variables of the theorem on the top of the stack, with its
+    /// step. Below it stands the list of their names and variables. The run has the definition from then on.
     pub(crate) fn list_definition(
         &mut self,
         machine: &Machine,
@@ -154,14 +169,23 @@ impl Session {
         requires of { IsOf self.old machine.now }
         requires context { IsContextOf self.old ctx.now }
         requires constants { All (λ n. n < length self.old.kernel.names) constants.now }
-        requires variables { All (λ v. (v.name < length self.old.kernel.names) × (v.ty < length self.old.kernel.types)) variables.now }
+        requires variables { All (λ v. (v.name < length self.old.kernel.names) × (v.ty < length self.old.kernel.types))
+            variables.now }
         requires pairs { length constants.now ≡ length variables.now }
         requires premise { premise < length self.old.kernel.theorems }
         requires list_step { list_step < length self.old.trace }
         requires list_origin { origin_of self.old list_step ≡ origin_at 1 (article_of self.old machine.now).stack }
         requires premise_step { premise_step < length self.old.trace }
         requires premise_origin { origin_of self.old premise_step ≡ origin_at 0 (article_of self.old machine.now).stack }
-        ensures made { Makes self.new.kernel (λ d. (record { object = theorem (theorem_at self.new.kernel d.0); origin = origin_of self.new d.1 } ∷ [], run_of self.new)) result (defined (λ ds. list_definition names ds (map (name_at self.old.kernel) constants.now) (map (variable_at self.old.kernel) variables.now) (theorem_at self.old.kernel premise)) (list_defining (context_of self.old ctx.now) (article_of self.old machine.now).stack) (run_of self.old)) }
+        ensures made { Makes self.new.kernel
+            (λ d. (
+              record { object = theorem (theorem_at self.new.kernel d.0); origin = origin_of self.new d.1 }
+                  ∷ [],
+              run_of self.new,
+            )) result
+            (defined (λ ds. list_definition names ds (map (name_at self.old.kernel) constants.now)
+            (map (variable_at self.old.kernel) variables.now) (theorem_at self.old.kernel premise))
+            (list_defining (context_of self.old ctx.now) (article_of self.old machine.now).stack) (run_of self.old)) }
         ensures refused { OnErr result (run_of self.new ≡ run_of self.old) }
         ensures theorem { IfOk result (λ d. d.0 < length self.new.kernel.theorems) }
         ensures step { IfOk result (λ d. d.1 < length self.new.trace) }
@@ -187,7 +211,11 @@ impl Session {
         requires context { IsContextOf self.old ctx.now }
         requires list_step { list_step < length self.old.trace }
         requires premise_step { premise_step < length self.old.trace }
-        ensures made { IfOk result (λ i. origin_of self.new i ≡ Define words.DefineConstList (from_list (renamed_pairs (renamed names (context_of self.old ctx.now).interpretation.constants) (origin_of self.old list_step) ∷ origin_of self.old premise_step ∷ []))) }
+        ensures made { IfOk result
+            (λ i. origin_of self.new i
+            ≡ Define words.DefineConstList
+            (from_list (renamed_pairs (renamed names (context_of self.old ctx.now).interpretation.constants)
+            (origin_of self.old list_step) ∷ origin_of self.old premise_step ∷ []))) }
         ensures inside { IfOk result (λ i. i < length self.new.trace) }
         ensures kept { Traces self.old self.new machine.now }
     {
@@ -200,8 +228,9 @@ impl Session {
         )?)
     }
 
-    /// The two theorems of a type operator that is taken from a type, and of the constants between the two types, by the
-    /// theorem on the top of the stack and the list of type variables below it. The run has the definition from then on.
+    /// The two theorems of a type operator that is taken from a type, and of the constants between the two types, by
+    /// the theorem on the top of the stack and the list of type variables below it. The run has the definition from
+    /// then on.
     pub(crate) fn type_definition(
         &mut self,
         machine: &Machine,
@@ -224,8 +253,10 @@ impl Session {
         requires premise_step { premise_step < length self.old.trace }
         requires premise_origin { origin_of self.old premise_step ≡ origin_at 0 (article_of self.old machine.now).stack }
         ensures made { Makes self.new.kernel (λ d. (operator_theorems self.new d, run_of self.new)) result
-            (closed_defined (name_at self.old.kernel name) (name_at self.old.kernel abs) (name_at self.old.kernel rep) (map (name_at self.old.kernel) variables.now) (theorem_at self.old.kernel premise)
-            (type_defining (name_at self.old.kernel name) (name_at self.old.kernel abs) (name_at self.old.kernel rep) (article_of self.old machine.now).stack) (run_of self.old)) }
+            (closed_defined (name_at self.old.kernel name) (name_at self.old.kernel abs) (name_at self.old.kernel rep)
+            (map (name_at self.old.kernel) variables.now) (theorem_at self.old.kernel premise)
+            (type_defining (name_at self.old.kernel name) (name_at self.old.kernel abs) (name_at self.old.kernel rep)
+            (article_of self.old machine.now).stack) (run_of self.old)) }
         ensures operator { IfOk result (IsOperatorOf self.old self.new name abs rep) }
         ensures refused { OnErr result (run_of self.new ≡ run_of self.old) }
         ensures grown { Grows self.old self.new }
@@ -255,7 +286,8 @@ impl Session {
         })
     }
 
-    /// The steps of a type operator, of its two constants, and of its definition by a list of type variables and a theorem.
+    /// The steps of a type operator, of its two constants, and of its definition by a list of type variables and a
+    /// theorem.
     pub(crate) fn type_defining(
         &mut self,
         machine: &Machine,

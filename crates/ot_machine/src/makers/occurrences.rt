@@ -31,7 +31,8 @@ pub(crate) fn is_free(
     requires key { IsKey kernel.now variable.now }
     requires term { term < length kernel.now.terms }
     requires known { AreOccurrences kernel.now known.old.entries }
-    ensures free { IfOk result (λ b. Decides b (IsFreeIn names (variable_at kernel.now variable.now) (named_at kernel.now.terms term))) }
+    ensures free { IfOk result
+        (λ b. Decides b (IsFreeIn names (variable_at kernel.now variable.now) (named_at kernel.now.terms term))) }
     ensures known { OnOk result (AreOccurrences kernel.now known.new.entries) }
 {
     let occurrence = Occurrence {
@@ -57,7 +58,8 @@ fn is_free_below(
     requires key { IsKey kernel.now variable.now }
     requires term { term < length kernel.now.terms }
     requires known { AreOccurrences kernel.now known.old.entries }
-    ensures free { IfOk result (λ b. Decides b (IsFreeIn names (variable_at kernel.now variable.now) (named_at kernel.now.terms term))) }
+    ensures free { IfOk result
+        (λ b. Decides b (IsFreeIn names (variable_at kernel.now variable.now) (named_at kernel.now.terms term))) }
     ensures known { OnOk result (AreOccurrences kernel.now known.new.entries) }
 {
     match *term_node(kernel, term) {

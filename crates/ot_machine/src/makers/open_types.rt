@@ -10,7 +10,9 @@ ghost use Rattle.ot_trace.specs.Origins.{Named, make_one, make_two, type_op_orig
 ghost use Rattle.ot_machine.specs.Defining.{open_defined, operator_theorems, IsOperatorOf};
 ghost use Rattle.ot_machine.specs.Rows.{type_defining, origin_at};
 ghost use Rattle.ot_machine.specs.Version5.{app, canon_tys};
-ghost use Rattle.ot_machine.specs.OpenTypes.{fun_origin, bool_origin, constant_at, variable_at, term_of, redex, composed, outcome_at, reduced, returned_origin, opened_origin, AreConstants, first_origin, second_origin, open_entries};
+ghost use Rattle.ot_machine.specs.OpenTypes.{fun_origin, bool_origin, constant_at, variable_at, term_of, redex};
+ghost use Rattle.ot_machine.specs.OpenTypes.{composed, outcome_at, reduced, returned_origin, opened_origin};
+ghost use Rattle.ot_machine.specs.OpenTypes.{AreConstants, first_origin, second_origin, open_entries};
 ghost use Rattle.ot_machine.specs.Canonical.{Adds};
 ghost use Rattle.ot_machine.specs.Meaning.{article_of, origin_of, run_of, IsOf, Grows, Traces};
 ghost use Rattle.ot_machine.specs.Answers.{Makes};
@@ -45,7 +47,8 @@ impl Session {
         requires of { IsOf self.old machine.now }
         requires op { op < length self.old.kernel.names }
         requires list { list < length self.old.trace }
-        ensures made { IfOk result (λ i. origin_of self.new i ≡ make_two words.OpType (type_op_origin (Named (name_at self.old.kernel op))) (origin_of self.old list)) }
+        ensures made { IfOk result (λ i. origin_of self.new i
+            ≡ make_two words.OpType (type_op_origin (Named (name_at self.old.kernel op))) (origin_of self.old list)) }
         ensures inside { IfOk result (λ i. i < length self.new.trace) }
         ensures kept { Traces self.old self.new machine.now }
     {
@@ -63,7 +66,8 @@ impl Session {
         requires of { IsOf self.old machine.now }
         requires from { from < length self.old.trace }
         requires to { to < length self.old.trace }
-        ensures made { IfOk result (λ i. origin_of self.new i ≡ fun_origin (origin_of self.old from) (origin_of self.old to)) }
+        ensures made { IfOk result
+            (λ i. origin_of self.new i ≡ fun_origin (origin_of self.old from) (origin_of self.old to)) }
         ensures inside { IfOk result (λ i. i < length self.new.trace) }
         ensures kept { Traces self.old self.new machine.now }
     {
@@ -90,7 +94,9 @@ impl Session {
     fn equality_step(&mut self, machine: &Machine, ty: StepId) -> Result<StepId, Memory>
         requires of { IsOf self.old machine.now }
         requires ty { ty < length self.old.trace }
-        ensures made { IfOk result (λ i. origin_of self.new i ≡ constant_at names.equals (fun_origin (origin_of self.old ty) (fun_origin (origin_of self.old ty) bool_origin))) }
+        ensures made { IfOk result
+            (λ i. origin_of self.new i ≡ constant_at names.equals
+            (fun_origin (origin_of self.old ty) (fun_origin (origin_of self.old ty) bool_origin))) }
         ensures inside { IfOk result (λ i. i < length self.new.trace) }
         ensures kept { Traces self.old self.new machine.now }
     {
@@ -115,7 +121,8 @@ impl Session {
         requires rep { rep < length self.old.kernel.names }
         requires old { old < length self.old.trace }
         requires new { new < length self.old.trace }
-        ensures made { IfOk result (AreConstants self.old self.new (name_at self.old.kernel abs) (name_at self.old.kernel rep) old new) }
+        ensures made { IfOk result
+            (AreConstants self.old self.new (name_at self.old.kernel abs) (name_at self.old.kernel rep) old new) }
         ensures kept { Traces self.old self.new machine.now }
     {
         let to = self.function_step(machine, old, new)?;
@@ -138,7 +145,8 @@ impl Session {
     ) -> Result<StepId, Memory>
         requires of { IsOf self.old machine.now }
         requires inside { All (λ n. n < length self.old.kernel.names) variables.now }
-        ensures made { IfOk result (λ i. origin_of self.new i ≡ canon_tys (tys_of_vars names (map (name_at self.old.kernel) variables.now))) }
+        ensures made { IfOk result (λ i. origin_of self.new i
+            ≡ canon_tys (tys_of_vars names (map (name_at self.old.kernel) variables.now))) }
         ensures inside { IfOk result (λ i. i < length self.new.trace) }
         ensures kept { Traces self.old self.new machine.now }
     {
@@ -162,8 +170,10 @@ impl Session {
         requires of { IsOf self.old machine.now }
         requires name { name < length self.old.kernel.names }
         requires ty { ty < length self.old.trace }
-        ensures variable { IfOk result (λ p. origin_of self.new p.0 ≡ variable_at (name_at self.old.kernel name) (origin_of self.old ty)) }
-        ensures term { IfOk result (λ p. origin_of self.new p.1 ≡ term_of (variable_at (name_at self.old.kernel name) (origin_of self.old ty))) }
+        ensures variable { IfOk result (λ p. origin_of self.new p.0
+            ≡ variable_at (name_at self.old.kernel name) (origin_of self.old ty)) }
+        ensures term { IfOk result (λ p. origin_of self.new p.1
+            ≡ term_of (variable_at (name_at self.old.kernel name) (origin_of self.old ty))) }
         ensures variable_step { IfOk result (λ p. p.0 < length self.new.trace) }
         ensures term_step { IfOk result (λ p. p.1 < length self.new.trace) }
         ensures kept { Traces self.old self.new machine.now }
@@ -185,7 +195,8 @@ impl Session {
         requires variable { variable < length self.old.trace }
         requires body { body < length self.old.trace }
         requires argument { argument < length self.old.trace }
-        ensures made { IfOk result (λ i. origin_of self.new i ≡ redex (origin_of self.old variable) (origin_of self.old body) (origin_of self.old argument)) }
+        ensures made { IfOk result (λ i. origin_of self.new i
+            ≡ redex (origin_of self.old variable) (origin_of self.old body) (origin_of self.old argument)) }
         ensures inside { IfOk result (λ i. i < length self.new.trace) }
         ensures kept { Traces self.old self.new machine.now }
     {
@@ -205,7 +216,8 @@ impl Session {
         requires outer { outer < length self.old.trace }
         requires inner { inner < length self.old.trace }
         requires argument { argument < length self.old.trace }
-        ensures made { IfOk result (λ i. origin_of self.new i ≡ composed (origin_of self.old outer) (origin_of self.old inner) (origin_of self.old argument)) }
+        ensures made { IfOk result (λ i. origin_of self.new i
+            ≡ composed (origin_of self.old outer) (origin_of self.old inner) (origin_of self.old argument)) }
         ensures inside { IfOk result (λ i. i < length self.new.trace) }
         ensures kept { Traces self.old self.new machine.now }
     {
@@ -224,7 +236,8 @@ impl Session {
         requires of { IsOf self.old machine.now }
         requires definition { definition < length self.old.trace }
         requires argument { argument < length self.old.trace }
-        ensures made { IfOk result (λ i. origin_of self.new i ≡ outcome_at place (origin_of self.old definition) (origin_of self.old argument)) }
+        ensures made { IfOk result (λ i. origin_of self.new i ≡ outcome_at place (origin_of self.old definition)
+            (origin_of self.old argument)) }
         ensures inside { IfOk result (λ i. i < length self.new.trace) }
         ensures kept { Traces self.old self.new machine.now }
     {
@@ -245,7 +258,8 @@ impl Session {
         requires left { left < length self.old.trace }
         requires theorem { theorem < length self.old.trace }
         requires right { right < length self.old.trace }
-        ensures made { IfOk result (λ i. origin_of self.new i ≡ reduced (origin_of self.old left) (origin_of self.old theorem) (origin_of self.old right)) }
+        ensures made { IfOk result (λ i. origin_of self.new i
+            ≡ reduced (origin_of self.old left) (origin_of self.old theorem) (origin_of self.old right)) }
         ensures inside { IfOk result (λ i. i < length self.new.trace) }
         ensures kept { Traces self.old self.new machine.now }
     {
@@ -270,7 +284,8 @@ impl Session {
         requires abs { abs < length self.old.trace }
         requires rep { rep < length self.old.trace }
         requires new { new < length self.old.trace }
-        ensures made { IfOk result (λ i. origin_of self.new i ≡ returned_origin (origin_of self.old definition) (origin_of self.old abs) (origin_of self.old rep) (origin_of self.old new)) }
+        ensures made { IfOk result (λ i. origin_of self.new i ≡ returned_origin (origin_of self.old definition)
+            (origin_of self.old abs) (origin_of self.old rep) (origin_of self.old new)) }
         ensures inside { IfOk result (λ i. i < length self.new.trace) }
         ensures kept { Traces self.old self.new machine.now }
     {
@@ -295,7 +310,11 @@ impl Session {
         requires rep { constants.rep < length self.old.trace }
         requires equality { constants.equality < length self.old.trace }
         requires r { r < length self.old.trace }
-        ensures made { IfOk result (λ i. origin_of self.new i ≡ app (app (origin_of self.old constants.equality) (composed (origin_of self.old constants.rep) (origin_of self.old constants.abs) (origin_of self.old r))) (origin_of self.old r)) }
+        ensures made { IfOk result
+            (λ i. origin_of self.new i
+            ≡ app (app (origin_of self.old constants.equality)
+            (composed (origin_of self.old constants.rep) (origin_of self.old constants.abs) (origin_of self.old r)))
+            (origin_of self.old r)) }
         ensures inside { IfOk result (λ i. i < length self.new.trace) }
         ensures kept { Traces self.old self.new machine.now }
     {
@@ -320,7 +339,10 @@ impl Session {
         requires equality { constants.equality < length self.old.trace }
         requires predicate { predicate < length self.old.trace }
         requires old { old < length self.old.trace }
-        ensures made { IfOk result (λ i. origin_of self.new i ≡ opened_origin (origin_of self.old definition) (origin_of self.old constants.abs) (origin_of self.old constants.rep) (origin_of self.old constants.equality) (origin_of self.old predicate) (origin_of self.old old)) }
+        ensures made { IfOk result
+            (λ i. origin_of self.new i ≡ opened_origin (origin_of self.old definition)
+            (origin_of self.old constants.abs) (origin_of self.old constants.rep)
+            (origin_of self.old constants.equality) (origin_of self.old predicate) (origin_of self.old old)) }
         ensures inside { IfOk result (λ i. i < length self.new.trace) }
         ensures kept { Traces self.old self.new machine.now }
     {
@@ -335,8 +357,8 @@ impl Session {
         Ok(self.reduced_step(machine, left, turned, right)?)
     }
 
-    // The steps of the two theorems that follow from a definition of a type operator, before it is accepted. A definition by
-    // what is no application has none, and isn't accepted.
+    // The steps of the two theorems that follow from a definition of a type operator, before it is accepted. A
+    // definition by what is no application has none, and isn't accepted.
     fn open_steps(
         &mut self,
         machine: &Machine,
@@ -354,8 +376,14 @@ impl Session {
         requires variables { All (λ n. n < length self.old.kernel.names) variables.now }
         requires premise { premise < length self.old.kernel.theorems }
         requires definition { definition < length self.old.trace }
-        ensures first { IfOk result (λ p. origin_of self.new p.0 ≡ first_origin (origin_of self.old definition) (name_at self.old.kernel abs) (name_at self.old.kernel rep) (TyOp (name_at self.old.kernel name) (tys_of_vars names (map (name_at self.old.kernel) variables.now))) (theorem_at self.old.kernel premise).concl) }
-        ensures second { IfOk result (λ p. origin_of self.new p.1 ≡ second_origin (origin_of self.old definition) (name_at self.old.kernel abs) (name_at self.old.kernel rep) (TyOp (name_at self.old.kernel name) (tys_of_vars names (map (name_at self.old.kernel) variables.now))) (theorem_at self.old.kernel premise).concl) }
+        ensures first { IfOk result (λ p. origin_of self.new p.0 ≡ first_origin (origin_of self.old definition)
+            (name_at self.old.kernel abs) (name_at self.old.kernel rep)
+            (TyOp (name_at self.old.kernel name) (tys_of_vars names (map (name_at self.old.kernel) variables.now)))
+            (theorem_at self.old.kernel premise).concl) }
+        ensures second { IfOk result (λ p. origin_of self.new p.1 ≡ second_origin (origin_of self.old definition)
+            (name_at self.old.kernel abs) (name_at self.old.kernel rep)
+            (TyOp (name_at self.old.kernel name) (tys_of_vars names (map (name_at self.old.kernel) variables.now)))
+            (theorem_at self.old.kernel premise).concl) }
         ensures first_step { IfOk result (λ p. p.0 < length self.new.trace) }
         ensures second_step { IfOk result (λ p. p.1 < length self.new.trace) }
         ensures kept { Adds self.old self.new machine.now }
@@ -403,12 +431,22 @@ impl Session {
         requires definition { definition < length self.old.trace }
         ensures made { Makes self.new.kernel (λ p. (
           open_entries
-              (first_origin (origin_of self.old definition) (name_at self.old.kernel abs) (name_at self.old.kernel rep) (TyOp (name_at self.old.kernel name) (tys_of_vars names (map (name_at self.old.kernel) variables.now))) (theorem_at self.old.kernel premise).concl)
-              (second_origin (origin_of self.old definition) (name_at self.old.kernel abs) (name_at self.old.kernel rep) (TyOp (name_at self.old.kernel name) (tys_of_vars names (map (name_at self.old.kernel) variables.now))) (theorem_at self.old.kernel premise).concl)
+              (first_origin (origin_of self.old definition) (name_at self.old.kernel abs)
+              (name_at self.old.kernel rep)
+              (TyOp (name_at self.old.kernel name)
+              (tys_of_vars names (map (name_at self.old.kernel) variables.now)))
+              (theorem_at self.old.kernel premise).concl)
+              (second_origin (origin_of self.old definition) (name_at self.old.kernel abs)
+              (name_at self.old.kernel rep)
+              (TyOp (name_at self.old.kernel name)
+              (tys_of_vars names (map (name_at self.old.kernel) variables.now)))
+              (theorem_at self.old.kernel premise).concl)
               (theorem_at self.new.kernel p.0) (theorem_at self.new.kernel p.1),
           run_of self.new,
         )) result
-            (open_defined (name_at self.old.kernel name) (name_at self.old.kernel abs) (name_at self.old.kernel rep) (map (name_at self.old.kernel) variables.now) (theorem_at self.old.kernel premise) (origin_of self.old definition) (run_of self.old)) }
+            (open_defined (name_at self.old.kernel name) (name_at self.old.kernel abs) (name_at self.old.kernel rep)
+            (map (name_at self.old.kernel) variables.now) (theorem_at self.old.kernel premise)
+            (origin_of self.old definition) (run_of self.old)) }
         ensures refused { OnErr result (run_of self.new ≡ run_of self.old) }
         ensures first { IfOk result (λ p. p.0 < length self.new.kernel.theorems) }
         ensures second { IfOk result (λ p. p.1 < length self.new.kernel.theorems) }
@@ -430,7 +468,8 @@ impl Session {
         }
     }
 
-    /// As `type_definition`, with the two theorems that an article of version 5 has: with variables in the place of binders.
+    /// As `type_definition`, with the two theorems that an article of version 5 has: with variables in the place of
+    /// binders.
     pub(crate) fn open_type_definition(
         &mut self,
         machine: &Machine,
@@ -453,8 +492,10 @@ impl Session {
         requires premise_step { premise_step < length self.old.trace }
         requires premise_origin { origin_of self.old premise_step ≡ origin_at 0 (article_of self.old machine.now).stack }
         ensures made { Makes self.new.kernel (λ d. (operator_theorems self.new d, run_of self.new)) result
-            (open_defined (name_at self.old.kernel name) (name_at self.old.kernel abs) (name_at self.old.kernel rep) (map (name_at self.old.kernel) variables.now) (theorem_at self.old.kernel premise)
-            (type_defining (name_at self.old.kernel name) (name_at self.old.kernel abs) (name_at self.old.kernel rep) (article_of self.old machine.now).stack) (run_of self.old)) }
+            (open_defined (name_at self.old.kernel name) (name_at self.old.kernel abs) (name_at self.old.kernel rep)
+            (map (name_at self.old.kernel) variables.now) (theorem_at self.old.kernel premise)
+            (type_defining (name_at self.old.kernel name) (name_at self.old.kernel abs) (name_at self.old.kernel rep)
+            (article_of self.old machine.now).stack) (run_of self.old)) }
         ensures operator { IfOk result (IsOperatorOf self.old self.new name abs rep) }
         ensures refused { OnErr result (run_of self.new ≡ run_of self.old) }
         ensures grown { Grows self.old self.new }

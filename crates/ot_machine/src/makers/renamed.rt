@@ -1,5 +1,5 @@
-// The list of names and variables of a definition, with the names as the context reads them: its steps in the trace of this
-// session, along its cons tree.
+// The list of names and variables of a definition, with the names as the context reads them: its steps in the trace
+// of this session, along its cons tree.
 ghost use Rattle.std.specs.Prelude.{◌≡◌, ◌<◌, ℕ, [], length, map, IfOk, IfSome, IfNone};
 ghost use Rattle.std.specs.List.{All};
 ghost use Rattle.ot_plain.specs.Names.{Name};
@@ -21,7 +21,8 @@ use ot_trace::{Step, StepId};
 use std::alloc::Global;
 
 impl Session {
-    /// The step of a list of lists, each under another name at its begin, and the steps of the constants of these names.
+    /// The step of a list of lists, each under another name at its begin, and the steps of the constants of these
+    /// names.
     pub(crate) fn renamed_list(
         &mut self,
         machine: &Machine,
@@ -32,7 +33,8 @@ impl Session {
         requires context { IsContextOf self.old ctx.now }
         requires list { list < length self.old.trace }
         ensures made { IfOk result (λ p. origin_of self.new p.0
-            ≡ renamed_pairs (renamed names (context_of self.old ctx.now).interpretation.constants) (origin_of self.old list)) }
+            ≡ renamed_pairs (renamed names (context_of self.old ctx.now).interpretation.constants)
+            (origin_of self.old list)) }
         ensures symbols { IfOk result (λ p. map (origin_at self.new.trace) p.1.items
             ≡ map (λ pair. constant_origin (operand 0 pair)) (elements (origin_at self.new.trace p.0))) }
         ensures list_step { IfOk result (λ p. p.0 < length self.new.trace) }
@@ -114,7 +116,8 @@ impl Session {
         requires of { IsOf self.old machine.now }
         requires context { IsContextOf self.old ctx.now }
         requires inside { pair < length self.old.trace }
-        ensures made { IfOk result (λ i. origin_of self.new i ≡ renamed_first (read_by self.old ctx.now) (origin_of self.old pair)) }
+        ensures made { IfOk result
+            (λ i. origin_of self.new i ≡ renamed_first (read_by self.old ctx.now) (origin_of self.old pair)) }
         ensures inside { IfOk result (λ i. i < length self.new.trace) }
         ensures kept { Traces self.old self.new machine.now }
     {
@@ -133,7 +136,8 @@ impl Session {
         requires inside { pair < length self.now.trace }
         ensures some { IfSome result (λ n. BeginsWith (origin_at self.now.trace pair) n) }
         ensures name { IfSome result (λ n. n < length self.now.kernel.names) }
-        ensures none { IfNone result ((f : Name → Name) → renamed_first f (origin_of self.now pair) ≡ origin_of self.now pair) }
+        ensures none { IfNone result ((f : Name → Name) → renamed_first f (origin_of self.now pair)
+            ≡ origin_of self.now pair) }
     {
         let operands = cons_operands(self.trace.step(pair));
         if operands.is_empty() {

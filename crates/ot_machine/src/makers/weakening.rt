@@ -1,5 +1,5 @@
-// A theorem of the context in the place of an axiom: the first with its conclusion and with hypotheses among its own, derived with
-// the others. Kernel and trace grow; the machine and the run stand for what they stood for.
+// A theorem of the context in the place of an axiom: the first with its conclusion and with hypotheses among its own,
+// derived with the others. Kernel and trace grow; the machine and the run stand for what they stood for.
 ghost use Rattle.std.specs.Prelude.{◌≡◌, ◌<◌, Result, length, map, IfOk, IfSome};
 ghost use Rattle.std.specs.List.{All};
 ghost use Rattle.std.specs.Option.{option_map};
@@ -39,7 +39,12 @@ impl Session {
         requires concl { concl < length self.now.kernel.terms }
         ensures theorem { IfSome result (λ g. g.th < length self.now.kernel.theorems) }
         ensures step { IfSome result (λ g. g.step < length self.now.trace) }
-        ensures first { option_map (given_of self.now) result ≡ given_for (record { hyps = map (term_at self.now.kernel) hyps.now; concl = term_at self.now.kernel concl }) (context_of self.now ctx.now).theorems }
+        ensures first { option_map (given_of self.now) result
+            ≡ given_for (record {
+              hyps = map (term_at self.now.kernel) hyps.now;
+              concl = term_at self.now.kernel
+                  concl;
+            }) (context_of self.now ctx.now).theorems }
     {
         match self.kernel.place_of(ctx.places, concl) {
             Some(place) => self.first_given(&ctx.theorems[place..], hyps, concl),
@@ -55,7 +60,12 @@ impl Session {
         requires concl { concl < length self.now.kernel.terms }
         ensures theorem { IfSome result (λ g. g.th < length self.now.kernel.theorems) }
         ensures step { IfSome result (λ g. g.step < length self.now.trace) }
-        ensures first { option_map (given_of self.now) result ≡ given_for (record { hyps = map (term_at self.now.kernel) hyps.now; concl = term_at self.now.kernel concl }) (map (given_of self.now) theorems.now) }
+        ensures first { option_map (given_of self.now) result
+            ≡ given_for (record {
+              hyps = map (term_at self.now.kernel) hyps.now;
+              concl = term_at self.now.kernel
+                  concl;
+            }) (map (given_of self.now) theorems.now) }
     {
         for given in theorems {
             if self.kernel.is_within(given.th, hyps, concl) {
@@ -78,7 +88,9 @@ impl Session {
         requires step { given.step < length self.old.trace }
         requires hyps { All (λ t. t < length self.old.kernel.terms) hyps.now }
         requires list_step { list_step < length self.old.trace }
-        ensures made { Makes self.new.kernel (λ g. theorem_entry (given_of self.new g)) result (weakened (term_entries (map (term_at self.old.kernel) hyps.now) (origin_of self.old list_step)) (theorem_entry (given_of self.old given))) }
+        ensures made { Makes self.new.kernel (λ g. theorem_entry (given_of self.new g)) result
+            (weakened (term_entries (map (term_at self.old.kernel) hyps.now) (origin_of self.old list_step))
+            (theorem_entry (given_of self.old given))) }
         ensures theorem { IfOk result (λ g. g.th < length self.new.kernel.theorems) }
         ensures step { IfOk result (λ g. g.step < length self.new.trace) }
         ensures stays { Stays self.old self.new machine.now }
@@ -106,7 +118,9 @@ impl Session {
         requires given_step { given.step < length self.old.trace }
         requires hyp { hyp < length self.old.kernel.terms }
         requires step { step < length self.old.trace }
-        ensures made { Makes self.new.kernel (λ g. theorem_entry (given_of self.new g)) result (supposing (record { object = term (term_at self.old.kernel hyp); origin = origin_of self.old step }) (theorem_entry (given_of self.old given))) }
+        ensures made { Makes self.new.kernel (λ g. theorem_entry (given_of self.new g)) result
+            (supposing (record { object = term (term_at self.old.kernel hyp); origin = origin_of self.old step })
+            (theorem_entry (given_of self.old given))) }
         ensures theorem { IfOk result (λ g. g.th < length self.new.kernel.theorems) }
         ensures given_step { IfOk result (λ g. g.step < length self.new.trace) }
         ensures stays { Stays self.old self.new machine.now }
@@ -117,7 +131,8 @@ impl Session {
         self.adding(machine, given, hyp, step)
     }
 
-    /// A theorem with one hypothesis more: from hyp |- hyp and the theorem, their equation, and by it the theorem again.
+    /// A theorem with one hypothesis more: from hyp |- hyp and the theorem, their equation, and by it the theorem
+    /// again.
     fn adding(
         &mut self,
         machine: &Machine,
@@ -130,7 +145,9 @@ impl Session {
         requires given_step { given.step < length self.old.trace }
         requires hyp { hyp < length self.old.kernel.terms }
         requires step { step < length self.old.trace }
-        ensures made { Makes self.new.kernel (λ g. theorem_entry (given_of self.new g)) result (adding (theorem_entry (given_of self.old given)) (record { object = term (term_at self.old.kernel hyp); origin = origin_of self.old step })) }
+        ensures made { Makes self.new.kernel (λ g. theorem_entry (given_of self.new g)) result
+            (adding (theorem_entry (given_of self.old given))
+            (record { object = term (term_at self.old.kernel hyp); origin = origin_of self.old step })) }
         ensures theorem { IfOk result (λ g. g.th < length self.new.kernel.theorems) }
         ensures given_step { IfOk result (λ g. g.step < length self.new.trace) }
         ensures stays { Stays self.old self.new machine.now }
@@ -147,8 +164,10 @@ impl Session {
 
 /// What a rule gave, with the machine's fault for its refusal.
 fn ruled(answer: Result<ThmId, RuleFault>) -> Result<ThmId, Fault>
-    ensures made { (k l : State) (stated : Result (Sequent Name) (StatedFault Name)) → Concludes answer stated k l → Makes l (theorem_at l) result stated }
-    ensures inside { (k l : State) (stated : Result (Sequent Name) (StatedFault Name)) → Concludes answer stated k l → IfOk result (λ th. th < length l.theorems) }
+    ensures made { (k l : State) (stated : Result (Sequent Name) (StatedFault Name)) → Concludes answer stated k l
+        → Makes l (theorem_at l) result stated }
+    ensures inside { (k l : State) (stated : Result (Sequent Name) (StatedFault Name)) → Concludes answer stated k l
+        → IfOk result (λ th. th < length l.theorems) }
 {
     match answer {
         Ok(theorem) => Ok(theorem),

@@ -22,7 +22,8 @@ pub fn define_const(
 ) -> Result<(), Fault>
     requires of { IsOf session.old machine.old }
     requires context { IsContextOf session.old ctx.now }
-    ensures { Turns result (define_const_row (context_of session.old ctx.now)) session.old machine.old session.new machine.new }
+    ensures { Turns result (define_const_row (context_of session.old ctx.now)) session.old machine.old session.new
+        machine.new }
 {
     let (term, term_step) = session.term_entry(machine, 0)?;
     let name = session.name_on(machine, 1)?;
@@ -53,7 +54,8 @@ pub fn define_const_list(
 ) -> Result<(), Fault>
     requires of { IsOf session.old machine.old }
     requires context { IsContextOf session.old ctx.now }
-    ensures { Turns result (define_const_list_row (context_of session.old ctx.now)) session.old machine.old session.new machine.new }
+    ensures { Turns result (define_const_list_row (context_of session.old ctx.now)) session.old machine.old
+        session.new machine.new }
 {
     let (premise, premise_step) = session.theorem_entry(machine, 0)?;
     let (list, list_step) = session.list_entry(machine, 1)?;
@@ -99,7 +101,8 @@ pub fn define_type(
 ) -> Result<(), Fault>
     requires of { IsOf session.old machine.old }
     requires context { IsContextOf session.old ctx.now }
-    ensures { Turns result (define_type_row (version_of version) (context_of session.old ctx.now)) session.old machine.old session.new machine.new }
+    ensures { Turns result (define_type_row (version_of version) (context_of session.old ctx.now)) session.old
+        machine.old session.new machine.new }
 {
     match version {
         Version::Six => define_type_op(alloc, session, machine, ctx),
@@ -117,7 +120,8 @@ fn define_type_op(
 ) -> Result<(), Fault>
     requires of { IsOf session.old machine.old }
     requires context { IsContextOf session.old ctx.now }
-    ensures { Turns result (define_type_op_row (context_of session.old ctx.now)) session.old machine.old session.new machine.new }
+    ensures { Turns result (define_type_op_row (context_of session.old ctx.now)) session.old machine.old session.new
+        machine.new }
 {
     let (premise, premise_step) = session.theorem_entry(machine, 0)?;
     let (variables, list_step) = session.names_on(alloc, machine, 1)?;
@@ -174,7 +178,8 @@ fn define_type_op_5(
 ) -> Result<(), Fault>
     requires of { IsOf session.old machine.old }
     requires context { IsContextOf session.old ctx.now }
-    ensures { Turns result (define_type_op_5_row (context_of session.old ctx.now)) session.old machine.old session.new machine.new }
+    ensures { Turns result (define_type_op_5_row (context_of session.old ctx.now)) session.old machine.old session.new
+        machine.new }
 {
     let (premise, premise_step) = session.theorem_entry(machine, 0)?;
     let (variables, list_step) = session.names_on(alloc, machine, 1)?;

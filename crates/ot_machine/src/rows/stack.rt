@@ -8,7 +8,8 @@ ghost use Rattle.ot_machine.specs.Places.{pushed};
 ghost use Rattle.ot_machine.specs.Meaning.{IsOf};
 ghost use Rattle.ot_machine.specs.Answers.{Turns};
 ghost use Rattle.ot_machine.specs.Step.{on_article, on_stack};
-ghost use Rattle.ot_machine.specs.Rows.{making, nil_row, hd_tl_row, pop_row, version_row, def_row, ref_row, remove_row};
+ghost use Rattle.ot_machine.specs.Rows.{making, nil_row, hd_tl_row, pop_row, version_row, def_row, ref_row};
+ghost use Rattle.ot_machine.specs.Rows.{remove_row};
 
 use crate::fault::Fault;
 use crate::machine::Machine;
@@ -20,7 +21,13 @@ use ot_plain::{Cmd, NameId};
 pub fn name(session: &mut Session, machine: &mut Machine, id: NameId) -> Result<(), Fault>
     requires of { IsOf session.old machine.old }
     requires inside { id < length session.old.kernel.names }
-    ensures { Turns result (on_stack (λ stack. Ok (pushed (record { object = a_name (name_at session.old.kernel id); origin = Named (name_at session.old.kernel id) }) stack))) session.old machine.old session.new machine.new }
+    ensures { Turns result
+        (on_stack (λ stack.
+        Ok (pushed (record {
+          object = a_name (name_at session.old.kernel id);
+          origin = Named
+              (name_at session.old.kernel id);
+        }) stack))) session.old machine.old session.new machine.new }
 {
     let step = session.name_step(machine, id)?;
     session.push(machine, Object::Name(id), Some(step))?;

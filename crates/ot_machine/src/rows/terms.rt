@@ -19,7 +19,8 @@ use std::alloc::Global;
 pub fn type_op(session: &mut Session, machine: &mut Machine, ctx: &Context<'_>) -> Result<(), Fault>
     requires of { IsOf session.old machine.old }
     requires context { IsContextOf session.old ctx.now }
-    ensures { Turns result (on_stack (type_op_row (context_of session.old ctx.now))) session.old machine.old session.new machine.new }
+    ensures { Turns result (on_stack (type_op_row (context_of session.old ctx.now))) session.old machine.old
+        session.new machine.new }
 {
     let name = session.name_on(machine, 0)?;
     let named = session.type_op_named(ctx, name);
@@ -80,7 +81,8 @@ pub fn constant(
 ) -> Result<(), Fault>
     requires of { IsOf session.old machine.old }
     requires context { IsContextOf session.old ctx.now }
-    ensures { Turns result (on_stack (const_row (context_of session.old ctx.now))) session.old machine.old session.new machine.new }
+    ensures { Turns result (on_stack (const_row (context_of session.old ctx.now))) session.old machine.old session.new
+        machine.new }
 {
     let name = session.name_on(machine, 0)?;
     let named = session.constant_named(ctx, name);

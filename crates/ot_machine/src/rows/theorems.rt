@@ -142,7 +142,8 @@ pub fn axiom(
 ) -> Result<(), Fault>
     requires of { IsOf session.old machine.old }
     requires context { IsContextOf session.old ctx.now }
-    ensures { Turns result (axiom_row (context_of session.old ctx.now)) session.old machine.old session.new machine.new }
+    ensures { Turns result (axiom_row (context_of session.old ctx.now)) session.old machine.old session.new
+        machine.new }
 {
     let concl = session.term_on(machine, 0)?;
     let (list, list_step) = session.list_entry(machine, 1)?;

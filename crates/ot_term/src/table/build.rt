@@ -32,7 +32,8 @@ impl Terms {
     /// A constant at a type. `Memory` leaves the table as it was.
     pub fn constant(&mut self, name: NameId, ty: TypeId) -> Result<TermId, Memory>
         requires { ty < length self.old.types }
-        ensures ok { IfOk result (λ id. slice_get self.new.terms id ≡ Some (NConst name (type_at self.old.types ty))) }
+        ensures ok { IfOk result
+            (λ id. slice_get self.new.terms id ≡ Some (NConst name (type_at self.old.types ty))) }
         ensures types { self.new.types ≡ self.old.types }
         ensures grows { Grows self.old self.new }
         ensures names { NamesUpTo (name + 1) self.old self.new }
@@ -49,9 +50,12 @@ impl Terms {
         requires f { f < length self.old.terms }
         requires x { x < length self.old.terms }
         requires ty { ty < length self.old.types }
-        requires typed { named_type numbers (NApp (term_at self.old.terms f) (term_at self.old.terms x)) ≡ Some (type_at self.old.types ty) }
-        ensures ok { IfOk result (λ id. slice_get self.new.terms id ≡ Some (NApp (term_at self.old.terms f) (term_at self.old.terms x))) }
-        ensures nesting { result ≡ Err TableFault.Nesting → is_within_limit (NApp (term_at self.old.terms f) (term_at self.old.terms x)) ≡ false }
+        requires typed { named_type numbers (NApp (term_at self.old.terms f) (term_at self.old.terms x))
+            ≡ Some (type_at self.old.types ty) }
+        ensures ok { IfOk result
+            (λ id. slice_get self.new.terms id ≡ Some (NApp (term_at self.old.terms f) (term_at self.old.terms x))) }
+        ensures nesting { result ≡ Err TableFault.Nesting
+            → is_within_limit (NApp (term_at self.old.terms f) (term_at self.old.terms x)) ≡ false }
         ensures types { self.new.types ≡ self.old.types }
         ensures grows { Grows self.old self.new }
         ensures names { NamesUpTo 0 self.old self.new }
@@ -74,10 +78,13 @@ impl Terms {
     pub fn app(&mut self, f: TermId, x: TermId) -> Result<TermId, TermFault>
         requires f { f < length self.old.terms }
         requires x { x < length self.old.terms }
-        ensures ok { IfOk result (λ id. slice_get self.new.terms id ≡ Some (NApp (term_at self.old.terms f) (term_at self.old.terms x))) }
-        ensures not_function { result ≡ Err TermFault.NotFunction → (a b : Ty ℕ) → named_type numbers (term_at self.old.terms f) ≢ Some (fun_ty numbers a b) }
+        ensures ok { IfOk result
+            (λ id. slice_get self.new.terms id ≡ Some (NApp (term_at self.old.terms f) (term_at self.old.terms x))) }
+        ensures not_function { result ≡ Err TermFault.NotFunction → (a b : Ty ℕ)
+            → named_type numbers (term_at self.old.terms f) ≢ Some (fun_ty numbers a b) }
         ensures argument_type { result ≡ Err TermFault.ArgumentType → (a b : Ty ℕ)
-            × (named_type numbers (term_at self.old.terms f) ≡ Some (fun_ty numbers a b)) × (named_type numbers (term_at self.old.terms x) ≢ Some a) }
+            × (named_type numbers (term_at self.old.terms f) ≡ Some (fun_ty numbers a b))
+            × (named_type numbers (term_at self.old.terms x) ≢ Some a) }
         ensures nesting { result ≡ Err TermFault.Nesting → (b : Ty ℕ)
             × (named_type numbers (NApp (term_at self.old.terms f) (term_at self.old.terms x)) ≡ Some b)
             × (is_within_limit (NApp (term_at self.old.terms f) (term_at self.old.terms x)) ≡ false) }
@@ -97,11 +104,13 @@ impl Terms {
         requires x { x < length self.now.terms }
         ensures below { IfOk result (λ ty. ty < length self.now.types) }
         ensures typed { IfOk result (λ ty.
-            named_type numbers (NApp (term_at self.now.terms f) (term_at self.now.terms x)) ≡ Some (type_at self.now.types ty)) }
+            named_type numbers (NApp (term_at self.now.terms f) (term_at self.now.terms x))
+            ≡ Some (type_at self.now.types ty)) }
         ensures not_function { result ≡ Err TermFault.NotFunction → (a b : Ty ℕ)
             → named_type numbers (term_at self.now.terms f) ≢ Some (fun_ty numbers a b) }
         ensures argument_type { result ≡ Err TermFault.ArgumentType → (a b : Ty ℕ)
-            × (named_type numbers (term_at self.now.terms f) ≡ Some (fun_ty numbers a b)) × (named_type numbers (term_at self.now.terms x) ≢ Some a) }
+            × (named_type numbers (term_at self.now.terms f) ≡ Some (fun_ty numbers a b))
+            × (named_type numbers (term_at self.now.terms x) ≢ Some a) }
         ensures limit { result ≢ Err TermFault.Nesting }
         ensures table { IsTermTable self.now }
     {
@@ -121,8 +130,10 @@ impl Terms {
     pub fn abs(&mut self, v: VarKey, body: TermId) -> Result<TermId, TableFault>
         requires ty { v.ty < length self.old.types }
         requires body { body < length self.old.terms }
-        ensures ok { IfOk result (λ id. slice_get self.new.terms id ≡ Some (NAbs (variable_of self.old.types v) (term_at self.old.terms body))) }
-        ensures nesting { result ≡ Err TableFault.Nesting → is_within_limit (NAbs (variable_of self.old.types v) (term_at self.old.terms body)) ≡ false }
+        ensures ok { IfOk result (λ id. slice_get self.new.terms id
+            ≡ Some (NAbs (variable_of self.old.types v) (term_at self.old.terms body))) }
+        ensures nesting { result ≡ Err TableFault.Nesting
+            → is_within_limit (NAbs (variable_of self.old.types v) (term_at self.old.terms body)) ≡ false }
         ensures grows { Grows self.old self.new }
         ensures names { NamesUpTo (max (v.name + 1) 1) self.old self.new }
         ensures err { OnErr result (self.new.terms ≡ self.old.terms) }
@@ -147,7 +158,8 @@ impl Terms {
         requires body { body < length self.old.terms }
         ensures below { IfOk result (λ ty. ty < length self.new.types) }
         ensures typed { IfOk result (λ ty.
-            named_type numbers (NAbs (variable_of self.old.types v) (term_at self.old.terms body)) ≡ Some (type_at self.new.types ty)) }
+            named_type numbers (NAbs (variable_of self.old.types v) (term_at self.old.terms body))
+            ≡ Some (type_at self.new.types ty)) }
         ensures nesting { result ≡ Err TableFault.Nesting
             → is_within_limit (NAbs (variable_of self.old.types v) (term_at self.old.terms body)) ≡ false }
         ensures terms { self.new.terms ≡ self.old.terms }

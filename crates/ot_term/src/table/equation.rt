@@ -1,5 +1,6 @@
 //! Equations: how they are made, and how they are taken apart.
-ghost use Rattle.std.specs.Prelude.{◌≡◌, ◌≢◌, ◌↔◌, ℕ, ◌<◌, [], Some, Err, slice_get, length, IfOk, IfNone, IfSome, IsTrue, false};
+ghost use Rattle.std.specs.Prelude.{◌≡◌, ◌≢◌, ◌↔◌, ℕ, ◌<◌, [], Some, Err, slice_get, length, IfOk, IfNone, IfSome};
+ghost use Rattle.std.specs.Prelude.{IsTrue, false};
 ghost use Rattle.ot_plain.specs.Trees.{Ty, Named, NConst};
 ghost use Rattle.ot_plain.specs.Hol.{bool_ty, named_type, depth_ty, depth_limit};
 ghost use Rattle.ot_plain.specs.Naming.{numbers};
@@ -30,11 +31,14 @@ impl Terms {
         requires a { a < length self.old.terms }
         requires b { b < length self.old.terms }
         ensures ok { IfOk result (λ id. (ty : Ty ℕ) × (named_type numbers (term_at self.old.terms a) ≡ Some ty)
-            × (slice_get self.new.terms id ≡ Some (named_equation ty (term_at self.old.terms a) (term_at self.old.terms b)))) }
+            × (slice_get self.new.terms id
+            ≡ Some (named_equation ty (term_at self.old.terms a) (term_at self.old.terms b)))) }
         ensures not_function { result ≢ Err TermFault.NotFunction }
-        ensures argument_type { result ≡ Err TermFault.ArgumentType → named_type numbers (term_at self.old.terms a) ≢ named_type numbers (term_at self.old.terms b) }
+        ensures argument_type { result ≡ Err TermFault.ArgumentType
+            → named_type numbers (term_at self.old.terms a) ≢ named_type numbers (term_at self.old.terms b) }
         ensures nesting { result ≡ Err TermFault.Nesting → (ty : Ty ℕ)
-            × (named_type numbers (term_at self.old.terms a) ≡ Some ty) × (named_type numbers (term_at self.old.terms b) ≡ Some ty)
+            × (named_type numbers (term_at self.old.terms a) ≡ Some ty)
+            × (named_type numbers (term_at self.old.terms b) ≡ Some ty)
             × (is_within_limit (named_equation ty (term_at self.old.terms a) (term_at self.old.terms b)) ≡ false) }
         ensures grows { Grows self.old self.new }
         ensures names { NamesUpTo 3 self.old self.new }
@@ -51,8 +55,11 @@ impl Terms {
     /// `a -> (a -> bool)`.
     pub fn as_eq(&self, id: TermId) -> Option<(TermId, TermId)>
         requires { id < length self.now.terms }
-        ensures none { IfNone result ((ty : Ty ℕ) (a b : Named ℕ) → term_at self.now.terms id ≢ named_equation ty a b) }
-        ensures sides { IfSome result (λ p. (ty : Ty ℕ) × (term_at self.now.terms id ≡ named_equation ty (term_at self.now.terms p.0) (term_at self.now.terms p.1))) }
+        ensures none { IfNone result
+            ((ty : Ty ℕ) (a b : Named ℕ) → term_at self.now.terms id ≢ named_equation ty a b) }
+        ensures sides { IfSome result (λ p. (ty : Ty ℕ)
+            × (term_at self.now.terms id ≡ named_equation ty (term_at self.now.terms p.0)
+            (term_at self.now.terms p.1))) }
         ensures below { IfSome result (λ p. (p.0 < id) × (p.1 < id)) }
     {
         let TermNode::App(left, b) = *self.node(id) else {
@@ -111,8 +118,12 @@ impl Terms {
         requires b { b < length self.old.terms }
         requires typed_a { named_type numbers (term_at self.old.terms a) ≡ Some (type_at self.old.types ty) }
         requires typed_b { named_type numbers (term_at self.old.terms b) ≡ Some (type_at self.old.types ty) }
-        ensures ok { IfOk result (λ id. slice_get self.new.terms id ≡ Some (named_equation (type_at self.old.types ty) (term_at self.old.terms a) (term_at self.old.terms b))) }
-        ensures nesting { result ≡ Err TableFault.Nesting → is_within_limit (named_equation (type_at self.old.types ty) (term_at self.old.terms a) (term_at self.old.terms b)) ≡ false }
+        ensures ok { IfOk result
+            (λ id. slice_get self.new.terms id ≡ Some
+            (named_equation (type_at self.old.types ty) (term_at self.old.terms a) (term_at self.old.terms b))) }
+        ensures nesting { result ≡ Err TableFault.Nesting
+            → is_within_limit (named_equation (type_at self.old.types ty) (term_at self.old.terms a)
+            (term_at self.old.terms b)) ≡ false }
         ensures grows { Grows self.old self.new }
         ensures names { NamesUpTo 3 self.old self.new }
         ensures table { IsTermTable self.new }
@@ -126,7 +137,8 @@ impl Terms {
     fn equality(&mut self, ty: TypeId) -> Result<Equality, TableFault>
         requires { ty < length self.old.types }
         ensures ok { IfOk result (IsEquality self.new (type_at self.old.types ty)) }
-        ensures nesting { result ≡ Err TableFault.Nesting → depth_limit < depth_ty numbers (equality_ty (type_at self.old.types ty)) }
+        ensures nesting { result ≡ Err TableFault.Nesting → depth_limit
+            < depth_ty numbers (equality_ty (type_at self.old.types ty)) }
         ensures grows { Grows self.old self.new }
         ensures names { NamesUpTo 3 self.old self.new }
         ensures table { IsTermTable self.new }

@@ -24,7 +24,9 @@ impl Terms {
     pub fn free_vars(&self, alloc: Global, id: TermId) -> Result<Vec<VarKey>, Memory>
         requires { id < length self.now.terms }
         ensures within { IfOk result (λ vars. All (λ v. v.ty < length self.now.types) vars.items) }
-        ensures free { IfOk result (λ vars. (w : Variable ℕ) → IsMember w (map (variable_of self.now.types) vars.items) ↔ IsFree numbers w (nameless numbers (term_at self.now.terms id))) }
+        ensures free { IfOk result
+            (λ vars. (w : Variable ℕ) → IsMember w (map (variable_of self.now.types) vars.items)
+            ↔ IsFree numbers w (nameless numbers (term_at self.now.terms id))) }
         ensures once { IfOk result (λ vars. AreDistinct vars.items) }
     {
         let keys = self.free_keys(alloc, id)?;
@@ -35,7 +37,9 @@ impl Terms {
     pub fn free_named(&self, alloc: Global, name: NameId, id: TermId) -> Result<Vec<VarKey>, Memory>
         requires { id < length self.now.terms }
         ensures within { IfOk result (λ vars. All (λ v. v.ty < length self.now.types) vars.items) }
-        ensures free { IfOk result (λ vars. (w : Variable ℕ) → IsMember w (map (variable_of self.now.types) vars.items) ↔ ((w.name ≡ name) × IsFree numbers w (nameless numbers (term_at self.now.terms id)))) }
+        ensures free { IfOk result
+            (λ vars. (w : Variable ℕ) → IsMember w (map (variable_of self.now.types) vars.items)
+            ↔ ((w.name ≡ name) × IsFree numbers w (nameless numbers (term_at self.now.terms id)))) }
         ensures once { IfOk result (λ vars. AreDistinct vars.items) }
     {
         let types = self.types_of_name(alloc, name, id)?;
@@ -46,7 +50,8 @@ impl Terms {
     pub fn is_free(&self, alloc: Global, v: &VarKey, id: TermId) -> Result<bool, Memory>
         requires ty { v.now.ty < length self.now.types }
         requires term { id < length self.now.terms }
-        ensures { IfOk result (λ free. free ≡ is_free numbers (variable_of self.now.types v.now) (nameless numbers (term_at self.now.terms id))) }
+        ensures { IfOk result (λ free. free ≡ is_free numbers (variable_of self.now.types v.now)
+            (nameless numbers (term_at self.now.terms id))) }
     {
         let types = self.types_of_name(alloc, v.name, id)?;
         Ok(types.contains(&v.ty))

@@ -20,7 +20,8 @@ impl Terms {
     /// The names of the type variables of a term, each once. A subterm or a type that is shared is looked at once.
     pub fn type_vars(&self, alloc: Global, id: TermId) -> Result<Vec<NameId>, Memory>
         requires { id < length self.now.terms }
-        ensures names { IfOk result (λ names. IsSameSet names.items (vars_tm numbers (nameless numbers (term_at self.now.terms id)))) }
+        ensures names { IfOk result (λ names. IsSameSet names.items
+            (vars_tm numbers (nameless numbers (term_at self.now.terms id)))) }
         ensures once { IfOk result (λ names. AreDistinct names.items) }
     {
         let terms = self.subterms(alloc, id)?;
@@ -32,7 +33,8 @@ impl Terms {
     /// that is shared is looked at once.
     pub fn symbols(&self, alloc: Global, id: TermId) -> Result<Vec<Symbol>, Memory>
         requires { id < length self.now.terms }
-        ensures symbols { IfOk result (λ symbols. IsSameSet (map symbol_of symbols.items) (symbols_tm numbers (nameless numbers (term_at self.now.terms id)))) }
+        ensures symbols { IfOk result (λ symbols. IsSameSet (map symbol_of symbols.items)
+            (symbols_tm numbers (nameless numbers (term_at self.now.terms id)))) }
         ensures once { IfOk result (λ symbols. AreDistinct symbols.items) }
     {
         let terms = self.subterms(alloc, id)?;
@@ -46,7 +48,8 @@ impl Terms {
     // Adds the symbol of each constant among the terms.
     fn add_constants(&self, ids: &[TermId], symbols: &mut Vec<Symbol>) -> Result<(), Memory>
         requires { All (λ i. i < length self.now.terms) ids.now }
-        ensures { OnOk result (symbols.new.items ≡ symbols.old.items ++ flat_map (λ i. constant_of (term_at self.now.terms i)) ids.now) }
+        ensures { OnOk result (symbols.new.items ≡ symbols.old.items
+            ++ flat_map (λ i. constant_of (term_at self.now.terms i)) ids.now) }
     {
         for id in ids {
             if let TermNode::Const(name, _) = *self.node(*id) {
@@ -77,7 +80,8 @@ fn variable_names(alloc: Global, types: &Types, ids: &[TypeId]) -> Result<Vec<Na
 // Adds the symbol of the operator of each type that has one.
 fn add_operators(types: &Types, ids: &[TypeId], symbols: &mut Vec<Symbol>) -> Result<(), Memory>
     requires { All (λ i. i < length types.now) ids.now }
-    ensures { OnOk result (symbols.new.items ≡ symbols.old.items ++ flat_map (λ i. operator_of (type_at types.now i)) ids.now) }
+    ensures { OnOk result
+        (symbols.new.items ≡ symbols.old.items ++ flat_map (λ i. operator_of (type_at types.now i)) ids.now) }
 {
     for id in ids {
         if let TypeNode::Op(name, _) = types.node(*id) {

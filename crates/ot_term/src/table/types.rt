@@ -25,12 +25,14 @@ impl Terms {
         self.types.var(name)
     }
 
-    /// The type of an operator and its arguments, which are of this table. `Nesting` where the type would be deeper than
-    /// 4,096; a refusal leaves the table as it was.
+    /// The type of an operator and its arguments, which are of this table. `Nesting` where the type would be deeper
+    /// than 4,096; a refusal leaves the table as it was.
     pub fn type_op(&mut self, name: NameId, args: &[TypeId]) -> Result<TypeId, TableFault>
         requires { All (λ i. i < length self.old.types) args.now }
-        ensures ok { IfOk result (λ id. slice_get self.new.types id ≡ Some (TyOp name (types_at self.old.types args.now))) }
-        ensures nesting { result ≡ Err TableFault.Nesting → depth_limit < depth_ty numbers (TyOp name (types_at self.old.types args.now)) }
+        ensures ok { IfOk result
+            (λ id. slice_get self.new.types id ≡ Some (TyOp name (types_at self.old.types args.now))) }
+        ensures nesting { result ≡ Err TableFault.Nesting → depth_limit
+            < depth_ty numbers (TyOp name (types_at self.old.types args.now)) }
         ensures terms { self.new.terms ≡ self.old.terms }
         ensures grows { Grows self.old self.new }
         ensures names { NamesUpTo (name + 1) self.old self.new }
@@ -44,8 +46,10 @@ impl Terms {
     pub fn type_fun(&mut self, a: TypeId, b: TypeId) -> Result<TypeId, TableFault>
         requires from { a < length self.old.types }
         requires to { b < length self.old.types }
-        ensures ok { IfOk result (λ id. slice_get self.new.types id ≡ Some (fun_ty numbers (type_at self.old.types a) (type_at self.old.types b))) }
-        ensures nesting { result ≡ Err TableFault.Nesting → depth_limit < depth_ty numbers (fun_ty numbers (type_at self.old.types a) (type_at self.old.types b)) }
+        ensures ok { IfOk result (λ id. slice_get self.new.types id
+            ≡ Some (fun_ty numbers (type_at self.old.types a) (type_at self.old.types b))) }
+        ensures nesting { result ≡ Err TableFault.Nesting → depth_limit
+            < depth_ty numbers (fun_ty numbers (type_at self.old.types a) (type_at self.old.types b)) }
         ensures terms { self.new.terms ≡ self.old.terms }
         ensures grows { Grows self.old self.new }
         ensures names { NamesUpTo 1 self.old self.new }
@@ -67,13 +71,16 @@ impl Terms {
         self.types.boolean()
     }
 
-    /// The instance of a type: each variable that the substitution holds gives way to its type. The substitution's types
-    /// are of this table. `Nesting` where the instance would be deeper than 4,096; a refusal may leave more types.
+    /// The instance of a type: each variable that the substitution holds gives way to its type. The substitution's
+    /// types are of this table. `Nesting` where the instance would be deeper than 4,096; a refusal may leave more
+    /// types.
     pub fn type_inst(&mut self, s: &TypeSubst, id: TypeId) -> Result<TypeId, TableFault>
         requires id { id < length self.old.types }
         requires pairs { All (λ p. p.1 < length self.old.types) s.now }
-        ensures ok { IfOk result (λ r. slice_get self.new.types r ≡ Some (inst numbers (images self.old.types s.now) (type_at self.old.types id))) }
-        ensures nesting { result ≡ Err TableFault.Nesting → depth_limit < depth_ty numbers (inst numbers (images self.old.types s.now) (type_at self.old.types id)) }
+        ensures ok { IfOk result (λ r. slice_get self.new.types r
+            ≡ Some (inst numbers (images self.old.types s.now) (type_at self.old.types id))) }
+        ensures nesting { result ≡ Err TableFault.Nesting → depth_limit
+            < depth_ty numbers (inst numbers (images self.old.types s.now) (type_at self.old.types id)) }
         ensures terms { self.new.terms ≡ self.old.terms }
         ensures grows { Grows self.old self.new }
         ensures names { NamesUpTo 0 self.old self.new }

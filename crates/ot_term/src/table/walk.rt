@@ -21,7 +21,8 @@ impl Terms {
     // The numbers of a term and of all its subterms, each once, the greatest first.
     pub(super) fn subterms(&self, alloc: Global, id: TermId) -> Result<Vec<TermId>, Memory>
         requires { id < length self.now.terms }
-        ensures { IfOk result (λ ids. AreFound (term_at self.now.terms) (length self.now.terms) (λ u. IsSubterm u (term_at self.now.terms id)) ids.items) }
+        ensures { IfOk result (λ ids. AreFound (term_at self.now.terms) (length self.now.terms)
+            (λ u. IsSubterm u (term_at self.now.terms id)) ids.items) }
     {
         let mut found = Vec::new(alloc);
         let mut pending = BTreeSet::new(alloc);
@@ -48,7 +49,8 @@ impl Terms {
     // The numbers of the types that stand in the terms, and of all types inside these, each once, the greatest first.
     pub(super) fn types_in(&self, alloc: Global, ids: &[TermId]) -> Result<Vec<TypeId>, Memory>
         requires { All (λ i. i < length self.now.terms) ids.now }
-        ensures { IfOk result (λ types. AreFound (type_at self.now.types) (length self.now.types) (IsMentioned self.now ids.now) types.items) }
+        ensures { IfOk result (λ types. AreFound (type_at self.now.types) (length self.now.types)
+            (IsMentioned self.now ids.now) types.items) }
     {
         let pending = self.own_types(alloc, ids)?;
         self.subtypes(alloc, pending)
@@ -72,7 +74,8 @@ impl Terms {
     fn own_type(&self, id: TermId) -> Option<TypeId>
         requires { id < length self.now.terms }
         ensures { MatchOption result (own_type (term_at self.now.terms id) ≡ None)
-            (λ ty. (ty < length self.now.types) × (own_type (term_at self.now.terms id) ≡ Some (type_at self.now.types ty))) }
+            (λ ty. (ty < length self.now.types)
+            × (own_type (term_at self.now.terms id) ≡ Some (type_at self.now.types ty))) }
     {
         match *self.node(id) {
             TermNode::Var(v) => Some(v.ty),
@@ -85,7 +88,8 @@ impl Terms {
     // The numbers of types and of all types inside them, each once, the greatest first.
     fn subtypes(&self, alloc: Global, mut pending: BTreeSet<TypeId>) -> Result<Vec<TypeId>, Memory>
         requires { All (λ k. k < length self.now.types) pending.keys }
-        ensures { IfOk result (λ types. AreFound (type_at self.now.types) (length self.now.types) (IsInsideSome (type_at self.now.types) IsSubtype pending.keys) types.items) }
+        ensures { IfOk result (λ types. AreFound (type_at self.now.types) (length self.now.types)
+            (IsInsideSome (type_at self.now.types) IsSubtype pending.keys) types.items) }
     {
         let mut found = Vec::new(alloc);
         while let Some(next) = pending.pop_last() {

@@ -1,4 +1,5 @@
-ghost use Rattle.std.specs.Prelude.{◌≡◌, ◌<◌, ◌++◌, ◌∷◌, [], ◌⊎◌, Some, slice_get, slice_index_or, length, map, IfOk, OnOk, OnErr};
+ghost use Rattle.std.specs.Prelude.{◌≡◌, ◌<◌, ◌++◌, ◌∷◌, [], ◌⊎◌, Some, slice_get, slice_index_or, length, map, IfOk};
+ghost use Rattle.std.specs.Prelude.{OnOk, OnErr};
 ghost use Rattle.std.specs.List.{All};
 ghost use Rattle.ot_plain.specs.Table.{IsInjective};
 ghost use Rattle.ot_trace.specs.Origins.{Make, Define, operand, symbols};
@@ -17,7 +18,8 @@ impl Trace {
     pub fn make(&mut self, word: Cmd, operands: &[StepId]) -> Result<StepId, Memory>
         requires { All (λ i. i < length self.old) operands.now }
         ensures ok { IfOk result (λ id. slice_get self.new id ≡ Some (Make word (origins_at self.old operands.now))) }
-        ensures grown { OnOk result ((self.new ≡ self.old) ⊎ (self.new ≡ self.old ++ Make word (origins_at self.old operands.now) ∷ [])) }
+        ensures grown { OnOk result ((self.new ≡ self.old)
+            ⊎ (self.new ≡ self.old ++ Make word (origins_at self.old operands.now) ∷ [])) }
         ensures err { OnErr result (self.new ≡ self.old) }
         ensures once { IsInjective self.new }
     {
@@ -39,8 +41,10 @@ impl Trace {
         requires operands { All (λ i. i < length self.old) operands.now }
         requires defined { All (λ i. i < length self.old) defined.now }
         requires symbols { map (origin_at self.old) defined.now ≡ symbols (Define word (origins_at self.old operands.now)) }
-        ensures ok { IfOk result (λ id. slice_get self.new id ≡ Some (Define word (origins_at self.old operands.now))) }
-        ensures grown { OnOk result ((self.new ≡ self.old) ⊎ (self.new ≡ self.old ++ Define word (origins_at self.old operands.now) ∷ [])) }
+        ensures ok { IfOk result
+            (λ id. slice_get self.new id ≡ Some (Define word (origins_at self.old operands.now))) }
+        ensures grown { OnOk result ((self.new ≡ self.old)
+            ⊎ (self.new ≡ self.old ++ Define word (origins_at self.old operands.now) ∷ [])) }
         ensures err { OnErr result (self.new ≡ self.old) }
         ensures once { IsInjective self.new }
     {

@@ -21,14 +21,16 @@ impl Types {
 
     /// The instance of a type: each variable that the substitution holds gives way to its type, all at once.
     ///
-    /// The substitution's types are of this table. `Nesting` comes exactly where the instance is nested deeper than 4,096.
-    /// After a refusal the table may hold more types. A type variable, and a type in which none stands, is answered at once,
-    /// and a type that is shared is worked on once in a call.
+    /// The substitution's types are of this table. `Nesting` comes exactly where the instance is nested deeper than
+    /// 4,096. After a refusal the table may hold more types. A type variable, and a type in which none stands, is
+    /// answered at once, and a type that is shared is worked on once in a call.
     pub fn inst(&mut self, s: &TypeSubst, id: TypeId) -> Result<TypeId, TableFault>
         requires id { id < length self.old }
         requires pairs { All (λ p. p.1 < length self.old) s.now }
-        ensures ok { IfOk result (λ r. slice_get self.new r ≡ Some (inst numbers (images self.old s.now) (type_at self.old id))) }
-        ensures nesting { result ≡ Err TableFault.Nesting → depth_limit < depth_ty numbers (inst numbers (images self.old s.now) (type_at self.old id)) }
+        ensures ok { IfOk result
+            (λ r. slice_get self.new r ≡ Some (inst numbers (images self.old s.now) (type_at self.old id))) }
+        ensures nesting { result ≡ Err TableFault.Nesting → depth_limit
+            < depth_ty numbers (inst numbers (images self.old s.now) (type_at self.old id)) }
         ensures names { names_in self.new ≤ names_in self.old }
         ensures extends { Extends self.old self.new }
         ensures table { IsTypeTable self.new }
@@ -64,8 +66,10 @@ impl Types {
         requires pairs { All (λ p. p.1 < length self.old) s.now }
         requires memo { IsMemo self.old (images self.old s.now) done.now.entries }
         requires args { KnowsArgs self.old id done.now.entries }
-        ensures ok { IfOk result (λ r. slice_get self.new r ≡ Some (inst numbers (images self.old s.now) (type_at self.old id))) }
-        ensures nesting { result ≡ Err TableFault.Nesting → depth_limit < depth_ty numbers (inst numbers (images self.old s.now) (type_at self.old id)) }
+        ensures ok { IfOk result
+            (λ r. slice_get self.new r ≡ Some (inst numbers (images self.old s.now) (type_at self.old id))) }
+        ensures nesting { result ≡ Err TableFault.Nesting → depth_limit
+            < depth_ty numbers (inst numbers (images self.old s.now) (type_at self.old id)) }
         ensures names { names_in self.new ≤ names_in self.old }
         ensures extends { Extends self.old self.new }
         ensures table { IsTypeTable self.new }
