@@ -1,6 +1,6 @@
 -- Running a written article.
-use Rattle.std.proofs.Common.{◌≡◌, ◌≢◌, ℕ, zero, suc, ◌<◌, inl, inr, Bool, true, false, cond, List, [], ◌∷◌, ◌++◌, map, Option, None, Some, Ok, refl, sym, ap, subst, ◌∙◌, arith, append_assoc}
-use Rattle.std.proofs.lemmas.List.{append-nil}
+use Rattle.std.proofs.Common.{◌≡◌, ◌≢◌, ℕ, zero, suc, ◌<◌, inl, inr, Bool, true, false, cond, List, [], ◌∷◌, ◌++◌, Option, None, Some, Ok, refl, sym, ap, subst, ◌∙◌, arith, append_assoc}
+use Rattle.std.proofs.lemmas.List.{append-nil, map_push}
 use Rattle.std.proofs.lemmas.Bool.Decides.{eqb_tells}
 use Rattle.std.specs.Bool.{Decides}
 use Rattle.std.specs.List.{flat_map}
@@ -22,13 +22,14 @@ use Rattle.ot_trace.specs.Origins.{Roots}
 use Rattle.ot_written.proofs.Settled.{IsTheoremOf, EachOutcome, EachOutcomes}
 use Rattle.ot_article.specs.Article.{origins_made}
 use Rattle.ot_article.proofs.Writable.{AreWritable, AreExports, roots_in}
-use Rattle.ot_written.proofs.Members.{member-cases, member-last}
 use Rattle.ot_written.proofs.Growth.{flat_map-snoc, Grows, grows-refl, grows-trans, grows-put, grows-make, grows-emit, made-store, grows-pops, grows-outcomes, made-definition, grows-definition, grows-definitions, grows-exports, outcome-mono, outcomes-mono}
-use Rattle.ot_article.proofs.Frames.{entry, bind-ok, objects_of}
+use Rattle.ot_article.proofs.Frames.{entry, objects_of}
 use Rattle.ot_article.proofs.Fewer.{definition-less}
 use Rattle.ot_article.proofs.Simulated.{made_by, defined_by, IsWritten}
 use Rattle.ot_article.proofs.Making.{declare-written, pops-written, outcomes-written, export-written}
 use Rattle.ot_article.proofs.Emitted.{IsClean, clean-front, paired, paired-is, emit-runs, emit_all-runs}
+use Rattle.ot_plain.proofs.Members.{IsMember-cases, IsMember-last}
+use Rattle.ot_plain.proofs.Results.{bind-ok}
 
 module _ (same : Origin Name → Origin Name → Bool) (keep : Origin Name → Bool) where
   -- the definitions among what a text made
@@ -80,7 +81,7 @@ module _ {N : Type 0} (same : Origin N → Origin N → Bool) (keep used : Origi
       ]
     where
       stored-there : (b : Bool) (o : Origin N) (t : Text N) → b ≡ true → IsMember o (cond b (w.store same o t) t).stored
-      stored-there true o t h = member-last o t.stored
+      stored-there true o t h = IsMember-last o t.stored
       stored-there false o t h = absurd (cc)
 
   -- the theorems of the definitions so far are stored
@@ -91,7 +92,7 @@ module _ {N : Type 0} (same : Origin N → Origin N → Bool) (keep used : Origi
   theorems-definition es c os t h r x =
       let d : Origin N = Define c os in
       let mid : Text N = w.make same d (Order c) (w.emit_all same keep os t) in
-      elim (member-cases (Define x.word x.operands) es (d ∷ []) x.of) [
+      elim (IsMember-cases (Define x.word x.operands) es (d ∷ []) x.of) [
         | inl old ↦ (grows-definition same keep used d t).stored r (h r (record { place = x.place; word = x.word; operands = x.operands; is = x.is; of = old; within = x.within; has_use = x.has_use }))
         | inr new ↦ elim new [
           | inl e ↦
@@ -104,10 +105,6 @@ module _ {N : Type 0} (same : Origin N → Origin N → Bool) (keep used : Origi
           | inr none ↦ absurd none
         ]
       ]
-
-map-snoc : {X Y : Type 0} (f : X → Y) (xs : List X) (x : X) → map f (xs ++ x ∷ []) ≡ map f xs ++ f x ∷ []
-map-snoc f [] x = refl
-map-snoc f (y ∷ xs) x = ap (λ l. f y ∷ l) (map-snoc f xs x)
 
 module _ (same : Origin Name → Origin Name → Bool) (same-is : (a b : Origin Name) → Decides (same a b) (a ≡ b)) (keep used : Origin Name → Bool) where
   definition-runs : (earlier : List Made) (c : Cmd) (os : Origins Name) (x : Definition Name) (t : Text Name) → EachOutcomes (IsTheoremOf used (origins_made earlier)) os → definition_of (definitions_of earlier) (Define c os) ≡ Ok x
@@ -152,7 +149,7 @@ module _ (same : Origin Name → Origin Name → Bool) (same-is : (a b : Origin 
       let done : AreRun (es ++ n ∷ []) (w.emit_definition same keep used d t) = record {
         wrote = definition-runs es c os m.definition t settled accepted_d i.defined i.has clean_d i.wrote;
         defined = ap (flat_map defined_by) (made-definition same keep used c os t) ∙ flat_map-snoc defined_by (w.emit_all same keep os t).made d ∙ (λ j. (defined-emit_all same keep os t ∙ i.defined) j ++ made_by d (own j));
-        has = subst (λ l. HasTheorems same keep used l (w.emit_definition same keep used d t)) (sym (map-snoc (λ (z : Made). z.origin) es n)) (theorems-definition same keep used (origins_made es) c os t i.has);
+        has = subst (λ l. HasTheorems same keep used l (w.emit_definition same keep used d t)) (sym (map_push (λ (z : Made). z.origin) es n)) (theorems-definition same keep used (origins_made es) c os t i.has);
       } in
       subst (λ (z : Made). AreRun (es ++ z ∷ []) (w.emit_definition same keep used z.origin t)) (sym m_is) done
 

@@ -13,7 +13,7 @@ use Rattle.ot_trace.specs.Reach.{IsReached}
 use Rattle.ot_written.specs.Needed.{needed_definitions, needed_origins}
 use Rattle.ot_written.specs.Written.{Text, written}
 use Rattle.ot_written.specs.Uses.{IsEnough, article_by, has_use}
-use Rattle.ot_written.proofs.Members.{member-cases, member-get}
+use Rattle.ot_written.proofs.Members.{member-get}
 use Rattle.ot_written.proofs.Filters.{member-flat_map, flat_map-member}
 use Rattle.ot_written.proofs.Settled.{IsNeededList}
 use Rattle.ot_written.proofs.NeededDefinitions.{firsts-to, firsts-from, needed-reached, reached-needed, needed-distinct, origin-reached, reached-origin, reached-among}
@@ -32,11 +32,12 @@ use Rattle.ot_article.proofs.Writable.{roots_in, IsNeeded, IsArticleOf, AxiomsAp
 use Rattle.ot_article.proofs.Bytes.{bytes-run}
 use Rattle.ot_article.proofs.Readable.{AreSayable, written-readable}
 use Rattle.ot_article.proofs.KeptDefinitions.{made-origins}
-use Rattle.ot_article.proofs.Rests.{reached-apart, reached-rests, is-define, at-of, all-member}
+use Rattle.ot_article.proofs.Rests.{reached-apart, reached-rests, is-define, at-of}
 use Rattle.ot_article.proofs.Fewer.{definition-less}
 use Rattle.ot_article.proofs.Numberless.{numberless, defined-numberless, each-pure, term-pure}
 use Rattle.ot_article.proofs.FromLawful.{are-writable, are-exports, roots-rest, roots-exports}
 use Rattle.ot_article.proofs.Whole.{written-law}
+use Rattle.ot_plain.proofs.Members.{All-at_member, IsMember-cases}
 
 module _ (IsNamed : Name → Type 0) (same : Origin Name → Origin Name → Bool) (same-is : (a b : Origin Name) → Decides (same a b) (a ≡ b)) (r : RunState) (es : List Export) (keep : Origin Name → Bool) (lawful : IsLawfulRun IsNamed r)
     (exports : All (IsLawfulExport (run_basis IsNamed r)) es) (stated : All StatesSequent es) (apart : AreApart (λ (e : Export). e.sequent) es) (enough : IsEnough same (export_roots es) (origins_made r.definitions) keep) where
@@ -91,10 +92,10 @@ needed-numberless IsNamed same same-is r es lawful exports k m =
     let its_ds : List (Origin Name) = origins_made r.definitions in
     let its_found : List (Origin Name) = needed_definitions same its_roots its_ds in
     let x = member-flat_map (Number k) parts (its_found ++ its_roots) (firsts-to same same-is (Number k) (flat_map parts (its_found ++ its_roots)) m) in
-    elim (member-cases x.0 its_found its_roots x.1) [
+    elim (IsMember-cases x.0 its_found its_roots x.1) [
       | inl f ↦ (let a = at-of IsNamed r lawful x.0 (needed-reached same same-is its_roots its_ds x.0 f).0 in
           defined-numberless a.made.origin a.made.definition k (definition-less [] _ (λ y z. elim z [ ]) a.made.origin a.made.definition a.lawful_is.accepted) (subst (λ z. IsMember (Number k) (parts z)) (sym a.origin_is) x.2))
-      | inr y ↦ roots-exports (λ o. ¬ (IsMember (Number k) (parts o))) es (λ e n. let l = all-member (IsLawfulExport (run_basis IsNamed r)) es e exports n in (
+      | inr y ↦ roots-exports (λ o. ¬ (IsMember (Number k) (parts o))) es (λ e n. let l = All-at_member (IsLawfulExport (run_basis IsNamed r)) es e exports n in (
         numberless e.roots.theorem (theorem e.sequent) k l.proved.value_is tt,
         numberless e.roots.list (list l.objects) k l.listed.value_is (each-pure as_term term-pure l.objects l.hyps l.are_terms),
         numberless e.roots.term (term l.concl) k l.stated.value_is tt,

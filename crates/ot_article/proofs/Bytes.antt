@@ -29,8 +29,8 @@ use Rattle.ot_plain.specs.Answers.{◌>>=◌}
 use Rattle.ot_machine.specs.Run as articles
 use Rattle.ot_written.specs.Bytes.{line_text, line_bytes, bytes_of}
 use Rattle.ot_article.proofs.LineRun.{IsReadable, AreReadable}
-use Rattle.ot_article.proofs.Frames.{bind-ok}
 use Rattle.ot_article.proofs.LineTexts.{all_digits, digit-range, and-left, and-right, decimal-read, negative-read, range-pos, range-neg, order-read, name-back, spelled-read}
+use Rattle.ot_plain.proofs.Results.{bind-ok}
 
 -- ---- pieces
 

@@ -21,8 +21,9 @@ use Rattle.ot_machine.specs.Rows.{theorem_entries, definitions_of, constant_entr
 use Rattle.ot_machine.specs.Step.{word_row}
 use Rattle.ot_article.proofs.Operands.{const_given, list_given, type_given, given_by}
 use Rattle.ot_written.specs.Written.{theorem_count, symbol_count}
-use Rattle.ot_article.proofs.Frames.{objects_of, bind-ok, entry-here, dropped-here}
+use Rattle.ot_article.proofs.Frames.{objects_of, entry-here, dropped-here}
 use Rattle.ot_article.proofs.RowsHere.{with_stack, AreFit, origin-name}
+use Rattle.ot_plain.proofs.Results.{bind-ok}
 
 -- ---- how many theorems a definition has
 

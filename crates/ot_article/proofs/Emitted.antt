@@ -15,12 +15,14 @@ use Rattle.ot_written.specs.Written as w
 use Rattle.ot_written.specs.Written.{Line, Numeral, Spelled, Order, Text}
 use Rattle.ot_written.proofs.Settled.{EachOutcome, EachOutcomes}
 use Rattle.ot_article.proofs.Writable.{AxiomsApart}
-use Rattle.ot_written.proofs.Members.{member-left, distinct-front, distinct-fresh}
+use Rattle.ot_written.proofs.Members.{distinct-front, distinct-fresh}
 use Rattle.ot_written.proofs.Growth.{Grows, grows-make, grows-emit, grows-emit_all, made-store, outcomes-mono, key-get, key-none}
-use Rattle.ot_article.proofs.Frames.{objects_of, entry, bind-ok}
+use Rattle.ot_article.proofs.Frames.{objects_of, entry}
 use Rattle.ot_article.proofs.RowsHere.{AreFit}
 use Rattle.ot_article.proofs.Simulated.{IsWritten, number-written, name-written, recall-written}
 use Rattle.ot_article.proofs.Making.{word-written, stored-where}
+use Rattle.ot_plain.proofs.Members.{IsMember-left}
+use Rattle.ot_plain.proofs.Results.{bind-ok}
 
 -- what a text made is distinct, and its axioms are apart
 pub record IsClean (ms : List (Origin Name)) : Type 0 where
@@ -31,7 +33,7 @@ pub clean-front : (t u : Text Name) → Grows t u → IsClean u.made → IsClean
 clean-front t u g c =
     let d : AreDistinct (t.made ++ g.more) = subst (λ l. AreDistinct l) g.made c.distinct in
     let p : AxiomsApart (t.made ++ g.more) = subst AxiomsApart g.made c.apart in
-    record { distinct = distinct-front t.made g.more d; apart = λ a b v u x y. p a b v u (member-left a t.made g.more x) (member-left b t.made g.more y) }
+    record { distinct = distinct-front t.made g.more d; apart = λ a b v u x y. p a b v u (IsMember-left a t.made g.more x) (IsMember-left b t.made g.more y) }
 
 -- the entries of origins with their values
 abbrev pub paired : Origins Name → List Object → List Entry

@@ -19,15 +19,7 @@ use Rattle.ot_trace.specs.Origins.{Origin, Define}
 use Rattle.ot_machine.specs.Makers.{Read}
 use Rattle.ot_machine.specs.Values.{values, definition_of, defined_by, value_at, definition_arity}
 use Rattle.ot_written.proofs.Filters.{bool_cases, any-to, any-from, member-flat_map, flat_map-member}
-use Rattle.ot_article.proofs.Frames.{bind-ok}
-
-pub bind-to : {A B E : Type 0} (r : Result A E) (f : A → Result B E) (a : A) (b : Result B E) → r ≡ Ok a → f a ≡ b → (r >>= f) ≡ b
-bind-to r f a b p q = rw p q
-
--- the same first step, and what follows gives the same
-pub bind-same : {A B E : Type 0} (r : Result A E) (f g : A → Result B E) (b : B) → ((a : A) → f a ≡ Ok b → g a ≡ Ok b) → (r >>= f) ≡ Ok b → (r >>= g) ≡ Ok b
-bind-same (Err e) f g b h p = p
-bind-same (Ok a) f g b h p = h a p
+use Rattle.ot_plain.proofs.Results.{bind-ok, bind-to, bind-under}
 
 bind-first : {A B E : Type 0} (r s : Result A E) (f : A → Result B E) (b : B) → ((a : A) → r ≡ Ok a → s ≡ Ok a) → (r >>= f) ≡ Ok b → (s >>= f) ≡ Ok b
 bind-first r s f b h p = let x = bind-ok r f b p in bind-to s f x.0 (Ok b) (h x.0 x.1) x.2
@@ -87,9 +79,9 @@ module _ (es ds : List (Definition Name)) (part : IsPart es ds) where
 
   symbols-less : (premise symbols : Symbols) (x : Unit {0}) → checked_symbols names (all_defined names ds) (all_used names ds) premise symbols ≡ Ok x → checked_symbols names (all_defined names es) (all_used names es) premise symbols ≡ Ok x
   symbols-less premise symbols x p =
-      bind-same (refuse_first names Primitive (λ s. is_among names s (primitives names)) symbols) _ _ x
+      bind-under (refuse_first names Primitive (λ s. is_among names s (primitives names)) symbols) _ _ x
       (λ _ q. bind-first (refuse_defined names (all_defined names ds) symbols) (refuse_defined names (all_defined names es) symbols) _ x (defined-less symbols (all_defined names es) (all_defined names ds) less-defined)
-      (bind-same (refuse_defined names (all_defined names ds) symbols) _ _ x (λ _ r. first-less SymbolInUse _ _ (less-used premise) symbols x r) q))
+      (bind-under (refuse_defined names (all_defined names ds) symbols) _ _ x (λ _ r. first-less SymbolInUse _ _ (less-used premise) symbols x r) q))
       p
 
   const-less : (n : Name) (t : Tm Name) (x : Definition Name) → const_definition names ds n t ≡ Ok x → const_definition names es n t ≡ Ok x
@@ -99,29 +91,29 @@ module _ (es ds : List (Definition Name)) (part : IsPart es ds) where
 
   list-less : (ns : List Name) (vs : List (Variable Name)) (q : Sequent Name) (x : Definition Name) → list_definition names ds ns vs q ≡ Ok x → list_definition names es ns vs q ≡ Ok x
   list-less ns vs q x p = bind-first (checked_list names (all_defined names ds) (all_used names ds) ns vs q) (checked_list names (all_defined names es) (all_used names es) ns vs q) _ x
-      (λ u h. bind-same (unless BadDefinitionList (are_distinct names.same ns && are_distinct (same_var names) vs && (length q.hyps == length vs))) _ _ u
-      (λ _ k. bind-same (some_or BadDefinitionList (terms_given names q.hyps vs)) _ _ u
+      (λ u h. bind-under (unless BadDefinitionList (are_distinct names.same ns && are_distinct (same_var names) vs && (length q.hyps == length vs))) _ _ u
+      (λ _ k. bind-under (some_or BadDefinitionList (terms_given names q.hyps vs)) _ _ u
       (λ ts l. bind-first (checked_symbols names (all_defined names ds) (all_used names ds) (symbols_of names q) (map ConSymbol ns)) (checked_symbols names (all_defined names es) (all_used names es) (symbols_of names q) (map ConSymbol ns)) _ u
       (symbols-less (symbols_of names q) (map ConSymbol ns)) l) k) h) p
 
   type-less : (n a r : Name) (vs : List Name) (q : Sequent Name) (x : Definition Name) → type_definition names ds n a r vs q ≡ Ok x → type_definition names es n a r vs q ≡ Ok x
   type-less n a r vs q x p = bind-first (checked_type names (all_defined names ds) (all_used names ds) n a r vs q) (checked_type names (all_defined names es) (all_used names es) n a r vs q) _ x
-      (λ u h. bind-same (unless HypothesesPresent (is_empty q.hyps)) _ _ u
-      (λ _ k. bind-same (some_or NotApplication (function_of q.concl)) _ _ u
-      (λ f l. bind-same (unless BadTypeVars (are_distinct names.same vs && are_names_of names (vars_tm names f) vs)) _ _ u
+      (λ u h. bind-under (unless HypothesesPresent (is_empty q.hyps)) _ _ u
+      (λ _ k. bind-under (some_or NotApplication (function_of q.concl)) _ _ u
+      (λ f l. bind-under (unless BadTypeVars (are_distinct names.same vs && are_names_of names (vars_tm names f) vs)) _ _ u
       (λ _ m. bind-first (checked_symbols names (all_defined names ds) (all_used names ds) (symbols_of names q) (OpSymbol n ∷ ConSymbol a ∷ ConSymbol r ∷ [])) (checked_symbols names (all_defined names es) (all_used names es) (symbols_of names q) (OpSymbol n ∷ ConSymbol a ∷ ConSymbol r ∷ [])) _ u
       (symbols-less (symbols_of names q) (OpSymbol n ∷ ConSymbol a ∷ ConSymbol r ∷ [])) m) l) k) h) p
 
   by-less : (w : Cmd) (at : ℕ → Read) (x : Definition Name) → defined_by w ds at ≡ Ok x → defined_by w es at ≡ Ok x
-  by-less words.DefineConst at x p = bind-same (at 0 >>= as_term) _ _ x (λ t q. bind-same (at 1 >>= as_name) _ _ x (λ n r. const-less n t x r) q) p
+  by-less words.DefineConst at x p = bind-under (at 0 >>= as_term) _ _ x (λ t q. bind-under (at 1 >>= as_name) _ _ x (λ n r. const-less n t x r) q) p
   by-less words.DefineConstList at x p =
-      bind-same (at 0 >>= as_theorem) _ _ x (λ th q. bind-same (at 1 >>= as_list) _ _ x (λ os r. bind-same (pairs_of os) _ _ x (λ pairs s. list-less (map (λ p. p.0) pairs) (map (λ p. p.1) pairs) th x s) r) q) p
+      bind-under (at 0 >>= as_theorem) _ _ x (λ th q. bind-under (at 1 >>= as_list) _ _ x (λ os r. bind-under (pairs_of os) _ _ x (λ pairs s. list-less (map (λ p. p.0) pairs) (map (λ p. p.1) pairs) th x s) r) q) p
   by-less words.DefineTypeOp at x p =
-      bind-same (at 0 >>= as_theorem) _ _ x (λ th q. bind-same (at 1 >>= as_list >>= as_each as_name) _ _ x (λ vs r. bind-same (at 2 >>= as_name) _ _ x (λ rep s. bind-same (at 3 >>= as_name) _ _ x (λ abs t.
-      bind-same (at 4 >>= as_name) _ _ x (λ n u. type-less n abs rep vs th x u) t) s) r) q) p
+      bind-under (at 0 >>= as_theorem) _ _ x (λ th q. bind-under (at 1 >>= as_list >>= as_each as_name) _ _ x (λ vs r. bind-under (at 2 >>= as_name) _ _ x (λ rep s. bind-under (at 3 >>= as_name) _ _ x (λ abs t.
+      bind-under (at 4 >>= as_name) _ _ x (λ n u. type-less n abs rep vs th x u) t) s) r) q) p
   by-less _ at x p = absurd (cc)
 
   -- accepted after these, so after a part of them
   pub definition-less : (d : Origin Name) (x : Definition Name) → definition_of ds d ≡ Ok x → definition_of es d ≡ Ok x
-  definition-less (Define w os) x p = bind-same (values os) _ _ x (λ vs q. bind-same (unless StackEmpty (length vs == definition_arity w)) _ _ x (λ _ r. by-less w (λ n. value_at n vs) x r) q) p
+  definition-less (Define w os) x p = bind-under (values os) _ _ x (λ vs q. bind-under (unless StackEmpty (length vs == definition_arity w)) _ _ x (λ _ r. by-less w (λ n. value_at n vs) x r) q) p
   definition-less _ x p = absurd (cc)

@@ -1,11 +1,11 @@
 -- What the machine reads and takes on a stack that ends with some entries.
-use Rattle.std.proofs.Common.{◌≡◌, ℕ, suc, ◌+◌, ◌-◌, ◌<◌, true, List, [], ◌∷◌, ◌++◌, length, map, slice_get, Some, Result, Ok, Err, refl, ap, ◌∙◌, arith, length-append}
+use Rattle.std.proofs.Common.{◌≡◌, ℕ, suc, ◌+◌, ◌-◌, ◌<◌, true, List, [], ◌∷◌, ◌++◌, length, map, slice_get, Some, Ok, refl, ap, ◌∙◌, arith, length-append}
 use Rattle.std.proofs.lemmas.List.{take_at, drop_at}
 use Rattle.std.proofs.lemmas.Bool.Decides.{nat_tests}
 use Rattle.std.specs.Prelude.{nat_lt}
 use Rattle.ot_plain.specs.Names.{Name}
 use Rattle.ot_plain.specs.Faults.{StackEmpty}
-use Rattle.ot_plain.specs.Answers.{◌>>=◌, some_or}
+use Rattle.ot_plain.specs.Answers.{some_or}
 use Rattle.ot_trace.specs.Origins.{Origin, Origins}
 use Rattle.ot_machine.specs.Objects.{Object}
 use Rattle.ot_machine.specs.States.{Entry}
@@ -22,10 +22,6 @@ objects_of = map (λ e. e.object)
 
 abbrev pub entry : Object → Origin Name → Entry
 entry v p = record { object = v; origin = p }
-
-pub bind-ok : {A B E : Type 0} (r : Result A E) (f : A → Result B E) (b : B) → (r >>= f) ≡ Ok b → (a : A) × (r ≡ Ok a) × (f a ≡ Ok b)
-bind-ok (Err e) f b p = absurd (cc)
-bind-ok (Ok a) f b p = (a, refl, p)
 
 get-later : {X : Type 0} (s vs : List X) (i : ℕ) → slice_get (s ++ vs) (length s + i) ≡ slice_get vs i
 get-later [] vs i = let e : 0 + i ≡ i = omega arith in ap (slice_get vs) e

@@ -1,6 +1,6 @@
 -- The definitions and exports of a lawful run can be written.
-use Rattle.std.proofs.Common.{◌≡◌, ℕ, zero, suc, ◌<◌, ◌≤◌, inl, inr, Bool, true, false, not, cond, List, [], ◌∷◌, ◌++◌, length, map, take, slice_get, Option, None, Some, Ok, Err, refl, sym, ap, subst, ◌∙◌, arith, append_assoc}
-use Rattle.std.proofs.lemmas.List.{take_at}
+use Rattle.std.proofs.Common.{◌≡◌, ℕ, zero, suc, ◌<◌, ◌≤◌, inl, inr, Bool, true, false, not, cond, List, [], ◌∷◌, ◌++◌, length, take, slice_get, Option, None, Some, Ok, Err, refl, sym, ap, subst, ◌∙◌, arith, append_assoc}
+use Rattle.std.proofs.lemmas.List.{take_at, map_push}
 use Rattle.std.proofs.lemmas.Bool.Decides.{nat_tests}
 use Rattle.std.specs.Prelude.{◌&&◌, ◌||◌}
 use Rattle.std.specs.Bool.{Decides}
@@ -31,17 +31,20 @@ use Rattle.ot_written.specs.Needed.{is_among}
 use Rattle.ot_written.proofs.Kept.{kept, kept-is}
 use Rattle.ot_article.proofs.KeptDefinitions.{made-origins}
 use Rattle.ot_article.specs.Article.{origins_made, export_roots, needed_made}
-use Rattle.ot_written.proofs.Members.{member-left, member-right, member-cases}
 use Rattle.ot_written.proofs.Filters.{bool_cases, flat_map-member}
 use Rattle.ot_written.proofs.Counting.{count-member}
 use Rattle.ot_written.proofs.NeededDefinitions.{needed-reached, reached-needed, reached-origin}
-use Rattle.ot_article.proofs.Frames.{objects_of, bind-ok}
+use Rattle.ot_article.proofs.Frames.{objects_of}
 use Rattle.ot_article.proofs.Operands.{given-of}
 use Rattle.ot_article.proofs.DefinitionRows as rows
 use Rattle.ot_article.proofs.Emitted.{paired, paired-is}
 use Rattle.ot_article.proofs.Fewer.{definition-less}
 use Rattle.ot_written.proofs.NeededLaw.{among-to, among-from}
-use Rattle.ot_article.proofs.Rests.{all-member, member-map, map-member, define-of}
+use Rattle.ot_article.proofs.Rests.{define-of}
+use Rattle.ot_plain.proofs.Elements.{slice_get-low}
+use Rattle.ot_plain.proofs.Members.{All-at_member, IsMember-cases, IsMember-left, IsMember-right, IsPart-map}
+use Rattle.ot_plain.proofs.Results.{bind-ok}
+use Rattle.ot_plain.proofs.TableLemmas.{slice_get-append_left}
 
 abbrev made_origin : Made → Origin Name
 made_origin m = m.origin
@@ -52,11 +55,6 @@ theorems-long w os x h =
     let a = bind-ok (values os) (defines w []) x h in
     let p = paired-is os a.0 a.1 in
     (rows.defines w fresh [] (paired os a.0) x (given-of w [] (objects_of (paired os a.0)) x (ap (defines w []) p.1 ∙ a.2)) p.2).long
-
-pub get-short : {X : Type 0} (xs : List X) (j : ℕ) (x : X) → slice_get xs j ≡ Some x → j < length xs
-get-short [] j x h = absurd (cc)
-get-short (y ∷ xs) zero x h = omega arith
-get-short (y ∷ xs) (suc j) x h = let r = get-short xs j x h in omega arith
 
 pub get-middle : {X : Type 0} (xs ys : List X) (y : X) → slice_get (xs ++ y ∷ ys) (length xs) ≡ Some y
 get-middle [] ys y = refl
@@ -92,7 +90,7 @@ module _ (same : Origin Name → Origin Name → Bool) (same-is : (a b : Origin 
         let x = bind-ok (definition_of [] d) (theorem_of (suc j)) v h in
         let f = define-of [] d x.0 x.1 in
         let y = bind-ok (some_or StackEmpty (slice_get (theorems names x.0) j)) (λ q. Ok (theorem q)) v x.2 in
-        let short = get-short (theorems names x.0) j y.0 (some-is (slice_get (theorems names x.0) j) y.0 y.1) in
+        let short = slice_get-low (theorems names x.0) j y.0 (some-is (slice_get (theorems names x.0) j) y.0 y.1) in
         let long : length (theorems names x.0) ≡ theorem_count f.0 = theorems-long f.0 f.1 x.0 (ap (definition_of []) (sym f.2) ∙ x.1) in
         let there : IsMember d D = names_them d rests.0 in
         let need : is_among same d found ≡ true = among-from same same-is d found (reached-needed same same-is roots ds d (known d there) (OfTheorem (suc j) d a)) in
@@ -122,13 +120,6 @@ module _ (same : Origin Name → Origin Name → Bool) (same-is : (a b : Origin 
           let y = bind-ok (values os) (λ us. Ok (x.0 ∷ us)) vs x.2 in
           (one-settled o x.0 rests.0 x.1 (a o (inl refl)).0 (a o (inl refl)).1, all-settled os y.0 rests.1 y.1 (λ p m. a p (inr m)))
 
-pub map-snoc : {X Y : Type 0} (f : X → Y) (xs : List X) (x : X) → map f (xs ++ x ∷ []) ≡ map f xs ++ f x ∷ []
-map-snoc f [] x = refl
-map-snoc f (y ∷ xs) x = ap (λ l. f y ∷ l) (map-snoc f xs x)
-
-map-part : {X Y : Type 0} (f : X → Y) (xs ys : List X) → IsPart xs ys → IsPart (map f xs) (map f ys)
-map-part f xs ys h y m = let r = member-map f y xs m in subst (λ z. IsMember z (map f ys)) r.2 (map-member f r.0 ys (h r.0 r.1))
-
 module _ (same : Origin Name → Origin Name → Bool) (same-is : (a b : Origin Name) → Decides (same a b) (a ≡ b)) (IsNamed : Name → Type 0) (r : RunState) (lawful : IsLawfulRun IsNamed r) (roots : List (Origin Name)) where
   abbrev ds : List (Origin Name)
   ds = origins_made r.definitions
@@ -146,21 +137,21 @@ module _ (same : Origin Name → Origin Name → Bool) (same-is : (a b : Origin 
     cover : (o : Origin Name) → IsMember o (origins_made pre) → is_among same o needed_ones ≡ true → IsMember o (origins_made earlier)
 
   in-pre : (pre : List Made) (m : Made) (o : Origin Name) → IsMember o (origins_made (pre ++ m ∷ [])) → IsMember o (origins_made pre ++ m.origin ∷ [])
-  in-pre pre m o x = subst (λ l. IsMember o l) (map-snoc (λ (z : Made). z.origin) pre m) x
+  in-pre pre m o x = subst (λ l. IsMember o l) (map_push (λ (z : Made). z.origin) pre m) x
 
   kept-one : (pre earlier : List Made) (before : List (Origin Name)) (m : Made) → HasKept pre earlier before → HasKept (pre ++ m ∷ []) (earlier ++ m ∷ []) (m.origin ∷ before)
   kept-one pre earlier before m k = record {
-    before_is = λ o x. subst (λ l. IsMember o l) (sym (map-snoc (λ (z : Made). z.origin) pre m)) (elim x [ inl e ↦ member-right o (origins_made pre) (m.origin ∷ []) (inl e) | inr y ↦ member-left o (origins_made pre) (m.origin ∷ []) (k.before_is o y) ]);
-    part = λ x y. elim (member-cases x earlier (m ∷ []) y) [ inl a ↦ member-left x pre (m ∷ []) (k.part x a) | inr b ↦ member-right x pre (m ∷ []) b ];
-    cover = λ o x p. subst (λ l. IsMember o l) (sym (map-snoc (λ (z : Made). z.origin) earlier m))
-        (elim (member-cases o (origins_made pre) (m.origin ∷ []) (in-pre pre m o x)) [ inl a ↦ member-left o (origins_made earlier) (m.origin ∷ []) (k.cover o a p) | inr b ↦ member-right o (origins_made earlier) (m.origin ∷ []) b ]);
+    before_is = λ o x. subst (λ l. IsMember o l) (sym (map_push (λ (z : Made). z.origin) pre m)) (elim x [ inl e ↦ IsMember-right o (origins_made pre) (m.origin ∷ []) (inl e) | inr y ↦ IsMember-left o (origins_made pre) (m.origin ∷ []) (k.before_is o y) ]);
+    part = λ x y. elim (IsMember-cases x earlier (m ∷ []) y) [ inl a ↦ IsMember-left x pre (m ∷ []) (k.part x a) | inr b ↦ IsMember-right x pre (m ∷ []) b ];
+    cover = λ o x p. subst (λ l. IsMember o l) (sym (map_push (λ (z : Made). z.origin) earlier m))
+        (elim (IsMember-cases o (origins_made pre) (m.origin ∷ []) (in-pre pre m o x)) [ inl a ↦ IsMember-left o (origins_made earlier) (m.origin ∷ []) (k.cover o a p) | inr b ↦ IsMember-right o (origins_made earlier) (m.origin ∷ []) b ]);
   }
 
   left-one : (pre earlier : List Made) (before : List (Origin Name)) (m : Made) → (is_among same m.origin needed_ones && not (is_among same m.origin before)) ≡ false → HasKept pre earlier before → HasKept (pre ++ m ∷ []) earlier (m.origin ∷ before)
   left-one pre earlier before m left k = record {
-    before_is = λ o x. subst (λ l. IsMember o l) (sym (map-snoc (λ (z : Made). z.origin) pre m)) (elim x [ inl e ↦ member-right o (origins_made pre) (m.origin ∷ []) (inl e) | inr y ↦ member-left o (origins_made pre) (m.origin ∷ []) (k.before_is o y) ]);
-    part = λ x y. member-left x pre (m ∷ []) (k.part x y);
-    cover = λ o x p. elim (member-cases o (origins_made pre) (m.origin ∷ []) (in-pre pre m o x)) [
+    before_is = λ o x. subst (λ l. IsMember o l) (sym (map_push (λ (z : Made). z.origin) pre m)) (elim x [ inl e ↦ IsMember-right o (origins_made pre) (m.origin ∷ []) (inl e) | inr y ↦ IsMember-left o (origins_made pre) (m.origin ∷ []) (k.before_is o y) ]);
+    part = λ x y. IsMember-left x pre (m ∷ []) (k.part x y);
+    cover = λ o x p. elim (IsMember-cases o (origins_made pre) (m.origin ∷ []) (in-pre pre m o x)) [
       | inl a ↦ k.cover o a p
       | inr b ↦ elim b [
         | inl e ↦ k.cover o (k.before_is o (subst (λ z. IsMember z before) e (among-to same same-is m.origin before (seen (is_among same m.origin needed_ones) (is_among same m.origin before) (ap (λ z. is_among same z needed_ones) e ∙ p) left)))) p
@@ -184,16 +175,16 @@ module _ (same : Origin Name → Origin Name → Bool) (same-is : (a b : Origin 
       let f = define-of (definitions_of pre) m.origin m.definition accepted in
       let on : AreOn (basis_of IsNamed r.assumptions pre) f.1 = subst (RestsOn (basis_of IsNamed r.assumptions pre)) f.2 rests in
       let vs = bind-ok (values f.1) (defines f.0 (definitions_of pre)) m.definition (ap (definition_of (definitions_of pre)) (sym f.2) ∙ accepted) in
-      let in_whole : IsPart pre r.definitions = λ x y. subst (λ l. IsMember x l) (sym whole) (member-left x pre (m ∷ rest) y) in
+      let in_whole : IsPart pre r.definitions = λ x y. subst (λ l. IsMember x l) (sym whole) (IsMember-left x pre (m ∷ rest) y) in
       let reached : IsReached roots ds m.origin = (needed-reached same same-is roots ds m.origin (among-to same same-is m.origin needed_ones need)).1 in
       let reached_d : IsReached roots ds (Define f.0 f.1) = subst (IsReached roots ds) f.2 reached in
       record {
         word = f.0;
         operands = f.1;
         is = f.2;
-        settled = all-settled same same-is roots ds (basis_of IsNamed r.assumptions pre) (origins_made pre) (origins_made earlier) (λ d x. x) (map-part (λ (z : Made). z.origin) pre r.definitions in_whole) k.cover f.1 vs.0 on vs.1
+        settled = all-settled same same-is roots ds (basis_of IsNamed r.assumptions pre) (origins_made pre) (origins_made earlier) (λ d x. x) (IsPart-map (λ (z : Made). z.origin) pre r.definitions in_whole) k.cover f.1 vs.0 on vs.1
             (λ p x. (Operand (Define f.0 f.1) p reached_d x, operand-used same same-is roots ds (Define f.0 f.1) p reached_d x));
-        accepted = definition-less (definitions_of earlier) (definitions_of pre) (map-part (λ (z : Made). z.definition) earlier pre k.part) m.origin m.definition accepted;
+        accepted = definition-less (definitions_of earlier) (definitions_of pre) (IsPart-map (λ (z : Made). z.definition) earlier pre k.part) m.origin m.definition accepted;
       }
 
   writable : (rest pre earlier : List Made) (before : List (Origin Name)) → r.definitions ≡ pre ++ rest → HasKept pre earlier before → AreWritable has earlier (kept same made_origin needed_ones before rest)
@@ -230,16 +221,11 @@ exported-to q (e ∷ es) h = go (same_sequent names q e.sequent) refl h (exporte
     go true p h later = (0, e, omega arith, refl, p)
     go false p h later = let r = later h in let k : r.0 < length es = r.2 in (suc r.0, r.1, omega arith, r.3, r.4)
 
-get-front : {X : Type 0} (xs ys : List X) (i : ℕ) (x : X) → slice_get xs i ≡ Some x → slice_get (xs ++ ys) i ≡ Some x
-get-front [] ys i x h = absurd (cc)
-get-front (y ∷ xs) ys zero x h = h
-get-front (y ∷ xs) ys (suc i) x h = get-front xs ys i x h
-
 not-exported : (es pre rest : List Export) (e : Export) → es ≡ pre ++ e ∷ rest → AreApart (λ (x : Export). x.sequent) es → is_exported e.sequent pre ≡ false
 not-exported es pre rest e whole apart = elim (bool_cases (is_exported e.sequent pre)) [
   | inl h ↦ (let r = exported-to e.sequent pre h in
       let here : slice_get es (length pre) ≡ Some e = ap (λ l. slice_get l (length pre)) whole ∙ get-middle pre rest e in
-      let there : slice_get es r.0 ≡ Some r.1 = ap (λ l. slice_get l r.0) whole ∙ get-front pre (e ∷ rest) r.0 r.1 r.3 in
+      let there : slice_get es r.0 ≡ Some r.1 = ap (λ l. slice_get l r.0) whole ∙ slice_get-append_left pre (e ∷ rest) r.0 r.1 r.3 in
       let one : length pre ≡ r.0 = apart (length pre) r.0 e r.1 here there r.4 in
       let low : r.0 < length pre = r.2 in
       absurd (omega arith))
@@ -267,13 +253,13 @@ module _ (same : Origin Name → Origin Name → Bool) (same-is : (a b : Origin 
   its_definitions = origins_made (needed_made same all_roots r.definitions)
 
   pub roots-rest : (o : Origin Name) → IsMember o all_roots → RestsOn (run_basis IsNamed r) o
-  roots-rest = roots-exports (RestsOn (run_basis IsNamed r)) es (λ e m. let x = all-member (IsLawfulExport (run_basis IsNamed r)) es e exports m in (x.proved.rests, x.listed.rests, x.stated.rests))
+  roots-rest = roots-exports (RestsOn (run_basis IsNamed r)) es (λ e m. let x = All-at_member (IsLawfulExport (run_basis IsNamed r)) es e exports m in (x.proved.rests, x.listed.rests, x.stated.rests))
 
   exports-from : (rest pre : List Export) → es ≡ pre ++ rest → AreExports (has_use same all_roots (origins_made r.definitions)) its_definitions pre rest
   exports-from [] pre whole = tt
   exports-from (e ∷ rest) pre whole =
-      let m : IsMember e es = subst (λ l. IsMember e l) (sym whole) (member-right e pre (e ∷ rest) (inl refl)) in
-      let x = all-member (IsLawfulExport (run_basis IsNamed r)) es e exports m in
+      let m : IsMember e es = subst (λ l. IsMember e l) (sym whole) (IsMember-right e pre (e ∷ rest) (inl refl)) in
+      let x = All-at_member (IsLawfulExport (run_basis IsNamed r)) es e exports m in
       let roots = export-roots es e m in (
         record {
           settled = (
@@ -288,7 +274,7 @@ module _ (same : Origin Name → Origin Name → Bool) (same-is : (a b : Origin 
           list_is = x.listed.value_is;
           terms_are = x.are_terms;
           term_is = x.stated.value_is;
-          matches = all-member StatesSequent es e stated m x.objects x.hyps x.concl x.listed.value_is x.are_terms x.stated.value_is;
+          matches = All-at_member StatesSequent es e stated m x.objects x.hyps x.concl x.listed.value_is x.are_terms x.stated.value_is;
         },
         not-exported es pre rest e whole apart,
         exports-from rest (pre ++ e ∷ []) (whole ∙ sym (append_assoc pre (e ∷ []) rest)),

@@ -20,7 +20,7 @@ use Rattle.std.specs.Prelude.{if◌then◌else◌, nat_le, slice_get}
 use Rattle.ot_machine.specs.Makers.{Read, Maker, of_none, of_top, of_two, no_maker, maker, one_theorem_made, two_theorems_made}
 use Rattle.ot_machine.specs.Values.{applied, value, values, definition_of, theorem_of}
 use Rattle.ot_article.proofs.Operands.{made_of, made-of}
-use Rattle.ot_article.proofs.Frames.{bind-ok}
+use Rattle.ot_plain.proofs.Results.{bind-ok}
 
 -- what is given is of the kind
 abbrev pub Gives : Kind → Read → Type 0

@@ -26,7 +26,6 @@ use Rattle.ot_machine.specs.Marks.{mark}
 use Rattle.ot_machine.specs.Marks.{word_mark, top_origin, last_definition}
 use Rattle.ot_machine.specs.Lawful.{IsAxiom}
 use Rattle.ot_article.proofs.Writable.{AxiomsApart}
-use Rattle.ot_written.proofs.Members.{member-left, member-last}
 use Rattle.ot_written.proofs.Filters.{bool_cases, member-flat_map}
 use Rattle.ot_written.proofs.Growth.{flat_map-snoc}
 use Rattle.ot_article.proofs.Operands.{made_of, made-of, given_by, given-of}
@@ -37,6 +36,7 @@ use Rattle.ot_article.proofs.DefinitionRows.{with_definition, Defines}
 use Rattle.ot_article.proofs.DefinitionRows as rows
 use Rattle.ot_article.proofs.Runs.{moved, thm-row}
 use Rattle.ot_article.proofs.Simulated.{taken_by, assumed_by, made_by, defined_by, IsWritten, runs-on, marks-on, store-written, pop-written}
+use Rattle.ot_plain.proofs.Members.{IsMember-last, IsMember-left}
 
 -- ---- words that make an object
 
@@ -140,7 +140,7 @@ module _ (same : Origin Name → Origin Name → Bool) where
         let x = member-flat_map h assumed_by t.made m in
         let a = assumed-is h x.0 x.2 in
         elim (bool_cases (same_sequent names h.sequent q)) [
-          | inl e ↦ absurd (new (subst (λ z. IsMember z t.made) (apart x.0 o h.sequent q (member-left x.0 t.made (o ∷ []) x.1) (member-last o t.made) a.1 (os, refl) a.2 value_q e) x.1))
+          | inl e ↦ absurd (new (subst (λ z. IsMember z t.made) (apart x.0 o h.sequent q (IsMember-left x.0 t.made (o ∷ []) x.1) (IsMember-last o t.made) a.1 (os, refl) a.2 value_q e) x.1))
           | inr e ↦ e
         ] in
         let missing : given_as q i.now.run.assumptions ≡ None = ap (given_as q) i.assumptions ∙ find-none (λ (h : Given). same_sequent names h.sequent q) (flat_map assumed_by t.made) differ in

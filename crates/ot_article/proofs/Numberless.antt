@@ -20,9 +20,9 @@ use Rattle.ot_machine.specs.Substitutions.{type_pair, term_pair, types_onto, ter
 use Rattle.ot_machine.specs.DefinitionLists.{definition_pair, pairs_of}
 use Rattle.ot_machine.specs.Makers.{Read, Maker, of_none, of_top, of_two, no_maker, maker, consed, subst_made}
 use Rattle.ot_machine.specs.Values.{applied, value, values, definition_of, defines, theorem_of}
-use Rattle.ot_written.proofs.Members.{member-cases}
-use Rattle.ot_article.proofs.Frames.{bind-ok}
 use Rattle.ot_article.proofs.Operands.{made_of, made-of, const_given, list_given, type_given, given_by, given-of}
+use Rattle.ot_plain.proofs.Members.{IsMember-cases}
+use Rattle.ot_plain.proofs.Results.{bind-ok}
 
 -- no number, and no list with one
 abbrev mutual
@@ -271,7 +271,7 @@ mutual
       let b = bind-ok (values os) (λ us. Ok (a.0 ∷ us)) vs a.2 in
       let f : a.0 ∷ b.0 ≡ vs = let g : Ok (a.0 ∷ b.0) ≡ Ok vs = b.2 in cc in
       let q : EachPure (a.0 ∷ b.0) = subst EachPure (sym f) p in
-      elim (member-cases (Number k) (parts o) (parts_all os) m) [ inl x ↦ numberless o a.0 k a.1 q.0 x | inr y ↦ all-numberless os b.0 k b.1 q.1 y ]
+      elim (IsMember-cases (Number k) (parts o) (parts_all os) m) [ inl x ↦ numberless o a.0 k a.1 q.0 x | inr y ↦ all-numberless os b.0 k b.1 q.1 y ]
 
   pub defined-numberless : (d : Origin Name) (x : Definition Name) (k : ℤ) → definition_of [] d ≡ Ok x → ¬ (IsMember (Number k) (parts d))
   defined-numberless (Number j) x k h m = absurd (cc)

@@ -1,5 +1,5 @@
 -- The lines of a written article are read back.
-use Rattle.std.proofs.Common.{◌≡◌, ℕ, zero, suc, ◌+◌, ◌<◌, ◌≤◌, ◌^◌, inl, inr, Bool, true, false, cond, List, [], ◌∷◌, ◌++◌, length, slice_get, Option, None, Some, refl, arith, length-append}
+use Rattle.std.proofs.Common.{◌≡◌, ℕ, zero, suc, ◌+◌, ◌<◌, ◌≤◌, ◌^◌, inl, inr, Bool, true, false, cond, List, [], ◌∷◌, ◌++◌, length, Option, None, Some, refl, arith, length-append}
 use Rattle.std.specs.Prelude.{pos}
 use Rattle.std.specs.Bool.{Decides}
 use Rattle.ot_plain.specs.Names.{Name}
@@ -11,9 +11,10 @@ use Rattle.ot_written.specs.Written.{Line, Numeral, Spelled, Order, Text, roots_
 use Rattle.ot_trace.specs.Origins.{Roots}
 use Rattle.ot_written.specs.Bytes.{line_text, line_bytes, bytes_of}
 use Rattle.ot_article.proofs.LineRun.{IsReadable, AreReadable, IsSayable}
-use Rattle.ot_written.proofs.Members.{member-left, member-right}
 use Rattle.ot_written.proofs.Growth.{key-get}
 use Rattle.ot_article.proofs.LineTexts.{in-range}
+use Rattle.ot_plain.proofs.Elements.{slice_get-low}
+use Rattle.ot_plain.proofs.Members.{IsMember-left, IsMember-right}
 
 abbrev pub AreSayable : Origin Name → Type 0
 AreSayable o = (p : Origin Name) → IsMember p (parts o) → IsSayable p
@@ -21,11 +22,6 @@ AreSayable o = (p : Origin Name) → IsMember p (parts o) → IsSayable p
 readable-snoc : (ls : List (Line Name)) (l : Line Name) → AreReadable ls → IsReadable l → AreReadable (ls ++ l ∷ [])
 readable-snoc [] l h r = (r, tt)
 readable-snoc (k ∷ ls) l h r = (h.0, readable-snoc ls l h.1 r)
-
-get-short : {X : Type 0} (xs : List X) (j : ℕ) (x : X) → slice_get xs j ≡ Some x → j < length xs
-get-short [] j x h = absurd (cc)
-get-short (y ∷ xs) zero x h = omega arith
-get-short (y ∷ xs) (suc j) x h = let r = get-short xs j x h in omega arith
 
 -- the second text has more lines, which are read back where its keys are small
 pub record Longer (t u : Text Name) : Type 0 where
@@ -67,7 +63,7 @@ module _ (same : Origin Name → Origin Name → Bool) (same-is : (a b : Origin 
   longer-recalled : (k : Option ℕ) (write : Text Name → Text Name) (o : Origin Name) (t : Text Name) → w.key_of same o t.stored ≡ k → Longer t (write t) → Longer t (w.recalled same k write t)
   longer-recalled None write o t e h = h
   longer-recalled (Some k) write o t e h =
-      let low = get-short t.stored k o (key-get same same-is o t.stored k e) in
+      let low = slice_get-low t.stored k o (key-get same same-is o t.stored k e) in
       let u : Text Name = w.put same (Numeral (pos k)) t in
       longer-trans t u (w.put same (Order words.Ref) u) (longer-put (Numeral (pos k)) t (λ s. in-range k (omega arith))) (longer-put (Order words.Ref) u (λ s. tt))
 
@@ -92,7 +88,7 @@ module _ (same : Origin Name → Origin Name → Bool) (same-is : (a b : Origin 
       emit_all-longer NoOrigins t h = longer-refl t
       emit_all-longer (MoreOrigins o os) t h =
           let u : Text Name = w.emit same keep o t in
-          longer-trans t u (w.emit_all same keep os u) (emit-longer o t (λ p m. h p (member-left p (parts o) (parts_all os) m))) (emit_all-longer os u (λ p m. h p (member-right p (parts o) (parts_all os) m)))
+          longer-trans t u (w.emit_all same keep os u) (emit-longer o t (λ p m. h p (IsMember-left p (parts o) (parts_all os) m))) (emit_all-longer os u (λ p m. h p (IsMember-right p (parts o) (parts_all os) m)))
 
     module _ (used : Origin Name → Bool) where
       pops-longer : (k : ℕ) (t : Text Name) → Longer t (w.pops same keep used k t)
@@ -146,7 +142,7 @@ module _ (same : Origin Name → Origin Name → Bool) (same-is : (a b : Origin 
           let begin : Text Name = w.beginning same keep used in
           let mid : Text Name = w.emit_definitions same keep used ds begin in
           let all : Text Name = w.written same keep used ds es in
-          let long = longer-trans begin mid all (definitions-longer ds begin (λ d m. h d (member-left d ds (roots_of es) m))) (exports-longer es mid (λ o m. h o (member-right o ds (roots_of es) m))) in
+          let long = longer-trans begin mid all (definitions-longer ds begin (λ d m. h d (IsMember-left d ds (roots_of es) m))) (exports-longer es mid (λ o m. h o (IsMember-right o ds (roots_of es) m))) in
           let x : length all.stored + 2 ≤ length all.lines + 0 = long.lines in
           let y = bytes-long all.lines in
           long.readable (omega arith) (refl, (tt, tt))

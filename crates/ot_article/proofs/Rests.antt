@@ -1,6 +1,5 @@
 -- What roots of a lawful run lead to rests on the run.
-use Rattle.std.proofs.Common.{◌≡◌, ℕ, zero, suc, inl, inr, true, List, [], ◌∷◌, map, take, slice_get, Some, Result, Ok, refl, sym, ap, subst, ◌∙◌, arith}
-use Rattle.std.specs.List.{All}
+use Rattle.std.proofs.Common.{◌≡◌, ℕ, inl, inr, true, List, map, take, slice_get, Some, Result, Ok, refl, sym, ap, subst, ◌∙◌}
 use Rattle.ot_plain.specs.Names.{Name}
 use Rattle.ot_plain.specs.Naming.{names}
 use Rattle.ot_plain.specs.Hol.{same_sequent}
@@ -17,34 +16,8 @@ use Rattle.ot_trace.specs.Reach.{IsReached, Root, Operand, OfTheorem, OfSymbol}
 use Rattle.ot_machine.specs.Lawful.{Basis, IsTaken, RestsOn, AreOn, Fits, run_basis, IsAxiom, IsLawfulDefinition, IsLawfulRun}
 use Rattle.ot_written.proofs.Settled.{IsDefine}
 use Rattle.ot_article.specs.Article.{origins_made}
-use Rattle.ot_written.proofs.Members.{member-cases}
 use Rattle.ot_written.proofs.Parts.{part-self, part-operand}
-
-pub all-member : {X : Type 0} (P : X → Type 0) (xs : List X) (x : X) → All P xs → IsMember x xs → P x
-all-member P [] x h m = elim m [ ]
-all-member P (y ∷ xs) x h (inl e) = subst P e (h 0 y (omega arith))
-all-member P (y ∷ xs) x h (inr m) = all-member P xs x (λ k d l. h (suc k) d (omega arith)) m
-
-pub member-map : {X Y : Type 0} (f : X → Y) (y : Y) (xs : List X) → IsMember y (map f xs) → (x : X) × IsMember x xs × (f x ≡ y)
-member-map f y [] m = elim m [ ]
-member-map f y (x ∷ xs) (inl e) = (x, inl refl, e)
-member-map f y (x ∷ xs) (inr m) = let r = member-map f y xs m in (r.0, inr r.1, r.2)
-
-pub map-member : {X Y : Type 0} (f : X → Y) (x : X) (xs : List X) → IsMember x xs → IsMember (f x) (map f xs)
-map-member f x (y ∷ xs) (inl e) = inl (ap f e)
-map-member f x (y ∷ xs) (inr m) = inr (map-member f x xs m)
-map-member f x [] m = elim m [ ]
-
-pub member-place : {X : Type 0} (x : X) (xs : List X) → IsMember x xs → (i : ℕ) × (slice_get xs i ≡ Some x)
-member-place x [] m = elim m [ ]
-member-place x (y ∷ xs) (inl e) = (0, ap Some e)
-member-place x (y ∷ xs) (inr m) = let r = member-place x xs m in (suc r.0, r.1)
-
-take-part : {X : Type 0} (i : ℕ) (xs : List X) → IsPart (take i xs) xs
-take-part zero xs x m = elim m [ ]
-take-part (suc i) [] x m = elim m [ ]
-take-part (suc i) (y ∷ xs) x (inl e) = inl e
-take-part (suc i) (y ∷ xs) x (inr m) = inr (take-part i xs x m)
+use Rattle.ot_plain.proofs.Members.{All-at_member, IsMember-cases, IsMember-map, IsMember-map_back, IsMember-place, IsPart-take}
 
 module _ (b : Basis) where
   mutual
@@ -62,7 +35,7 @@ module _ (b : Basis) where
 
     rests-parts : (os : Origins Name) (p : Origin Name) → AreOn b os → IsMember p (parts_all os) → RestsOn b p
     rests-parts NoOrigins p h m = elim m [ ]
-    rests-parts (MoreOrigins o os) p h m = elim (member-cases p (parts o) (parts_all os) m) [ inl a ↦ rests-part o p h.0 a | inr c ↦ rests-parts os p h.1 c ]
+    rests-parts (MoreOrigins o os) p h m = elim (IsMember-cases p (parts o) (parts_all os) m) [ inl a ↦ rests-part o p h.0 a | inr c ↦ rests-parts os p h.1 c ]
 
 taken-more : (IsNamed : Name → Type 0) (xs ys ds es : List (Origin Name)) (w : Cmd) (os : Origins Name) → IsPart xs ys → IsTaken (record { axioms = xs; definitions = ds; IsNamed = IsNamed }) w os → IsTaken (record { axioms = ys; definitions = es; IsNamed = IsNamed }) w os
 taken-more IsNamed xs ys ds es words.Axiom os h t = h (Make words.Axiom os) t
@@ -109,8 +82,8 @@ module _ (IsNamed : Name → Type 0) (r : RunState) (lawful : IsLawfulRun IsName
 
   pub at-of : (d : Origin Name) → IsMember d origins → IsAt d
   at-of d m =
-      let a = member-map (λ (z : Made). z.origin) d r.definitions m in
-      let p = member-place a.0 r.definitions a.1 in
+      let a = IsMember-map_back (λ (z : Made). z.origin) d r.definitions m in
+      let p = IsMember-place a.0 r.definitions a.1 in
       record { made = a.0; place = p.0; there = p.1; origin_is = a.2; lawful_is = lawful.definitions p.0 a.0 p.1 }
 
   pub is-define : (d : Origin Name) → IsMember d origins → IsDefine d
@@ -119,7 +92,7 @@ module _ (IsNamed : Name → Type 0) (r : RunState) (lawful : IsLawfulRun IsName
   definition-rests : (d : Origin Name) → IsMember d origins → RestsOn whole d
   definition-rests d m =
       let a = at-of d m in
-      let front : IsPart (origins_made (take a.place r.definitions)) origins = λ x y. let z = member-map (λ (q : Made). q.origin) x (take a.place r.definitions) y in subst (λ q. IsMember q origins) z.2 (map-member (λ (q : Made). q.origin) z.0 r.definitions (take-part a.place r.definitions z.0 z.1)) in
+      let front : IsPart (origins_made (take a.place r.definitions)) origins = λ x y. let z = IsMember-map_back (λ (q : Made). q.origin) x (take a.place r.definitions) y in subst (λ q. IsMember q origins) z.2 (IsMember-map (λ (q : Made). q.origin) z.0 r.definitions (IsPart-take a.place r.definitions z.0 z.1)) in
       subst (RestsOn whole) a.origin_is (rests-more IsNamed (map (λ (g : Given). g.origin) r.assumptions) (origins_made (take a.place r.definitions)) origins front a.made.origin a.lawful_is.rests)
 
   module _ (roots : List (Origin Name)) (rooted : (o : Origin Name) → IsMember o roots → RestsOn whole o) where
@@ -132,8 +105,8 @@ module _ (IsNamed : Name → Type 0) (r : RunState) (lawful : IsLawfulRun IsName
     pub taken-axiom : (o : Origin Name) (q : Sequent Name) → IsReached roots origins o → IsAxiom o → value o ≡ Ok (theorem q) → (g : Given) × IsMember g r.assumptions × (g.origin ≡ o) × (g.sequent ≡ q)
     taken-axiom o q a x h =
         let rests : RestsOn whole (Make words.Axiom x.0) = subst (RestsOn whole) x.1 (reached-rests o a) in
-        let m = member-map (λ (g : Given). g.origin) (Make words.Axiom x.0) r.assumptions rests.1 in
-        let fits = all-member (λ g. Fits whole g.origin (theorem g.sequent)) r.assumptions m.0 lawful.assumptions m.1 in
+        let m = IsMember-map_back (λ (g : Given). g.origin) (Make words.Axiom x.0) r.assumptions rests.1 in
+        let fits = All-at_member (λ g. Fits whole g.origin (theorem g.sequent)) r.assumptions m.0 lawful.assumptions m.1 in
         let is : m.0.origin ≡ o = m.2 ∙ sym x.1 in
         (m.0, m.1, is, one (value m.0.origin) (value o) m.0.sequent q (ap value is) fits.value_is h)
       where
@@ -145,8 +118,8 @@ module _ (IsNamed : Name → Type 0) (r : RunState) (lawful : IsLawfulRun IsName
     reached-apart a b p q ra rb xa xb va vb h =
         let f = taken-axiom a p ra xa va in
         let g = taken-axiom b q rb xb vb in
-        let i = member-place f.0 r.assumptions f.1 in
-        let j = member-place g.0 r.assumptions g.1 in
+        let i = IsMember-place f.0 r.assumptions f.1 in
+        let j = IsMember-place g.0 r.assumptions g.1 in
         let same_one : same_sequent names f.0.sequent g.0.sequent ≡ true = (λ k. same_sequent names (f.3 k) (g.3 k)) ∙ h in
         let places : i.0 ≡ j.0 = lawful.apart i.0 j.0 f.0 g.0 i.1 j.1 same_one in
         let given : Some f.0 ≡ Some g.0 = sym i.1 ∙ ap (slice_get r.assumptions) places ∙ j.1 in

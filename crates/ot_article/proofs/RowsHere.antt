@@ -17,8 +17,9 @@ use Rattle.ot_machine.specs.Step.{on_stack, word_row}
 use Rattle.ot_machine.specs.Values.{value}
 use Rattle.ot_article.proofs.Operands.{made_of}
 use Rattle.ot_machine.specs.Lawful.{IsAxiom}
-use Rattle.ot_article.proofs.Frames.{objects_of, entry, bind-ok, entry-here, object-here, dropped-here, top-here, making-here}
+use Rattle.ot_article.proofs.Frames.{objects_of, entry, entry-here, object-here, dropped-here, top-here, making-here}
 use Rattle.ot_article.proofs.MadeKinds.{value-name}
+use Rattle.ot_plain.proofs.Results.{bind-ok}
 
 abbrev pub with_stack : State → List Entry → State
 with_stack s st = record s { article = record s.article { stack = st } }

@@ -20,7 +20,6 @@ use Rattle.ot_machine.specs.Lawful.{IsAxiom}
 use Rattle.ot_written.proofs.Settled.{EachOutcome, EachOutcomes, IsTheoremOf, IsMark, IsNeededList}
 use Rattle.ot_article.proofs.Writable.{AreWritable, AreExports, IsNeeded, IsArticleOf, AxiomsApart, roots_in}
 use Rattle.ot_article.specs.Article.{origins_made}
-use Rattle.ot_written.proofs.Members.{member-cases}
 use Rattle.ot_written.proofs.Filters.{member-flat_map, flat_map-member}
 use Rattle.ot_written.proofs.Growth.{Grows, grows-refl, grows-trans, grows-put, grows-emit, grows-definition, grows-exports, outcome-mono, outcomes-mono}
 use Rattle.ot_article.proofs.Simulated.{taken_by, assumed_by}
@@ -29,6 +28,7 @@ use Rattle.ot_article.proofs.Emitted.{IsClean, clean-front}
 use Rattle.ot_article.proofs.Article.{HasTheorems, theorems-definition, defined-exports, definitions-run, exports-run, AreRun}
 use Rattle.ot_written.proofs.Lean.{written-once}
 use Rattle.ot_written.proofs.Covers.{IsCovered, AreMade, grown-made, emit-done, definition-done}
+use Rattle.ot_plain.proofs.Members.{IsMember-cases}
 
 axiom-mark : (o : Origin Name) → IsAxiom o → IsMark o
 axiom-mark (Number k) h = absurd (let e : Number k ≡ Make words.Axiom h.0 = h.1 in cc)
@@ -58,7 +58,7 @@ assumed-distinct (o ∷ ms) d = go (assumed_by o) (λ e p. (assumed-is e o p).0)
     go : (es : List Given) → ((e : Given) → IsMember e es → e.origin ≡ o) → AreDistinct es → AreDistinct (flat_map assumed_by ms) → AreDistinct (es ++ flat_map assumed_by ms)
     go [] h s r = r
     go (e ∷ es) h s r = (
-      λ p. elim (member-cases e es (flat_map assumed_by ms) p) [ inl a ↦ s.0 a | inr b ↦ (let x = member-flat_map e assumed_by ms b in d.0 (subst (λ z. IsMember z ms) (sym (assumed-is e x.0 x.2).0 ∙ h e (inl refl)) x.1)) ],
+      λ p. elim (IsMember-cases e es (flat_map assumed_by ms) p) [ inl a ↦ s.0 a | inr b ↦ (let x = member-flat_map e assumed_by ms b in d.0 (subst (λ z. IsMember z ms) (sym (assumed-is e x.0 x.2).0 ∙ h e (inl refl)) x.1)) ],
       go es (λ f p. h f (inr p)) s.1 r,
     )
 
@@ -83,7 +83,7 @@ module _ (same : Origin Name → Origin Name → Bool) (same-is : (a b : Origin 
       let one : AreCovered (ds ++ e ∷ []) u = record {
         has = theorems-definition same keep used ds f.word f.operands t i.has;
         covered = done.covered;
-        made = λ x m p q r. elim (member-cases x ds (e ∷ []) m) [
+        made = λ x m p q r. elim (IsMember-cases x ds (e ∷ []) m) [
           | inl a ↦ grown-made (parts x) t u (grows-definition same keep used e t) (i.made x a) p q r
           | inr b ↦ elim b [ inl c ↦ done.parts_made p (subst (λ z. IsMember p (parts z)) (sym c) q) r | inr c ↦ elim c [ ] ]
         ];
@@ -151,7 +151,7 @@ module _ (same : Origin Name → Origin Name → Bool) (same-is : (a b : Origin 
         let begins : AreCovered [] begin = record { has = λ r x. elim x.of [ ]; covered = λ x p. elim p [ ]; made = λ d p. elim p [ ] } in
         let covered : AreCovered ds mid = definitions-covered ms [] begin writable begins in
         let made : (o : Origin Name) → IsNeeded ds (roots_of roots) o → IsMark o → IsMember o all.made = λ o n k.
-        elim (member-cases n.0 ds (roots_of roots) n.1) [
+        elim (IsMember-cases n.0 ds (roots_of roots) n.1) [
           | inl a ↦ grown-made (parts n.0) mid all ends (covered.made n.0 a) o n.2 k
           | inr b ↦ exports-covered ds es [] mid exports covered n.0 b o n.2 k
         ] in

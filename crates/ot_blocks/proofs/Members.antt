@@ -26,26 +26,12 @@ module _ {K : Type 0} (same : K → K → Bool) (tells : (x y : K) → Decides (
   apart_from_test ks k e m = both_ways (list_any (λ x. same x k) ks) e (test_from_member ks k m)
 
 module _ {X : Type 0} where
-  pub member_left : (x : X) (xs ys : List X) → IsMember x xs → IsMember x (xs ++ ys)
-  member_left x [] ys m = absurd m
-  member_left x (z ∷ xs) ys m = elim m [ inl e ↦ inl e | inr h ↦ inr (member_left x xs ys h) ]
-
   pub member_end : (xs : List X) (y : X) → IsMember y (xs ++ y ∷ [])
   member_end [] y = inl refl
   member_end (z ∷ xs) y = inr (member_end xs y)
 
-  pub member_push : (x : X) (xs : List X) (y : X) → IsMember x (xs ++ y ∷ []) → IsMember x xs ⊎ (y ≡ x)
-  member_push x [] y m = elim m [ inl e ↦ inr e | inr h ↦ absurd h ]
-  member_push x (z ∷ xs) y m = elim m [
-    | inl e ↦ inl (inl e)
-    | inr h ↦ elim (member_push x xs y h) [ inl k ↦ inl (inr k) | inr e ↦ inr e ]
   ]
 
-  pub distinct_push : (xs : List X) (y : X) → AreDistinct xs → ¬ (IsMember y xs) → AreDistinct (xs ++ y ∷ [])
-  distinct_push [] y d n = (λ m. m, tt)
-  distinct_push (x ∷ xs) y d n = (
-    λ m. elim (member_push x xs y m) [ inl h ↦ d.0 h | inr e ↦ n (inl (sym e)) ],
-    distinct_push xs y d.1 (λ m. n (inr m)),
   )
 
   not_nil : (xs : List X) (y : X) (ys : List X) → [] ≡ xs ++ y ∷ ys → ⊥

@@ -6,7 +6,8 @@ use Rattle.ot_plain.specs.Lists.{IsMember, IsPart, AreDistinct}
 use Rattle.ot_blocks.specs.Order.{Order, Ordered, LeadsBack, TooDeep, ◌>>=◌, walk_imports, walk_block, order_of, imports_at, is_in}
 use Rattle.ot_blocks.specs.Ordering.{Reaches, Here, Along, HasCycleAt, GivesOrder, GivesCycle}
 use Rattle.ot_blocks.specs.declared.walk.Import.{Import}
-use Rattle.ot_blocks.proofs.Members.{member_from_test, apart_from_test, member_left, member_end, member_push, distinct_push, cut_push}
+use Rattle.ot_blocks.proofs.Members.{member_from_test, apart_from_test, member_end, cut_push}
+use Rattle.ot_plain.proofs.Members.{AreDistinct-push, IsMember-left, IsMember-push}
 
 -- ---- answers
 
@@ -52,12 +53,12 @@ module _ (g : List (List Import)) (main : ℕ) where
 
   one_more : (bs : List ℕ) (b : ℕ) → IsSound bs → ¬ (IsMember b bs) → Reaches g main b → HasImports (imports_at g b) bs → IsSound (bs ++ b ∷ [])
   one_more bs b s new reached imports = record {
-    once = distinct_push bs b s.once new;
+    once = AreDistinct-push bs b s.once new;
     imports_first = λ front back c e i m. elim (cut_push bs b front c back e) [
       | inl at ↦ subst (IsMember i.block) at.0 (imports i (subst (λ z. IsMember i (imports_at g z)) (sym at.1) m))
       | inr before ↦ s.imports_first front before.0 c before.1 i m
     ];
-    reached = λ c m. elim (member_push c bs b m) [
+    reached = λ c m. elim (IsMember-push c bs b m) [
       | inl h ↦ s.reached c h
       | inr e ↦ subst (Reaches g main) e reached
     ];
@@ -142,8 +143,8 @@ module _ (g : List (List Import)) (main : ℕ) where
       with_last : (more : List ℕ) → AddsImports (b ∷ path) done (imports_at g b) more → Adds path done (more ++ b ∷ [])
       with_last more a = record {
         sound = one_more more b a.0.sound (λ m. apart_from_test eqb Decides-eqb done b fresh (a.0.apart b (inl refl) m)) reached a.1;
-        keeps = λ c m. member_left c more (b ∷ []) (a.0.keeps c m);
-        apart = λ c p m. elim (member_push c more b m) [
+        keeps = λ c m. IsMember-left c more (b ∷ []) (a.0.keeps c m);
+        apart = λ c p m. elim (IsMember-push c more b m) [
           | inl h ↦ a.0.apart c (inr p) h
           | inr e ↦ absurd (apart_from_test eqb Decides-eqb path b new (subst (λ z. IsMember z path) (sym e) p))
         ];

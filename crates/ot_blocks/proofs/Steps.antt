@@ -5,8 +5,7 @@ use Rattle.std.proofs.Math.ListN.{set, replicate}
 use Rattle.std.proofs.Math.Seq.{drop-cons}
 use Rattle.std.proofs.lemmas.Bool.Decides.{eqb_tells}
 use Rattle.std.proofs.lemmas.List.{reverse-append, get_or-set_same, get_or-set_other, get_or-replicate, length-set}
-use Rattle.std.proofs.lemmas.Option.{none-some, same_Some, slice_get_within, slice_get_read, get_or_from_slice_get}
-use Rattle.ot_plain.specs.Lists.{IsMember}
+use Rattle.std.proofs.lemmas.Option.{slice_get_within, slice_get_read, get_or_from_slice_get}
 use Rattle.ot_blocks.specs.Order.{Order, Ordered, LeadsBack, TooDeep, ◌>>=◌, walk_imports, walk_block, order_of, imports_at, is_in}
 use Rattle.ot_blocks.specs.Ordering.{IsInside}
 use Rattle.ot_blocks.proofs.SoFar.{blocks_of, rest_of, mark_of, new_count, new_work, path_work, Marked, SoFar}
@@ -14,6 +13,7 @@ use Rattle.ot_blocks.specs.declared.walk.Import.{Import}
 use Rattle.ot_blocks.specs.declared.walk.Frame.{Frame}
 use Rattle.ot_blocks.specs.declared.walk.Mark.{Mark}
 use Rattle.ot_blocks.specs.declared.walk.Mark.TheVariants.{New, Open, Done}
+use Rattle.ot_plain.proofs.Members.{IsMember-at}
 
 -- what a mark says
 pub is_done : (x y : Bool) → (if x then Done else (if y then Open else New)) ≡ Done → x ≡ true
@@ -270,11 +270,7 @@ module _ {g : List (List Import)} {whole : Order} {ms : List Mark} {b k : ℕ} {
 
 -- an import that was read names a block of the file
 pub inside_at : (g : List (List Import)) (b k : ℕ) (i : Import) → IsInside g → slice_get (imports_at g b) k ≡ Some i → i.block < length g
-inside_at g b k i inside e = inside b i (member_at (imports_at g b) k i e) where
-  member_at : {X : Type 0} (xs : List X) (k : ℕ) (x : X) → slice_get xs k ≡ Some x → IsMember x xs
-  member_at [] k x e = absurd (none-some x e)
-  member_at (y ∷ xs) zero x e = inl (same_Some y x e)
-  member_at (y ∷ xs) (suc k) x e = inr (member_at xs k x e)
+inside_at g b k i inside e = inside b i (IsMember-at (imports_at g b) k i e) where
 
 -- the path is a `Vec` with its end last
 pub pushed : (path path' : List Frame) (f : Frame) → path' ≡ path ++ f ∷ [] → reverse path' ≡ f ∷ reverse path

@@ -1,6 +1,6 @@
 -- A variable that becomes the place of an abstraction around a nameless term.
 use Rattle.std.specs.Map.{lookup}
-use Rattle.std.proofs.Common.{◌≡◌, ℕ, suc, ◌<◌, Bool, true, false, ◌&&◌, cond, nat_eq, eqb-true, true≢false, List, length, slice_get, Some, OnOk, Result, Ok, Err, refl, sym, ap, subst, ◌∙◌, arith}
+use Rattle.std.proofs.Common.{◌≡◌, ℕ, suc, ◌<◌, Bool, true, false, ◌&&◌, cond, nat_eq, eqb-true, true≢false, List, length, slice_get, Some, refl, sym, ap, subst, ◌∙◌, arith}
 use Rattle.std.proofs.lemmas.Option.{same_Some, slice_get-get_or, slice_get_within, get_or_from_slice_get}
 use Rattle.ot_plain.specs.Trees.{Ty, Variable, Tm, Free, Bound, App, Abs}
 use Rattle.ot_plain.specs.Hol.{close_at, IsFree}
@@ -82,7 +82,3 @@ pub closed-other : (cs : List (Tm ℕ)) (id depth : ℕ) (v w : Key) → slice_g
 closed-other cs id depth v w tree other =
     let whole : class_at cs id ≡ Free (variable_of w) = get_or_from_slice_get cs id _ (Bound 0) tree in
     tree ∙ ap Some (ap (λ b. cond b (Bound depth) (Free (variable_of w))) (sym other) ∙ ap (close_at numbers depth (variable_of v)) (sym whole))
-
-pub on_ok : {T E P : Type 0} (r : Result T E) → P → OnOk r P
-on_ok (Ok x) p = p
-on_ok (Err e) p = tt

@@ -1,7 +1,7 @@
 -- The free variables that are gathered from a nameless term.
 use Rattle.std.specs.Prelude.{nat_eq}
 use Rattle.std.specs.Bool.{Decides}
-use Rattle.std.proofs.Common.{◌≡◌, ℕ, ◌<◌, inl, inr, Bool, false, true, true≢false, eq-eqb, eqb-true, List, [], ◌∷◌, slice_get, Some, OnOk, Result, Ok, Err, sym, ap, subst, ◌∙◌, arith}
+use Rattle.std.proofs.Common.{◌≡◌, ℕ, ◌<◌, inl, inr, Bool, false, true, true≢false, eq-eqb, eqb-true, List, [], ◌∷◌, slice_get, Some, sym, ap, subst, ◌∙◌, arith}
 use Rattle.std.proofs.lemmas.Option.{get_or_from_slice_get}
 use Rattle.std.proofs.lemmas.Bool.Decides.{Decides-and, Decides-like, Decides-eqb}
 use Rattle.indexmap.specs.IndexSet.{insert_key}
@@ -9,7 +9,6 @@ use Rattle.ot_plain.specs.Lists.{IsMember}
 use Rattle.ot_plain.specs.Trees.{Ty, Variable, Tm, Free, Bound, App, Abs}
 use Rattle.ot_plain.specs.Hol.{IsFree}
 use Rattle.ot_plain.specs.Naming.{numbers as alphabet}
-use Rattle.ot_laws.proofs.Sets.{IsMember-cases, IsMember-left, IsMember-right}
 use Rattle.ot_class.specs.Class.{numbered, variable_by, variable_of, class_at}
 use Rattle.ot_class.specs.Table.{Describes}
 use Rattle.ot_class.specs.Gathering.{AddsFree, AreSeen}
@@ -17,6 +16,7 @@ use Rattle.ot_class.specs.declared.node.Key.{Key}
 use Rattle.ot_class.specs.declared.table.Beside.{Beside}
 use Rattle.ot_class.specs.contracts.node.KeyPartialEq.TheImpl as keys
 use Rattle.ot_class.proofs.Distinct.{insert_members, insert_once}
+use Rattle.ot_plain.proofs.Members.{IsMember-cases, IsMember-left, IsMember-right}
 
 module _ {X : Type 0} (var : X → Variable ℕ) where
   -- nothing to add
@@ -85,10 +85,6 @@ module _ {X : Type 0} (var : X → Variable ℕ) where
   -- of the tree of a number
   pub adds-at : (cs : List (Tm ℕ)) (id : ℕ) (t : Tm ℕ) (xs ys : List X) → slice_get cs id ≡ Some t → AddsFree var t xs ys → AddsFree var (class_at cs id) xs ys
   adds-at cs id t xs ys tree h = subst (λ u. AddsFree var u xs ys) (sym (get_or_from_slice_get cs id t (Bound 0) tree)) h
-
-pub on_ok-then : {T E P Q : Type 0} (r : Result T E) → (P → Q) → OnOk r P → OnOk r Q
-on_ok-then (Ok x) f p = f p
-on_ok-then (Err e) f p = tt
 
 -- ---- all free variables
 abbrev pub key_eq : Key → Key → Bool

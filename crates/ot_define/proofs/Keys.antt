@@ -15,7 +15,7 @@ use Rattle.ot_plain.proofs.TableLemmas.{get_or-IsInjective}
 use Rattle.ot_type.specs.TypeTable.{type_at}
 use Rattle.ot_type.proofs.SubtypeLemmas.{All-member}
 use Rattle.ot_laws.proofs.Tests.{tells_numbers, same_var-is}
-use Rattle.ot_laws.proofs.Sets.{IsMember-map, IsMember-map_back, same_set-then, same_set-append, same_set-self, same_set-swap, same_set-both_ways}
+use Rattle.ot_laws.proofs.Sets.{same_set-then, same_set-append, same_set-self, same_set-swap, same_set-both_ways}
 use Rattle.ot_term.specs.declared.term.Symbol.{Symbol as Code}
 use Rattle.ot_term.specs.declared.term.SymbolKind.{SymbolKind}
 use Rattle.ot_term.specs.declared.term.SymbolKind.TheVariants.{Con, TyOp}
@@ -30,6 +30,7 @@ use Rattle.ot_term.proofs.GatherLemmas.{same_set-map}
 use Rattle.ot_laws.specs.Conditions.{same_symbol, is_among, is_closed_but, keeps_type_vars, are_distinct}
 use Rattle.ot_define.specs.Signature.{with_symbols}
 use Rattle.ot_laws.proofs.Membership.{part-is, part-same_set, is_closed_but-is, are_distinct-is}
+use Rattle.ot_plain.proofs.Members.{IsMember-map, IsMember-map_back}
 
 -- ---- symbols
 same-symbol : (s t : Code) → symbol_eq s t ≡ same_symbol numbers (symbol_of s) (symbol_of t)

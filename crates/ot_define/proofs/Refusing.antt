@@ -10,7 +10,6 @@ use Rattle.ot_plain.specs.Faults.{Fault, Primitive, AlreadyDefined, SymbolInUse}
 use Rattle.ot_plain.specs.Answers.{◌>>=◌, unless, some_or}
 use Rattle.std.proofs.lemmas.List.Folds.{list_all_at, list_all_more}
 use Rattle.ot_laws.proofs.Tests.{Tells}
-use Rattle.ot_laws.proofs.Steps.{unless-ok}
 use Rattle.ot_laws.specs.Conditions.{same_symbol, is_among, refuse_first, refuse_defined, checked_symbols}
 use Rattle.ot_define.specs.Answers.{Checks, define_fault}
 use Rattle.ot_define.specs.declared.fault.DefineFault.{DefineFault}

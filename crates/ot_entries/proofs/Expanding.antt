@@ -1,7 +1,7 @@
 -- The records of a word that stands for several make its sequent.
 use Rattle.std.specs.Prelude.{is_some}
-use Rattle.std.proofs.Common.{◌≡◌, true, List, [], ◌∷◌, Ok, refl, ap, ◌∙◌, inl, inr, ◌⊎◌, ◌↔◌}
-use Rattle.ot_plain.specs.Lists.{IsMember, IsSameSet}
+use Rattle.std.proofs.Common.{◌≡◌, true, List, [], ◌∷◌, Ok, refl, ap, ◌∙◌, inl, inr}
+use Rattle.ot_plain.specs.Lists.{IsSameSet}
 use Rattle.ot_plain.specs.Trees.{Alphabet, Ty, Tm, App, Sequent}
 use Rattle.ot_plain.specs.Hol.{same_ty, fun_ty, bool_ty, as_fun_ty, type_of, HasType, same_tm, equation, as_equation, minus, union, sequent_of}
 use Rattle.ot_plain.specs.Answers.{◌>>=◌, unless, some_or}
@@ -162,33 +162,31 @@ module _ {N : Type 0} (alphabet : Alphabet N) (tells : Tells alphabet) where
       rw (eq_mp-gives d lemma (bool_ty alphabet) lemma.concl other.concl refl refl) refl
 
   -- ---- the hypotheses of the last record are those of the word
-  in-union : (x : Tm N) (g h : List (Tm N)) → IsMember x (union alphabet g h) ↔ (IsMember x g ⊎ IsMember x h)
-  in-union x g h = IsMember-union alphabet tells x g h
 
   pub sym-hyps : (g : List (Tm N)) → IsSameSet (union alphabet (union alphabet (union alphabet [] g) []) []) g
   sym-hyps g = record {
-    to = λ x i. elim ((in-union x (union alphabet (union alphabet [] g) []) []).0 i) [
-      | inl j ↦ elim ((in-union x (union alphabet [] g) []).0 j) [
-        | inl k ↦ elim ((in-union x [] g).0 k) [ inl n ↦ absurd n | inr m ↦ m ]
+    to = λ x i. elim ((IsMember-union alphabet tells x (union alphabet (union alphabet [] g) []) []).0 i) [
+      | inl j ↦ elim ((IsMember-union alphabet tells x (union alphabet [] g) []).0 j) [
+        | inl k ↦ elim ((IsMember-union alphabet tells x [] g).0 k) [ inl n ↦ absurd n | inr m ↦ m ]
         | inr k ↦ absurd k
       ]
       | inr j ↦ absurd j
     ];
     back =
-        λ x m. (in-union x (union alphabet (union alphabet [] g) []) []).1
-        (inl ((in-union x (union alphabet [] g) []).1 (inl ((in-union x [] g).1 (inr m)))));
+        λ x m. (IsMember-union alphabet tells x (union alphabet (union alphabet [] g) []) []).1
+        (inl ((IsMember-union alphabet tells x (union alphabet [] g) []).1 (inl ((IsMember-union alphabet tells x [] g).1 (inr m)))));
   }
 
   pub chain-hyps : (g h : List (Tm N)) → IsSameSet (union alphabet (union alphabet [] h) g) (union alphabet g h)
   chain-hyps g h = record {
     to =
-        λ x i. (in-union x g h).1 (elim ((in-union x (union alphabet [] h) g).0 i) [
-          | inl j ↦ elim ((in-union x [] h).0 j) [ inl n ↦ absurd n | inr m ↦ inr m ]
+        λ x i. (IsMember-union alphabet tells x g h).1 (elim ((IsMember-union alphabet tells x (union alphabet [] h) g).0 i) [
+          | inl j ↦ elim ((IsMember-union alphabet tells x [] h).0 j) [ inl n ↦ absurd n | inr m ↦ inr m ]
           | inr j ↦ inl j
         ]);
     back =
-        λ x i. (in-union x (union alphabet [] h) g).1
-        (elim ((in-union x g h).0 i) [ inl j ↦ inr j | inr j ↦ inl ((in-union x [] h).1 (inr j)) ]);
+        λ x i. (IsMember-union alphabet tells x (union alphabet [] h) g).1
+        (elim ((IsMember-union alphabet tells x g h).0 i) [ inl j ↦ inr j | inr j ↦ inl ((IsMember-union alphabet tells x [] h).1 (inr j)) ]);
   }
 
   -- lemma's hypotheses L, the other's M: the word gives L and M minus a
@@ -198,16 +196,16 @@ module _ {N : Type 0} (alphabet : Alphabet N) (tells : Tells alphabet) where
   discharge-hyps l m a b =
       let inner = union alphabet (minus alphabet b l) (minus alphabet a m) in
       record {
-        to = λ x i. (in-union x l (minus alphabet a m)).1 (elim ((in-union x inner l).0 i) [
-          | inl j ↦ elim ((in-union x (minus alphabet b l) (minus alphabet a m)).0 j) [
+        to = λ x i. (IsMember-union alphabet tells x l (minus alphabet a m)).1 (elim ((IsMember-union alphabet tells x inner l).0 i) [
+          | inl j ↦ elim ((IsMember-union alphabet tells x (minus alphabet b l) (minus alphabet a m)).0 j) [
             | inl k ↦ inl (IsMember-minus alphabet tells x b l k).0
             | inr k ↦ inr k
           ]
           | inr j ↦ inl j
         ]);
         back =
-            λ x i. (in-union x inner l).1 (elim ((in-union x l (minus alphabet a m)).0 i) [
+            λ x i. (IsMember-union alphabet tells x inner l).1 (elim ((IsMember-union alphabet tells x l (minus alphabet a m)).0 i) [
               | inl j ↦ inr j
-              | inr j ↦ inl ((in-union x (minus alphabet b l) (minus alphabet a m)).1 (inr j))
+              | inr j ↦ inl ((IsMember-union alphabet tells x (minus alphabet b l) (minus alphabet a m)).1 (inr j))
             ]);
       }

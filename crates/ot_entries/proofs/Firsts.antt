@@ -1,77 +1,19 @@
--- Of several pairs for one name or variable the first counts, so the others may be left out.
+-- A log's step of `subst`, whose pairs are of one each, does what the rule of an article does.
 use Rattle.std.specs.Prelude.{if◌then◌else◌, ◌&&◌}
 use Rattle.std.specs.List.{list_all}
-use Rattle.std.proofs.Common.{◌≡◌, Bool, true, false, cond, [], ◌∷◌, map, Ok, refl, sym, ap, ◌∙◌, subst, inl, inr}
+use Rattle.std.proofs.Common.{◌≡◌, Bool, true, false, [], ◌∷◌, map, Ok, refl, ap, ◌∙◌}
 use Rattle.ot_plain.specs.Trees.{Alphabet, Variable, Tm, Sequent}
-use Rattle.ot_plain.specs.Hol.{same_var, TypeMap, TermMap, type_at, term_at, inst_by, inst_var, bind, subst_tm, once_each, IsTyped}
+use Rattle.ot_plain.specs.Hol.{same_var, TypeMap, TermMap, subst_tm, once_each, IsTyped}
 use Rattle.ot_plain.specs.Answers.{◌>>=◌, unless}
 use Rattle.ot_plain.specs.Rules.{has_type, subst_rule}
-use Rattle.ot_laws.proofs.Tests.{Tells, cases_of, var_cases, has_type-is}
+use Rattle.ot_laws.proofs.Tests.{Tells, has_type-is}
 use Rattle.ot_laws.proofs.Steps.{within_limit-ok}
 use Rattle.ot_records.specs.Tokens.{BadStep}
-use Rattle.ot_records.specs.Steps.{without, first_pairs, without_name, first_types, subst_step}
+use Rattle.ot_records.specs.Steps.{without, first_pairs, subst_step}
+
+use Rattle.ot_records.proofs.Firsts.{subst-first}
 
 module _ {N : Type 0} (alphabet : Alphabet N) (tells : Tells alphabet) where
-  -- ---- variables
-  without-other : (v w : Variable N) (m : TermMap alphabet) → same_var alphabet v w ≡ false
-      → term_at alphabet (without alphabet w m) v ≡ term_at alphabet m v
-  without-other v w [] n = refl
-  without-other v w (p ∷ m) n = elim (var_cases alphabet tells w p.0) [
-    | inl e ↦
-        let away : same_var alphabet v p.0 ≡ false = subst (λ z. same_var alphabet v z ≡ false) e.1 n in
-        ap (λ b. term_at alphabet (if b then without alphabet w m else p ∷ without alphabet w m) v) e.0
-        ∙ without-other v w m n
-        ∙ ap (λ b. cond b p.1 (term_at alphabet m v)) (sym away)
-    | inr e ↦
-        ap (λ b. term_at alphabet (if b then without alphabet w m else p ∷ without alphabet w m) v) e.0
-        ∙ ap (cond (same_var alphabet v p.0) p.1) (without-other v w m n)
-  ]
-
-  pub term_at-first : (m : TermMap alphabet) (v : Variable N) → term_at alphabet (first_pairs alphabet m) v ≡ term_at alphabet m v
-  term_at-first [] v = refl
-  term_at-first (p ∷ m) v = elim (var_cases alphabet tells v p.0) [
-    | inl e ↦
-        ap (λ b. cond b p.1 (term_at alphabet (without alphabet p.0 (first_pairs alphabet m)) v)) e.0
-        ∙ ap (λ b. cond b p.1 (term_at alphabet m v)) (sym e.0)
-    | inr e ↦ ap (cond (same_var alphabet v p.0) p.1) (without-other v p.0 (first_pairs alphabet m) e.0 ∙ term_at-first m v)
-  ]
-
-  -- ---- names
-  without_name-other : (n k : N) (s : TypeMap alphabet) → alphabet.same n k ≡ false
-      → type_at alphabet (without_name alphabet k s) n ≡ type_at alphabet s n
-  without_name-other n k [] d = refl
-  without_name-other n k (p ∷ s) d = elim (cases_of (alphabet.same k p.0) (tells k p.0)) [
-    | inl e ↦
-        let away : alphabet.same n p.0 ≡ false = subst (λ z. alphabet.same n z ≡ false) e.1 d in
-        ap (λ b. type_at alphabet (cond b (without_name alphabet k s) (p ∷ without_name alphabet k s)) n) e.0
-        ∙ without_name-other n k s d
-        ∙ ap (λ b. cond b p.1 (type_at alphabet s n)) (sym away)
-    | inr e ↦
-        ap (λ b. type_at alphabet (cond b (without_name alphabet k s) (p ∷ without_name alphabet k s)) n) e.0
-        ∙ ap (cond (alphabet.same n p.0) p.1) (without_name-other n k s d)
-  ]
-
-  pub type_at-first : (s : TypeMap alphabet) (n : N) → type_at alphabet (first_types alphabet s) n ≡ type_at alphabet s n
-  type_at-first [] n = refl
-  type_at-first (p ∷ s) n = elim (cases_of (alphabet.same n p.0) (tells n p.0)) [
-    | inl e ↦
-        ap (λ b. cond b p.1 (type_at alphabet (without_name alphabet p.0 (first_types alphabet s)) n)) e.0
-        ∙ ap (λ b. cond b p.1 (type_at alphabet s n)) (sym e.0)
-    | inr e ↦ ap (cond (alphabet.same n p.0) p.1) (without_name-other n p.0 (first_types alphabet s) e.0 ∙ type_at-first s n)
-  ]
-
-  -- ---- so the substitution is one
-  pub subst-first : (s : TypeMap alphabet) (m : TermMap alphabet) (t : Tm N)
-      → subst_tm alphabet s (first_pairs alphabet m) t ≡ subst_tm alphabet s m t
-  subst-first s m t = λ i. bind alphabet (type_at alphabet s) (λ v. term_at-first m (inst_var alphabet s v) i) t
-
-  pub subst-first_types : (s : TypeMap alphabet) (m : TermMap alphabet) (t : Tm N)
-      → subst_tm alphabet (first_types alphabet s) m t ≡ subst_tm alphabet s m t
-  subst-first_types s m t =
-      λ i. bind alphabet (λ n. type_at-first s n i)
-      (λ v. term_at alphabet m (record { name = v.name; ty = inst_by alphabet (λ n. type_at-first s n i) v.ty })) t
-
-  -- ---- the rule of an article
   typed-without : (w : Variable N) (m : TermMap alphabet) → IsTyped alphabet m → IsTyped alphabet (without alphabet w m)
   typed-without w [] h = tt
   typed-without w (p ∷ m) h = by (same_var alphabet w p.0) (typed-without w m h.1)
@@ -93,7 +35,7 @@ module _ {N : Type 0} (alphabet : Alphabet N) (tells : Tells alphabet) where
       → subst_rule alphabet s m a ≡ Ok q → subst_step alphabet s m a ≡ Ok q
   subst-ruled s m a q w h =
       let made : (Tm N → Tm N) → Sequent N = λ f. record { hyps = once_each alphabet (map f a.hyps); concl = f a.concl } in
-      let same : subst_tm alphabet s (first_pairs alphabet m) ≡ subst_tm alphabet s m = λ i t. subst-first s m t i in
+      let same : subst_tm alphabet s (first_pairs alphabet m) ≡ subst_tm alphabet s m = λ i t. subst-first alphabet tells s m t i in
       ap (λ b. unless BadStep b >>= λ _. Ok (made (subst_tm alphabet s (first_pairs alphabet m))))
       (tested (first_pairs alphabet m) (typed-first m w))
       ∙ ap (λ f. Ok (made f)) same

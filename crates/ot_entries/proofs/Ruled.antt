@@ -9,10 +9,11 @@ use Rattle.ot_plain.specs.Faults.{NotBool, NotEquation, NotAlphaEqual, VarFreeIn
 use Rattle.ot_plain.specs.Answers.{◌>>=◌, unless, some_or}
 use Rattle.ot_plain.specs.Rules.{has_type, within_limit, sides, refl_rule, assume_rule, eq_mp_rule, abs_thm_rule, app_thm_rule, deduct_antisym_rule, beta_conv_rule}
 use Rattle.ot_laws.proofs.Tests.{Tells}
-use Rattle.ot_laws.proofs.Steps.{same_Ok, bind-ok, unless-ok, some_or-ok, within_limit-ok, limit-ok}
+use Rattle.ot_laws.proofs.Steps.{within_limit-ok, limit-ok}
 use Rattle.ot_records.specs.Tokens.{BadStep}
 use Rattle.ot_records.specs.Steps.{Step, is_well_typed, is_within, is_sequent_within, sides_of, refl_step, assume_step, eq_mp_step, abs_thm_step, app_thm_step, deduct_antisym_step, beta_step}
 use Rattle.ot_entries.proofs.Fitting.{fits-shallow, within-fits}
+use Rattle.ot_plain.proofs.Results.{bind-ok, same_Ok, some_or-ok, unless-ok}
 
 module _ {N : Type 0} (alphabet : Alphabet N) (tells : Tells alphabet) where
   -- ---- the limit

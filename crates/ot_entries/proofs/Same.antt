@@ -9,12 +9,12 @@ use Rattle.ot_plain.specs.Hol.{same_ty, fun_ty, bool_ty, as_fun_ty, IsFree, IsFr
 use Rattle.ot_plain.specs.Answers.{◌>>=◌, unless, some_or}
 use Rattle.ot_plain.specs.Rules.{has_type}
 use Rattle.ot_laws.proofs.Tests.{Tells, is_free_in_some-is}
-use Rattle.ot_laws.proofs.Sets.{IsMember-map, IsMember-map_back}
-use Rattle.ot_laws.proofs.Steps.{same_Ok, bind-ok, unless-ok}
 use Rattle.ot_laws.proofs.Hypotheses.{IsMember-union, IsMember-minus, IsMember-minus_back, distinct-union, distinct-minus, IsMember-once_each, distinct-once_each}
 use Rattle.ot_records.specs.Tokens.{BadStep}
 use Rattle.ot_records.specs.Steps.{Step, sides_of, first_pairs, eq_mp_step, abs_thm_step, app_thm_step, deduct_antisym_step, subst_step}
 use Rattle.ot_entries.specs.Making.{IsSame}
+use Rattle.ot_plain.proofs.Members.{IsMember-map, IsMember-map_back}
+use Rattle.ot_plain.proofs.Results.{bind-ok, same_Ok, unless-ok}
 
 module _ {N : Type 0} (alphabet : Alphabet N) (tells : Tells alphabet) where
   part-union : (g g' h h' : List (Tm N)) → IsPart g g' → IsPart h h' → IsPart (union alphabet g h) (union alphabet g' h')

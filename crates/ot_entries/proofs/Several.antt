@@ -1,6 +1,6 @@
 -- A log whose tokens are read back: the words that stand for several records.
 use Rattle.std.specs.Prelude.{slice_get}
-use Rattle.std.proofs.Common.{◌≡◌, ℕ, zero, suc, ◌+◌, true, List, [], ◌∷◌, ◌++◌, length, Some, refl, sym, ap, ◌∙◌, arith, append-nil, append_assoc}
+use Rattle.std.proofs.Common.{◌≡◌, ℕ, suc, ◌+◌, true, List, [], ◌∷◌, ◌++◌, length, Some, refl, sym, ap, ◌∙◌, arith, append-nil, append_assoc}
 use Rattle.ot_plain.specs.Names.{Name}
 use Rattle.ot_plain.specs.Naming.{names}
 use Rattle.ot_plain.specs.Trees.{Ty, Tm, App, Sequent}
@@ -16,13 +16,9 @@ use Rattle.ot_entries.specs.Logged.{Log, write_entry, count_sequent, write_seque
 use Rattle.ot_entries.proofs.Expanding.{refl-gives, eq_mp-gives, app_thm-gives, equals-typed}
 use Rattle.ot_entries.proofs.Standing.{Stands, AreWithin}
 use Rattle.ot_entries.proofs.Sequents.{MakesOne, sequent-stands, refl-feeds, eq_mp-feeds, app_thm-feeds, deduct_antisym-feeds}
+use Rattle.ot_plain.proofs.TableLemmas.{slice_get-append_left}
 
 -- ---- elements of lists that were put together
-
-pub kept-at : {X : Type 0} (xs ys : List X) (i : ℕ) (x : X) → slice_get xs i ≡ Some x → slice_get (xs ++ ys) i ≡ Some x
-kept-at [] ys i x h = cc
-kept-at (y ∷ xs) ys zero x h = h
-kept-at (y ∷ xs) ys (suc i) x h = kept-at xs ys i x h
 
 pub last-at : {X : Type 0} (xs : List X) (x : X) (k : ℕ) → length xs ≡ k → slice_get (xs ++ x ∷ []) k ≡ Some x
 last-at [] x k h = ap (λ z. slice_get (x ∷ []) z) (sym h)
@@ -65,7 +61,7 @@ makes-more x st e es s ss o a = record {
 older : (x : Log) (st : LogState Name) (e : Entry) (s : Sequent Name)
     (o : MakesOne x st e s st.assumptions) (i : ℕ) (q : Sequent Name)
     → slice_get st.sequents i ≡ Some q → slice_get o.now.sequents i ≡ Some q
-older x st e s o i q h = ap (λ z. slice_get z i) o.sequents ∙ kept-at st.sequents (s ∷ []) i q h
+older x st e s o i q h = ap (λ z. slice_get z i) o.sequents ∙ slice_get-append_left st.sequents (s ∷ []) i q h
 
 -- and the new one has the next number
 newest : (x : Log) (st : LogState Name) (e : Entry) (s : Sequent Name) (o : MakesOne x st e s st.assumptions) (k : ℕ)

@@ -13,6 +13,7 @@ use Rattle.ot_forms.specs.declared.fault.TextFault.TheVariants.{Unbound, Unknown
 use Rattle.ot_forms.specs.Forms.{Written, Writtens, Place, FreeAs, ConAs, Equal, Infix, Applied, Binding, NoMore, More, type_text, term_text, terms_text, IsWritten, AreWritten}
 use Rattle.ot_forms.specs.Meaning.{Around, Refusal, place_of, constant_of, has_type, is_typed, fits, check, whole, relation_ty, equated, are_alike, meaning, meaning_applied}
 use Rattle.ot_forms.specs.Parts.{Part, CountsBefore, refused, whole_parts, fitting, meant, applied_meaning, end_of, parts, parts_applied, AreOrdered}
+use Rattle.ot_plain.proofs.Elements.{AllByRecursion-append}
 
 -- the refusal is that of the first part
 abbrev pub Agrees : {A : Type 0} → Result A Refusal → List Part → Type 0
@@ -102,17 +103,13 @@ module _ (hidden : List (Symbol Name)) where
 le-split : (a b : ℕ) → a ≤ b → (a < b) ⊎ (a ≡ b)
 le-split a b h = elim (eqb_tells a b) [ inl p ↦ inr p.1 | inr q ↦ inl (let n = q.1 in omega (arith, n)) ]
 
-pub all-append : {X : Type 0} (P : X → Type 0) (xs ys : List X) → AllByRecursion P xs → AllByRecursion P ys → AllByRecursion P (xs ++ ys)
-all-append P [] ys h k = k
-all-append P (x ∷ xs) ys h k = (h.0, all-append P xs ys h.1 k)
-
 pub all-to : {X : Type 0} (P Q : X → Type 0) (xs : List X) → ((x : X) → P x → Q x) → AllByRecursion P xs → AllByRecursion Q xs
 all-to P Q [] f h = tt
 all-to P Q (x ∷ xs) f h = (f x h.0, all-to P Q xs f h.1)
 
 pub ordered-append : (ps qs : List Part) → AreOrdered ps → AreOrdered qs → AllByRecursion (λ p. AllByRecursion (CountsBefore p) qs) ps → AreOrdered (ps ++ qs)
 ordered-append [] qs h k w = k
-ordered-append (p ∷ ps) qs h k w = (all-append (CountsBefore p) ps qs h.0 w.0, ordered-append ps qs h.1 k w.1)
+ordered-append (p ∷ ps) qs h k w = (AllByRecursion-append (CountsBefore p) ps qs h.0 w.0, ordered-append ps qs h.1 k w.1)
 
 -- within these places
 pub record IsIn (lo hi : ℕ) (p : Part) : Type 0 where
@@ -160,16 +157,16 @@ so-far-in k e lo hi ps qs h w a b c = go qs w.inside w.ordered where
   go : (qs : List Part) → AllByRecursion (IsIn lo hi) qs → AreOrdered qs → AreSoFar k hi (ps ++ qs)
   go qs z o = record {
     ordered = ordered-append ps qs h.ordered o (all-to (IsPrior k e) (λ p. AllByRecursion (CountsBefore p) qs) ps (apart qs z) h.prior);
-    prior = all-append (IsPrior k hi) ps qs (all-to (IsPrior k e) (IsPrior k hi) ps (λ p s. inl (let t = bound p s in omega (arith, t, a, c))) h.prior)
+    prior = AllByRecursion-append (IsPrior k hi) ps qs (all-to (IsPrior k e) (IsPrior k hi) ps (λ p s. inl (let t = bound p s in omega (arith, t, a, c))) h.prior)
         (all-to (IsIn lo hi) (IsPrior k hi) qs (λ p i. inr (i.to, (let t = i.from in omega (arith, t, b)))) z);
-    from = all-append (λ p. (k ≤ p.start) × (k < p.stop)) ps qs h.from (all-to (IsIn lo hi) (λ p. (k ≤ p.start) × (k < p.stop)) qs (λ p i. let t = i.from in let u = i.past in (omega (arith, t, b), omega (arith, u, b))) z);
+    from = AllByRecursion-append (λ p. (k ≤ p.start) × (k < p.stop)) ps qs h.from (all-to (IsIn lo hi) (λ p. (k ≤ p.start) × (k < p.stop)) qs (λ p i. let t = i.from in let u = i.past in (omega (arith, t, b), omega (arith, u, b))) z);
   }
 
 -- the part's own refusals behind them
 so-far-own : (k e : ℕ) (ps qs : List Part) → AreSoFar k e ps → AreOwn k e qs → k < e → AreOrdered (ps ++ qs) × AllByRecursion (IsIn k e) (ps ++ qs)
 so-far-own k e ps qs h w c = (
   ordered-append ps qs h.ordered w.ordered (all-to (IsPrior k e) (λ p. AllByRecursion (CountsBefore p) qs) ps (λ p s. all-to (IsOwn k e) (CountsBefore p) qs (λ q o. prior-counts k e p q s o) w.own) h.prior),
-  all-append (IsIn k e) ps qs (both ps h.prior h.from) (all-to (IsOwn k e) (IsIn k e) qs (λ q o. record { from = (let t = o.from in omega (arith, t)); past = (let t = o.to in omega (arith, t, c)); to = (let t = o.to in omega (arith, t)) }) w.own),
+  AllByRecursion-append (IsIn k e) ps qs (both ps h.prior h.from) (all-to (IsOwn k e) (IsIn k e) qs (λ q o. record { from = (let t = o.from in omega (arith, t)); past = (let t = o.to in omega (arith, t, c)); to = (let t = o.to in omega (arith, t)) }) w.own),
 )
   where
     bound : (p : Part) → IsPrior k e p → p.stop ≤ e

@@ -10,13 +10,14 @@ use Rattle.ot_plain.specs.Hol.{once_each}
 use Rattle.ot_forms.specs.Forms.{Written, IsWritten, term_text, further_hyps, hyps_text, WrittenSequent}
 use Rattle.ot_forms.specs.Meaning.{Refusal, meaning, meanings, line_meaning}
 use Rattle.ot_forms.specs.Parts.{Part, CountsBefore, parts, hyps_parts, line_parts, end_of, AreOrdered}
-use Rattle.ot_forms.proofs.FirstRefusal.{Agrees, agrees-then, agrees, all-append, all-to, ordered-append, IsIn, AreIn, parts-in}
+use Rattle.ot_forms.proofs.FirstRefusal.{Agrees, agrees-then, agrees, all-to, ordered-append, IsIn, AreIn, parts-in}
+use Rattle.ot_plain.proofs.Elements.{AllByRecursion-append}
 
 -- parts of a text, and parts of another behind it
 behind : (lo mid from hi : ℕ) (ps qs : List Part) → AreIn lo mid ps → AreIn from hi qs → lo ≤ from → mid ≤ from → mid ≤ hi → AreIn lo hi (ps ++ qs)
 behind lo mid from hi ps qs h w a b c = record {
   ordered = ordered-append ps qs h.ordered w.ordered (all-to (IsIn lo mid) (λ p. AllByRecursion (CountsBefore p) qs) ps (λ p i. all-to (IsIn from hi) (CountsBefore p) qs (λ q j. inl (let t = i.to in let u = j.past in omega (arith, t, u, b))) w.inside) h.inside);
-  inside = all-append (IsIn lo hi) ps qs
+  inside = AllByRecursion-append (IsIn lo hi) ps qs
       (all-to (IsIn lo mid) (IsIn lo hi) ps (λ p i. record { from = i.from; past = i.past; to = (let t = i.to in omega (arith, t, c)) }) h.inside)
       (all-to (IsIn from hi) (IsIn lo hi) qs (λ q j. record { from = (let t = j.from in omega (arith, t, a)); past = (let t = j.past in omega (arith, t, a)); to = j.to }) w.inside);
 }

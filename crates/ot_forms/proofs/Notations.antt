@@ -9,6 +9,7 @@ use Rattle.ot_plain.specs.Lists.{IsMember}
 use Rattle.ot_plain.specs.Trees.{Symbol, ConSymbol, OpSymbol}
 use Rattle.ot_forms.specs.Words.{namespace, base, symbol_name, same_kind, same_symbol, is_short, is_shown, is_alike, is_hidden_in, hidden_symbols, is_hidden}
 use Rattle.ot_forms.specs.Words.{IsNotation}
+use Rattle.ot_plain.proofs.Members.{member_from_any}
 
 -- what a test finds among those that are kept
 pub record IsAmong {X : Type 0} (test p : X → Bool) (xs : List X) : Type 0 where
@@ -34,13 +35,6 @@ any-filter test p (x ∷ xs) e = go (any-filter test p xs) (p x) refl e where
 all-member : {X : Type 0} (test : X → Bool) (xs : List X) (x : X) → list_all test xs ≡ true → IsMember x xs → test x ≡ true
 all-member test [] x e h = absurd h
 all-member test (y ∷ ys) x e h = let w = and_parts (test y) (list_all test ys) e in elim h [ inl p ↦ ap test (sym p) ∙ w.0 | inr k ↦ all-member test ys x w.1 k ]
-
-any-member : {X : Type 0} (test : X → Bool) (xs : List X) → list_any test xs ≡ true → (x : X) × (test x ≡ true) × IsMember x xs
-any-member test [] e = cc
-any-member test (y ∷ ys) e = go (any-member test ys) (test y) refl e where
-  go : (list_any test ys ≡ true → (x : _) × (test x ≡ true) × IsMember x ys) → (t : Bool) → test y ≡ t → (t || list_any test ys) ≡ true → (x : _) × (test x ≡ true) × IsMember x (y ∷ ys)
-  go ih true q e = (y, q, inl refl)
-  go ih false q e = let w = ih e in (w.0, w.1, inr w.2)
 
 one-symbol : (s t : Symbol Name) → same_symbol s t ≡ true → s ≡ t
 one-symbol (ConSymbol n) (ConSymbol m) e = ap ConSymbol ((same_name-Decides n m).0 e)
@@ -83,7 +77,7 @@ module _ (shown : List Name) (named : (n : Name) → IsMember n shown → IsName
   pub is-notation : IsNotation (hidden_symbols shown symbols)
   is-notation = record {
     short = λ s e. (hiding s e).short;
-    inner = λ s e. let h = hiding s e in let w = any-member (same_name (namespace (symbol_name s))) shown h.shown_is in
+    inner = λ s e. let h = hiding s e in let w = member_from_any (same_name (namespace (symbol_name s))) shown h.shown_is in
         let q = (same_name-Decides (namespace (symbol_name s)) w.0).0 w.1 in
         longer-name (symbol_name s) (let k = named w.0 w.2 in let l = ap length q in omega (arith, k, l));
     alone = λ s t e f c b. one_name s t (hiding s e) (hiding t f) c b;

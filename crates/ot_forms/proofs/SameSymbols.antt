@@ -12,15 +12,9 @@ use Rattle.ot_forms.specs.Words.{is_bare, dotted, is_operator, variable_word, sy
 use Rattle.ot_forms.specs.Forms.{Written, Writtens, Place, FreeAs, ConAs, Equal, Infix, Applied, Binding, NoMore, More, type_text, types_text, term_text, terms_text}
 use Rattle.ot_forms.specs.Meaning.{relation_ty}
 use Rattle.ot_forms.specs.Printing.{binder_name, is_relation, operator_of, with_argument, written, written_argument, applied_to, readable_term, readable_text}
+use Rattle.ot_plain.proofs.Members.{member_from_any}
 
 -- ---- tests over lists of one set
-
-any-member : {X : Type 0} (p : X → Bool) (xs : List X) → list_any p xs ≡ true → (x : X) × (p x ≡ true) × IsMember x xs
-any-member p [] e = cc
-any-member p (y ∷ ys) e = go (any-member p ys) (p y) refl e where
-  go : (list_any p ys ≡ true → (x : _) × (p x ≡ true) × IsMember x ys) → (t : Bool) → p y ≡ t → (t || list_any p ys) ≡ true → (x : _) × (p x ≡ true) × IsMember x (y ∷ ys)
-  go ih true q e = (y, q, inl refl)
-  go ih false q e = let w = ih e in (w.0, w.1, inr w.2)
 
 or-right : (p : Bool) → (p || true) ≡ true
 or-right true = refl
@@ -38,8 +32,8 @@ both false false f g = refl
 
 any-same : {X : Type 0} (p : X → Bool) (xs ys : List X) → IsSameSet xs ys → list_any p xs ≡ list_any p ys
 any-same p xs ys s = both _ _
-    (λ e. let w = any-member p xs e in member-any p ys w.0 w.1 (s.to w.0 w.2))
-    (λ e. let w = any-member p ys e in member-any p xs w.0 w.1 (s.back w.0 w.2))
+    (λ e. let w = member_from_any p xs e in member-any p ys w.0 w.1 (s.to w.0 w.2))
+    (λ e. let w = member_from_any p ys e in member-any p xs w.0 w.1 (s.back w.0 w.2))
 
 all-any : {X : Type 0} (p : X → Bool) (xs : List X) → list_all p xs ≡ not (list_any (λ x. not (p x)) xs)
 all-any p [] = refl

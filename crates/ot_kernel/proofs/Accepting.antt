@@ -16,7 +16,7 @@ use Rattle.ot_plain.proofs.TableLemmas.{Extends-refl, Extends-append}
 use Rattle.ot_laws.specs.Theorem.{IsTheorem}
 use Rattle.ot_laws.proofs.Definitions.{HasPremise, accepted-sound}
 use Rattle.ot_laws.proofs.Grown.{accepted-push}
-use Rattle.ot_laws.proofs.Sets.{IsMember-left, IsMember-right, IsMember-cases, same_set-then, same_set-append, same_set-self}
+use Rattle.ot_laws.proofs.Sets.{same_set-then, same_set-append, same_set-self}
 use Rattle.ot_laws.proofs.Tests.{tells_names, tells_numbers}
 use Rattle.ot_laws.proofs.Theorems.{grown-theorem, defined-theorem}
 use Rattle.ot_term.specs.Term.{TermTable}
@@ -33,6 +33,7 @@ use Rattle.ot_kernel.specs.Accepting.{adding, added_definition, accepting, IsAcc
 use Rattle.ot_kernel.proofs.Placing.{places-grown}
 use Rattle.ot_kernel.proofs.Accepted.{definition_stays, definitions_kept, held_stays, held_stay}
 use Rattle.ot_kernel.proofs.Namings.{length-map, map-push, name_of-index}
+use Rattle.ot_plain.proofs.Members.{IsMember-cases, IsMember-left, IsMember-right}
 
 -- ---- the symbols of a signature with more of them
 with_one : (ss : List (Symbol ℕ)) (t : Symbol ℕ) → IsSameSet (if is_among numbers t ss then ss else ss ++ t ∷ []) (ss ++ t ∷ [])

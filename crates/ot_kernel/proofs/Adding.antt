@@ -1,6 +1,6 @@
 -- A pair that is added to a substitution, by number and by name.
 use Rattle.std.specs.Prelude.{◌≡◌, ℕ, ◌<◌, Bool, true, false, cond, if◌then◌else◌, ◌||◌, not, OnOk, Result, Ok, Err, nat_eq, is_some, List, [], ◌∷◌, ◌++◌, map, length, Option, Some}
-use Rattle.std.specs.List.{All, AllByRecursion, list_any}
+use Rattle.std.specs.List.{All, list_any}
 use Rattle.std.specs.Map.{lookup}
 use Rattle.std.proofs.Common.{refl, sym, ap, ◌∙◌, subst}
 use Rattle.std.proofs.lemmas.List.Elements.{All-head, All-tail, All-push}
@@ -18,12 +18,9 @@ use Rattle.ot_kernel.specs.Spelled.{Held}
 use Rattle.ot_kernel.specs.Pairs.{with_type, with_term, type_pairs, term_pairs, AreTypePairs, IsSubstIn}
 use Rattle.ot_kernel.proofs.Later.{Later, same_name-number, same_variable-number}
 use Rattle.ot_kernel.proofs.Namings.{map-push}
+use Rattle.ot_plain.proofs.Elements.{AllByRecursion-push}
 
 -- ---- lists
-all-push : {X : Type 0} (P : X → Type 0) (xs : List X) (x : X) → AllByRecursion P xs → P x → AllByRecursion P (xs ++ x ∷ [])
-all-push P [] x h p = (p, tt)
-all-push P (y ∷ xs) x h p = (h.0, all-push P xs x h.1 p)
-
 -- a key is found just where a test that agrees finds its image
 module _ {K X L Y : Type 0} (f : K → L) (g : X → Y) (test : K → Bool) (probe : L → Bool) where
   found_either : (b : Bool) (x : X) (o : Option X) → is_some (cond b (Some x) o) ≡ (b || is_some o)
@@ -83,5 +80,5 @@ term_fits now s v x name ty within typed h = by (is_some (term_for s v))
       type_part = h.type_part;
       variables = All-push (λ (p : VarKey × ℕ). (p.0.name < length now.names) × (p.0.ty < length now.types)) s.terms (v, x) h.variables (name, ty);
       terms = All-push (λ (p : VarKey × ℕ). p.1 < length now.terms) s.terms (v, x) h.terms within;
-      typed = subst (IsTyped names) (sym (map-push pair s.terms (v, x))) (all-push (λ (p : Variable Name × Tm Name). HasType names p.1 p.0.ty) (term_pairs now s) (variable_at now v, term_at now x) h.typed ((has_type-is names tells_names (term_at now x) (type_at now v.ty)).0 (sym typed)));
+      typed = subst (IsTyped names) (sym (map-push pair s.terms (v, x))) (AllByRecursion-push (λ (p : Variable Name × Tm Name). HasType names p.1 p.0.ty) (term_pairs now s) (variable_at now v, term_at now x) h.typed ((has_type-is names tells_names (term_at now x) (type_at now v.ty)).0 (sym typed)));
     }

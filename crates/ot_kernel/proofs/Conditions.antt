@@ -1,29 +1,18 @@
 -- The conditions of definitions: what symbols their refusals name, and lists of the same members.
 use Rattle.std.specs.Prelude.{◌≡◌, ◌==◌, Bool, true, false, ◌&&◌, ◌||◌, if◌then◌else◌, List, [], ◌∷◌, map, length, Option, Some, None, Result, Ok, Err}
-use Rattle.std.specs.List.{list_all, flat_map}
-use Rattle.std.proofs.Common.{refl, sym, ap, subst, inl, inr}
+use Rattle.std.specs.List.{list_all}
+use Rattle.std.proofs.Common.{refl, ap, subst, inl, inr}
 use Rattle.ot_plain.specs.Lists.{IsMember, IsSameSet}
 use Rattle.ot_plain.specs.Trees.{Alphabet, Variable, Tm, Sequent, Symbol, ConSymbol, OpSymbol, Definition}
 use Rattle.ot_plain.specs.Hol.{same_var, vars_tm, symbols_tm, symbols_of, primitives, defined, used}
 use Rattle.ot_plain.specs.Faults.{Fault, Primitive, AlreadyDefined, SymbolInUse, NotClosed, TypeVarEscapes, BadDefinitionList, HypothesesPresent, NotApplication, BadTypeVars}
 use Rattle.ot_plain.specs.Answers.{◌>>=◌, unless, some_or}
-use Rattle.ot_laws.proofs.Sets.{IsMember-left, IsMember-right, IsMember-cases}
 use Rattle.ot_laws.proofs.Tests.{Tells}
 use Rattle.ot_laws.specs.Conditions.{is_among, refuse_first, refuse_defined, checked_symbols, is_closed, is_closed_but, are_names_of, keeps_type_vars, are_distinct, is_empty, function_of, terms_given, checked_const, checked_list, checked_type}
 use Rattle.ot_laws.specs.Next.{AreSymbolsOf}
 use Rattle.ot_laws.proofs.Membership.{is_among-same_set}
 use Rattle.ot_kernel.specs.Defining.{all_defined, all_used}
-
--- ---- the members of all lists
-module _ {X Y : Type 0} (f : X → List Y) where
-  flat-to : (y : Y) (xs : List X) → IsMember y (flat_map f xs) → (x : X) × IsMember x xs × IsMember y (f x)
-  flat-to y [] m = absurd m
-  flat-to y (x ∷ xs) m = elim (IsMember-cases y (f x) (flat_map f xs) m) [ inl a ↦ (x, inl refl, a) | inr b ↦ let r = flat-to y xs b in (r.0, inr r.1, r.2) ]
-
-  flat-from : (y : Y) (x : X) (xs : List X) → IsMember x xs → IsMember y (f x) → IsMember y (flat_map f xs)
-  flat-from y x [] m h = absurd m
-  flat-from y x (z ∷ xs) (inl e) h = IsMember-left y (f z) (flat_map f xs) (subst (λ z. IsMember y (f z)) (sym e) h)
-  flat-from y x (z ∷ xs) (inr m) h = IsMember-right y (f z) (flat_map f xs) (flat-from y x xs m h)
+use Rattle.ot_plain.proofs.Members.{IsMember-flat_map, IsMember-flat_map_back}
 
 -- ---- the symbols that a refusal names
 abbrev pub NamesOnly : {N : Type 0} → (Symbol N → Type 0) → Fault N → Type 0
@@ -143,12 +132,12 @@ module _ {N : Type 0} (alphabet : Alphabet N) (tells : Tells alphabet) where
   -- the lists of a run have the symbols of its definitions
   pub all_defined-same : (dl : List (Definition N)) (defs uses : List (Symbol N)) → AreSymbolsOf alphabet dl defs uses → IsSameSet defs (all_defined alphabet dl)
   all_defined-same dl defs uses h = record {
-    to = λ s m. let r = (h.defined s).0 m in flat-from (defined alphabet) s r.0 dl r.1 r.2;
-    back = λ s m. (h.defined s).1 (flat-to (defined alphabet) s dl m);
+    to = λ s m. let r = (h.defined s).0 m in IsMember-flat_map (defined alphabet) s r.0 dl r.1 r.2;
+    back = λ s m. (h.defined s).1 (IsMember-flat_map_back (defined alphabet) s dl m);
   }
 
   pub all_used-same : (dl : List (Definition N)) (defs uses : List (Symbol N)) → AreSymbolsOf alphabet dl defs uses → IsSameSet uses (all_used alphabet dl)
   all_used-same dl defs uses h = record {
-    to = λ s m. let r = (h.used s).0 m in flat-from (used alphabet) s r.0 dl r.1 r.2;
-    back = λ s m. (h.used s).1 (flat-to (used alphabet) s dl m);
+    to = λ s m. let r = (h.used s).0 m in IsMember-flat_map (used alphabet) s r.0 dl r.1 r.2;
+    back = λ s m. (h.used s).1 (IsMember-flat_map_back (used alphabet) s dl m);
   }

@@ -16,8 +16,9 @@ use Rattle.ot_kernel.specs.State.{State, term_at, theorem_at}
 use Rattle.ot_kernel.specs.Spelled.{Held, sequent_of, state_of, IsInside, IsKernel}
 use Rattle.ot_kernel.specs.Numbered.{tm_at}
 use Rattle.ot_kernel.proofs.Namings.{length-map, index-map}
-use Rattle.ot_kernel.proofs.Placing.{All-at, entry-at, find-past}
+use Rattle.ot_kernel.proofs.Placing.{All-at, find-past}
 use Rattle.ot_kernel.proofs.Theorems.{real_theorem, same_tm-real}
+use Rattle.ot_plain.proofs.Elements.{slice_get-there}
 
 -- as many as their numbers
 pub counted : (ns : List Name) (t : TermTable) (held : Held) (now : State) → state_of ns t held ≡ now → length now.assumptions ≡ length held.assumptions
@@ -31,9 +32,9 @@ module _ (ns : List Name) (t : TermTable) (held : Held) (now : State) (view : st
     -- the assumption before n
     other : (j i : ℕ) → j < n → slice_get held.assumptions j ≡ Some i → i < length held.theorems → same_tm names (theorem_at now i).concl (term_at now concl) ≡ false
     other j i h at below =
-        let (th, found) = entry-at held.theorems i below in
+        let (th, found) = slice_get-there held.theorems i below in
         let inside = All-at (IsInside (length t.terms)) held.theorems i th k.inside found in
-        let (d, is) = entry-at t.classes th.concl (omega (arith, inside.concl, k.table.classed)) in
+        let (d, is) = slice_get-there t.classes th.concl (omega (arith, inside.concl, k.table.classed)) in
         let apart : tm_at t.terms th.concl ≡ tm_at t.terms concl → ⊥ = λ e.
         let same = (k.table.alike th.concl concl d c is class).1 e in
         let (p, l, le) = k.placed.found j i c th at found (is ∙ ap Some same) in
@@ -54,7 +55,7 @@ module _ (ns : List Name) (t : TermTable) (held : Held) (now : State) (view : st
         let dflt : Sequent Name = record { hyps = []; concl = Bound 0 } in
         let many = counted ns t held now view in
         let short : j < n = omega (arith, h, many, length-take n now.assumptions) in
-        let (i, at) = entry-at held.assumptions j (omega (arith, short, le)) in
+        let (i, at) = slice_get-there held.assumptions j (omega (arith, short, le)) in
         let below = All-at (λ m. m < length held.theorems) held.assumptions j i k.numbered at in
         let read : slice_index_or now.assumptions j r ≡ theorem_at now i =
         ap (λ (s : State). slice_index_or s.assumptions j r) (sym view)

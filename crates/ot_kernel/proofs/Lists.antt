@@ -15,8 +15,6 @@ use Rattle.ot_plain.specs.Faults.{Fault}
 use Rattle.ot_plain.specs.Naming.{names, numbers, name_of}
 use Rattle.ot_plain.specs.Renamed.{map_symbol}
 use Rattle.ot_plain.specs.Answers.{◌>>=◌}
-use Rattle.ot_laws.proofs.Sets.{IsMember-map_back}
-use Rattle.ot_laws.proofs.Steps.{same_Ok}
 use Rattle.ot_laws.proofs.Tests.{tells_names}
 use Rattle.ot_type.proofs.SubtypeLemmas.{All-member}
 use Rattle.ot_term.specs.Term.{TermTable}
@@ -44,6 +42,8 @@ use Rattle.ot_kernel.proofs.Constants.{over-name}
 use Rattle.ot_kernel.proofs.Accepted.{pairs_stay, theorem_stays}
 use Rattle.ot_kernel.proofs.Derived.{Made, made}
 use Rattle.ot_kernel.proofs.Later.{Later, Between, over-variable, over-theorem, IsHeld, held_sound}
+use Rattle.ot_plain.proofs.Members.{IsMember-map_back}
+use Rattle.ot_plain.proofs.Results.{same_Ok}
 
 -- ---- pairs
 zip_firsts : {N : Type 0} (alphabet : Alphabet N) (ns : List N) (vs : List (Variable N)) → length ns ≡ length vs → map (λ p. p.0) (zipped alphabet ns vs) ≡ ns

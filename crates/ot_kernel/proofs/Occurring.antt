@@ -3,7 +3,7 @@ use Rattle.std.specs.Prelude.{◌≡◌, ℕ, ◌+◌, ◌<◌, List, [], ◌∷
 use Rattle.std.specs.List.{All}
 use Rattle.std.proofs.Common.{refl, sym, ap, ◌∙◌, subst, arith, inl, inr, append_assoc}
 use Rattle.std.proofs.lemmas.List.{append-nil, map-append}
-use Rattle.std.proofs.lemmas.List.Elements.{All-head, All-tail, All-nil, All-cons}
+use Rattle.std.proofs.lemmas.List.Elements.{All-head, All-tail}
 use Rattle.std.proofs.lemmas.Option.{slice_get-get_or}
 use Rattle.ot_plain.specs.Lists.{IsMember, IsSameSet}
 use Rattle.ot_plain.specs.Names.{Name}
@@ -13,7 +13,7 @@ use Rattle.ot_plain.specs.Bounds.{bound_ty, bound_tys, bound_named, names_in_ter
 use Rattle.ot_plain.specs.Naming.{names, numbers, name_of}
 use Rattle.ot_plain.specs.Renamed.{map_symbol}
 use Rattle.ot_plain.proofs.Line.{one_end}
-use Rattle.ot_laws.proofs.Sets.{IsMember-cases, IsMember-map_back, same_set-append}
+use Rattle.ot_laws.proofs.Sets.{same_set-append}
 use Rattle.ot_laws.proofs.Symbols.{symbols-abs}
 use Rattle.ot_laws.proofs.Tests.{tells_numbers}
 use Rattle.ot_term.specs.Term.{TermTable}
@@ -29,6 +29,7 @@ use Rattle.ot_kernel.specs.State.{State, name_at, term_at, terms_at}
 use Rattle.ot_kernel.proofs.Checked.{over_symbols, symbols_real}
 use Rattle.ot_kernel.proofs.Later.{Later, Between, alphabet_at, over-terms, terms_within}
 use Rattle.ot_kernel.proofs.Namings.{bound_named-get}
+use Rattle.ot_plain.proofs.Members.{All-from_members, IsMember-cases, IsMember-map_back}
 
 -- ---- the numbers of symbols
 mutual
@@ -63,10 +64,6 @@ below_terms ts (i ∷ ids) h s m = elim (IsMember-cases s (symbols_tm numbers (t
   | inr b ↦ below_terms ts ids (All-tail (λ i. i < length ts) i ids h) s b
 ]
 
-all_members : {X : Type 0} (P : X → Type 0) (xs : List X) → ((x : X) → IsMember x xs → P x) → All P xs
-all_members P [] h = All-nil P
-all_members P (x ∷ xs) h = All-cons P x xs (h x (inl refl)) (all_members P xs (λ y m. h y (inr m)))
-
 -- ---- one term more
 symbols_all-push : (g : List (Tm ℕ)) (h : Tm ℕ) → symbols_all numbers (g ++ h ∷ []) ≡ symbols_all numbers g ++ symbols_tm numbers h
 symbols_all-push [] h = append-nil (symbols_tm numbers h)
@@ -85,7 +82,7 @@ module _ {ns : List Name} {t : TermTable} {held : Held} {now : State} (l : Later
   pub occurring_below : All (λ x. number_of x < length now.names) ss
   occurring_below =
       let e = ap (λ (z : State). length z.names) l.before in
-      all_members (λ (x : Symbol ℕ). number_of x < length now.names) ss (λ x m. let w = below_terms t.terms ids (λ i d n. terms_within l _ (h i d n)) x (s.to x m) in omega (arith, w, e, l.old.terms))
+      All-from_members (λ (x : Symbol ℕ). number_of x < length now.names) ss (λ x m. let w = below_terms t.terms ids (λ i d n. terms_within l _ (h i d n)) x (s.to x m) in omega (arith, w, e, l.old.terms))
 
   named_symbols : map (map_symbol (name_of ns)) (symbols_all numbers (tms_at t.terms ids)) ≡ symbols_all names (terms_at now ids)
   named_symbols = one_end (λ i. List (Symbol (Between l i))) (over_symbols l (symbols_all numbers (tms_at t.terms ids))) (λ i. symbols_all (alphabet_at l i) (over-terms l ids h i))

@@ -12,6 +12,7 @@ use Rattle.ot_plain.proofs.TableLemmas.{Extends-append}
 use Rattle.ot_kernel.specs.declared.theorem.Theorem.{Theorem}
 use Rattle.ot_kernel.specs.Places.{ArePlaces, IsPlaced}
 use Rattle.ot_kernel.specs.Spelled.{IsInside}
+use Rattle.ot_plain.proofs.Results.{none_from, some_from}
 
 module _ {X : Type 0} where
   -- an entry of the longer table at an old number
@@ -28,12 +29,6 @@ module _ {X : Type 0} where
   find-past p (x ∷ xs) (suc n) none =
       let rest = find-past p xs n (All-tail (λ y. p y ≡ false) x (take n xs) none) in
       ap (λ b. cond b (Some x) (find p xs)) (All-head (λ y. p y ≡ false) x (take n xs) none) ∙ rest
-
--- the entry at a number
-pub entry-at : {X : Type 0} (xs : List X) (i : ℕ) → i < length xs → (x : X) × (slice_get xs i ≡ Some x)
-entry-at [] i h = absurd (omega (arith, h))
-entry-at (x ∷ xs) zero h = (x, refl)
-entry-at (x ∷ xs) (suc i) h = entry-at xs i (omega (arith, h))
 
 -- no assumption
 pub no_places : (cs : List ℕ) (ths : List Theorem) (ps : List (ℕ × ℕ)) → ps ≡ [] → ArePlaces cs ths [] ps
@@ -93,27 +88,19 @@ kept : (b : Bool) (p q : ℕ) (o : Option ℕ) → (b ≡ true → o ≡ None) �
 kept true p q o none h = absurd (none-some p (sym (none refl) ∙ h))
 kept false p q o none h = h
 
-none_of : {X : Type 0} (o : Option X) → is_some o ≡ false → o ≡ None
-none_of None h = refl
-none_of (Some x) h = cc
-
 same_key : (c d : ℕ) → nat_eq c d ≡ true → c ≡ d
 same_key c d h = eqb-true c d h
 
 pub placed-new : (c place : ℕ) (old new : List (ℕ × ℕ)) → is_some (lookup (nat_eq c) old) ≡ false → ((d : ℕ) → lookup (nat_eq d) new ≡ cond (nat_eq c d) (Some place) (lookup (nat_eq d) old)) → lookup (nat_eq c) new ≡ Some place → IsPlaced c place old new
 placed-new c place old new absent more here = record {
-  keeps = λ d p l. more d ∙ kept (nat_eq c d) p place (lookup (nat_eq d) old) (λ e. subst (λ k. lookup (nat_eq k) old ≡ None) (same_key c d e) (none_of (lookup (nat_eq c) old) absent)) l;
+  keeps = λ d p l. more d ∙ kept (nat_eq c d) p place (lookup (nat_eq d) old) (λ e. subst (λ k. lookup (nat_eq k) old ≡ None) (same_key c d e) (none_from (lookup (nat_eq c) old) absent)) l;
   within = λ d p l. either (nat_eq c d) p place (lookup (nat_eq d) old) (sym (more d) ∙ l);
   found = (place, here);
 }
-
-some_of : {X : Type 0} (o : Option X) → is_some o ≡ true → (x : X) × (o ≡ Some x)
-some_of None h = cc
-some_of (Some x) h = (x, refl)
 
 pub placed-known : (c place : ℕ) (old : List (ℕ × ℕ)) → is_some (lookup (nat_eq c) old) ≡ true → IsPlaced c place old old
 placed-known c place old there = record {
   keeps = λ d p l. l;
   within = λ d p l. inl l;
-  found = some_of (lookup (nat_eq c) old) there;
+  found = some_from (lookup (nat_eq c) old) there;
 }

@@ -11,7 +11,6 @@ use Rattle.ot_plain.specs.Hol.{nameless, is_shallow, subst_tm, constants_for, se
 use Rattle.ot_plain.specs.Naming.{numbers}
 use Rattle.ot_plain.proofs.TableLemmas.{Extends-refl}
 use Rattle.ot_laws.specs.Walk.{nameless_map}
-use Rattle.ot_laws.proofs.Sets.{IsMember-map}
 use Rattle.ot_laws.proofs.Tests.{tells_numbers}
 use Rattle.ot_type.specs.TypeTable.{type_at}
 use Rattle.ot_term.specs.Term.{TermTable}
@@ -22,7 +21,7 @@ use Rattle.ot_subst.specs.Substitution.{Substitution, term_for, with_pair, named
 use Rattle.ot_subst.specs.Walk.{HasForm, NamesBelow, IsLater}
 use Rattle.ot_subst.specs.declared.fault.SubstFault.{SubstFault}
 use Rattle.ot_subst.specs.declared.fault.SubstFault.TheVariants as faults
-use Rattle.ot_subst.proofs.Binders.{member_at, pair-found}
+use Rattle.ot_subst.proofs.Binders.{pair-found}
 use Rattle.ot_subst.proofs.Growing.{named_part-Grows, IsSubstOf-Grows}
 use Rattle.ot_kernel.specs.declared.fault.RuleFault.TheVariants as rules
 use Rattle.ot_kernel.specs.Refusals.{of_subst}
@@ -36,12 +35,13 @@ use Rattle.ot_kernel.proofs.Namings.{map-drop}
 use Rattle.ot_kernel.proofs.NewTerms.{new_at}
 use Rattle.ot_kernel.proofs.NewTypes.{name-below, bound-below, grown_to}
 use Rattle.ot_kernel.proofs.Leaves.{shallow-constants}
+use Rattle.ot_plain.proofs.Members.{IsMember-get_or, IsMember-map}
 
 -- an element is not among those before it, where all have images of their own
 distinct-before : {X Y : Type 0} (f : X → Y) (xs : List X) (k : ℕ) (x : X) → AreDistinct (map f xs) → k < length xs → x ≡ get_or xs k x → ¬ (IsMember x (take k xs))
 distinct-before f [] k x d h e m = absurd (omega arith)
 distinct-before f (y ∷ ys) zero x d h e m = m
-distinct-before f (y ∷ ys) (suc k) x d h e (inl p) = d.0 (IsMember-map f y ys (subst (λ z. IsMember z ys) (sym e ∙ sym p) (member_at ys k x (omega arith))))
+distinct-before f (y ∷ ys) (suc k) x d h e (inl p) = d.0 (IsMember-map f y ys (subst (λ z. IsMember z ys) (sym e ∙ sym p) (IsMember-get_or ys k x (omega arith))))
 distinct-before f (y ∷ ys) (suc k) x d h e (inr m) = distinct-before f ys k x d.1 (omega arith) e m
 
 -- a variable that has no term yet

@@ -12,7 +12,6 @@ use Rattle.ot_plain.specs.Hol.{nameless, is_shallow, once_each}
 use Rattle.ot_plain.specs.Naming.{numbers, IsNameTable}
 use Rattle.ot_plain.specs.Rules.{subst_rule}
 use Rattle.ot_laws.proofs.Hypotheses.{IsMember-once_each}
-use Rattle.ot_laws.proofs.Sets.{IsMember-right}
 use Rattle.ot_laws.proofs.Tests.{tells_numbers}
 use Rattle.ot_term.specs.Term.{TermTable}
 use Rattle.ot_term.specs.TermTable.{term_at, Grows, IsTermTable}
@@ -31,6 +30,7 @@ use Rattle.ot_kernel.proofs.EquationRules.{refuses_rule, memory_refuses}
 use Rattle.ot_kernel.proofs.Equating.{tms_at-Grows}
 use Rattle.ot_kernel.proofs.ByNumber.{within-derives, deep_conclusion, deep_hypotheses, deep_member}
 use Rattle.ot_kernel.proofs.Namings.{map-drop}
+use Rattle.ot_plain.proofs.Members.{IsMember-right}
 
 -- what holds of the images of the terms before the k-th
 pub record AreImages (ns ms : List Name) (t u : TermTable) (s : Substitution) (ids : List ℕ) (k : ℕ) (is : List ℕ) : Type 0 where

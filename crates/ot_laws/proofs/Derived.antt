@@ -6,8 +6,9 @@ use Rattle.ot_plain.specs.Trees.{Alphabet, Ty, Tm, Con, App, Sequent, Definition
 use Rattle.ot_plain.specs.Hol.{fun_ty, bool_ty, HasType, equation, minus, Derivable, Refl, EqMp, AppThm, DeductAntisym, SameSet}
 use Rattle.ot_laws.proofs.Tests.{Tells}
 use Rattle.ot_laws.proofs.Typing.{app-typed}
-use Rattle.ot_laws.proofs.Sets.{IsMember-left, IsMember-right, part-append}
+use Rattle.ot_laws.proofs.Sets.{part-append}
 use Rattle.ot_laws.proofs.Hypotheses.{IsMember-minus}
+use Rattle.ot_plain.proofs.Members.{IsMember-left, IsMember-right}
 
 -- the constant `=` at a type
 abbrev equals_at : {N : Type 0} → Alphabet N → Ty N → Tm N

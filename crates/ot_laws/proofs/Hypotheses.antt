@@ -8,7 +8,8 @@ use Rattle.ot_plain.specs.Lists.{IsMember, IsPart, IsSameSet, AreDistinct}
 use Rattle.ot_plain.specs.Trees.{Alphabet, Tm, Sequent}
 use Rattle.ot_plain.specs.Hol.{same_tm, minus, is_in, lacking, union, once_each, all_in, same_sequent}
 use Rattle.ot_laws.proofs.Tests.{Tells, cases_of, same_tm-is, tm_cases}
-use Rattle.ot_laws.proofs.Sets.{IsMember-left, IsMember-right, IsMember-cases, distinct-append}
+use Rattle.ot_laws.proofs.Sets.{distinct-append}
+use Rattle.ot_plain.proofs.Members.{IsMember-cases, IsMember-left, IsMember-right}
 
 kept-append : {X : Type 0} (b : Bool) (x : X) (xs ys zs : List X) → xs ≡ ys ++ zs → cond b xs (x ∷ xs) ≡ cond b ys (x ∷ ys) ++ zs
 kept-append true x xs ys zs e = e

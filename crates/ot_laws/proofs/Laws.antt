@@ -1,6 +1,5 @@
 -- The laws of several parts, each from its lemmas.
-use Rattle.std.specs.Prelude.{IfOk}
-use Rattle.std.proofs.Common.{◌≡◌, List, ◌++◌, Result, Ok, Err, refl, ap, ◌∙◌}
+use Rattle.std.proofs.Common.{List, ◌++◌, refl, ap, ◌∙◌}
 use Rattle.ot_plain.specs.Trees.{Alphabet, Sequent, Definition}
 use Rattle.ot_plain.specs.Hol.{as_equation, distinct_named, parts}
 use Rattle.ot_plain.proofs.TableLemmas.{Extends-append}
@@ -12,10 +11,7 @@ use Rattle.ot_laws.proofs.Size.{remembered-size, same_set-distinct_named, distin
 use Rattle.ot_laws.proofs.Grown.{grown-derivable, grown-accepted, accepted-nil, accepted-push}
 use Rattle.ot_laws.proofs.Steps.{op_rule-ok, app_rule-ok, abs_rule-ok}
 use Rattle.ot_laws.proofs.Sound.{refl_rule-sound, assume_rule-sound, eq_mp_rule-sound, abs_thm_rule-sound, app_thm_rule-sound, deduct_antisym_rule-sound, beta_conv_rule-sound, subst_rule-sound, sym_rule-sound, trans_rule-sound, prove_hyp_rule-sound}
-
-if_ok : {A E : Type 0} (r : Result A E) (P : A → Type 0) → ((x : A) → r ≡ Ok x → P x) → IfOk r P
-if_ok (Ok x) P h = h x refl
-if_ok (Err e) P h = tt
+use Rattle.ot_plain.proofs.Results.{if_ok}
 
 pub growth : {N : Type 0} (alphabet : Alphabet N) → Growth alphabet
 growth alphabet = record {

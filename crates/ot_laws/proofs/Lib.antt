@@ -22,3 +22,4 @@ pub mod Sound
 pub mod Laws
 pub mod Membership
 pub mod Next
+pub mod Hashed

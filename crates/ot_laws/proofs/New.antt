@@ -12,8 +12,8 @@ use Rattle.ot_laws.specs.Laws.{BindersCanBePicked}
 use Rattle.ot_laws.specs.Walk.{NamedMap, nameless_map, BinderRule, Picks}
 use Rattle.ot_laws.proofs.Tests.{tells_numbers, var_cases}
 use Rattle.ot_laws.proofs.Named.{free-nameless}
-use Rattle.ot_laws.proofs.Sets.{IsMember-map_back}
 use Rattle.ot_laws.proofs.Apply.{term_at-cases}
+use Rattle.ot_plain.proofs.Members.{IsMember-map_back}
 
 -- a free variable's name is below the bound
 pub free-below : (x : Variable ℕ) (t : Named ℕ) → IsFreeIn numbers x t → x.name < bound_named t

@@ -1,24 +1,11 @@
 -- Lists as sets: members, and lists without repetition.
 use Rattle.std.specs.Prelude.{◌≢◌}
 use Rattle.std.specs.List.{AllByRecursion}
-use Rattle.std.proofs.Common.{◌≡◌, suc, ◌≤◌, List, [], ◌∷◌, ◌++◌, length, map, refl, sym, ap, ◌∙◌, subst, inl, inr, ◌⊎◌, arith}
+use Rattle.std.proofs.Common.{◌≡◌, suc, ◌≤◌, List, [], ◌∷◌, ◌++◌, length, refl, sym, ap, ◌∙◌, subst, inl, inr, arith}
 use Rattle.ot_plain.specs.Lists.{IsMember, IsPart, IsSameSet, AreDistinct}
+use Rattle.ot_plain.proofs.Members.{IsMember-cases, IsMember-left, IsMember-right}
 
 module _ {X : Type 0} where
-  pub IsMember-left : (x : X) (xs ys : List X) → IsMember x xs → IsMember x (xs ++ ys)
-  IsMember-left x (y ∷ xs) ys (inl h) = inl h
-  IsMember-left x (y ∷ xs) ys (inr h) = inr (IsMember-left x xs ys h)
-  IsMember-left x [] ys h = absurd h
-
-  pub IsMember-right : (x : X) (xs ys : List X) → IsMember x ys → IsMember x (xs ++ ys)
-  IsMember-right x [] ys h = h
-  IsMember-right x (y ∷ xs) ys h = inr (IsMember-right x xs ys h)
-
-  pub IsMember-cases : (x : X) (xs ys : List X) → IsMember x (xs ++ ys) → IsMember x xs ⊎ IsMember x ys
-  IsMember-cases x [] ys h = inr h
-  IsMember-cases x (y ∷ xs) ys (inl h) = inl (inl h)
-  IsMember-cases x (y ∷ xs) ys (inr h) = elim (IsMember-cases x xs ys h) [ inl p ↦ inl (inr p) | inr p ↦ inr p ]
-
   pub part-append : (xs ys zs : List X) → IsPart xs zs → IsPart ys zs → IsPart (xs ++ ys) zs
   part-append xs ys zs p q x h = elim (IsMember-cases x xs ys h) [ inl a ↦ p x a | inr b ↦ q x b ]
 
@@ -74,14 +61,3 @@ module _ {X : Type 0} where
       let inside = λ (x : X) (i : IsMember x ks). f x (h x (inr i)) (λ e. d.0 (subst (λ z. IsMember z ks) e i)) in
       let p = distinct-length ks zs d.1 inside in
       omega arith
-
-module _ {X Y : Type 0} (f : X → Y) where
-  pub IsMember-map : (x : X) (xs : List X) → IsMember x xs → IsMember (f x) (map f xs)
-  IsMember-map x (y ∷ xs) (inl e) = inl (ap f e)
-  IsMember-map x (y ∷ xs) (inr i) = inr (IsMember-map x xs i)
-  IsMember-map x [] i = i
-
-  pub IsMember-map_back : (y : Y) (xs : List X) → IsMember y (map f xs) → (x : X) × IsMember x xs × (f x ≡ y)
-  IsMember-map_back y (x ∷ xs) (inl e) = (x, inl refl, e)
-  IsMember-map_back y (x ∷ xs) (inr i) = let (z, j, e) = IsMember-map_back y xs i in (z, inr j, e)
-  IsMember-map_back y [] i = absurd i

@@ -14,19 +14,20 @@ use Rattle.ot_laws.specs.Theorem.{IsTheorem}
 use Rattle.ot_laws.proofs.Tests.{Tells, cases_of, same_ty-is, same_tm-is, tm_cases, has_type-is, is_free_in_some-is}
 use Rattle.ot_laws.proofs.Typing.{as_fun_ty-some, type_of-typed}
 use Rattle.ot_laws.proofs.Equations.{equation-typed, equation-sides}
-use Rattle.ot_laws.proofs.Steps.{same_Ok, bind-ok, unless-ok, some_or-ok, within_limit-ok, sides-ok}
+use Rattle.ot_laws.proofs.Steps.{within_limit-ok, sides-ok}
 use Rattle.ot_laws.proofs.Sets.{same_set-then, same_set-swap}
 use Rattle.ot_laws.proofs.Hypotheses.{distinct-minus, same_set-union, distinct-union, same_set-once_each, distinct-once_each, IsMember-minus}
 use Rattle.ot_laws.proofs.Derived.{sym-derivable, trans-derivable, prove_hyp-derivable}
 use Rattle.ot_laws.proofs.Typed.{sequent, part-typed, append-typed, refl-typed, assume-typed, eq_mp-typed, abs_thm-typed, app_thm-typed, deduct_antisym-typed, beta_conv-typed, subst_rule-typed}
+use Rattle.ot_plain.proofs.Results.{bind-ok, same_Ok, some_or-ok, unless-ok}
 
 module _ {N : Type 0} (alphabet : Alphabet N) (tells : Tells alphabet) (al : List (Sequent N)) (dl : List (Definition N)) where
   -- the theorem with other hypotheses of one set, each once
-  theorem-as : (g h : List (Tm N)) (p : Tm N) → IsSameSet g h → AreDistinct h → Derivable alphabet al dl g p → IsSequent alphabet (sequent alphabet g p) → IsTheorem alphabet al dl (sequent alphabet h p)
+  pub theorem-as : (g h : List (Tm N)) (p : Tm N) → IsSameSet g h → AreDistinct h → Derivable alphabet al dl g p → IsSequent alphabet (sequent alphabet g p) → IsTheorem alphabet al dl (sequent alphabet h p)
   theorem-as g h p s d k w = record { derivable = SameSet s k; sequent = part-typed alphabet g h p s.back w; distinct = d }
 
   -- the theorem with its conclusion in another form
-  concluding : (q : Sequent N) (p : Tm N) → q.concl ≡ p → IsTheorem alphabet al dl q → IsTheorem alphabet al dl (sequent alphabet q.hyps p)
+  pub concluding : (q : Sequent N) (p : Tm N) → q.concl ≡ p → IsTheorem alphabet al dl q → IsTheorem alphabet al dl (sequent alphabet q.hyps p)
   concluding q p e t = subst (λ z. IsTheorem alphabet al dl (sequent alphabet q.hyps z)) e t
 
   -- what was answered

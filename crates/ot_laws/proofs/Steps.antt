@@ -5,26 +5,12 @@ use Rattle.std.proofs.Common.{◌≡◌, Bool, true, false, [], Option, Some, No
 use Rattle.ot_plain.specs.Trees.{Alphabet, Ty, Tys, TyOp, Variable, Tm, App, Abs, Sequent}
 use Rattle.ot_plain.specs.Hol.{fun_ty, as_fun_ty, is_shallow_ty, type_in, HasType, IsWellTyped, close, is_shallow, equation, as_equation, is_shallow_sequent}
 use Rattle.ot_plain.specs.Faults.{Fault, NotEquation, NotFunction, ArgumentType, Nesting}
-use Rattle.ot_plain.specs.Answers.{◌>>=◌, unless, some_or}
+use Rattle.ot_plain.specs.Answers.{unless, some_or}
 use Rattle.ot_plain.specs.Rules.{has_type, op_rule, app_rule, abs_rule, within_limit, sides}
 use Rattle.ot_laws.proofs.Tests.{Tells, has_type-is}
 use Rattle.ot_laws.proofs.Typing.{app-typed, as_fun_ty-some, type-close_at}
 use Rattle.ot_laws.proofs.Equations.{as_equation-some, as_equation-equation}
-
-pub same_Ok : {A E : Type 0} (x y : A) → ◌≡◌ {A = Result A E} (Ok x) (Ok y) → x ≡ y
-same_Ok x y h = cc
-
-pub bind-ok : {A B E : Type 0} (r : Result A E) (f : A → Result B E) (y : B) → (r >>= f) ≡ Ok y → (x : A) × (r ≡ Ok x) × (f x ≡ Ok y)
-bind-ok (Ok x) f y h = (x, refl, h)
-bind-ok (Err e) f y h = cc
-
-pub unless-ok : {E : Type 0} (e : E) (b : Bool) (u : Unit {0}) → unless e b ≡ Ok u → b ≡ true
-unless-ok e true u h = refl
-unless-ok e false u h = cc
-
-pub some_or-ok : {A E : Type 0} (e : E) (o : Option A) (x : A) → some_or e o ≡ Ok x → o ≡ Some x
-some_or-ok e (Some y) x h = ap Some (same_Ok y x h)
-some_or-ok e None x h = cc
+use Rattle.ot_plain.proofs.Results.{bind-ok, same_Ok, some_or-ok, unless-ok}
 
 pub and_then-some : {A B : Type 0} (f : A → Option B) (o : Option A) (y : B) → option_and_then f o ≡ Some y → (x : A) × (o ≡ Some x) × (f x ≡ Some y)
 and_then-some f (Some x) y h = (x, refl, h)

@@ -4,7 +4,8 @@ use Rattle.ot_plain.specs.Lists.{IsMember, IsPart, IsSameSet}
 use Rattle.ot_plain.specs.Trees.{Alphabet, Ty, Variable, Tm, Free, Con, Bound, App, Abs, Named, NAbs, ConSymbol}
 use Rattle.ot_plain.specs.Hol.{vars_ty, vars_tm, symbols_ty, symbols_tm, close_at, nameless}
 use Rattle.ot_laws.proofs.Tests.{Tells, var_cases}
-use Rattle.ot_laws.proofs.Sets.{IsMember-left, IsMember-right, IsMember-cases, part-append}
+use Rattle.ot_laws.proofs.Sets.{part-append}
+use Rattle.ot_plain.proofs.Members.{IsMember-cases, IsMember-left, IsMember-right}
 
 -- what is gathered from the types and the constants of a term
 abbrev gathered : {N X : Type 0} → (Ty N → List X) → (N → Ty N → List X) → Tm N → List X

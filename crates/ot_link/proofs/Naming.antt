@@ -18,10 +18,10 @@ use Rattle.ot_theory.specs.declared.keys.Key.{Key}
 use Rattle.ot_theory.specs.declared.keys.Key.TheVariants as keys
 use Rattle.ot_machine.specs.LawfulLaws.{CanBeNamed}
 use Rattle.ot_machine.specs.Writable.{IsWritable}
-use Rattle.ot_machine.proofs.Respelled.{member-right}
 use Rattle.ot_link.specs.Renaming.{Renaming, renaming_by, renaming_at, renamings_of, pairs_of, interpretation_of}
 use Rattle.ot_link.specs.Lawful.{BlocksAreNaming}
 use Rattle.ot_link.proofs.Saying.{said-of}
+use Rattle.ot_plain.proofs.Members.{IsMember-right}
 
 -- what a symbol becomes can be said by a line
 pub record GivesWritable (r : Renaming) : Type 0 where
@@ -33,8 +33,8 @@ pub record LeadsToWritable (p : Name × Name) : Type 0 where
 -- the second name of an interpretation is a part of its line
 to-inside : (value : List ℕ) (kind : SymbolWord) (from to : List ℕ) → IsInterpretation value kind from to → ¬ (IsMember 10 value) → ¬ (IsMember 10 to)
 to-inside value kind from to is plain m =
-    let last = member-right 10 (codes "as") _ (member-right 10 is.third_gap to m) in
-    plain (subst (IsMember 10) (sym is.text) (member-right 10 (kind_text kind) _ (member-right 10 is.first_gap _ (member-right 10 from _ (member-right 10 is.second_gap _ last)))))
+    let last = IsMember-right 10 (codes "as") _ (IsMember-right 10 is.third_gap to m) in
+    plain (subst (IsMember 10) (sym is.text) (IsMember-right 10 (kind_text kind) _ (IsMember-right 10 is.first_gap _ (IsMember-right 10 from _ (IsMember-right 10 is.second_gap _ last)))))
 
 module _ (said : CanBeNamed IsWritable) (one : OneInterpretation) where
   names-writable : (kind : SymbolWord) (from to : Option Name) → ((n : Name) → to ≡ Some n → IsWritable n)

@@ -1,6 +1,6 @@
 -- Texts with a separator between two, part by part.
-use Rattle.std.specs.Prelude.{◌≡◌, ℕ, suc, ◌+◌, ◌<◌, ◌≤◌, Bool, true, false, List, [], ◌∷◌, ◌++◌, map, length, codes}
-use Rattle.std.proofs.Common.{refl, sym, ◌∙◌, ap, arith, append_assoc, drop, drop-cons, get_or}
+use Rattle.std.specs.Prelude.{◌≡◌, ℕ, ◌+◌, ◌<◌, ◌≤◌, Bool, true, false, List, [], ◌∷◌, ◌++◌, map, length, codes}
+use Rattle.std.proofs.Common.{refl, sym, ◌∙◌, ap, append_assoc, drop, get_or}
 use Rattle.std.proofs.Math.ListN.{drop_of_length-le}
 use Rattle.ot_plain.specs.Names.{Name}
 use Rattle.ot_plain.specs.Trees.{Variable, Sequent, TyDef}
@@ -12,6 +12,7 @@ use Rattle.ot_text.specs.Sections.{pair_text, pairs_text, further_pairs, names_t
 use Rattle.ot_text.specs.Separated.{separator}
 use Rattle.ot_text.specs.Pages.{Printed, IsPut}
 use Rattle.ot_text.proofs.Putting.{Leaves, leaves-more, leaves-all, nothing}
+use Rattle.ot_plain.proofs.Elements.{drop-item}
 
 -- a constant and its variable
 abbrev pub pair_at : List Item → ℕ × VariableNode → Name × Variable Name
@@ -54,15 +55,10 @@ from-none l false = l.end
 abbrev pub Rest : {X Y : Type 0} → Layout Y → (X → Y) → List X → ℕ → Bool → Printed → Printed → Type 0
 Rest l f xs i b s0 s = Leaves (from l b (map f (drop i xs))) (l.whole (map f xs)) s0 s
 
-rest-next : {X : Type 0} (xs : List X) (i : ℕ) (x : X) → i < length xs → x ≡ get_or xs i x → drop i xs ≡ x ∷ drop (i + 1) xs
-rest-next xs i x h p =
-    let n : suc i ≡ i + 1 = omega arith in
-    drop-cons xs i x h ∙ (λ j. sym p j ∷ drop (n j) xs)
-
 pub rest-more : {X Y : Type 0} (l : Layout Y) (f : X → Y) (xs : List X) (i : ℕ) (x : X) (b : Bool) (s0 s t : Printed) → i < length xs → x ≡ get_or xs i x
     → Rest l f xs i b s0 s → IsPut (separator b l.between ++ l.text (f x)) s t → Rest l f xs (i + 1) false s0 t
 rest-more l f xs i x b s0 s t h p before put =
-    leaves-more before (ap (λ ys. from l b (map f ys)) (rest-next xs i x h p) ∙ from-first l b (f x) (map f (drop (i + 1) xs))) put
+    leaves-more before (ap (λ ys. from l b (map f ys)) (drop-item xs i x h p) ∙ from-first l b (f x) (map f (drop (i + 1) xs))) put
 
 pub rest-all : {X Y : Type 0} (l : Layout Y) (f : X → Y) (xs : List X) (i : ℕ) (b : Bool) (s0 s : Printed) → length xs ≤ i
     → Rest l f xs i b s0 s → IsPut (l.whole (map f xs)) s0 s

@@ -12,7 +12,6 @@ use Rattle.ot_plain.specs.Faults.{StackEmpty}
 use Rattle.ot_plain.specs.Answers.{unless}
 use Rattle.ot_plain.specs.declared.command.Cmd.{Cmd}
 use Rattle.ot_plain.specs.declared.command.Cmd.TheVariants as words
-use Rattle.ot_laws.proofs.Steps.{same_Ok, bind-ok, unless-ok}
 use Rattle.ot_rules.specs.Limits.{AreWellTyped}
 use Rattle.ot_trace.specs.Origins.{Origin, Make, Define}
 use Rattle.ot_machine.specs.Objects.{Object, term, theorem}
@@ -27,6 +26,7 @@ use Rattle.ot_proof_log.proofs.Values.{value-kept}
 use Rattle.ot_values.specs.Steps.{Makes, origins_of}
 use Rattle.ot_words.specs.Recording.{HasResult}
 use Rattle.ot_log.specs.Keeping.{IsDefinable}
+use Rattle.ot_plain.proofs.Results.{bind-ok, same_Ok, unless-ok}
 
 -- ---- types
 

@@ -5,5 +5,4 @@ pub mod Closed
 pub mod Accepted
 pub mod Worked
 pub mod Outcomes
-pub mod Renamed
 pub mod Whole

@@ -1,7 +1,7 @@
 -- The theorems of definitions, and their numbers.
 use Rattle.std.specs.Prelude.{IfNone}
 use Rattle.std.specs.List.{All}
-use Rattle.std.proofs.Common.{◌≡◌, ◌≢◌, ℕ, zero, suc, ◌+◌, ◌<◌, List, [], ◌∷◌, ◌++◌, map, length, get_or, slice_get, Option, None}
+use Rattle.std.proofs.Common.{◌≡◌, ◌≢◌, ℕ, suc, ◌+◌, ◌<◌, List, [], ◌∷◌, ◌++◌, map, length, get_or, slice_get, Option, None}
 use Rattle.std.proofs.Common.{Some, Ok, refl, sym, ap, subst, ◌∙◌, arith}
 use Rattle.ot_plain.specs.Names.{Name}
 use Rattle.ot_plain.specs.Naming.{names, name_of}
@@ -12,7 +12,6 @@ use Rattle.ot_plain.specs.Answers.{◌>>=◌, some_or}
 use Rattle.ot_plain.specs.declared.command.Cmd.{Cmd}
 use Rattle.ot_plain.proofs.Naming.{name_of-injective}
 use Rattle.ot_plain.proofs.TableLemmas.{Extends-refl}
-use Rattle.ot_laws.proofs.Steps.{same_Ok, bind-ok, some_or-ok}
 use Rattle.ot_nodes.specs.Items.{Item}
 use Rattle.ot_rules.specs.Statements.{sequent_at, HasStatement}
 use Rattle.ot_rules.specs.declared.statement.Statement.{Statement}
@@ -38,13 +37,10 @@ use Rattle.ot_log.specs.Keeping.{AreTheorems, Holds, IsDefinable, IsNumbered, Is
 use Rattle.ot_log.specs.declared.writer.Writer.{Writer}
 use Rattle.ot_log.proofs.Closed.{defined, step-origin}
 use Rattle.ot_log.proofs.Placed.{naming-is, origin-here, number-other, marked-holds, marked-writer, writer-grown}
+use Rattle.ot_plain.proofs.Elements.{slice_get-map}
+use Rattle.ot_plain.proofs.Results.{bind-ok, same_Ok, some_or-ok}
 
 -- ---- what the theorems are
-
-get-map : {X Y : Type 0} (f : X → Y) (xs : List X) (i : ℕ) (x : X) → slice_get xs i ≡ Some x → slice_get (map f xs) i ≡ Some (f x)
-get-map f [] i x e = absurd (cc)
-get-map f (y ∷ xs) zero x e = let p : y ≡ x = cc in ap (λ z. Some (f z)) p
-get-map f (y ∷ xs) (suc i) x e = get-map f xs i x e
 
 pub theorems-made : (s : Session) (old new : Writer) (w : Cmd) (id : ℕ) (ids : List ℕ) (qs : List Statement)
     → PutsDefinition s old new w ids qs → origin_of s id ≡ Define w (origins_of s ids) → AreTheorems new.nodes (origin_of s id) qs
@@ -59,7 +55,7 @@ theorems-made s old new w id ids qs p e j q at = record {
       let there : slice_get (theorems names d.0) j ≡ Some t.0 =
       some_or-ok StackEmpty (slice_get (theorems names d.0) j) t.0 t.1 in
       let here : slice_get (theorems names d.0) j ≡ Some (sequent_at new.nodes q) = ap (λ l. slice_get l j) (sym are)
-      ∙ get-map (sequent_at new.nodes) qs j q at in
+      ∙ slice_get-map (sequent_at new.nodes) qs j q at in
       let same : Some t.0 ≡ Some (sequent_at new.nodes q) = sym there ∙ here in
       let one : t.0 ≡ sequent_at new.nodes q = cc in
       sym (same_Ok (theorem t.0) v t.2) ∙ ap theorem one;

@@ -5,14 +5,13 @@ use Rattle.std.specs.List.{All}
 use Rattle.std.proofs.Common.{◌≡◌, ◌≢◌, ℕ, zero, suc, ◌+◌, ◌<◌, ◌⊎◌, inl, inr, Bool, true, false, cond, List, [], ◌∷◌, ◌++◌}
 use Rattle.std.proofs.Common.{length, set, replicate, slice_get, get_or, Option, None, Some, Ok, refl, sym, ap, subst, ◌∙◌, arith}
 use Rattle.std.proofs.lemmas.List.{length-set}
-use Rattle.std.proofs.lemmas.List.Elements.{All-head, All-tail, All-weaker, All-push}
+use Rattle.std.proofs.lemmas.List.Elements.{All-weaker, All-push}
 use Rattle.ot_plain.specs.Names.{Name, same_name-Decides}
 use Rattle.ot_plain.specs.Naming.{names, name_of}
 use Rattle.ot_plain.specs.Table.{Extends}
 use Rattle.ot_plain.specs.Trees.{Sequent}
 use Rattle.ot_plain.proofs.Naming.{name_of-injective}
-use Rattle.ot_plain.proofs.TableLemmas.{Extends-trans}
-use Rattle.ot_laws.proofs.Steps.{same_Ok}
+use Rattle.ot_plain.proofs.TableLemmas.{Extends-trans, slice_get-append_left}
 use Rattle.ot_kernel.specs.State.{name_at}
 use Rattle.ot_kernel.proofs.Namings.{name_of-index}
 use Rattle.ot_nodes.specs.Items.{Item}
@@ -41,33 +40,12 @@ use Rattle.ot_words.specs.declared.words.Made.{Made}
 use Rattle.ot_log.specs.Keeping.{IsNumbered, IsPlaced, IsWriter, Holds, Marks, number_in, number_at}
 use Rattle.ot_log.specs.declared.writer.Place.{Place}
 use Rattle.ot_log.specs.declared.writer.Writer.{Writer}
-
-pub all-get : {X : Type 0} (P : X → Type 0) (xs : List X) (i : ℕ) (x : X) → All P xs → slice_get xs i ≡ Some x → P x
-all-get P [] i x h e = absurd (cc)
-all-get P (y ∷ xs) zero x h e = let p : y ≡ x = cc in subst P p (All-head P y xs h)
-all-get P (y ∷ xs) (suc i) x h e = all-get P xs i x (All-tail P y xs h) e
-
-pub get-low : {X : Type 0} (xs : List X) (i : ℕ) (x : X) → slice_get xs i ≡ Some x → i < length xs
-get-low [] i x e = absurd (cc)
-get-low (y ∷ xs) zero x e = omega arith
-get-low (y ∷ xs) (suc i) x e = let h = get-low xs i x e in omega arith
+use Rattle.ot_plain.proofs.Elements.{All-slice_get, slice_get-low, slice_get-set_other, slice_get-set_same}
 
 pub get-here : {X : Type 0} (xs : List X) (i : ℕ) (x y : X) → x ≡ get_or xs i x → slice_get xs i ≡ Some y → x ≡ y
 get-here [] i x y p e = absurd (cc)
 get-here (z ∷ xs) zero x y p e = let q : z ≡ y = cc in p ∙ q
 get-here (z ∷ xs) (suc i) x y p e = get-here xs i x y p e
-
-get-set_same : {X : Type 0} (xs : List X) (i : ℕ) (x : X) → i < length xs → slice_get (set xs i x) i ≡ Some x
-get-set_same [] i x h = absurd (omega arith)
-get-set_same (y ∷ xs) zero x h = refl
-get-set_same (y ∷ xs) (suc i) x h = get-set_same xs i x (omega arith)
-
-get-set_other : {X : Type 0} (xs : List X) (i j : ℕ) (x : X) → j ≢ i → slice_get (set xs i x) j ≡ slice_get xs j
-get-set_other [] i j x h = refl
-get-set_other (y ∷ xs) zero zero x h = absurd (h refl)
-get-set_other (y ∷ xs) zero (suc j) x h = refl
-get-set_other (y ∷ xs) (suc i) zero x h = refl
-get-set_other (y ∷ xs) (suc i) (suc j) x h = get-set_other xs i j x (λ e. h (ap suc e))
 
 pub origin-here : (ts : List (Origin ℕ)) (i : ℕ) → i < length ts → slice_get ts i ≡ Some (origin_at ts i)
 origin-here [] i h = absurd (omega arith)
@@ -77,11 +55,6 @@ origin-here (t ∷ ts) (suc i) h = origin-here ts i (omega arith)
 once-at : (ts : List (Origin ℕ)) → IsStepTable ts → (i j : ℕ) → i < length ts → j < length ts → origin_at ts i ≡ origin_at ts j
     → i ≡ j
 once-at ts table i j h k e = table.injective.same i j (origin_at ts i) (origin-here ts i h) (origin-here ts j k ∙ ap Some (sym e))
-
-get-front : {X : Type 0} (xs ys : List X) (i : ℕ) (x : X) → slice_get xs i ≡ Some x → slice_get (xs ++ ys) i ≡ Some x
-get-front [] ys i x e = absurd (cc)
-get-front (y ∷ xs) ys zero x e = e
-get-front (y ∷ xs) ys (suc i) x e = get-front xs ys i x e
 
 get-last : {X : Type 0} (xs : List X) (x : X) → slice_get (xs ++ x ∷ []) (length xs) ≡ Some x
 get-last [] x = refl
@@ -104,7 +77,7 @@ placed-grown s ts us qs i p e all h = record {
   at = h.at;
   makes = record {
     is = λ v k. h.makes.is v k
-        ∙ ap theorem (sym (sequent-stays ts us e h.statement (all-get (HasStatement ts) qs p.at h.statement all h.at)));
+        ∙ ap theorem (sym (sequent-stays ts us e h.statement (All-slice_get (HasStatement ts) qs p.at h.statement all h.at)));
   };
 }
 
@@ -210,11 +183,11 @@ module _ (s : Session) (num : IsNumbered s) (old new : Writer) (w : IsWriter s o
   marked-places : (i : ℕ) (p : Place) → slice_get (set old.places.items id (Some place)) i ≡ Some (Some p)
       → ((i ≡ id) × (place ≡ p)) ⊎ (slice_get old.places.items i ≡ Some (Some p))
   marked-places i p h = elim (same_steps i id) [
-    | inl e ↦ (let low : id < length old.places.items = get-low old.places.items id None k.first in
-        let q : Some (Some place) ≡ Some (Some p) = sym (get-set_same old.places.items id (Some place) low)
+    | inl e ↦ (let low : id < length old.places.items = slice_get-low old.places.items id None k.first in
+        let q : Some (Some place) ≡ Some (Some p) = sym (slice_get-set_same old.places.items id (Some place) low)
         ∙ ap (slice_get (set old.places.items id (Some place))) (sym e) ∙ h in
         let r : place ≡ p = cc in inl (e, r))
-    | inr n ↦ inr (sym (get-set_other old.places.items id i (Some place) n) ∙ h)
+    | inr n ↦ inr (sym (slice_get-set_other old.places.items id i (Some place) n) ∙ h)
   ]
 
   pub marked-writer : HasStatement old.nodes m.statement → Makes (origin_of s id) (theorem (sequent_at old.nodes m.statement))
@@ -239,7 +212,7 @@ module _ (s : Session) (num : IsNumbered s) (old new : Writer) (w : IsWriter s o
       at-old i p h = record {
         within = long-more old.statements.items m.statement p.at h.within;
         statement = h.statement;
-        at = get-front old.statements.items (m.statement ∷ []) p.at h.statement h.at;
+        at = slice_get-append_left old.statements.items (m.statement ∷ []) p.at h.statement h.at;
         makes = h.makes;
       }
 
@@ -256,14 +229,14 @@ module _ (s : Session) (num : IsNumbered s) (old new : Writer) (w : IsWriter s o
     log = subst (λ z. Shows z max new.sheet x.log) (sym k.nodes) (subst (λ z. Shows old.nodes max z x.log) (sym k.sheet) h.log);
     numbers = λ i l. elim (same_steps i id) [
       | inl e ↦ (let none : number_of (origin_of s id) x.theorems ≡ None = h.numbers id inside ∙ ap number_in k.first in
-          let low : id < length old.places.items = get-low old.places.items id None k.first in
+          let low : id < length old.places.items = slice_get-low old.places.items id None k.first in
           ap (λ j. number_of (origin_of s j) (x.theorems ++ (origin_of s id, m.number) ∷ [])) e
           ∙ number-first (origin_of s id) m.number x.theorems none
           ∙ sym (ap (λ l. number_at l i) k.places ∙ ap (number_at (set old.places.items id (Some place))) e
-          ∙ ap number_in (get-set_same old.places.items id (Some place) low)))
+          ∙ ap number_in (slice_get-set_same old.places.items id (Some place) low)))
       | inr n ↦ number-other (origin_of s i) (origin_of s id) m.number x.theorems (λ e. n (steps-same s num i id l inside e))
           ∙ h.numbers i l
-          ∙ sym (ap (λ l. number_at l i) k.places ∙ ap number_in (get-set_other old.places.items id i (Some place) n))
+          ∙ sym (ap (λ l. number_at l i) k.places ∙ ap number_in (slice_get-set_other old.places.items id i (Some place) n))
     ];
   }
 
@@ -276,7 +249,7 @@ placed-later s w is ts e i p q at r =
     let h = is.placed i p at in
     let same = get-here w.statements.items p.at q h.statement r h.at in
     let has = subst (HasStatement w.nodes) (sym same)
-    (all-get (HasStatement w.nodes) w.statements.items p.at h.statement is.statements h.at) in
+    (All-slice_get (HasStatement w.nodes) w.statements.items p.at h.statement is.statements h.at) in
     let makes = subst (λ z. Makes (origin_of s i) (theorem (sequent_at w.nodes z))) (sym same) h.makes in (
       still-statement w.nodes ts e q has,
       record { is = λ v k. makes.is v k ∙ ap theorem (sym (sequent-stays w.nodes ts e q has)) },

@@ -8,7 +8,6 @@ use Rattle.ot_plain.specs.Answers.{◌>>=◌}
 use Rattle.ot_plain.proofs.TableLemmas.{Extends-trans}
 use Rattle.ot_plain.specs.declared.command.Cmd.{Cmd}
 use Rattle.ot_plain.specs.declared.command.Cmd.TheVariants as words
-use Rattle.ot_laws.proofs.Steps.{bind-ok}
 use Rattle.ot_nodes.specs.Items.{Item, name_at, term_at}
 use Rattle.ot_nodes.specs.Changing.{variable_at, type_map, term_map}
 use Rattle.ot_nodes.specs.Typing.{AreTypings}
@@ -43,6 +42,7 @@ use Rattle.ot_log.specs.declared.writer.Place.{Place}
 use Rattle.ot_log.specs.declared.writer.Writer.{Writer}
 use Rattle.ot_log.proofs.Valued.{has-values, has-applied, has-first, has-rest, none-are, more-are, its-value, list-is, reads-list}
 use Rattle.ot_log.proofs.Placed.{writer-grown, number-some, number-none}
+use Rattle.ot_plain.proofs.Results.{bind-ok}
 
 no-theorem : (t : Tm Name) (q : Sequent Name) → term t ≢ theorem q
 no-theorem t q e = cc

@@ -41,7 +41,8 @@ use Rattle.ot_log.specs.Keeping.{IsDefinable, IsNumbered}
 use Rattle.ot_log.specs.Logs.{AreLawful, HasProof, Writes, roots_in, steps_log}
 use Rattle.ot_log.specs.declared.writing.LogRefusal.{LogRefusal}
 use Rattle.ot_log.proofs.Placed.{naming-is, origin-tells}
-use Rattle.ot_log.proofs.Renamed.{definitions-map, roots-map}
+use Rattle.ot_written.proofs.Renaming.{definitions-map, roots-map}
+use Rattle.ot_plain.proofs.Members.{All-at_member, All-from_members}
 
 -- ---- one more
 
@@ -72,15 +73,6 @@ results-more f es n e x h low =
     ∙ results-append (map f (take n es)) (f e ∷ []) x)
 
 -- ---- members
-
-pub member-all : {X : Type 0} (P : X → Type 0) (xs : List X) → ((x : X) → IsMember x xs → P x) → All P xs
-member-all P [] h = All-nil P
-member-all P (x ∷ xs) h = All-cons P x xs (h x (inl refl)) (member-all P xs (λ y m. h y (inr m)))
-
-pub all-member : {X : Type 0} (P : X → Type 0) (xs : List X) (x : X) → All P xs → IsMember x xs → P x
-all-member P [] x h m = elim m [ ]
-all-member P (y ∷ xs) x h (inl e) = subst P e (All-head P y xs h)
-all-member P (y ∷ xs) x h (inr m) = all-member P xs x (All-tail P y xs h) m
 
 made-member : (s : Session) (ds : List (Definition Name)) (is : List ℕ) → length is ≡ length ds → (i : ℕ) → IsMember i is
     → (k : ℕ) × ((m : Made) × ((slice_get (made_of s ds is) k ≡ Some m) × (m.origin ≡ origin_of s i)))
@@ -176,8 +168,8 @@ module _ (s : Session) (num : IsNumbered s) where
   log-is es needed h part e =
       let steps = s.definition_steps.items in
       let inside = num.run.definitions in
-      let low = member-all (λ i. i < length s.trace) needed
-      (λ i m. all-member (λ i. i < length s.trace) steps i inside (part i m)) in
+      let low = All-from_members (λ i. i < length s.trace) needed
+      (λ i m. All-at_member (λ i. i < length s.trace) steps i inside (part i m)) in
       let roots = roots_of (map (roots_at s.trace) (map roots_in es)) in
       let ds = sym (steps-are needed low) ∙ ap (map to) e
       ∙ sym (definitions-map naming (same_origin names.same) same tells roots (map (origin_at s.trace) steps)) in

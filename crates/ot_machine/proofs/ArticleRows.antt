@@ -1,5 +1,5 @@
 -- The rows of an article alone keep it lawful.
-use Rattle.std.specs.Prelude.{◌≡◌, ℕ, ℤ, Bool, true, false, cond, List, [], ◌∷◌, ◌++◌, Option, Some, None, Result, Ok}
+use Rattle.std.specs.Prelude.{◌≡◌, ℕ, ℤ, Bool, true, false, cond, List, [], ◌∷◌, ◌++◌, Some, None, Result, Ok}
 use Rattle.std.specs.List.{All}
 use Rattle.std.specs.Ordering.{int_cmp, eq_by_cmp}
 use Rattle.std.specs.Cmp.{int_cmp_total}
@@ -18,11 +18,11 @@ use Rattle.ot_machine.specs.States.{Entry, Export, ArticleState, RunState}
 use Rattle.ot_machine.specs.Places.{entry_at, object_at, dropped, as_list, as_term, as_theorem, as_each, number_on, list_on, term_on, terms_on, theorem_on}
 use Rattle.ot_machine.specs.Rows.{def_row, ref_row, remove_row, thm_row, exported, is_exported, origin_at}
 use Rattle.ot_machine.specs.Lawful.{Basis, run_basis, Fits, EntryFits, IsLawfulExport, StatesSequent, AreApart, IsLawfulArticle}
-use Rattle.ot_machine.proofs.Tops.{bind-ok, same-ok}
-use Rattle.ot_machine.proofs.Operands.{passed}
+use Rattle.ot_machine.proofs.Tops.{same-ok}
 use Rattle.ot_machine.proofs.ListOrigin.{is-list}
 use Rattle.ot_machine.proofs.StackRows.{AllFit, entry-fits, object-fits, dropped-fits, pushed-fits}
 use Rattle.ot_machine.proofs.Apart.{apart-push, not-exported}
+use Rattle.ot_plain.proofs.Results.{bind-ok, some_or-ok, unless-ok}
 
 is-term : (o : Object) (t : Tm Name) → as_term o ≡ Ok t → o ≡ term t
 is-term (term u) t p = ap term (same-ok _ _ _ refl p)
@@ -31,10 +31,6 @@ is-term o t p = absurd (cc)
 is-theorem : (o : Object) (q : Sequent Name) → as_theorem o ≡ Ok q → o ≡ theorem q
 is-theorem (theorem r) q p = ap theorem (same-ok _ _ _ refl p)
 is-theorem o q p = absurd (cc)
-
-some-found : {A E : Type 0} (e : E) (r : Option A) (x : A) → some_or e r ≡ Ok x → r ≡ Some x
-some-found e None x p = absurd (cc)
-some-found e (Some y) x p = ap Some (same-ok _ _ _ refl p)
 
 module _ (b : Basis) where
   -- the theorem, the list and the term at a place fit the origins there
@@ -103,7 +99,7 @@ module _ (P : Name → Type 0) (run : RunState) where
   ref-keeps a c h p =
       let k = bind-ok (number_on 0 a.stack) _ _ p in
       let e = bind-ok (some_or (NoEntry k.0) (get a.dictionary k.0)) _ _ k.2 in
-      let f = h.dictionary k.0 e.0 (some-found _ _ _ e.1) in
+      let f = h.dictionary k.0 e.0 (some_or-ok _ _ _ e.1) in
       answered _ c (record {
         stack = pushed-fits b e.0 (dropped 1 a.stack) f (dropped-fits b 1 a.stack h.stack);
         dictionary = h.dictionary;
@@ -116,7 +112,7 @@ module _ (P : Name → Type 0) (run : RunState) where
   remove-keeps a c h p =
       let k = bind-ok (number_on 0 a.stack) _ _ p in
       let e = bind-ok (some_or (NoEntry k.0) (get a.dictionary k.0)) _ _ k.2 in
-      let f = h.dictionary k.0 e.0 (some-found _ _ _ e.1) in
+      let f = h.dictionary k.0 e.0 (some_or-ok _ _ _ e.1) in
       answered _ c (record {
         stack = pushed-fits b e.0 (dropped 1 a.stack) f (dropped-fits b 1 a.stack h.stack);
         dictionary = remove-held b a.dictionary k.0 h.dictionary;
@@ -167,7 +163,7 @@ module _ (P : Name → Type 0) (run : RunState) where
       let one : l.0 ≡ os = same-list l.0 os (same-ok _ _ _ f.value_is v) in
       let two : hs.0 ≡ hyps = same-ok _ _ _ l.2 (ap (as_each as_term) one ∙ w) in
       let three : t.0 ≡ concl = same-term t.0 concl (same-ok _ _ _ g.value_is x) in
-      (λ i. same_sequent names q.0 (record { hyps = sym two i; concl = sym three i })) ∙ passed _ _ u.0 u.1
+      (λ i. same_sequent names q.0 (record { hyps = sym two i; concl = sym three i })) ∙ unless-ok _ _ u.0 u.1
       in
       let es = export-keeps e a.exports (h.exports, h.stated, h.apart) lawful says in
       answered _ c (record { stack = dropped-fits b 3 a.stack h.stack; dictionary = h.dictionary; exports = es.0; stated = es.1; apart = es.2 }) u.2

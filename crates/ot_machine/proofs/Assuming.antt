@@ -25,7 +25,8 @@ use Rattle.ot_machine.specs.Meaning.{origin_of, givens_of, run_of, IsRun, IsOf}
 use Rattle.ot_machine.proofs.Kept.{origin-kept, givens-kept}
 use Rattle.ot_machine.proofs.Stepped.{push-inside, push-length, givens-push, with_steps, steps-grow, of-with, definitions-same}
 use Rattle.ot_machine.proofs.Taken.{stated, once, as-once}
-use Rattle.ot_machine.proofs.Tops.{bind-ok, same-ok}
+use Rattle.ot_machine.proofs.Tops.{same-ok}
+use Rattle.ot_plain.proofs.Results.{bind-ok}
 
 module _ (s : Session) (l : kernel.State) (a d : Vec StepId Global) (m : Machine) (h : IsOf s m) (kept : kernel.Keeps s.kernel l) where
   abbrev later : Session

@@ -21,8 +21,8 @@ use Rattle.ot_machine.specs.Places.{as_each, as_term, origins_of}
 use Rattle.ot_machine.specs.Rows.{made, given_as, or_assumed, theorem_entry}
 use Rattle.ot_machine.specs.Discharge.{element_entries, adding, weakened, given_for, or_weakened}
 use Rattle.ot_machine.specs.LawfulLaws.{AxiomGivesItsSequent}
-use Rattle.ot_machine.proofs.Tops.{bind-ok, same-ok}
-use Rattle.ot_machine.proofs.Operands.{passed}
+use Rattle.ot_machine.proofs.Tops.{same-ok}
+use Rattle.ot_plain.proofs.Results.{bind-ok, unless-ok}
 
 abbrev gives : Entry → Result Entry (Fault Name)
 gives e = Ok e
@@ -234,7 +234,7 @@ axiom-gives c os o hyps p g run each rule =
     let v = bind-ok (unless NotBool (list_all is_proposition hyps)) _ _ u.2 in
     let is : record { hyps = once_each names hyps; concl = p } ≡ g.sequent = same-ok (Ok (record { hyps = once_each names hyps; concl = p })) _ g.sequent refl v.2 in
     let same : IsSameSet hyps g.sequent.hyps = subst (λ (q : Sequent Name). IsSameSet hyps q.hyps) is (same_set-once_each names tells_names hyps) in
-    by (given_for g.sequent c.theorems) refl same (elements-stated os o hyps each (passed _ _ v.0 v.1))
+    by (given_for g.sequent c.theorems) refl same (elements-stated os o hyps each (unless-ok _ _ v.0 v.1))
   where
     by : (r : Option Given) → given_for g.sequent c.theorems ≡ r → IsSameSet hyps g.sequent.hyps → AreStated (element_entries os o) hyps → IsGiven g.sequent (or_weakened r (element_entries os o) g run)
     by None e same h = or-assumed g.sequent g.origin run (given_as g.sequent run.assumptions) refl

@@ -21,8 +21,9 @@ use Rattle.ot_machine.specs.Places.{as_term, as_variable}
 use Rattle.ot_machine.specs.Makers.{Read, app_term_made, abs_term_made}
 use Rattle.ot_machine.specs.Values.{value, values}
 use Rattle.ot_machine.specs.Version5.{canon_under, canon, numbered, app, lam, cabs, crep, ceq, vr, tr, rep_origin, binders}
-use Rattle.ot_machine.proofs.Tops.{bind-ok, same-ok}
+use Rattle.ot_machine.proofs.Tops.{same-ok}
 use Rattle.ot_machine.proofs.Operands.{two-operands}
+use Rattle.ot_plain.proofs.Results.{bind-ok}
 
 -- ---- operands of an origin that has a value
 pub first-value : (w : Cmd) (o : Origin Name) (os : Origins Name) (v : Object) → value (Make w (MoreOrigins o os)) ≡ Ok v → (x : Object) × (value o ≡ Ok x)

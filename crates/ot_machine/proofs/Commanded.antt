@@ -14,6 +14,7 @@ use Rattle.ot_machine.specs.States.{State, Context}
 use Rattle.ot_machine.specs.Step.{step}
 use Rattle.ot_machine.specs.Run.{line_step}
 use Rattle.ot_machine.specs.Commanded.{CanBeSaid, steps, LeadsTo}
+use Rattle.ot_plain.proofs.Elements.{AllByRecursion-push}
 
 -- ---- the word of a line
 
@@ -52,10 +53,6 @@ said-word (b ∷ bs) w h e =
 
 -- ---- one word more
 
-all-push : {X : Type 0} (P : X → Type 0) (xs : List X) (x : X) → AllByRecursion P xs → P x → AllByRecursion P (xs ++ x ∷ [])
-all-push P [] x h p = (p, tt)
-all-push P (y ∷ ys) x h p = (h.0, all-push P ys x h.1 p)
-
 then-more : (c : Context) (w : WordValue) (t u : State) (r : Result State (Fault Name)) (f g : State → Result State (Fault Name)) → ((x : State) → f x ≡ Ok t → g x ≡ Ok u) → r >>= f ≡ Ok t → r >>= g ≡ Ok u
 then-more c w t u (Ok x) f g h e = h x e
 then-more c w t u (Err x) f g h e = cc
@@ -71,7 +68,7 @@ pub leads-none : (c : Context) (s : State) → LeadsTo c s s
 leads-none c s = record { words = []; said = tt; passed = refl }
 
 leads-word : (c : Context) (s t u : State) (text : List ℕ) (r : Result WordValue (Fault Name)) → IsLineText text → word text ≡ r → LeadsTo c s t → r >>= step c t ≡ Ok u → LeadsTo c s u
-leads-word c s t u text (Ok w) h q l e = record { words = l.words ++ w ∷ []; said = all-push CanBeSaid l.words w l.said (said-word text w h q); passed = steps-more c l.words w s t u l.passed e }
+leads-word c s t u text (Ok w) h q l e = record { words = l.words ++ w ∷ []; said = AllByRecursion-push CanBeSaid l.words w l.said (said-word text w h q); passed = steps-more c l.words w s t u l.passed e }
 leads-word c s t u text (Err x) h q l e = cc
 
 pub leads-line : (c : Context) (s t u : State) (text : List ℕ) → IsLineText text → LeadsTo c s t → line_step c t text ≡ Ok u → LeadsTo c s u

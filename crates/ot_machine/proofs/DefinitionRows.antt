@@ -28,14 +28,16 @@ use Rattle.ot_machine.specs.Makers.{Read}
 use Rattle.ot_machine.specs.Rows.{definitions_of, theorem_entries, defined, with_defined, origin_at, constant_entry, type_op_entry, constants_of, constants_origin, constants_entry, define_const_row, define_type_op_row, define_const_list_row}
 use Rattle.ot_machine.specs.Values.{value, definition_of, defines}
 use Rattle.ot_machine.specs.Lawful.{Basis, RestsOn, Fits, EntryFits, basis_of, run_basis, IsLawfulDefinition, IsLawfulRun, IsLawful, Keeps}
-use Rattle.ot_machine.proofs.Tops.{bind-ok, same-ok}
+use Rattle.ot_machine.proofs.Tops.{same-ok}
 use Rattle.ot_machine.proofs.Growing.{rests-more, entries-more, givens-more}
 use Rattle.ot_machine.proofs.Fewer.{none-fewer, const_definition-fewer, list_definition-fewer, type_definition-fewer}
 use Rattle.ot_machine.proofs.WordKinds.{name-origin}
 use Rattle.ot_machine.proofs.ListOrigin.{list-tree, is-list}
 use Rattle.ot_machine.proofs.StackRows.{AllFit, dropped-fits, name-held, constant-fits, type_op-fits}
 use Rattle.ot_machine.proofs.ArticleRows.{theorem-at, term-at, list-at}
-use Rattle.ot_machine.proofs.RunRows.{answer, member-last, larger-definitions, article-more}
+use Rattle.ot_machine.proofs.RunRows.{answer, larger-definitions, article-more}
+use Rattle.ot_plain.proofs.Results.{bind-ok}
+use Rattle.ot_plain.proofs.Members.{IsMember-last}
 
 abbrev okay : List Entry → Result (List Entry) (Fault Name)
 okay es = Ok es
@@ -115,7 +117,7 @@ module _ (P : Name → Type 0) where
       let qs = theorem_entries d 0 (theorems names x.0) in
       let larger = larger-definitions P s.run.assumptions s.run.definitions (m ∷ []) in
       let b = run_basis P run in
-      let is : IsMember d b.definitions = subst (IsMember d) (sym (map-append (λ (m : Made). m.origin) s.run.definitions (m ∷ []))) (member-last d (map (λ (m : Made). m.origin) s.run.definitions)) in
+      let is : IsMember d b.definitions = subst (IsMember d) (sym (map-append (λ (m : Made). m.origin) s.run.definitions (m ∷ []))) (IsMember-last d (map (λ (m : Made). m.origin) s.run.definitions)) in
       let made-is : a.0 ≡ (qs, run) = sym (same-ok (made (qs, run)) (qs, run) a.0 refl x.2) in
       let y = bind-ok (push a.0.0) _ _ a.2 in
       let given = entries-fit b d x.0 (of [] ∙ fewer x.0 (definitions_of s.run.definitions) x.1) is (rests-more _ _ larger d rests) 0 (theorems names x.0) (λ i q e. ap (slice_get (theorems names x.0)) (omega arith) ∙ e) in

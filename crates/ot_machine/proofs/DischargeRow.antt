@@ -18,12 +18,13 @@ use Rattle.ot_machine.specs.Rows.{made, given_as, or_assumed, theorem_entry}
 use Rattle.ot_machine.specs.Discharge.{element_entries, is_hypothesis, adding, weakened, given_for, or_weakened, discharged, axiom_row}
 use Rattle.ot_machine.specs.Lawful.{Basis, run_basis, AreOn, Fits, EntryFits, GivenFits, IsLawfulRun, IsLawful, AreLawfulGivens, IsLarger, Keeps}
 use Rattle.ot_machine.specs.Values.{value}
-use Rattle.ot_machine.proofs.Tops.{bind-ok, same-ok}
+use Rattle.ot_machine.proofs.Tops.{same-ok}
 use Rattle.ot_machine.proofs.Strict.{strict}
 use Rattle.ot_machine.proofs.MadeFits.{made-fits, operands-of}
 use Rattle.ot_machine.proofs.Growing.{same-basis}
 use Rattle.ot_machine.proofs.StackRows.{AllFit, parts-fit, list_entry-fits, replaced-fits}
 use Rattle.ot_machine.proofs.RunRows.{answer, all-found, axiom_given, made-axiom, assumed-fits, article-more, with-stack}
+use Rattle.ot_plain.proofs.Results.{bind-ok}
 
 module _ (b : Basis) where
   both : (x y : Entry) → EntryFits b x → EntryFits b y → AllFit b (x ∷ y ∷ [])

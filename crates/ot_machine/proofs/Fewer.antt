@@ -1,6 +1,6 @@
 -- What is accepted after some definitions is accepted after fewer.
 use Rattle.std.specs.Prelude.{◌≡◌, ◌||◌, ◌&&◌, ◌==◌, length, Bool, true, false, List, [], ◌∷◌, map, Result, Ok, Err, if◌then◌else◌}
-use Rattle.std.proofs.Common.{refl, ap, ◌∙◌}
+use Rattle.std.proofs.Common.{refl}
 use Rattle.ot_plain.specs.Names.{Name}
 use Rattle.ot_plain.specs.Naming.{names}
 use Rattle.ot_plain.specs.Trees.{Symbol, ConSymbol, OpSymbol, Tm, Variable, Sequent, Definition}
@@ -9,7 +9,7 @@ use Rattle.ot_plain.specs.Faults.{Fault, Primitive, AlreadyDefined, SymbolInUse,
 use Rattle.ot_plain.specs.Answers.{◌>>=◌, unless, some_or}
 use Rattle.ot_laws.specs.Conditions.{same_symbol, is_among, refuse_first, refuse_defined, checked_symbols, checked_const, checked_list, checked_type, terms_given, function_of, is_empty, are_distinct, are_names_of}
 use Rattle.ot_kernel.specs.Defining.{all_defined, all_used, const_definition, list_definition, type_definition}
-use Rattle.ot_machine.proofs.Tops.{bind-ok}
+use Rattle.ot_plain.proofs.Results.{bind-ok, bind-to, bind-under}
 
 abbrev Syms : Type 0
 Syms = List (Symbol Name)
@@ -20,9 +20,6 @@ Check = Result (Unit {0}) (Fault Name)
 -- each symbol that isn't among these isn't among those
 abbrev pub AreFewer : Syms → Syms → Type 0
 AreFewer ss ts = (s : Symbol Name) → is_among names s ts ≡ false → is_among names s ss ≡ false
-
-pub then-is : {A B E : Type 0} (r : Result A E) (f : A → Result B E) (x : A) (y : Result B E) → r ≡ Ok x → f x ≡ y → (r >>= f) ≡ y
-then-is r f x y p q = ap (λ r. r >>= f) p ∙ q
 
 first-fewer : (fault : Symbol Name → Fault Name) (t u : Symbol Name → Bool) → ((s : Symbol Name) → t s ≡ false → u s ≡ false) → (ss : Syms) → refuse_first names fault t ss ≡ Ok tt → refuse_first names fault u ss ≡ Ok tt
 first-fewer fault t u h [] p = refl
@@ -51,21 +48,16 @@ either-fewer : (a : Bool) (b c : Bool) → (b ≡ false → c ≡ false) → (a 
 either-fewer true b c h p = absurd (cc)
 either-fewer false b c h p = h p
 
--- under a step that is the same, and past one that passes too
-under : {A B E : Type 0} (r : Result A E) (f g : A → Result B E) (y : B) → ((x : A) → f x ≡ Ok y → g x ≡ Ok y) → (r >>= f) ≡ Ok y → (r >>= g) ≡ Ok y
-under (Ok x) f g y h p = h x p
-under (Err e) f g y h p = absurd (cc)
-
 past : {B E : Type 0} (r q : Result (Unit {0}) E) (f : Unit {0} → Result B E) (y : B) → (r ≡ Ok tt → q ≡ Ok tt) → (r >>= f) ≡ Ok y → (q >>= f) ≡ Ok y
-past (Ok u) q f y h p = then-is q f u (Ok y) (h refl) p
+past (Ok u) q f y h p = bind-to q f u (Ok y) (h refl) p
 past (Err e) q f y h p = absurd (cc)
 
 module _ (d e u v : Syms) (defined : AreFewer d e) (used : AreFewer u v) where
   symbols-fewer : (premise xs : Syms) → checked_symbols names e v premise xs ≡ Ok tt → checked_symbols names d u premise xs ≡ Ok tt
   symbols-fewer premise xs =
-      under (refuse_first names Primitive (λ s. is_among names s (primitives names)) xs) _ _ tt (λ _ p.
+      bind-under (refuse_first names Primitive (λ s. is_among names s (primitives names)) xs) _ _ tt (λ _ p.
       let b = bind-ok (refuse_defined names e xs) _ _ p in
-      then-is (refuse_defined names d xs) _ tt (Ok tt) (defined-fewer d e defined xs b.1) (first-fewer SymbolInUse (λ s. is_among names s premise || is_among names s v) (λ s. is_among names s premise || is_among names s u) (λ s. either-fewer (is_among names s premise) _ _ (used s)) xs b.2))
+      bind-to (refuse_defined names d xs) _ tt (Ok tt) (defined-fewer d e defined xs b.1) (first-fewer SymbolInUse (λ s. is_among names s premise || is_among names s v) (λ s. is_among names s premise || is_among names s u) (λ s. either-fewer (is_among names s premise) _ _ (used s)) xs b.2))
 
   abbrev old : Syms → Syms → Check
   old premise xs = checked_symbols names e v premise xs
@@ -78,16 +70,16 @@ module _ (d e u v : Syms) (defined : AreFewer d e) (used : AreFewer u v) where
 
   pub list-fewer : (ns : List Name) (vs : List (Variable Name)) (q : Sequent Name) → checked_list names e v ns vs q ≡ Ok tt → checked_list names d u ns vs q ≡ Ok tt
   list-fewer ns vs q =
-      under (unless BadDefinitionList (are_distinct names.same ns && are_distinct (same_var names) vs && (length q.hyps == length vs))) _ _ tt (λ _.
-      under (some_or BadDefinitionList (terms_given names q.hyps vs)) _ _ tt (λ ts.
+      bind-under (unless BadDefinitionList (are_distinct names.same ns && are_distinct (same_var names) vs && (length q.hyps == length vs))) _ _ tt (λ _.
+      bind-under (some_or BadDefinitionList (terms_given names q.hyps vs)) _ _ tt (λ ts.
       past (old (symbols_of names q) (map ConSymbol ns)) (new (symbols_of names q) (map ConSymbol ns)) _ tt (symbols-fewer (symbols_of names q) (map ConSymbol ns))))
 
   pub type-fewer : (n abs rep : Name) (vars : List Name) (q : Sequent Name) → checked_type names e v n abs rep vars q ≡ Ok tt → checked_type names d u n abs rep vars q ≡ Ok tt
   type-fewer n abs rep vars q =
       let xs = OpSymbol n ∷ ConSymbol abs ∷ ConSymbol rep ∷ [] in
-      under (unless HypothesesPresent (is_empty q.hyps)) _ _ tt (λ _.
-      under (some_or NotApplication (function_of q.concl)) _ _ tt (λ p.
-      under (unless BadTypeVars (are_distinct names.same vars && are_names_of names (vars_tm names p) vars)) _ _ tt (λ _.
+      bind-under (unless HypothesesPresent (is_empty q.hyps)) _ _ tt (λ _.
+      bind-under (some_or NotApplication (function_of q.concl)) _ _ tt (λ p.
+      bind-under (unless BadTypeVars (are_distinct names.same vars && are_names_of names (vars_tm names p) vars)) _ _ tt (λ _.
       past (old (symbols_of names q) xs) (new (symbols_of names q) xs) _ tt (symbols-fewer (symbols_of names q) xs))))
 
 -- ---- the three definitions, after fewer definitions

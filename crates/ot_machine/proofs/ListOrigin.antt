@@ -14,8 +14,9 @@ use Rattle.ot_machine.specs.Makers.{Read, maker, cons_made}
 use Rattle.ot_machine.specs.Values.{value, values, applied}
 use Rattle.ot_plain.specs.declared.kind.Kind.TheVariants as kinds
 use Rattle.ot_machine.proofs.WordKinds.{word_kind, word-kind, outcome-kind}
-use Rattle.ot_machine.proofs.Tops.{bind-ok, same-ok}
+use Rattle.ot_machine.proofs.Tops.{same-ok}
 use Rattle.ot_machine.proofs.Operands.{no-operands, two-operands}
+use Rattle.ot_plain.proofs.Results.{bind-ok}
 
 abbrev made : Object → Read
 made o = Ok o

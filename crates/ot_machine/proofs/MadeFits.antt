@@ -13,8 +13,9 @@ use Rattle.ot_machine.specs.Makers.{Read, Maker, of_none, of_top, of_two, no_mak
 use Rattle.ot_machine.specs.Rows.{made}
 use Rattle.ot_machine.specs.Values.{values, applied}
 use Rattle.ot_machine.specs.Lawful.{Basis, EntryFits, AreOn, IsTaken}
-use Rattle.ot_machine.proofs.Tops.{bind-ok, same-ok, top-none, top-one, top-two}
+use Rattle.ot_machine.proofs.Tops.{same-ok, top-none, top-one, top-two}
 use Rattle.ot_machine.proofs.Strict.{IsStrict, strict}
+use Rattle.ot_plain.proofs.Results.{bind-ok}
 
 module _ (b : Basis) where
   -- operands that are values of their origins

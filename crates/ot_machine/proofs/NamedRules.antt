@@ -13,9 +13,10 @@ use Rattle.ot_plain.specs.Answers.{unless, some_or}
 use Rattle.ot_plain.specs.Rules.{has_type, op_rule, app_rule, abs_rule, within_limit, sides, refl_rule, assume_rule, eq_mp_rule, abs_thm_rule, app_thm_rule, deduct_antisym_rule, beta_conv_rule, subst_rule, sym_rule, trans_rule, prove_hyp_rule, proved_hyp}
 use Rattle.ot_laws.proofs.Tests.{tells_names}
 use Rattle.ot_laws.proofs.Typing.{result_ty-some, abs-some, as_fun_ty-some}
-use Rattle.ot_laws.proofs.Steps.{same_Ok, bind-ok, some_or-ok, limit-ok, within_limit-ok, sides-ok, op_rule-ok, app_rule-ok}
+use Rattle.ot_laws.proofs.Steps.{limit-ok, within_limit-ok, sides-ok, op_rule-ok, app_rule-ok}
 use Rattle.ot_kernel.specs.Axioms.{axiom_rule}
 use Rattle.ot_machine.specs.NamesIn.{TyNamed, TysNamed, TmNamed, SequentNamed, HasPrimitives}
+use Rattle.ot_plain.proofs.Results.{bind-ok, same_Ok, some_or-ok}
 
 module _ (P : Name → Type 0) (has : HasPrimitives P) where
   abbrev T : Ty Name → Type 0

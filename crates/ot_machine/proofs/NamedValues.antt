@@ -13,7 +13,7 @@ use Rattle.ot_plain.specs.Answers.{◌>>=◌, unless, some_or}
 use Rattle.ot_plain.specs.Rules.{op_rule, app_rule, abs_rule, refl_rule, assume_rule, eq_mp_rule, abs_thm_rule, app_thm_rule, deduct_antisym_rule, beta_conv_rule, subst_rule, sym_rule, trans_rule, prove_hyp_rule, has_type}
 use Rattle.ot_plain.specs.declared.command.Cmd.{Cmd}
 use Rattle.ot_plain.specs.declared.command.Cmd.TheVariants as words
-use Rattle.ot_laws.proofs.Steps.{same_Ok, limit-ok, some_or-ok}
+use Rattle.ot_laws.proofs.Steps.{limit-ok}
 use Rattle.ot_laws.specs.Conditions.{checked_const, checked_list, checked_type}
 use Rattle.ot_kernel.specs.Axioms.{axiom_rule}
 use Rattle.ot_kernel.specs.Defining.{limited_definition, zipped}
@@ -28,9 +28,8 @@ use Rattle.ot_machine.specs.Makers.{Read, Maker, of_none, of_top, of_two, no_mak
 use Rattle.ot_machine.specs.Values.{value, values, value_at, applied, definition_of, theorem_of, const_defined, list_defined, type_defined, defined_by, defines, definition_arity}
 use Rattle.ot_machine.specs.Lawful.{Basis, RestsOn, AreOn}
 use Rattle.ot_machine.specs.NamesIn.{TyNamed, TysNamed, TmNamed, SequentNamed, ObjectNamed, ObjectsNamed, HasPrimitives}
-use Rattle.ot_machine.proofs.Tops.{bind-ok}
-use Rattle.ot_machine.proofs.Operands.{passed}
 use Rattle.ot_machine.proofs.NamedRules.{TypesNamed, TermsNamed, fun-named, bool-named, eq-named, type_of-named, subst-named, op-named, app-named, abs-named, refl-named, assume-named, eq_mp-named, abs_thm-named, app_thm-named, deduct-named, beta-named, subst_rule-named, sym-named, trans-named, prove_hyp-named, axiom-named}
+use Rattle.ot_plain.proofs.Results.{bind-ok, same_Ok, some_or-ok, unless-ok}
 
 module _ (P : Name → Type 0) (has : HasPrimitives P) where
   abbrev T : Ty Name → Type 0
@@ -529,13 +528,13 @@ module _ (P : Name → Type 0) (has : HasPrimitives P) where
   applied-held (of_top f) s (x ∷ []) v h e = s x v h.0 e
   applied-held (of_top f) s (x ∷ y ∷ vs) v h e =
       let a = bind-ok (unless StackEmpty (length (x ∷ y ∷ vs) == 1)) _ _ e in
-      absurd (let n = eqb-true (length (x ∷ y ∷ vs)) 1 (passed StackEmpty (length (x ∷ y ∷ vs) == 1) a.0 a.1) in omega (arith, n))
+      absurd (let n = eqb-true (length (x ∷ y ∷ vs)) 1 (unless-ok StackEmpty (length (x ∷ y ∷ vs) == 1) a.0 a.1) in omega (arith, n))
   applied-held (of_two f) s [] v h e = absurd (cc)
   applied-held (of_two f) s (x ∷ []) v h e = absurd (cc)
   applied-held (of_two f) s (x ∷ y ∷ []) v h e = s y x v h.1.0 h.0 e
   applied-held (of_two f) s (x ∷ y ∷ z ∷ vs) v h e =
       let a = bind-ok (unless StackEmpty (length (x ∷ y ∷ z ∷ vs) == 2)) _ _ e in
-      absurd (let n = eqb-true (length (x ∷ y ∷ z ∷ vs)) 2 (passed StackEmpty (length (x ∷ y ∷ z ∷ vs) == 2) a.0 a.1) in omega (arith, n))
+      absurd (let n = eqb-true (length (x ∷ y ∷ z ∷ vs)) 2 (unless-ok StackEmpty (length (x ∷ y ∷ z ∷ vs) == 2) a.0 a.1) in omega (arith, n))
   applied-held no_maker s vs v h e = let a = bind-ok (unless StackEmpty (length vs == 0)) _ _ e in absurd (cc)
 
   theorem_of-held : (j : ℕ) (d : Definition Name) (v : Object) → DefNamed d → theorem_of j d ≡ Ok v → O v

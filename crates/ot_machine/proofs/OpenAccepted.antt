@@ -19,12 +19,12 @@ use Rattle.ot_machine.specs.declared.session.Session.{Session}
 use Rattle.ot_machine.specs.Meaning.{origin_of, run_of, IsRun, Grows}
 use Rattle.ot_machine.specs.OpenTypes.{first_origin, second_origin, open_entries}
 use Rattle.ot_machine.specs.Version5.{open_theorems}
-use Rattle.ot_machine.proofs.Tops.{bind-ok, same-ok}
-use Rattle.ot_machine.proofs.Operands.{passed}
+use Rattle.ot_machine.proofs.Tops.{same-ok}
 use Rattle.ot_machine.proofs.Defined.{twice-ok, first-ok, double}
 use Rattle.ot_machine.proofs.Stepped.{definitions_of-made, defined-refused}
 use Rattle.ot_machine.proofs.OpenRow.{open-pushed, open-refused}
 use Rattle.ot_machine.proofs.Canonical.{name-later, names-later, theorem-later}
+use Rattle.ot_plain.proofs.Results.{bind-ok, unless-ok}
 
 never : {X E : Type 0} (r : Result (Unit {0}) E) (f : E) (x : X) → (r >>= λ _. Err f) ≡ Ok x → ⊥
 never (Ok u) f x e = cc
@@ -59,7 +59,7 @@ module _ (dl : List (Definition Name)) (n abs rep : Name) (vars : List Name) (hy
   application p t e typed h =
       let a = bind-ok (closed (App p t)) _ _ h in
       let b = bind-ok (unless Nesting (low (App p t))) _ _ a.2 in
-      let k = passed Nesting (low (App p t)) _ b.1 in
+      let k = unless-ok Nesting (low (App p t)) _ b.1 in
       let same : a.0 ≡ e = same-ok (Ok a.0) a.0 e refl b.2 in
       let made : TyDef n abs rep vars (premise (App p t)) ≡ a.0 = twice-ok _ _ _ _ a.1 in
       let here : closed (App p t) ≡ Ok (TyDef n abs rep vars (premise (App p t))) = a.1 ∙ ap Ok (sym made) in

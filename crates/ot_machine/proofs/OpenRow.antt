@@ -22,9 +22,8 @@ use Rattle.ot_machine.specs.Rows.{theorem_entries}
 use Rattle.ot_kernel.specs.Opening.{var_a, var_r, beta_over}
 use Rattle.ot_kernel.specs.Opening as plain
 use Rattle.ot_machine.specs.Version5.{abs_origin, abs_value, rep_origin, open_theorems}
-use Rattle.ot_machine.proofs.Tops.{bind-ok}
-use Rattle.ot_machine.proofs.Operands.{passed}
 use Rattle.ot_machine.proofs.OpenValue.{IsOpening, IsReturn, rep-value, rep-refused, abs-value}
+use Rattle.ot_plain.proofs.Results.{bind-ok, unless-ok}
 
 pub closed-of : (t : Tm Name) → is_closed names t ≡ true → IsClosed names t
 closed-of (Free v) h = absurd (cc)
@@ -65,12 +64,12 @@ module _ (dl : List (Definition Name)) (n abs rep : Name) (vars : List Name) (hy
         let a = bind-ok (unless HypothesesPresent (is_empty hyps)) _ _ (checked).1 in
         let c = bind-ok (unless BadTypeVars (are_distinct names.same vars && are_names_of names (vars_tm names p) vars)) _ _ a.2 in
         let e = bind-ok (checked_symbols names (all_defined names dl) (all_used names dl) (symbols_of names premise) (OpSymbol n ∷ ConSymbol abs ∷ ConSymbol rep ∷ [])) _ _ c.2 in
-        closed-of p (passed NotClosed (is_closed names p) _ e.2)
+        closed-of p (unless-ok NotClosed (is_closed names p) _ e.2)
 
     limits : (list_all (is_shallow_sequent names) (theorems names definition)) ≡ true
     limits =
         let a = bind-ok (unless Nesting (list_all (is_shallow_sequent names) (theorems names definition))) _ _ (checked).2 in
-        passed Nesting (list_all (is_shallow_sequent names) (theorems names definition)) _ a.1
+        unless-ok Nesting (list_all (is_shallow_sequent names) (theorems names definition)) _ a.1
 
     abbrev o1 : Origin Name
     o1 = abs_origin abs rep new old p (Outcome 1 d)

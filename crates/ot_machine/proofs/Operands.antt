@@ -1,5 +1,5 @@
 -- The operands of an origin that has a value.
-use Rattle.std.specs.Prelude.{◌≡◌, ◌==◌, Bool, true, false, List, [], ◌∷◌, length, Ok}
+use Rattle.std.specs.Prelude.{◌≡◌, ◌==◌, List, [], ◌∷◌, length, Ok}
 use Rattle.std.proofs.Common.{refl, ap, ◌∙◌, arith}
 use Rattle.std.proofs.lemmas.Bool.{eqb-true}
 use Rattle.ot_plain.specs.Names.{Name}
@@ -9,12 +9,8 @@ use Rattle.ot_trace.specs.Origins.{Origin, Origins, NoOrigins, MoreOrigins}
 use Rattle.ot_machine.specs.Objects.{Object}
 use Rattle.ot_machine.specs.Makers.{Read, of_none, of_top, of_two}
 use Rattle.ot_machine.specs.Values.{value, values, value_at, applied}
-use Rattle.ot_machine.proofs.Tops.{bind-ok, same-ok}
-
--- a test that let pass
-pub passed : {E : Type 0} (e : E) (b : Bool) (u : Unit {0}) → unless e b ≡ Ok u → b ≡ true
-passed e true u p = refl
-passed e false u p = absurd (cc)
+use Rattle.ot_machine.proofs.Tops.{same-ok}
+use Rattle.ot_plain.proofs.Results.{bind-ok, unless-ok}
 
 -- values, one after another
 pub record IsFirstValue (os : Origins Name) (v : Object) (vs : List Object) : Type 0 where
@@ -60,7 +56,7 @@ pub two-operands : (f : Read → Read → Read) (os : Origins Name) (o : Object)
 two-operands f os o p =
     let a = bind-ok (values os) _ _ p in
     let b = bind-ok (unless StackEmpty (length a.0 == 2)) _ _ a.2 in
-    by a.0 a.1 (eqb-true (length a.0) 2 (passed _ _ _ b.1)) b.2
+    by a.0 a.1 (eqb-true (length a.0) 2 (unless-ok _ _ _ b.1)) b.2
   where
     by : (vs : List Object) → values os ≡ Ok vs → length vs ≡ 2 → f (value_at 0 vs) (value_at 1 vs) ≡ Ok o → AreTwo f os o
     by [] v e m = absurd (omega (arith, e))
@@ -85,7 +81,7 @@ pub no-operands : (p : Object) (os : Origins Name) (o : Object) → (values os >
 no-operands p os o q =
     let a = bind-ok (values os) _ _ q in
     let b = bind-ok (unless StackEmpty (length a.0 == 0)) _ _ a.2 in
-    (by a.0 a.1 (eqb-true (length a.0) 0 (passed _ _ _ b.1)), same-ok _ _ _ refl b.2)
+    (by a.0 a.1 (eqb-true (length a.0) 0 (unless-ok _ _ _ b.1)), same-ok _ _ _ refl b.2)
   where
     by : (vs : List Object) → values os ≡ Ok vs → length vs ≡ 0 → os ≡ NoOrigins
     by [] v e = no-value os v
@@ -103,7 +99,7 @@ pub one-operand : (f : Read → Read) (os : Origins Name) (o : Object) → (valu
 one-operand f os o p =
     let a = bind-ok (values os) _ _ p in
     let b = bind-ok (unless StackEmpty (length a.0 == 1)) _ _ a.2 in
-    by a.0 a.1 (eqb-true (length a.0) 1 (passed _ _ _ b.1)) b.2
+    by a.0 a.1 (eqb-true (length a.0) 1 (unless-ok _ _ _ b.1)) b.2
   where
     by : (vs : List Object) → values os ≡ Ok vs → length vs ≡ 1 → f (value_at 0 vs) ≡ Ok o → IsOne f os o
     by [] v e m = absurd (omega (arith, e))

@@ -7,21 +7,7 @@ use Rattle.ot_plain.specs.Lists.{IsMember}
 use Rattle.ot_plain.specs.Names.{Name, Spells, Item, Plain, Escaped, item_text, item_byte, item_of, IsItem, joined, spelled}
 use Rattle.ot_scan.specs.Lines.{IsLineText}
 use Rattle.ot_machine.specs.Writable.{IsWritable}
-
--- ---- members of two lists
-pub member-left : {X : Type 0} (x : X) (xs ys : List X) → IsMember x xs → IsMember x (xs ++ ys)
-member-left x [] ys m = elim m [ ]
-member-left x (y ∷ xs) ys (inl e) = inl e
-member-left x (y ∷ xs) ys (inr m) = inr (member-left x xs ys m)
-
-pub member-right : {X : Type 0} (x : X) (xs ys : List X) → IsMember x ys → IsMember x (xs ++ ys)
-member-right x [] ys m = m
-member-right x (y ∷ xs) ys m = inr (member-right x xs ys m)
-
-pub member-cases : {X : Type 0} (x : X) (xs ys : List X) → IsMember x (xs ++ ys) → IsMember x xs ⊎ IsMember x ys
-member-cases x [] ys m = inr m
-member-cases x (y ∷ xs) ys (inl e) = inl (inl e)
-member-cases x (y ∷ xs) ys (inr m) = elim (member-cases x xs ys m) [ inl a ↦ inl (inr a) | inr b ↦ inr b ]
+use Rattle.ot_plain.proofs.Members.{IsMember-cases, IsMember-left, IsMember-right}
 
 -- ---- a spelling without needless backslashes
 -- a byte with a backslash, or without
@@ -74,9 +60,9 @@ part-short (i ∷ is) h =
 
 part-broken : (is : List Item) → AllByRecursion IsItem is → IsMember 10 (flat_map item_text (respelled is)) → IsMember 10 (flat_map item_text is)
 part-broken [] h m = elim m [ ]
-part-broken (i ∷ is) h m = elim (member-cases 10 (item_text (again i)) (flat_map item_text (respelled is)) m) [
-  | inl a ↦ member-left 10 (item_text i) (flat_map item_text is) (item-broken i h.0 a)
-  | inr b ↦ member-right 10 (item_text i) (flat_map item_text is) (part-broken is h.1 b)
+part-broken (i ∷ is) h m = elim (IsMember-cases 10 (item_text (again i)) (flat_map item_text (respelled is)) m) [
+  | inl a ↦ IsMember-left 10 (item_text i) (flat_map item_text is) (item-broken i h.0 a)
+  | inr b ↦ IsMember-right 10 (item_text i) (flat_map item_text is) (part-broken is h.1 b)
 ]
 
 abbrev names_of : List (List Item) → List (List Item)
@@ -95,9 +81,9 @@ joined-short (c ∷ d ∷ cs) h =
 joined-broken : (cs : List (List Item)) → AllByRecursion (AllByRecursion IsItem) cs → IsMember 10 (joined (names_of cs)) → IsMember 10 (joined cs)
 joined-broken [] h m = elim m [ ]
 joined-broken (c ∷ []) h m = part-broken c h.0 m
-joined-broken (c ∷ d ∷ cs) h m = elim (member-cases 10 (flat_map item_text (respelled c)) (46 ∷ joined (names_of (d ∷ cs))) m) [
-  | inl a ↦ member-left 10 (flat_map item_text c) (46 ∷ joined (d ∷ cs)) (part-broken c h.0 a)
-  | inr b ↦ member-right 10 (flat_map item_text c) (46 ∷ joined (d ∷ cs)) (elim b [ inl e ↦ inl e | inr n ↦ inr (joined-broken (d ∷ cs) h.1 n) ])
+joined-broken (c ∷ d ∷ cs) h m = elim (IsMember-cases 10 (flat_map item_text (respelled c)) (46 ∷ joined (names_of (d ∷ cs))) m) [
+  | inl a ↦ IsMember-left 10 (flat_map item_text c) (46 ∷ joined (d ∷ cs)) (part-broken c h.0 a)
+  | inr b ↦ IsMember-right 10 (flat_map item_text c) (46 ∷ joined (d ∷ cs)) (elim b [ inl e ↦ inl e | inr n ↦ inr (joined-broken (d ∷ cs) h.1 n) ])
 ]
 
 pub name-of-line : (text : List ℕ) (n : Name) → Spells text n → IsLineText text → IsWritable n
@@ -123,7 +109,7 @@ name-of-line text n s line =
   where
     back : (is : List (List Item)) → AllByRecursion (AllByRecursion IsItem) is → IsMember 10 (34 ∷ joined (names_of is) ++ 34 ∷ []) → IsMember 10 (34 ∷ joined is ++ 34 ∷ [])
     back is h (inl e) = inl e
-    back is h (inr m) = elim (member-cases 10 (joined (names_of is)) (34 ∷ []) m) [
-      | inl a ↦ inr (member-left 10 (joined is) (34 ∷ []) (joined-broken is h a))
-      | inr b ↦ inr (member-right 10 (joined is) (34 ∷ []) b)
+    back is h (inr m) = elim (IsMember-cases 10 (joined (names_of is)) (34 ∷ []) m) [
+      | inl a ↦ inr (IsMember-left 10 (joined is) (34 ∷ []) (joined-broken is h a))
+      | inr b ↦ inr (IsMember-right 10 (joined is) (34 ∷ []) b)
     ]

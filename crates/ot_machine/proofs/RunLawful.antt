@@ -20,11 +20,11 @@ use Rattle.ot_scan.specs.Words.{WordValue, Numeral, Quoted, Order}
 use Rattle.ot_machine.specs.Commanded.{CanBeSaid}
 use Rattle.ot_machine.specs.LawfulLaws.{left, CanBeNamed, AreNamed, FreshIsLawful, LinesAreLawful, LawfulStays, ResultsAreTheorems}
 use Rattle.ot_machine.proofs.Commanded.{leads-keeps}
-use Rattle.ot_machine.proofs.Tops.{bind-ok}
 use Rattle.ot_machine.proofs.Fewer.{none-fewer}
 use Rattle.ot_machine.proofs.DefinitionFewer.{definition-fewer}
 use Rattle.ot_machine.proofs.Growing.{same-basis, larger-then, givens-more, exports-more}
 use Rattle.ot_machine.proofs.StepLawful.{step-lawful}
+use Rattle.ot_plain.proofs.Results.{bind-ok}
 
 module _ (P : Name → Type 0) (has : HasVersion5 P) where
   kept-same : (s : State) → IsLawful P s → Keeps P s s

@@ -1,7 +1,7 @@
 -- The rows that change the run keep it lawful.
 use Rattle.std.specs.Prelude.{◌≡◌, Bool, true, false, cond, List, [], ◌∷◌, ◌++◌, map, take, find, Option, Some, None, Result, Ok}
 use Rattle.std.specs.List.{All}
-use Rattle.std.proofs.Common.{refl, sym, subst, inl, inr}
+use Rattle.std.proofs.Common.{refl, sym, subst}
 use Rattle.std.proofs.lemmas.Option.{same_Some}
 use Rattle.std.proofs.lemmas.List.{map-append}
 use Rattle.std.proofs.lemmas.List.Elements.{All-nil, All-cons, All-head, All-tail, All-append}
@@ -24,16 +24,7 @@ use Rattle.ot_machine.specs.Lawful.{Basis, AreOn, GivenFits, basis_of, run_basis
 use Rattle.ot_machine.proofs.Growing.{same-basis, rests-more, are-more, fits-more, entries-more, givens-more, exports-more}
 use Rattle.ot_machine.proofs.StackRows.{AllFit}
 use Rattle.ot_machine.proofs.Apart.{apart-push, not-found}
-
--- ---- members of a list that grew
-pub member-left : {X : Type 0} (x : X) (xs ys : List X) → IsMember x xs → IsMember x (xs ++ ys)
-member-left x [] ys m = elim m [ ]
-member-left x (y ∷ xs) ys (inl p) = inl p
-member-left x (y ∷ xs) ys (inr p) = inr (member-left x xs ys p)
-
-pub member-last : {X : Type 0} (x : X) (xs : List X) → IsMember x (xs ++ x ∷ [])
-member-last x [] = inl refl
-member-last x (y ∷ xs) = inr (member-last x xs)
+use Rattle.ot_plain.proofs.Members.{IsMember-last, IsMember-left}
 
 -- what is found is one of the list
 pub all-found : {X : Type 0} (Q : X → Type 0) (test : X → Bool) (xs : List X) (x : X) → All Q xs → find test xs ≡ Some x → Q x
@@ -57,7 +48,7 @@ module _ (P : Name → Type 0) where
   -- the basis of a run that grew
   pub larger-axioms : (gs hs : List Given) (ms : List Made) → IsLarger (basis_of P gs ms) (basis_of P (gs ++ hs) ms)
   larger-axioms gs hs ms = record {
-    axioms = λ o i. subst (IsMember o) (sym (map-append (λ (g : Given). g.origin) gs hs)) (member-left o _ _ i);
+    axioms = λ o i. subst (IsMember o) (sym (map-append (λ (g : Given). g.origin) gs hs)) (IsMember-left o _ _ i);
     definitions = λ o i. i;
     names = λ n i. i;
   }
@@ -65,7 +56,7 @@ module _ (P : Name → Type 0) where
   pub larger-definitions : (gs : List Given) (ms ns : List Made) → IsLarger (basis_of P gs ms) (basis_of P gs (ms ++ ns))
   larger-definitions gs ms ns = record {
     axioms = λ o i. i;
-    definitions = λ o i. subst (IsMember o) (sym (map-append (λ (m : Made). m.origin) ms ns)) (member-left o _ _ i);
+    definitions = λ o i. subst (IsMember o) (sym (map-append (λ (m : Made). m.origin) ms ns)) (IsMember-left o _ _ i);
     names = λ n i. i;
   }
 
@@ -115,7 +106,7 @@ module _ (P : Name → Type 0) where
       let larger = larger-axioms run.assumptions (g ∷ []) run.definitions in
       record {
         value_is = v;
-        rests = (are-more _ _ larger os on, subst (IsMember g.origin) (sym (map-append (λ (g : Given). g.origin) run.assumptions (g ∷ []))) (member-last g.origin (map (λ (g : Given). g.origin) run.assumptions)));
+        rests = (are-more _ _ larger os on, subst (IsMember g.origin) (sym (map-append (λ (g : Given). g.origin) run.assumptions (g ∷ []))) (IsMember-last g.origin (map (λ (g : Given). g.origin) run.assumptions)));
       }
 
   -- the assumption that is there, or a new one

@@ -19,10 +19,11 @@ use Rattle.ot_machine.specs.Places.{entry_at, list_entry, object_at, dropped, pu
 use Rattle.ot_machine.specs.Makers.{arity, maker}
 use Rattle.ot_machine.specs.Rows.{Row, made, making, nil_row, pop_row, version_row, hd_tl_row, type_op_row, const_row, first_of, constant_entry, type_op_entry}
 use Rattle.ot_machine.specs.Lawful.{Basis, Fits, EntryFits, RestsOn, IsTaken}
-use Rattle.ot_machine.proofs.Tops.{bind-ok, same-ok, at-place}
+use Rattle.ot_machine.proofs.Tops.{same-ok, at-place}
 use Rattle.ot_machine.proofs.MadeFits.{made-fits}
 use Rattle.ot_machine.proofs.WordKinds.{name-origin}
 use Rattle.ot_machine.proofs.ListOrigin.{list-tree, is-list}
+use Rattle.ot_plain.proofs.Results.{bind-ok}
 
 module _ (b : Basis) where
   abbrev pub AllFit : List Entry → Type 0

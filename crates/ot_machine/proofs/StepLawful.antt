@@ -15,7 +15,7 @@ use Rattle.ot_machine.specs.Rows.{Row, making, nil_row, hd_tl_row, pop_row, vers
 use Rattle.ot_machine.specs.Step.{Command, numeral, named, order, command_of, version_rule, on_article, on_stack, define_type_row, word_row, row, counted, step}
 use Rattle.ot_machine.specs.Lawful.{Basis, run_basis, IsLawfulArticle, IsLawful, AreLawfulGivens, IsNaming, Keeps}
 use Rattle.ot_machine.specs.NamesIn.{HasVersion5}
-use Rattle.ot_machine.proofs.Tops.{bind-ok, same-ok}
+use Rattle.ot_machine.proofs.Tops.{same-ok}
 use Rattle.ot_machine.proofs.StackRows.{AllFit, KeepsStack, pushed-fits, making-keeps, nil-keeps, hd_tl-keeps, pop-keeps, version-keeps, const-keeps as const-row, type_op-keeps as type_op-row}
 use Rattle.ot_machine.proofs.ArticleRows.{KeepsArticle, def-keeps, ref-keeps, remove-keeps, thm-keeps}
 use Rattle.ot_machine.proofs.Growing.{same-basis}
@@ -23,6 +23,7 @@ use Rattle.ot_machine.proofs.RunRows.{answer}
 use Rattle.ot_machine.proofs.DischargeRow.{axiom-keeps}
 use Rattle.ot_machine.proofs.Version5Names.{type_op_5-keeps}
 use Rattle.ot_machine.proofs.DefinitionRows.{const-keeps, const_list-keeps, type_op-keeps}
+use Rattle.ot_plain.proofs.Results.{bind-ok}
 
 abbrev ok : ArticleState → Result ArticleState (Fault Name)
 ok a = Ok a

@@ -11,11 +11,6 @@ use Rattle.ot_plain.specs.Answers.{◌>>=◌}
 use Rattle.ot_machine.specs.States.{Entry}
 use Rattle.ot_machine.specs.Places.{entry_at, top}
 
--- what was made by two steps was made by each
-pub bind-ok : {A B E : Type 0} (r : Result A E) (f : A → Result B E) (y : B) → (r >>= f) ≡ Ok y → (x : A) × (r ≡ Ok x) × (f x ≡ Ok y)
-bind-ok (Ok x) f y e = (x, refl, e)
-bind-ok (Err e) f y p = absurd (cc)
-
 pub same-ok : {A E : Type 0} (r : Result A E) (x y : A) → r ≡ Ok x → r ≡ Ok y → x ≡ y
 same-ok r x y p q = cc
 

@@ -36,7 +36,8 @@ use Rattle.ot_machine.specs.Step.{Command, command_of, version_rule, on_stack, r
 use Rattle.ot_machine.specs.Meaning.{article_of, run_of, state_of, IsOf, Grows, Leaves}
 use Rattle.ot_machine.specs.Answers.{Refuses, Moves, Turns}
 use Rattle.ot_machine.proofs.Kept.{at-Extends, keeps-same, trace-same}
-use Rattle.ot_machine.proofs.Tops.{bind-ok, same-ok}
+use Rattle.ot_machine.proofs.Tops.{same-ok}
+use Rattle.ot_plain.proofs.Results.{bind-ok, bind-to}
 
 -- nothing grew
 pub grows-same : (s : Session) → Grows s s
@@ -45,10 +46,6 @@ grows-same s = record { kernel = keeps-same s.kernel; trace = Extends-refl s.tra
 -- a row of the stack alone
 pub stacked : (row : List Entry → Row) (s : State) (stack : List Entry) → row s.article.stack ≡ Ok stack → on_stack row s ≡ Ok (record s { article = record s.article { stack = stack } })
 stacked row s stack e = ap (λ r. (r >>= λ stack. Ok (record s.article { stack = stack })) >>= λ article. Ok (record s { article = article })) e
-
--- a part that is read, and what the rest gives
-pub then-ok : {A B E : Type 0} (r : Result A E) (rest : A → Result B E) (x : A) (y : Result B E) → r ≡ Ok x → rest x ≡ y → (r >>= rest) ≡ y
-then-ok r rest x y e f = ap (λ r. r >>= rest) e ∙ f
 
 -- one command more, and the version behind it
 abbrev pub behind : Version → ArticleState → ArticleState
@@ -59,7 +56,7 @@ with_count v r = r >>= λ next. Ok (record next { article = behind v next.articl
 
 -- a command that is read, and that the version rule lets pass: its row decides
 pub stepped : (c : Context) (s : State) (w : WordValue) (command : Command) (v : Version) → command_of w ≡ Ok command → version_rule s.article.version s.article.count command ≡ Ok v → step c s w ≡ with_count v (row v c command s)
-stepped c s w command v p q = then-ok _ _ command _ p (then-ok _ _ v _ q refl)
+stepped c s w command v p q = bind-to _ _ command _ p (bind-to _ _ v _ q refl)
 
 -- ---- a list in the place of its parts
 dropped-pushed : (e : Entry) (stack : List Entry) → dropped 2 (pushed e stack) ≡ dropped 1 stack
@@ -107,7 +104,7 @@ type_op_after s th vars rep abs n =
 pub type_op-read : (c : Context) (s : State) (th : Sequent Name) (vars : List Name) (rep abs n r a op : Name) → theorem_on 0 s.article.stack ≡ Ok th → names_on 1 s.article.stack ≡ Ok vars → name_on 2 s.article.stack ≡ Ok rep → name_on 3 s.article.stack ≡ Ok abs → name_on 4 s.article.stack ≡ Ok n
     → r ≡ renamed names c.interpretation.constants rep → a ≡ renamed names c.interpretation.constants abs → op ≡ renamed names c.interpretation.type_ops n → define_type_op_row c s ≡ type_op_after s th vars r a op
 type_op-read c s th vars rep abs n r a op p q x y z u v w =
-    then-ok _ _ th _ p (then-ok _ _ vars _ q (then-ok _ _ rep _ x (then-ok _ _ abs _ y (then-ok _ _ n _ z (λ i. type_op_after s th vars (sym u i) (sym v i) (sym w i))))))
+    bind-to _ _ th _ p (bind-to _ _ vars _ q (bind-to _ _ rep _ x (bind-to _ _ abs _ y (bind-to _ _ n _ z (λ i. type_op_after s th vars (sym u i) (sym v i) (sym w i))))))
 
 -- and in version 5
 abbrev pub type_op_5_after : State → Sequent Name → List Name → (rep abs n : Name) → Result State (Fault Name)
@@ -125,7 +122,7 @@ open-joined (Err e) opened s symbols = refl
 pub type_op_5-read : (c : Context) (s : State) (th : Sequent Name) (vars : List Name) (rep abs n r a op : Name) → theorem_on 0 s.article.stack ≡ Ok th → names_on 1 s.article.stack ≡ Ok vars → name_on 2 s.article.stack ≡ Ok rep → name_on 3 s.article.stack ≡ Ok abs → name_on 4 s.article.stack ≡ Ok n
     → r ≡ renamed names c.interpretation.constants rep → a ≡ renamed names c.interpretation.constants abs → op ≡ renamed names c.interpretation.type_ops n → define_type_op_5_row c s ≡ type_op_5_after s th vars r a op
 type_op_5-read c s th vars rep abs n r a op p q x y z u v w =
-    then-ok _ _ th _ p (then-ok _ _ vars _ q (then-ok _ _ rep _ x (then-ok _ _ abs _ y (then-ok _ _ n _ z (
+    bind-to _ _ th _ p (bind-to _ _ vars _ q (bind-to _ _ rep _ x (bind-to _ _ abs _ y (bind-to _ _ n _ z (
     open-joined (closed_defined (renamed names c.interpretation.type_ops n) (renamed names c.interpretation.constants abs) (renamed names c.interpretation.constants rep) vars th (type_defining (renamed names c.interpretation.type_ops n) (renamed names c.interpretation.constants abs) (renamed names c.interpretation.constants rep) s.article.stack) s.run)
     (open_theorems (renamed names c.interpretation.constants abs) (renamed names c.interpretation.constants rep) (TyOp (renamed names c.interpretation.type_ops n) (tys_of_vars names vars)) th.concl) s
     (type_op_entry (renamed names c.interpretation.type_ops n) ∷ constant_entry (renamed names c.interpretation.constants abs) ∷ constant_entry (renamed names c.interpretation.constants rep) ∷ [])
@@ -145,7 +142,7 @@ abbrev pub const_list_after : Context → State → List Name → List (Variable
 const_list_after c s ns vs th = defined (λ ds. list_definition names ds ns vs th) (list_defining c s.article.stack) s.run >>= λ made. Ok (with_defined 2 (constants_entry ns ∷ []) made s)
 
 pub const_list-read : (c : Context) (s : State) (th : Sequent Name) (os : Objects) (pairs : List (Name × Variable Name)) (ns : List Name) (vs : List (Variable Name)) → theorem_on 0 s.article.stack ≡ Ok th → list_on 1 s.article.stack ≡ Ok os → pairs_of os ≡ Ok pairs → map (λ p. renamed names c.interpretation.constants p.0) pairs ≡ ns → map (λ p. p.1) pairs ≡ vs → define_const_list_row c s ≡ const_list_after c s ns vs th
-const_list-read c s th os pairs ns vs p q r x y = then-ok _ _ th _ p (then-ok _ _ os _ q (then-ok _ _ pairs _ r (λ i. const_list_after c s (x i) (y i) th)))
+const_list-read c s th os pairs ns vs p q r x y = bind-to _ _ th _ p (bind-to _ _ os _ q (bind-to _ _ pairs _ r (λ i. const_list_after c s (x i) (y i) th)))
 
 -- ---- growth
 pub leaves-grow : (s t : Session) (m : Machine) → Leaves s t m → Grows s t
@@ -180,6 +177,6 @@ axiom_after c s hyps p o = used c hyps p o (origins_of (top 2 s.article.stack)) 
 
 pub axiom-read : (c : Context) (s : State) (p : Tm Name) (os : Objects) (o : Origin Name) (hyps : List (Tm Name)) → term_on 0 s.article.stack ≡ Ok p → list_entry 1 s.article.stack ≡ Ok (os, o) → as_each as_term os ≡ Ok hyps → axiom_row c s ≡ axiom_after c s hyps p o
 axiom-read c s p os o hyps x y z =
-    then-ok _ _ p _ x (then-ok _ _ (os, o) _ y (then-ok _ _ hyps _ z (
+    bind-to _ _ p _ x (bind-to _ _ (os, o) _ y (bind-to _ _ hyps _ z (
     (λ i. axiom_rule hyps p >>= λ q. discharged c (elements-terms os o hyps z i) (record { sequent = q; origin = Make words.Axiom (origins_of (top 2 s.article.stack)) }) s.run >>= λ t. Ok (record { article = record s.article { stack = replaced 2 t.0 s.article.stack }; run = t.1 }))
     ∙ joined (axiom_rule hyps p) (λ q. discharged c (term_entries hyps o) (record { sequent = q; origin = Make words.Axiom (origins_of (top 2 s.article.stack)) }) s.run) _)))

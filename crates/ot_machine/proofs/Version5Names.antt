@@ -27,12 +27,13 @@ use Rattle.ot_machine.proofs.NamedValues.{value-named}
 use Rattle.ot_machine.proofs.CanonLow.{canon-low}
 use Rattle.ot_machine.specs.NamesIn.{TyNamed, TysNamed, TmNamed, ObjectNamed, ObjectsNamed, HasVersion5}
 use Rattle.ot_machine.specs.Version5.{canon_ty, canon_tys, canon_under, numbered, binders, or_nil, abs_origin, abs_value, rep_origin, rep_value, open_theorems, define_type_op_5_row}
-use Rattle.ot_machine.proofs.Tops.{bind-ok, same-ok}
+use Rattle.ot_machine.proofs.Tops.{same-ok}
 use Rattle.ot_machine.proofs.Fewer.{none-fewer, type_definition-fewer}
 use Rattle.ot_machine.proofs.StackRows.{AllFit, name-held, constant-fits, type_op-fits}
 use Rattle.ot_machine.proofs.ArticleRows.{theorem-at, list-at}
 use Rattle.ot_machine.proofs.RunRows.{answer}
 use Rattle.ot_machine.proofs.DefinitionRows.{defined-pushes, type-read}
+use Rattle.ot_plain.proofs.Results.{bind-ok}
 
 module _ (b : Basis) (has : HasVersion5 b.IsNamed) where
   abbrev P : Name → Type 0

@@ -19,8 +19,9 @@ use Rattle.ot_kernel.specs.Axioms.{axiom_rule}
 use Rattle.ot_plain.specs.Rules.{op_rule, app_rule, abs_rule, refl_rule, assume_rule, eq_mp_rule, abs_thm_rule, app_thm_rule, deduct_antisym_rule, beta_conv_rule, subst_rule, sym_rule, trans_rule, prove_hyp_rule}
 use Rattle.ot_machine.specs.Makers.{Read, Maker, of_none, of_top, of_two, no_maker, maker}
 use Rattle.ot_machine.specs.Values.{value, values, applied, definition_of, theorem_of}
-use Rattle.ot_machine.proofs.Tops.{bind-ok, same-ok, no-ok}
+use Rattle.ot_machine.proofs.Tops.{same-ok, no-ok}
 use Rattle.ot_machine.proofs.Operands.{no-operands, one-operand, two-operands}
+use Rattle.ot_plain.proofs.Results.{bind-ok}
 
 -- the kind of what a word makes; some kind where it makes nothing
 abbrev pub word_kind : Cmd → Kind

@@ -15,13 +15,13 @@ use Rattle.ot_plain.specs.Reading.{name_read}
 use Rattle.ot_plain.specs.Faults.{Fault, BadName}
 use Rattle.ot_plain.specs.Answers.{some_or}
 use Rattle.ot_plain.proofs.Reading.{name_read-spells}
-use Rattle.ot_laws.proofs.Steps.{some_or-ok}
 use Rattle.ot_machine.specs.Step.{Command, named}
 use Rattle.ot_machine.specs.NamesIn.{HasVersion5}
 use Rattle.ot_machine.specs.Writable.{IsWritable}
 use Rattle.ot_machine.specs.LawfulLaws.{CanBeNamed}
-use Rattle.ot_machine.proofs.Tops.{bind-ok}
-use Rattle.ot_machine.proofs.Respelled.{name-of-line, member-cases}
+use Rattle.ot_machine.proofs.Respelled.{name-of-line}
+use Rattle.ot_plain.proofs.Members.{IsMember-cases}
+use Rattle.ot_plain.proofs.Results.{bind-ok, some_or-ok}
 
 -- ---- names of one component, whose bytes stand for themselves
 
@@ -72,7 +72,7 @@ letters-writable cs h short =
   where
     unbroken : IsMember 10 (34 ∷ cs ++ 34 ∷ []) → ⊥
     unbroken (inl e) = omega (arith, e)
-    unbroken (inr m) = elim (member-cases 10 cs (34 ∷ []) m) [ inl a ↦ no-newline cs h a | inr b ↦ elim b [ inl e ↦ omega (arith, e) | inr n ↦ n ] ]
+    unbroken (inr m) = elim (IsMember-cases 10 cs (34 ∷ []) m) [ inl a ↦ no-newline cs h a | inr b ↦ elim b [ inl e ↦ omega (arith, e) | inr n ↦ n ] ]
 
 -- ---- decimal numerals
 

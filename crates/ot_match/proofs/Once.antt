@@ -5,6 +5,7 @@ use Rattle.std.proofs.Common.{◌≡◌, Bool, true, false, cond, List, [], ◌�
 use Rattle.ot_plain.specs.Lists.{IsMember, AreDistinct}
 use Rattle.ot_laws.proofs.Tests.{cases_of}
 use Rattle.ot_match.specs.Matching.{without, each_once, same_key, keys}
+use Rattle.ot_plain.proofs.Members.{map_agree}
 
 -- what a function does to a list, when the test goes along with it
 module _ {A B : Type 0} (same : A → A → Bool) (alike : B → B → Bool) (f : A → B) (fits : (x y : A) → alike (f x) (f y) ≡ same x y) where
@@ -64,11 +65,6 @@ module _ {A : Type 0} (same : A → A → Bool) (tells : (x y : A) → Decides (
     ]
   ]
 
--- functions that agree on the members of a list
-pub map-agree : {A B : Type 0} (f g : A → B) (xs : List A) → ((x : A) → IsMember x xs → f x ≡ g x) → map f xs ≡ map g xs
-map-agree f g [] h = refl
-map-agree f g (x ∷ xs) h = λ i. h x (inl refl) i ∷ map-agree f g xs (λ y j. h y (inr j)) i
-
 -- and back
 pub agree-map : {A B : Type 0} (f g : A → B) (xs : List A) → map f xs ≡ map g xs → (x : A) → IsMember x xs → f x ≡ g x
 agree-map f g [] h x i = absurd i
@@ -94,7 +90,7 @@ module _ {K X : Type 0} (same : K → K → Bool) (tells : (x y : K) → Decides
   by-keys [] d = refl
   by-keys (p ∷ m) d =
       let q : map (λ k. (k, at (p ∷ m) k)) (keys m) ≡ map (λ k. (k, at m k)) (keys m) =
-      map-agree (λ k. (k, at (p ∷ m) k)) (λ k. (k, at m k)) (keys m) (λ k i. λ j. (k, at-later p m k (λ e. d.0 (rw (← e) i)) j)) in
+      map_agree (λ k. (k, at (p ∷ m) k)) (λ k. (k, at m k)) (keys m) (λ k i. λ j. (k, at-later p m k (λ e. d.0 (rw (← e) i)) j)) in
       λ i. (p.0, at-here p m i) ∷ (q ∙ by-keys m d.1) i
 
   -- a map made from a function has its value at each key

@@ -2,7 +2,7 @@
 use Rattle.std.specs.Prelude.{◌↔◌, ◌&&◌, IsTrue}
 use Rattle.std.specs.List.{All}
 use mathlib.Core.Path.{PathP}
-use Rattle.std.proofs.Common.{◌≡◌, ℕ, zero, suc, ◌<◌, ◌≤◌, Bool, nat_eq, List, [], ◌∷◌, length, map, get_or, slice_get, slice_index_or, Option, Some, None, inl, inr, refl, sym, ap, ◌∙◌, subst, arith}
+use Rattle.std.proofs.Common.{◌≡◌, ℕ, ◌<◌, ◌≤◌, Bool, nat_eq, List, [], ◌∷◌, length, map, get_or, slice_get, slice_index_or, Option, Some, None, inl, inr, refl, sym, ap, ◌∙◌, subst, arith}
 use Rattle.std.proofs.lemmas.List.Elements.{All-head, All-tail}
 use Rattle.std.proofs.lemmas.Option.{slice_get_within, get_or_from_slice_get, slice_get-get_or}
 use Rattle.ot_plain.specs.Lists.{IsMember}
@@ -31,23 +31,9 @@ use Rattle.ot_kernel.specs.Spelled.{IsSpelled}
 use Rattle.ot_kernel.proofs.Comparing.{tested}
 use Rattle.ot_kernel.proofs.Namings.{length-map, index-map, name_of-index, table_names, bound_ty-get, bound_named-get}
 use Rattle.ot_match.specs.Nodes.{type_tree, IsTypeNode, IsKey, AreKeysIn, term_tree, IsTermNode}
+use Rattle.ot_plain.proofs.Members.{IsMember-get_or, IsMember-map, IsMember-map_back}
 
 -- ---- members and free variables under maps
-
-member_get : {X : Type 0} (xs : List X) (k : ℕ) (d : X) → k < length xs → IsMember (get_or xs k d) xs
-member_get [] k d h = absurd (omega (arith, h))
-member_get (x ∷ xs) zero d h = inl refl
-member_get (x ∷ xs) (suc k) d h = inr (member_get xs k d (omega (arith, h)))
-
-member_map : {X Y : Type 0} (g : X → Y) (x : X) (xs : List X) → IsMember x xs → IsMember (g x) (map g xs)
-member_map g x [] m = absurd m
-member_map g x (y ∷ xs) (inl e) = inl (ap g e)
-member_map g x (y ∷ xs) (inr m) = inr (member_map g x xs m)
-
-map_member : {X Y : Type 0} (g : X → Y) (y : Y) (xs : List X) → IsMember y (map g xs) → (x : X) × IsMember x xs × (g x ≡ y)
-map_member g y [] m = absurd m
-map_member g y (x ∷ xs) (inl e) = (x, inl refl, e)
-map_member g y (x ∷ xs) (inr m) = let (z, h, e) = map_member g y xs m in (z, inr h, e)
 
 module _ {M N : Type 0} (a : Alphabet M) (b : Alphabet N) (g : M → N) where
   free_mapped : (w : Variable M) (t : Tm M) → IsFree a w t → IsFree b (map_variable g w) (map_tm g t)
@@ -202,7 +188,7 @@ module _ (s : State) (t : TermTable) (k : IsSpelled s t) (table : IsNameTable s.
 
     name_below : (v : VarKey) → IsMember v vs → v.name < length s.names
     name_below v m =
-        let is_free = (free (terms.variable_of t.types v)).0 (member_map (terms.variable_of t.types) v vs m) in
+        let is_free = (free (terms.variable_of t.types v)).0 (IsMember-map (terms.variable_of t.types) v vs m) in
         let below = free-below (terms.variable_of t.types v) (terms.term_at t.terms id) (free-nameless numbers tells_numbers (terms.variable_of t.types v) (terms.term_at t.terms id) is_free) in
         let bound = term_bound id (terms.term_at t.terms id) (slice_get-get_or t.terms id (NConst 0 (TyVar 0)) (term_inside id h)) in
         omega (arith, below, bound)
@@ -217,19 +203,19 @@ module _ (s : State) (t : TermTable) (k : IsSpelled s t) (table : IsNameTable s.
 
     pub keys_inside : AreKeysIn s vs
     keys_inside i d l =
-        let m = member_get vs i d l in
+        let m = IsMember-get_or vs i d l in
         (name_below (get_or vs i d) m, type_outside (get_or vs i d).ty (type_below vs within (get_or vs i d) m))
 
     pub frees_are : (v : Variable Name) → IsMember v (map (variable_at s) vs) ↔ IsFreeIn names v (named_at s.terms id)
     frees_are v = (
       λ m.
-          let (u, here, is) = map_member (variable_at s) v vs m in
-          let inside = (free (terms.variable_of t.types u)).0 (member_map (terms.variable_of t.types) u vs here) in
+          let (u, here, is) = IsMember-map_back (variable_at s) v vs m in
+          let inside = (free (terms.variable_of t.types u)).0 (IsMember-map (terms.variable_of t.types) u vs here) in
           let mapped = free_mapped numbers names f (terms.variable_of t.types u) (nameless numbers (terms.term_at t.terms id)) inside in
           free-nameless names tells_names v (named_at s.terms id) (subst (λ z. IsFree names z (nameless names (named_at s.terms id))) (key_is u here ∙ is) (subst (IsFree names (map_variable f (terms.variable_of t.types u))) mapped_is mapped)),
       λ m.
           let at = subst (IsFree names v) (sym mapped_is) (nameless-free names tells_names v (named_at s.terms id) m) in
           let (w, inside, is) = mapped_free numbers names f v (nameless numbers (terms.term_at t.terms id)) at in
-          let (u, here, key) = map_member (terms.variable_of t.types) w vs ((free w).1 inside) in
-          subst (λ z. IsMember z (map (variable_at s) vs)) (sym (key_is u here) ∙ ap (map_variable f) key ∙ is) (member_map (variable_at s) u vs here),
+          let (u, here, key) = IsMember-map_back (terms.variable_of t.types) w vs ((free w).1 inside) in
+          subst (λ z. IsMember z (map (variable_at s) vs)) (sym (key_is u here) ∙ ap (map_variable f) key ∙ is) (IsMember-map (variable_at s) u vs here),
     )

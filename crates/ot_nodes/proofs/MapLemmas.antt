@@ -5,7 +5,7 @@ use Rattle.std.specs.Bool.{OnTrue}
 use Rattle.std.proofs.lemmas.Bool.{leb-true}
 use Rattle.ot_records.specs.Walks.{loose, has_free}
 use Rattle.ot_records.proofs.Walking.{open-kept, close-kept}
-use Rattle.std.proofs.Common.{◌≡◌, ◌≤◌, ℕ, Bool, true, false, ◌&&◌, cond, nat_eq, eqb-true, eq-eqb, true≢false, List, [], ◌∷◌, map, slice_get, Option, None, Some, OnOk, Result, Ok, Err, refl, sym, ap, subst, ◌∙◌, arith}
+use Rattle.std.proofs.Common.{◌≡◌, ◌≤◌, ℕ, Bool, true, false, ◌&&◌, cond, nat_eq, eqb-true, eq-eqb, true≢false, List, [], ◌∷◌, map, slice_get, Option, None, Some, refl, sym, ap, subst, ◌∙◌, arith}
 use Rattle.std.specs.List.{All}
 use Rattle.std.specs.Bool.{Decides}
 use Rattle.std.proofs.lemmas.List.Elements.{All-head, All-tail}
@@ -246,15 +246,6 @@ done-nothing ts c d types terms = record {
     by (Closing v) = tt
     by (Opening u) = tt
     by (Putting s m) = record { known = λ k v h. absurd (none-some v (sym (ap (lookup (nat_eq k)) types) ∙ h)) }
-
--- ---- an answer that is no refusal
-pub on_ok : {T E P : Type 0} (r : Result T E) → P → OnOk r P
-on_ok (Ok x) p = p
-on_ok (Err e) p = tt
-
-pub on_ok-more : {T E P Q : Type 0} (r : Result T E) → (P → Q) → OnOk r P → OnOk r Q
-on_ok-more (Ok x) f p = f p
-on_ok-more (Err e) f p = tt
 
 -- what is remembered of types, by the table now
 pub instances-now : (ts us : List Item) (e : Extends ts us) (es done : List (ℕ × ℕ)) → HasTypes ts es → AreInstances ts (type_map ts es) done → AreInstances us (type_map us es) done

@@ -2,7 +2,7 @@
 use Rattle.std.specs.Prelude.{◌≡◌, ◌<◌, ◌≤◌, ℕ, zero, suc, Bool, true, false, cond, not, ◌&&◌, ◌||◌, ◌==◌, nat_le, List, [], ◌∷◌, ◌++◌, map, drop, length, Option, Some, None}
 use Rattle.std.specs.List.{list_any, list_all}
 use Rattle.std.specs.Option.{unwrap_or}
-use Rattle.std.proofs.Common.{◌+◌, refl, sym, ◌∙◌, ap, arith, get_or, drop-cons, append_assoc}
+use Rattle.std.proofs.Common.{◌+◌, refl, sym, ◌∙◌, ap, arith, get_or, append_assoc}
 use Rattle.std.proofs.lemmas.Bool.{and_parts}
 use Rattle.ot_plain.specs.Names.{Name, same_name}
 use Rattle.ot_plain.specs.Trees.{Symbol, ConSymbol, OpSymbol}
@@ -12,6 +12,7 @@ use Rattle.ot_forms.proofs.Hiding.{taken-base}
 use Rattle.ot_parse.specs.declared.notation.WordKind.{WordKind}
 use Rattle.ot_parse.specs.declared.notation.WordKind.TheVariants as kinds
 use Rattle.ot_parse.specs.Symbols.{symbol_of, has_base, operator_base}
+use Rattle.ot_plain.proofs.Elements.{drop-item}
 
 -- the kind alone counts
 pub taken-kind : (h : List (Symbol Name)) (k : WordKind) (n m : Name) (x : List ℕ) → is_taken h (symbol_of (k, n)) x ≡ is_taken h (symbol_of (k, m)) x
@@ -83,8 +84,6 @@ any-map p f [] = refl
 any-map p f (x ∷ xs) = ap (λ b. p (f x) || b) (any-map p f xs)
 
 -- ---- over the code's list, from the front
-pub item : {X : Type 0} (xs : List X) (i : ℕ) (x : X) → i < length xs → x ≡ get_or xs i x → drop i xs ≡ x ∷ drop (i + 1) xs
-item xs i x h e = let p : suc i ≡ i + 1 = omega arith in drop-cons xs i x h ∙ (λ k. sym e k ∷ drop (p k) xs)
 
 pub with-other : (t : Symbol Name) (h : List (Symbol Name)) (s : Symbol Name) (x : List ℕ) → has_base s x t ≡ false → with_base (t ∷ h) s x ≡ with_base h s x
 with-other t h s x e = ap (λ b. cond b (Some (symbol_name t)) (with_base h s x)) e

@@ -9,3 +9,6 @@ pub mod Line
 pub mod Lift
 pub mod Naming
 pub mod PlainTrees
+pub mod Members
+pub mod Elements
+pub mod Results

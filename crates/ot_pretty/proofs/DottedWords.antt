@@ -8,10 +8,10 @@ use Rattle.ot_plain.specs.Trees.{Symbol}
 use Rattle.ot_forms.specs.Words.{is_hidden, is_taken, is_bare, dotted, base, symbol_name, word}
 use Rattle.ot_forms.specs.Reading.{is_spelled}
 use Rattle.ot_text.specs.Separated.{separator}
-use Rattle.ot_print.proofs.Separating.{rest-next}
 use Rattle.ot_parse.specs.declared.notation.WordKind.{WordKind}
 use Rattle.ot_parse.specs.declared.notation.WordKind.TheVariants as kinds
 use Rattle.ot_parse.specs.Symbols.{symbol_of}
+use Rattle.ot_plain.proofs.Elements.{drop-item}
 
 -- ---- the word of a symbol, by its kind and its name
 name-of : (k : WordKind) (n : Name) → symbol_name (symbol_of (k, n)) ≡ n
@@ -81,7 +81,7 @@ dotted-none false = refl
 pub dotted-rest : (b : Bool) (cs : List (Vec ℕ)) (i : ℕ) (c : Vec ℕ) (text : List ℕ) → i < length cs → c ≡ get_or cs i c → text ≡ c.items
     → dotted_from b (map bytes_of (drop i cs)) ≡ separator b (codes ".") ++ text ++ dotted_from false (map bytes_of (drop (i + 1) cs))
 dotted-rest b cs i c text h e p =
-    ap (λ xs. dotted_from b (map bytes_of xs)) (rest-next cs i c h e)
+    ap (λ xs. dotted_from b (map bytes_of xs)) (drop-item cs i c h e)
     ∙ dotted-first b c.items (map bytes_of (drop (i + 1) cs))
     ∙ ap (λ x. separator b (codes ".") ++ x ++ dotted_from false (map bytes_of (drop (i + 1) cs))) (sym p)
 

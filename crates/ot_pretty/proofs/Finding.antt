@@ -14,7 +14,7 @@ use Rattle.ot_plain.specs.Names.{Name}
 use Rattle.ot_plain.specs.Naming.{names, IsNameTable}
 use Rattle.ot_plain.specs.Trees.{Ty, TyVar, TyOp, NVar, NConst, NApp, NAbs, Variable, Symbol, ConSymbol, OpSymbol}
 use Rattle.ot_plain.proofs.Naming.{name_of-injective}
-use Rattle.ot_laws.proofs.Sets.{IsMember-left, IsMember-right, IsMember-cases, IsMember-map_back, same_set-self, same_set-then, same_set-append, same_set-swap}
+use Rattle.ot_laws.proofs.Sets.{same_set-self, same_set-then, same_set-append, same_set-swap}
 use Rattle.ot_laws.proofs.Symbols.{symbols-abs}
 use Rattle.ot_laws.proofs.Tests.{tells_names}
 use Rattle.ot_type.proofs.SubtypeLemmas.{less_is, All-member}
@@ -23,13 +23,14 @@ use Rattle.ot_term.specs.declared.term.SymbolKind.{SymbolKind}
 use Rattle.ot_term.specs.declared.term.SymbolKind.TheVariants as kinds
 use Rattle.ot_term.proofs.Distinct.{symbol_eq, symbol-is, distinct_members, distinct_once}
 use Rattle.ot_term.proofs.GatherLemmas.{same_set-map}
-use Rattle.ot_term.proofs.Walking.{member_last, member_push, set_one}
+use Rattle.ot_term.proofs.Walking.{member_push, set_one}
 use Rattle.ot_kernel.specs.State.{State, name_at, type_at, types_at, term_at, terms_at, named_at}
 use Rattle.ot_kernel.proofs.Namings.{name_of-index}
 use Rattle.ot_pretty.specs.declared.search.Search.{Search}
 use Rattle.ot_pretty.specs.Run.{named_symbol, symbol_named}
 use Rattle.ot_pretty.specs.Found.{type_symbols, term_symbols, symbols_with, IsSearch, Finds, Reaches, AddsSymbol, AddsType, AddsTerm, AddsTypes}
 use Rattle.ot_pretty.proofs.Roots.{take-item}
+use Rattle.ot_plain.proofs.Members.{IsMember-flat_map, IsMember-flat_map_back, IsMember-last, IsMember-left, IsMember-map_back}
 
 -- ---- sets
 same-list : {X : Type 0} {xs ys : List X} → xs ≡ ys → IsSameSet xs ys
@@ -40,20 +41,10 @@ moved : {X : Type 0} (a m r : List X) → IsSameSet (a ++ (m ++ r)) ((a ++ r) ++
 moved a m r = same_set-then (same_set-append (same_set-self a) (same_set-swap r m)) (same-list (sym (append_assoc a r m)))
 
 module _ {X Y : Type 0} (f : X → List Y) where
-  flat-to : (y : Y) (xs : List X) → IsMember y (flat_map f xs) → (x : X) × IsMember x xs × IsMember y (f x)
-  flat-to y [] m = absurd m
-  flat-to y (x ∷ xs) m = elim (IsMember-cases y (f x) (flat_map f xs) m) [
-    | inl h ↦ (x, inl refl, h)
-    | inr h ↦ let w = flat-to y xs h in (w.0, inr w.1, w.2)
   ]
 
-  flat-from : (y : Y) (x : X) (xs : List X) → IsMember x xs → IsMember y (f x) → IsMember y (flat_map f xs)
-  flat-from y x [] m h = absurd m
-  flat-from y x (z ∷ zs) (inl e) h = IsMember-left y (f z) (flat_map f zs) (subst (λ u. IsMember y (f u)) (sym e) h)
-  flat-from y x (z ∷ zs) (inr m) h = IsMember-right y (f z) (flat_map f zs) (flat-from y x zs m h)
-
   flat-part : (xs ys : List X) → IsPart xs ys → IsPart (flat_map f xs) (flat_map f ys)
-  flat-part xs ys p y m = let w = flat-to y xs m in flat-from y w.0 ys (p w.0 w.1) w.2
+  flat-part xs ys p y m = let w = IsMember-flat_map_back y xs m in IsMember-flat_map y w.0 ys (p w.0 w.1) w.2
 
   pub flat-same : (xs ys : List X) → IsSameSet xs ys → IsSameSet (flat_map f xs) (flat_map f ys)
   flat-same xs ys p = record { to = flat-part xs ys p.to; back = flat-part ys xs p.back }
@@ -235,7 +226,7 @@ module _ (s : State) where
       let b = type_symbols s taken.types.keys in
       let c = term_symbols s taken.terms.keys in
       let d = symbols_tm names (term_at s i) in
-      let top = r.search.terms i (subst (IsMember i) (sym t) (member_last i taken.terms.keys)) in
+      let top = r.search.terms i (subst (IsMember i) (sym t) (IsMember-last i taken.terms.keys)) in
       let before : symbols_with s old ≡ (a ++ (b ++ c)) ++ d =
       (λ j. map (named_symbol s) (x j) ++ (type_symbols s (y j) ++ term_symbols s (t j)))
       ∙ ap (λ l. a ++ (b ++ l)) (flat-push (λ k. symbols_tm names (term_at s k)) taken.terms.keys i)
@@ -257,7 +248,7 @@ module _ (s : State) where
       let b = type_symbols s taken.types.keys in
       let c = term_symbols s taken.terms.keys in
       let d = symbols_ty names (type_at s i) in
-      let top = r.search.types i (subst (IsMember i) (sym y) (member_last i taken.types.keys)) in
+      let top = r.search.types i (subst (IsMember i) (sym y) (IsMember-last i taken.types.keys)) in
       let before : symbols_with s old ≡ a ++ (b ++ (d ++ c)) =
       (λ j. map (named_symbol s) (x j) ++ (type_symbols s (y j) ++ term_symbols s (t j)))
       ∙ ap (λ l. a ++ (l ++ c)) (flat-push (λ k. symbols_ty names (type_at s k)) taken.types.keys i)

@@ -12,7 +12,7 @@ use Rattle.ot_plain.specs.Renamed.{map_ty, map_tys, map_variable, map_named}
 use Rattle.ot_plain.specs.Trees.{Ty, Tys, TyVar, TyOp, NoTys, MoreTys, Variable, Named, NVar, NConst, NApp, NAbs, Sequent}
 use Rattle.ot_plain.proofs.Naming.{naming}
 use Rattle.ot_laws.proofs.Named.{nameless_in-nil}
-use Rattle.ot_laws.proofs.Sets.{IsMember-map_back, all-member}
+use Rattle.ot_laws.proofs.Sets.{all-member}
 use Rattle.ot_laws.proofs.Tests.{tells_names}
 use Rattle.ot_term.specs.Term.{TermTable}
 use Rattle.ot_term.specs.TermTable.{term_at as tree_at}
@@ -24,6 +24,7 @@ use Rattle.ot_forms.specs.Forms.{HasNames, HaveNames, HaveTermNames}
 use Rattle.ot_forms.specs.Laws.{IsProposition, ArePropositions}
 use Rattle.ot_print.proofs.Spelled.{name_is, term_is, term_inside, lettered}
 use Rattle.ot_type.proofs.SubtypeLemmas.{All-member}
+use Rattle.ot_plain.proofs.Members.{IsMember-map_back}
 
 module _ (s : State) (t : TermTable) (k : IsSpelled s t) (table : IsNameTable s.names) where
   abbrev f : ℕ → Name

@@ -1,6 +1,6 @@
 -- Texts with a separator between two, part by part.
-use Rattle.std.specs.Prelude.{◌≡◌, ℕ, suc, ◌+◌, ◌<◌, ◌≤◌, Bool, true, false, List, [], ◌∷◌, ◌++◌, map, length, codes}
-use Rattle.std.proofs.Common.{refl, sym, ◌∙◌, ap, arith, append_assoc, drop, drop-cons, get_or}
+use Rattle.std.specs.Prelude.{◌≡◌, ℕ, ◌+◌, ◌<◌, ◌≤◌, Bool, true, false, List, [], ◌∷◌, ◌++◌, map, length, codes}
+use Rattle.std.proofs.Common.{refl, sym, ap, append_assoc, drop, get_or}
 use Rattle.std.proofs.Math.ListN.{drop_of_length-le}
 use Rattle.ot_plain.specs.Names.{Name}
 use Rattle.ot_plain.specs.Trees.{Variable, Sequent, TyDef}
@@ -10,6 +10,7 @@ use Rattle.ot_kernel.specs.Definitions.{pairs_at}
 use Rattle.ot_text.specs.Texts.{name_text, sequent_text}
 use Rattle.ot_text.specs.Sections.{pair_text, pairs_text, further_pairs, names_text, further_names, head_text}
 use Rattle.ot_text.specs.Separated.{separator}
+use Rattle.ot_plain.proofs.Elements.{drop-item}
 
 -- the pairs from the first or from a further one on
 abbrev pub pairs_from : Bool → List (Name × Variable Name) → List ℕ
@@ -43,23 +44,19 @@ pub type-pieces : (n abs rep : Name) (vs : List Name) (q : Sequent Name)
 type-pieces n abs rep vs q = sym (append_assoc (codes "type " ++ name_text n ++ codes " (" ++ names_text vs ++ codes ") abs " ++ name_text abs ++ codes " rep " ++ name_text rep) (codes " from ") (sequent_text q))
 
 -- ---- the rest of a list
-pub rest-next : {X : Type 0} (xs : List X) (i : ℕ) (x : X) → i < length xs → x ≡ get_or xs i x → drop i xs ≡ x ∷ drop (i + 1) xs
-rest-next xs i x h p =
-    let n : suc i ≡ i + 1 = omega arith in
-    drop-cons xs i x h ∙ (λ j. sym p j ∷ drop (n j) xs)
 
 pub pairs-rest : (s : State) (ns : List ℕ) (vs : List VarKey) (i n : ℕ) (v : VarKey) → i < length ns → i < length vs → n ≡ get_or ns i n → v ≡ get_or vs i v
     → pairs_at s (drop i ns) (drop i vs) ≡ (name_at s n, variable_at s v) ∷ pairs_at s (drop (i + 1) ns) (drop (i + 1) vs)
 pairs-rest s ns vs i n v h g p q =
-    let a = rest-next ns i n h p in
-    let b = rest-next vs i v g q in
+    let a = drop-item ns i n h p in
+    let b = drop-item vs i v g q in
     λ j. pairs_at s (a j) (b j)
 
 pub pairs-end : (s : State) (ns : List ℕ) (vs : List VarKey) (i : ℕ) → length ns ≤ i → pairs_at s (drop i ns) (drop i vs) ≡ []
 pairs-end s ns vs i h = ap (λ is. pairs_at s is (drop i vs)) (drop_of_length-le ns h)
 
 pub names-rest : (s : State) (ns : List ℕ) (i n : ℕ) → i < length ns → n ≡ get_or ns i n → map (name_at s) (drop i ns) ≡ name_at s n ∷ map (name_at s) (drop (i + 1) ns)
-names-rest s ns i n h p = ap (map (name_at s)) (rest-next ns i n h p)
+names-rest s ns i n h p = ap (map (name_at s)) (drop-item ns i n h p)
 
 pub names-end : (s : State) (ns : List ℕ) (i : ℕ) → length ns ≤ i → map (name_at s) (drop i ns) ≡ []
 names-end s ns i h = ap (map (name_at s)) (drop_of_length-le ns h)

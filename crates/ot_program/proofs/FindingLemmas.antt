@@ -46,20 +46,13 @@ use Rattle.ot_program.specs.declared.status.Status.TheVariants.{Refused, NoFile,
 use Rattle.ot_program.proofs.NotedLemmas.{no_standard, failed_later, rose_later}
 use Rattle.ot_program.proofs.RunLemmas.{exports_are}
 use Rattle.ot_program.proofs.VerdictLemmas.{task_verdict}
+use Rattle.ot_program.proofs.Options.{untold, mapped, if_some}
 
 -- ---- answers
-
-pub mapped : {X Y : Type 0} (f : X → Y) (P : Y → Type 0) (o : Option X) → IfSome o (λ x. P (f x)) → IfSome (option_map f o) P
-mapped f P None h = tt
-mapped f P (Some x) h = h
 
 pub unmapped : {X Y : Type 0} (f : X → Y) (P : Y → Type 0) (o : Option X) → IfSome (option_map f o) P → IfSome o (λ x. P (f x))
 unmapped f P None h = tt
 unmapped f P (Some x) h = h
-
-pub some_more : {X : Type 0} (P Q : X → Type 0) (o : Option X) → ((x : X) → P x → Q x) → IfSome o P → IfSome o Q
-some_more P Q None more h = tt
-some_more P Q (Some x) more h = more x h
 
 pub ok_more : {X E : Type 0} (P Q : X → Type 0) (r : Result X E) → ((x : X) → P x → Q x) → IfOk r P → IfOk r Q
 ok_more P Q (Ok x) more h = more x h
@@ -365,10 +358,6 @@ more_found p source old new qs rs fs same max h found = record {
 
 -- ---- the search
 
-untold : {X : Type 0} (o : Option X) → IfSome o (λ _. Unit {0})
-untold None = tt
-untold (Some x) = tt
-
 theory_last : (path : List ℕ) (folder : Option Folder) (at : Option (List ℕ)) → is_theory path ≡ true → LastInput path folder at
 theory_last path folder at theory = rw (no_standard path theory, theory) tt
 
@@ -435,7 +424,7 @@ module _ (packages pattern path : List ℕ) (folder : Option Folder) (input : Op
         → IfSome (option_map (λ ran. search pattern (Ok []) ran (λ fs. Ok [])) (noted_at packages path folder input)) P
     in_article none ran runs =
         mapped (λ ran. search pattern (Ok []) ran (λ fs. Ok [])) P (noted_at packages path folder input)
-        (some_more N (λ r. P (search pattern (Ok []) r (λ fs. Ok []))) (noted_at packages path folder input)
+        (if_some N (λ r. P (search pattern (Ok []) r (λ fs. Ok []))) (noted_at packages path folder input)
         (λ r n. subst (λ (fs : List (List ℕ)). P (search pattern (Ok fs) r (λ gs. Ok []))) none (next r (λ fs. Ok []) n runs))
         ran)
 
@@ -492,7 +481,7 @@ module _ (packages pattern path : List ℕ) (folder : Option Folder) (input : Op
   walk_ends at m m' f f' i j v (AtFailure file said has cause) =
       AtFailure file said (inr (
         has.0,
-        some_more (λ files. IsWalked files limits.theory_bytes packages path file)
+        if_some (λ files. IsWalked files limits.theory_bytes packages path file)
             (λ files. IsSearchFile packages path files file) folder (λ files walked. OfWalk file walked) has.1.0,
         has.1.1,
       )) (theory_failed path i j f f' has.0 cause)

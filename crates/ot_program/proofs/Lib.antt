@@ -10,3 +10,4 @@ pub mod ReadingLemmas
 pub mod FindingLemmas
 pub mod VerdictLemmas
 pub mod ReplyLemmas
+pub mod Options

@@ -12,7 +12,6 @@ use Rattle.ot_plain.specs.Faults.{Fault}
 use Rattle.ot_plain.specs.Trees.{Sequent, Definition}
 use Rattle.ot_plain.specs.Lists.{IsMember}
 use Rattle.ot_plain.specs.declared.limits.Limits.{Limits}
-use Rattle.ot_laws.proofs.Sets.{IsMember-left, IsMember-right}
 use Rattle.ot_io.specs.Causes.{Rose}
 use Rattle.ot_io.specs.Folder.{Folder}
 use Rattle.ot_args.specs.Grammar.{is_theory}
@@ -39,6 +38,8 @@ use Rattle.ot_program.specs.declared.task.View.{View}
 use Rattle.ot_program.proofs.InputLemmas.{theory_cause}
 use Rattle.ot_program.proofs.RunLemmas.{assumptions_are, definitions_are, exports_are}
 use Rattle.ot_program.proofs.LimitLemmas.{text_printed, text_too_large, too_long}
+use Rattle.ot_plain.proofs.Members.{IsMember-left, IsMember-right}
+use Rattle.ot_program.proofs.Options.{untold}
 
 -- ---- what an input shows
 
@@ -97,10 +98,6 @@ stop_told None ran s is = tt
 stop_told (Some x) None s is = tt
 stop_told (Some x) (Some l) s is = rw is refl
 
-unsaid : {X : Type 0} (o : Option X) → IfSome o (λ _. Unit {0})
-unsaid None = tt
-unsaid (Some x) = tt
-
 article_stop : (x : Linked (List Name)) (ran : Option (Linked Ran)) (path : List ℕ) (line : ℕ) (o : Option (Fault Name))
     → (f : Fault Name) × (o ≡ Some f) × (x.answer ≡ Err (InArticle path line f))
     → let ended : Option (End Ran Stop) = option_map (λ f. Stopped (InArticle path line f)) o in
@@ -119,7 +116,7 @@ stops k (faults.Theory path line fault) (Some x) ran comes = stop_told (Some x) 
 stops k (faults.Structure path line fault) (Some x) ran comes = stop_told (Some x) ran _ (comes k)
 stops k (faults.TheoryTooLarge path) (Some x) ran comes = stop_told (Some x) ran _ (comes k)
 stops k (faults.NoFile path) (Some x) ran comes = stop_told (Some x) ran _ (comes k)
-stops k (faults.ReadFault path) (Some x) ran comes = unsaid (noted_told (Some x) ran)
+stops k (faults.ReadFault path) (Some x) ran comes = untold (noted_told (Some x) ran)
 stops k faults.Memory (Some x) ran comes = tt
 
 -- a stop comes to the same whatever is shown

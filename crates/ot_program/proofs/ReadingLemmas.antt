@@ -34,12 +34,9 @@ use Rattle.ot_program.specs.declared.reading.ReadingRefusal.{ReadingRefusal}
 use Rattle.ot_program.specs.declared.reading.ReadingRefusal.TheVariants as readings
 use Rattle.ot_program.proofs.LimitLemmas.{too_long}
 use Rattle.ot_program.proofs.NotedLemmas.{notation_is}
+use Rattle.ot_program.proofs.Options.{untold}
 
 -- ---- the end
-
-untold : {X : Type 0} (o : Option X) → IfSome o (λ _. Unit {0})
-untold None = tt
-untold (Some x) = tt
 
 -- behind a run that ended
 pub behind : (text : List ℕ) (folder : Option Folder)

@@ -1,7 +1,6 @@
 -- How a verdict, and the way the program ends with it, stand to the stated reply.
 use Rattle.std.proofs.Common.{◌≡◌, ℕ, List, refl, ap, sym, subst, inl, inr, ◌⊎◌, ◌∙◌}
-use Rattle.std.specs.Prelude.{Bool, true, false, MatchBool, Option, Some, None, Ok, Err, IfSome}
-use Rattle.std.specs.Option.{option_map}
+use Rattle.std.specs.Prelude.{Bool, true, false, MatchBool, Option, Some, Ok, Err, IfSome}
 use Rattle.std.specs.Io.KnownBytes.{Appends}
 use Rattle.ot_io.specs.Causes.{Rose}
 use Rattle.ot_io.specs.Folder.{Folder}
@@ -12,14 +11,7 @@ use Rattle.ot_program.specs.Answer.{MatchesReply, IsVerdict, IsReport, IsStopLin
 use Rattle.ot_program.specs.Verdicts.{IsReplyOf, Ends, error_line}
 use Rattle.ot_program.specs.declared.status.Status.{Status}
 use Rattle.ot_program.specs.declared.status.Status.TheVariants.{Accepted, Refused, Usage, NoFile, ReadFault, WriteFault, Memory}
-
-if_some : {X : Type 0} (P Q : X → Type 0) (o : Option X) → ((x : X) → P x → Q x) → IfSome o P → IfSome o Q
-if_some P Q None then holds = tt
-if_some P Q (Some x) then holds = then x holds
-
-mapped : {X Y : Type 0} (f : X → Y) (P : Y → Type 0) (o : Option X) → IfSome o (λ x. P (f x)) → IfSome (option_map f o) P
-mapped f P None h = tt
-mapped f P (Some x) h = h
+use Rattle.ot_program.proofs.Options.{untold, mapped, if_some}
 
 -- ---- a verdict and the stated reply
 
@@ -41,17 +33,13 @@ large_reply t told line large =
     if_some (λ answer. answer ≡ Ok large.made) (λ answer. reply_to t answer ≡ fails Refused line) told
     (λ answer is. ap (reply_to t) is ∙ rw large.large (ap (fails Refused) (sym large.line_is))) large.ended
 
-unread : {X : Type 0} (o : Option X) → IfSome o (λ _. Unit {0})
-unread None = tt
-unread (Some x) = tt
-
 replies : (t : TaskValue) (folder : Option Folder) (input at : Option (List ℕ)) (status : Status) (text : List ℕ)
     → Says status t folder input at text → IfSome (result_of t folder input) (λ answer. IsReplyOf status text (reply_to t answer))
 replies t folder input at Accepted text says = report_reply t (result_of t folder input) text says
 replies t folder input at Refused text (inl stop) = stop_reply t Refused (result_of t folder input) text stop
 replies t folder input at Refused text (inr large) = large_reply t (result_of t folder input) text large
 replies t folder input at NoFile text says = stop_reply t NoFile (result_of t folder input) text says
-replies t folder input at ReadFault text says = unread (result_of t folder input)
+replies t folder input at ReadFault text says = untold (result_of t folder input)
 replies t folder input at Usage text says = absurd says
 replies t folder input at WriteFault text says = absurd says
 replies t folder input at Memory text says = absurd says

@@ -4,7 +4,6 @@ use Rattle.ot_plain.specs.Lists.{IsMember}
 use Rattle.ot_plain.specs.Names.{Name}
 use Rattle.ot_plain.specs.Trees.{Sequent}
 use Rattle.ot_plain.specs.declared.command.Cmd.{Cmd}
-use Rattle.ot_laws.proofs.Steps.{same_Ok, bind-ok}
 use Rattle.ot_trace.specs.Origins.{Origin, Origins, Number, Named, Make, Define, Outcome, NoOrigins, MoreOrigins, listed, operands}
 use Rattle.ot_trace.specs.Reach.{IsReached, Root, Operand, OfTheorem, OfSymbol}
 use Rattle.ot_written.proofs.Filters.{bool_cases}
@@ -18,6 +17,7 @@ use Rattle.ot_proof_log.proofs.Steps.{step-of}
 use Rattle.ot_proof_log.proofs.Free.{IsFree, IsPlain, EachFree, EachPlain, step-plain, made-free}
 use Rattle.ot_proof_log.proofs.Holds.{HasTheorem, HasAll}
 use Rattle.ot_proof_log.proofs.Wrote.{no-theorem}
+use Rattle.ot_plain.proofs.Results.{bind-ok, same_Ok}
 
 -- what has no theorem in it is none
 free-all : (x : Written) (os : Origins Name) (vs : List Object) → values os ≡ Ok vs → EachFree vs → HasAll x os

@@ -8,11 +8,11 @@ use Rattle.ot_plain.specs.declared.command.Cmd.TheVariants as words
 use Rattle.ot_laws.proofs.Sets.{all-member}
 use Rattle.ot_trace.specs.Origins.{Origin, Origins, Number, Named, Make, Define, Outcome, NoOrigins, MoreOrigins, listed}
 use Rattle.ot_trace.specs.Reach.{IsReached, Operand}
-use Rattle.ot_written.proofs.Members.{member-cases}
 use Rattle.ot_machine.specs.Lawful.{IsAxiom}
 use Rattle.ot_proof_log.specs.Derived.{makes_theorem}
 use Rattle.ot_proof_log.specs.Writing.{Written, number_of, once, put_theorem, write, write_all, outcomes, add_outcomes, put_definition, write_definition, write_definitions, put_result, write_results}
 use Rattle.ot_proof_log.proofs.Outcomes.{numbered, added-theorems}
+use Rattle.ot_plain.proofs.Members.{IsMember-cases}
 
 numbered-member : (os : List (Origin Name)) (n : ℕ) (o : Origin Name) (k : ℕ) → IsMember (o, k) (numbered n os) → IsMember o os
 numbered-member [] n o k m = absurd m
@@ -35,7 +35,7 @@ module _ (roots ds : List (Origin Name)) where
 
   put-reached : (w : Cmd) (os : Origins Name) (x : Written) → IsReached roots ds (Make w os) → AxiomsReached x
       → AxiomsReached (put_theorem w os x)
-  put-reached w os x r h o k m a = elim (member-cases (o, k) x.theorems _ m) [
+  put-reached w os x r h o k m a = elim (IsMember-cases (o, k) x.theorems _ m) [
     | inl i ↦ h o k i a
     | inr i ↦ elim i [ inl e ↦ subst (IsReached roots ds) (ap (λ (z : Origin Name × ℕ). z.0) e) r | inr n ↦ absurd n ]
   ]
@@ -63,7 +63,7 @@ module _ (roots ds : List (Origin Name)) where
 
   added-reached : (w : Cmd) (d : Origin Name) (x : Written) → AxiomsReached x → AxiomsReached (add_outcomes (outcomes w d) x)
   added-reached w d x h o k m a =
-      elim (member-cases (o, k) x.theorems (numbered x.log.sequents (outcomes w d))
+      elim (IsMember-cases (o, k) x.theorems (numbered x.log.sequents (outcomes w d))
       (subst (IsMember (o, k)) (added-theorems (outcomes w d) x) m)) [
         | inl i ↦ h o k i a
         | inr i ↦ absurd (outcome-other w d o (numbered-member (outcomes w d) x.log.sequents o k i) a)

@@ -12,7 +12,6 @@ use Rattle.ot_plain.specs.Answers.{◌>>=◌, unless}
 use Rattle.ot_plain.specs.declared.command.Cmd.{Cmd}
 use Rattle.ot_plain.specs.declared.command.Cmd.TheVariants as words
 use Rattle.ot_laws.specs.Conditions.{checked_const, checked_list, checked_type, is_empty}
-use Rattle.ot_laws.proofs.Steps.{bind-ok, unless-ok}
 use Rattle.ot_kernel.specs.Defining.{all_defined, all_used}
 use Rattle.ot_records.specs.Tokens.{LogFault, BadStep}
 use Rattle.ot_records.specs.Steps.{is_sequent_within, is_well_typed, or_bad, constant_step, constants_step, type_operator_step}
@@ -32,7 +31,7 @@ use Rattle.ot_proof_log.specs.Checked.{IsDefinitionOf}
 use Rattle.ot_proof_log.specs.Derived.{read, constant_entry, constant_pair, constants_entry, type_operator_entry, definition_entries}
 use Rattle.ot_proof_log.proofs.Kept.{IsKept}
 use Rattle.ot_proof_log.proofs.KeptObjects.{IsKeptObject, IsSound, AreSound, opened, first}
-use Rattle.ot_proof_log.proofs.Read.{each-holds, pairs-hold, all-append}
+use Rattle.ot_proof_log.proofs.Read.{each-holds, pairs-hold}
 use Rattle.ot_proof_log.proofs.Read as parts
 use Rattle.ot_proof_log.proofs.Steps.{name-is}
 use Rattle.ot_proof_log.proofs.Values.{Each}
@@ -42,6 +41,8 @@ use Rattle.ot_proof_log.proofs.Texts.{is-same, same-back}
 use Rattle.ot_proof_log.proofs.Makes.{kept-within, type-named, term-named, number-low, Numbers, AllNamed}
 use Rattle.ot_proof_log.proofs.Singles.{Nodes, nodes-then, no-nodes, more-fits, flat-append}
 use Rattle.ot_proof_log.proofs.SameDefinitions.{AreMade, const-same, list-same, type-same, theorems-same, all-defined-same, all-used-same}
+use Rattle.ot_plain.proofs.Elements.{AllByRecursion-append}
+use Rattle.ot_plain.proofs.Results.{bind-ok, unless-ok}
 
 -- the record e of a definition d, which is the same as x
 pub record Defines (log : Log) (st : LogState Name) (es : List Entry) (x : Definition Name) : Type 0 where
@@ -170,7 +171,7 @@ module _ (log : Log) (st : LogState Name) (earlier : List Made)
           nodes = nodes.1;
           operands = (
             omega (arith, long, some),
-            all-append _ (flat_map constant_pair ps) (ASequent i ∷ [])
+            AllByRecursion-append _ (flat_map constant_pair ps) (ASequent i ∷ [])
                 (pairs-told log.sequents n ps hp) (number-low log st i r stand get, tt),
           );
         };
@@ -216,7 +217,7 @@ module _ (log : Log) (st : LogState Name) (earlier : List Made)
                 hr,
                 (
                   omega (arith, long, some),
-                  all-append _ (map AName vars) (ASequent i ∷ [])
+                  AllByRecursion-append _ (map AName vars) (ASequent i ∷ [])
                       (names-told log.sequents k vars hv) (number-low log st i r stand get, tt),
                 ),
               ),

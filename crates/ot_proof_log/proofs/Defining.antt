@@ -16,7 +16,6 @@ use Rattle.ot_plain.specs.declared.command.Cmd.TheVariants as words
 use Rattle.ot_laws.specs.Conditions.{checked_const, checked_list, checked_type}
 use Rattle.ot_laws.specs.Next.{AreSymbolsOf}
 use Rattle.ot_laws.proofs.Tests.{tells_names, var_cases}
-use Rattle.ot_laws.proofs.Steps.{same_Ok, bind-ok, unless-ok}
 use Rattle.ot_laws.proofs.Terms.{inst_by-id}
 use Rattle.ot_laws.proofs.Typed.{subst-typed}
 use Rattle.ot_laws.proofs.Theorems.{assumption-theorem}
@@ -31,6 +30,7 @@ use Rattle.ot_entries.proofs.Fitting.{Fits, FitsType, HasTypesTo}
 use Rattle.ot_proof_log.proofs.Kept.{IsKeptTerm, IsKept, kept-shallow}
 use Rattle.ot_proof_log.proofs.Steps.{name-is, list-is, term-is, theorem-is}
 use Rattle.ot_proof_log.proofs.KeptObjects.{IsKeptObject}
+use Rattle.ot_plain.proofs.Results.{bind-ok, same_Ok, unless-ok}
 
 abbrev pub ShallowTheorems : Definition Name → Type 0
 ShallowTheorems d = list_all (is_shallow_sequent names) (theorems names d) ≡ true

@@ -11,7 +11,7 @@ use Rattle.ot_plain.specs.Answers.{◌>>=◌, unless}
 use Rattle.ot_plain.specs.Rules.{has_type}
 use Rattle.ot_plain.specs.declared.command.Cmd.{Cmd}
 use Rattle.ot_plain.specs.declared.command.Cmd.TheVariants as words
-use Rattle.ot_laws.proofs.Steps.{bind-ok, limit-ok}
+use Rattle.ot_laws.proofs.Steps.{limit-ok}
 use Rattle.ot_kernel.specs.Pairs.{with_type, with_term}
 use Rattle.ot_machine.specs.Objects.{Object, Objects, number, name, list, type_op, a_type, constant, variable, term, theorem, no_objects, more_objects, nesting}
 use Rattle.ot_machine.specs.Places.{as_name, as_list, as_type_op, as_type, as_constant, as_variable, as_term, as_each}
@@ -24,6 +24,7 @@ use Rattle.ot_proof_log.specs.Derived.{makes_theorem}
 use Rattle.ot_proof_log.proofs.Steps.{list-is, one-of, two-of, IsStep, ByRefl, ByAssume, ByBeta, ByAbsThm, BySubst, ByAxiom, BySym, ByEqMp, ByAppThm, ByDeductAntisym, ByTrans, ByProveHyp, step-of}
 use Rattle.ot_proof_log.proofs.Read.{or_bad-is}
 use Rattle.ot_proof_log.proofs.Defining.{IsDefining, ByConst, ByList, ByType}
+use Rattle.ot_plain.proofs.Results.{bind-ok}
 
 -- no theorem in it
 abbrev mutual

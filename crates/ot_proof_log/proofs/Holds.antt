@@ -14,7 +14,6 @@ use Rattle.ot_trace.specs.Origins.{Origin, Origins, Make, NoOrigins, MoreOrigins
 use Rattle.ot_records.specs.State.{LogState}
 use Rattle.ot_written.specs.Same.{same_origin}
 use Rattle.ot_written.proofs.Same.{same-origin-law}
-use Rattle.ot_written.proofs.Members.{member-left, member-right, member-cases}
 use Rattle.ot_machine.specs.Objects.{theorem}
 use Rattle.ot_machine.specs.Makers.{Read}
 use Rattle.ot_machine.specs.Values.{value}
@@ -24,11 +23,13 @@ use Rattle.ot_entries.specs.Entries.{Entry}
 use Rattle.ot_entries.specs.Logged.{write_sequents}
 use Rattle.ot_entries.specs.Making.{IsSame}
 use Rattle.ot_entries.proofs.Standing.{Stands}
-use Rattle.ot_entries.proofs.Several.{kept-at, last-at}
+use Rattle.ot_entries.proofs.Several.{last-at}
 use Rattle.ot_proof_log.specs.Writing.{Written, number_of, mark}
 use Rattle.ot_proof_log.proofs.Told.{IsTold, sequents-told}
 use Rattle.ot_proof_log.proofs.Texts.{is-same, same-back, same-then, once-member, member-once, once-has, once-apart}
 use Rattle.ot_proof_log.proofs.Makes.{Makes}
+use Rattle.ot_plain.proofs.Members.{IsMember-cases, IsMember-left, IsMember-right}
+use Rattle.ot_plain.proofs.TableLemmas.{slice_get-append_left}
 
 abbrev pub is_one : Origin Name → Origin Name → Bool
 is_one = same_origin names.same
@@ -155,14 +156,14 @@ module _ (w : Cmd) (os : Origins Name) (x : Written) (st : LogState Name) (es : 
       (sym (ap length m.sequents) ∙ m.stands.sequents) (last-place st.sequents m.front m.last))
 
   proved-new : (o : Origin Name) (k : ℕ) → IsMember (o, k) new.theorems → IsProvedAt m.now o k
-  proved-new o k i = elim (member-cases (o, k) x.theorems ((Make w os, n) ∷ []) i) [
+  proved-new o k i = elim (IsMember-cases (o, k) x.theorems ((Make w os, n) ∷ []) i) [
     | inl j ↦
         (let a = h.proved o k j in
         record {
           of = a.of;
           at = a.at;
           value_is = a.value_is;
-          there = ap (λ l. slice_get l k) m.sequents ∙ kept-at st.sequents (m.front ++ m.last ∷ []) k a.at a.there;
+          there = ap (λ l. slice_get l k) m.sequents ∙ slice_get-append_left st.sequents (m.front ++ m.last ∷ []) k a.at a.there;
           same = a.same;
         })
     | inr j ↦ elim j [
@@ -184,7 +185,7 @@ module _ (w : Cmd) (os : Origins Name) (x : Written) (st : LogState Name) (es : 
     origin = a.origin;
     number = a.number;
     of = a.of;
-    there = member-left (a.origin, a.number) x.theorems ((Make w os, n) ∷ []) a.there;
+    there = IsMember-left (a.origin, a.number) x.theorems ((Make w os, n) ∷ []) a.there;
     is_axiom = a.is_axiom;
     value_is = a.value_is;
     same = a.same;
@@ -202,7 +203,7 @@ module _ (w : Cmd) (os : Origins Name) (x : Written) (st : LogState Name) (es : 
         origin = Make w os;
         number = n;
         of = q;
-        there = member-right (Make w os, n) x.theorems ((Make w os, n) ∷ []) (inl refl);
+        there = IsMember-right (Make w os, n) x.theorems ((Make w os, n) ∷ []) (inl refl);
         is_axiom = (os, ap (λ z. Make z os) a.0);
         value_is = v;
         same = subst (λ z. same_sequent names z q ≡ true) (sym e) last-same;
@@ -218,7 +219,7 @@ module _ (w : Cmd) (os : Origins Name) (x : Written) (st : LogState Name) (es : 
 
   all-new : (o : Origin Name) (k : ℕ) (p : Sequent Name) → IsMember (o, k) new.theorems → IsAxiom o → value o ≡ Ok (theorem p)
       → IsAssumed m.now p
-  all-new o k p i a e = elim (member-cases (o, k) x.theorems ((Make w os, n) ∷ []) i) [
+  all-new o k p i a e = elim (IsMember-cases (o, k) x.theorems ((Make w os, n) ∷ []) i) [
     | inl j ↦ assumed-old p (h.all o k p j a e)
     | inr j ↦ elim j [
       | inl f ↦ own (ap (λ (z : Origin Name × ℕ). z.0) f)
@@ -246,10 +247,10 @@ module _ (w : Cmd) (os : Origins Name) (x : Written) (st : LogState Name) (es : 
           word g = cc
 
   keeps : Keeps x new
-  keeps p i = member-left p x.theorems ((Make w os, n) ∷ []) i
+  keeps p i = IsMember-left p x.theorems ((Make w os, n) ∷ []) i
 
   closed-new : (c : Cmd) (ps : Origins Name) (k : ℕ) → IsMember (Make c ps, k) new.theorems → HasAll new ps
-  closed-new c ps k i = elim (member-cases (Make c ps, k) x.theorems ((Make w os, n) ∷ []) i) [
+  closed-new c ps k i = elim (IsMember-cases (Make c ps, k) x.theorems ((Make w os, n) ∷ []) i) [
     | inl j ↦ all-kept x new ps keeps (h.closed c ps k j)
     | inr j ↦ elim j [
       | inl e ↦

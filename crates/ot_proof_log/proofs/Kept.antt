@@ -13,12 +13,13 @@ use Rattle.ot_plain.specs.Answers.{unless, some_or}
 use Rattle.ot_plain.specs.Rules.{has_type, within_limit, sides, refl_rule, assume_rule, eq_mp_rule, abs_thm_rule, app_thm_rule, deduct_antisym_rule, beta_conv_rule, subst_rule, sym_rule}
 use Rattle.ot_laws.specs.Theorem.{IsTheorem}
 use Rattle.ot_laws.proofs.Tests.{tells_names}
-use Rattle.ot_laws.proofs.Steps.{same_Ok, bind-ok, limit-ok, within_limit-ok, sides-ok}
+use Rattle.ot_laws.proofs.Steps.{limit-ok, within_limit-ok, sides-ok}
 use Rattle.ot_laws.proofs.Sets.{all-member, all-from_members}
 use Rattle.ot_laws.proofs.Hypotheses.{IsMember-union}
 use Rattle.ot_laws.proofs.Theorems.{assumption-theorem}
 use Rattle.ot_laws.proofs.Sound.{refl_rule-sound, assume_rule-sound, eq_mp_rule-sound, abs_thm_rule-sound, app_thm_rule-sound, deduct_antisym_rule-sound, beta_conv_rule-sound, subst_rule-sound, sym_rule-sound}
 use Rattle.ot_entries.proofs.Fitting.{Fits, fits-shallow, sides-fit}
+use Rattle.ot_plain.proofs.Results.{bind-ok, same_Ok}
 
 -- well typed, and within the limit
 pub record IsKeptTerm (t : Tm Name) : Type 0 where

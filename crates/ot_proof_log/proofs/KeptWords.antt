@@ -14,7 +14,7 @@ use Rattle.ot_plain.specs.Answers.{unless}
 use Rattle.ot_plain.specs.Rules.{has_type, sides, trans_rule, proved_hyp, prove_hyp_rule}
 use Rattle.ot_laws.proofs.Tests.{tells_names, tm_cases, has_type-is}
 use Rattle.ot_laws.proofs.Equations.{equation-sides}
-use Rattle.ot_laws.proofs.Steps.{same_Ok, bind-ok, unless-ok, some_or-ok, sides-ok}
+use Rattle.ot_laws.proofs.Steps.{sides-ok}
 use Rattle.ot_laws.proofs.Sets.{all-member, all-from_members}
 use Rattle.ot_laws.proofs.Hypotheses.{IsMember-minus, IsMember-once_each, distinct-once_each}
 use Rattle.ot_laws.proofs.Sound.{trans_rule-sound, prove_hyp_rule-sound}
@@ -22,6 +22,7 @@ use Rattle.ot_kernel.specs.Axioms.{axiom_rule}
 use Rattle.ot_entries.specs.Expansions.{trans_entries, prove_hyp_entries, trans_of, prove_hyp_of}
 use Rattle.ot_entries.proofs.Fitting.{Fits, chain-fits}
 use Rattle.ot_proof_log.proofs.Kept.{IsKeptTerm, AllFit, IsKept, fit-part, fit-union, left, right, kept-by}
+use Rattle.ot_plain.proofs.Results.{bind-ok, same_Ok, some_or-ok, unless-ok}
 
 -- ---- trans: of a = b and b = d, whichever of both is the lower one
 

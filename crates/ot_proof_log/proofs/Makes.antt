@@ -17,7 +17,6 @@ use Rattle.ot_records.specs.State.{LogState, kept_once, makes_sequent}
 use Rattle.ot_machine.specs.Objects.{Object, number, name, list, type_op, a_type, constant, variable, term, theorem}
 use Rattle.ot_machine.specs.Writable.{IsWritable}
 use Rattle.ot_machine.specs.NamesIn.{TyNamed, TmNamed, ObjectNamed}
-use Rattle.ot_article.proofs.FromLawful.{get-short}
 use Rattle.ot_entries.specs.Entries.{Entry, type_nodes, term_nodes, nodes_before}
 use Rattle.ot_entries.specs.Making.{IsSame}
 use Rattle.ot_entries.specs.Logged.{Log, write_sequents}
@@ -28,6 +27,7 @@ use Rattle.ot_entries.proofs.Sequents.{Feeds, sequent-stands}
 use Rattle.ot_entries.proofs.Several.{MakesAll}
 use Rattle.ot_proof_log.proofs.Kept.{IsKept, fit-part}
 use Rattle.ot_proof_log.proofs.Told.{AreNodes, IsEntry, AreEntries, term-told, type-told}
+use Rattle.ot_plain.proofs.Elements.{slice_get-low}
 
 -- ---- kept sequents are within the limit of a log
 
@@ -95,7 +95,7 @@ AllNamed = AllByRecursion (ObjectNamed IsWritable)
 
 pub number-low : (x : Log) (st : LogState Name) (i : ℕ) (q : Sequent Name) → Stands x st → slice_get st.sequents i ≡ Some q
     → i ≤ x.sequents
-number-low x st i q s h = let a = get-short st.sequents i q h in let b = s.sequents in omega (arith, a, b)
+number-low x st i q s h = let a = slice_get-low st.sequents i q h in let b = s.sequents in omega (arith, a, b)
 
 -- ---- what the records make
 

@@ -11,7 +11,6 @@ use Rattle.ot_plain.specs.Answers.{◌>>=◌, unless, some_or}
 use Rattle.ot_plain.specs.declared.command.Cmd.{Cmd}
 use Rattle.ot_plain.specs.declared.command.Cmd.TheVariants as words
 use Rattle.ot_laws.specs.Conditions.{is_empty, function_of}
-use Rattle.ot_laws.proofs.Steps.{bind-ok, some_or-ok}
 use Rattle.ot_trace.specs.Origins.{Origin, Origins, Make, Define, Outcome}
 use Rattle.ot_written.specs.Written.{theorem_count}
 use Rattle.ot_machine.specs.Objects.{Object, theorem}
@@ -20,6 +19,7 @@ use Rattle.ot_machine.specs.Lawful.{IsAxiom}
 use Rattle.ot_article.proofs.FromLawful.{get-middle}
 use Rattle.ot_proof_log.specs.Writing.{Written, mark, outcomes, add_outcomes}
 use Rattle.ot_proof_log.proofs.Defining.{IsDefining, ByConst, ByList, ByType}
+use Rattle.ot_plain.proofs.Results.{bind-ok, some_or-ok}
 
 -- ---- the numbers
 

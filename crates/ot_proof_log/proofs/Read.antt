@@ -10,7 +10,6 @@ use Rattle.ot_plain.specs.Faults.{Fault, BadSubst, BadDefinitionList}
 use Rattle.ot_plain.specs.Answers.{◌>>=◌, unless}
 use Rattle.ot_plain.specs.Rules.{has_type}
 use Rattle.ot_laws.proofs.Tests.{tells_names, has_type-is}
-use Rattle.ot_laws.proofs.Steps.{same_Ok, bind-ok, unless-ok}
 use Rattle.ot_kernel.specs.Pairs.{with_type, with_term}
 use Rattle.ot_machine.specs.Objects.{Object, Objects, name, list, a_type, variable, term, no_objects, more_objects}
 use Rattle.ot_machine.specs.Places.{as_name, as_list, as_type, as_variable, as_term, as_each}
@@ -18,15 +17,12 @@ use Rattle.ot_machine.specs.Parts.{or_bad, two_of}
 use Rattle.ot_machine.specs.Substitutions.{type_pair, term_pair, types_onto, terms_onto, maps_of}
 use Rattle.ot_machine.specs.DefinitionLists.{definition_pair, pairs_of}
 use Rattle.ot_proof_log.proofs.Steps.{name-is, list-is, type-is, variable-is, term-is}
+use Rattle.ot_plain.proofs.Elements.{AllByRecursion-append}
+use Rattle.ot_plain.proofs.Results.{bind-ok, same_Ok, unless-ok}
 
 pub or_bad-is : {A : Type 0} (bad : Fault Name) (r : Result A (Fault Name)) (a : A) → or_bad bad r ≡ Ok a → r ≡ Ok a
 or_bad-is bad (Ok x) a h = h
 or_bad-is bad (Err f) a h = absurd (cc)
-
-pub all-append : {A : Type 0} (Q : A → Type 0) (xs ys : List A) → AllByRecursion Q xs → AllByRecursion Q ys
-    → AllByRecursion Q (xs ++ ys)
-all-append Q [] ys h k = k
-all-append Q (x ∷ xs) ys h k = (h.0, all-append Q xs ys h.1 k)
 
 all-if : {A : Type 0} (Q : A → Type 0) (c : Bool) (xs ys : List A) → AllByRecursion Q xs → AllByRecursion Q ys
     → AllByRecursion Q (if c then xs else ys)
@@ -41,7 +37,7 @@ terms_onto-typed (more_objects o os) m r k e =
     let b = bind-ok (unless BadSubst (has_type names a.0.1 a.0.0.ty)) _ r a.2 in
     let w = (has_type-is names tells_names a.0.1 a.0.0.ty).0 (unless-ok BadSubst (has_type names a.0.1 a.0.0.ty) b.0 b.1) in
     terms_onto-typed os (with_term m a.0.0 a.0.1) r
-    (all-if _ _ m (m ++ (a.0.0, a.0.1) ∷ []) k (all-append _ m ((a.0.0, a.0.1) ∷ []) k (w, tt))) b.2
+    (all-if _ _ m (m ++ (a.0.0, a.0.1) ∷ []) k (AllByRecursion-append _ m ((a.0.0, a.0.1) ∷ []) k (w, tt))) b.2
 
 pub maps-typed : (os : Objects) (maps : TypeMap names × TermMap names) → maps_of os ≡ Ok maps → IsTyped names maps.1
 maps-typed os maps e =
@@ -122,7 +118,7 @@ module _ (O : Object → Type 0) (Os : Objects → Type 0) (opened : (os : Objec
       let (p, q) = first o os h in
       let w = pair-holds BadSubst as_name as_type (λ n. O (name n)) (λ t. O (a_type t)) as-name as-type o a.0 p a.1 in
       types_onto-hold os (with_type s a.0.0 a.0.1) r q
-      (all-if TypePair _ s (s ++ (a.0.0, a.0.1) ∷ []) k (all-append TypePair s ((a.0.0, a.0.1) ∷ []) k (w, tt))) a.2
+      (all-if TypePair _ s (s ++ (a.0.0, a.0.1) ∷ []) k (AllByRecursion-append TypePair s ((a.0.0, a.0.1) ∷ []) k (w, tt))) a.2
 
   terms_onto-hold : (os : Objects) (m r : TermMap names) → Os os → AllByRecursion TermPair m → terms_onto m os ≡ Ok r
       → AllByRecursion TermPair r
@@ -133,7 +129,7 @@ module _ (O : Object → Type 0) (Os : Objects → Type 0) (opened : (os : Objec
       let (p, q) = first o os h in
       let w = pair-holds BadSubst as_variable as_term (λ v. O (variable v)) (λ t. O (term t)) as-variable as-term o a.0 p a.1 in
       terms_onto-hold os (with_term m a.0.0 a.0.1) r q
-      (all-if TermPair _ m (m ++ (a.0.0, a.0.1) ∷ []) k (all-append TermPair m ((a.0.0, a.0.1) ∷ []) k (w, tt))) b.2
+      (all-if TermPair _ m (m ++ (a.0.0, a.0.1) ∷ []) k (AllByRecursion-append TermPair m ((a.0.0, a.0.1) ∷ []) k (w, tt))) b.2
 
   pub maps-hold : (os : Objects) (maps : TypeMap names × TermMap names) → Os os → maps_of os ≡ Ok maps
       → AllByRecursion TypePair maps.0 × AllByRecursion TermPair maps.1

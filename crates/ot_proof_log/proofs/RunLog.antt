@@ -6,7 +6,6 @@ use Rattle.ot_plain.specs.Names.{Name}
 use Rattle.ot_plain.specs.Naming.{names}
 use Rattle.ot_plain.specs.Trees.{Sequent}
 use Rattle.ot_plain.specs.Hol.{same_sequent}
-use Rattle.ot_laws.proofs.Steps.{bind-ok}
 use Rattle.ot_records.specs.State.{LogState, nothing_made}
 use Rattle.ot_records.specs.Check.{Ends, check_log}
 use Rattle.ot_trace.specs.Origins.{Origin, Define, Outcome}
@@ -24,7 +23,7 @@ use Rattle.ot_article.specs.Article.{needed_made}
 use Rattle.ot_article.proofs.Operands.{given-of}
 use Rattle.ot_article.proofs.KeptDefinitions.{made-origins}
 use Rattle.ot_article.proofs.FromLawful.{are-writable, root-settled, export-roots, roots-exports}
-use Rattle.ot_article.proofs.Rests.{all-member, member-map, map-member, define-of, at-of, reached-rests, taken-axiom}
+use Rattle.ot_article.proofs.Rests.{define-of, at-of, reached-rests, taken-axiom}
 use Rattle.ot_entries.specs.Bytes.{bytes_of}
 use Rattle.ot_entries.proofs.Ending.{header-stands, stands-ends}
 use Rattle.ot_verify.specs.Reading.{log_check}
@@ -41,6 +40,8 @@ use Rattle.ot_proof_log.proofs.Free.{defining-plain, terms-free}
 use Rattle.ot_proof_log.proofs.AxiomsReached.{AxiomsReached, definitions-reached, results-reached}
 use Rattle.ot_proof_log.proofs.AllWritten.{IsPremised, IsGood, theorem-written}
 use Rattle.ot_proof_log.proofs.LogBytes.{bytes-read}
+use Rattle.ot_plain.proofs.Members.{All-at_member, IsMember-map, IsMember-map_back}
+use Rattle.ot_plain.proofs.Results.{bind-ok}
 
 nothing-holds : Holds nothing_written nothing_made
 nothing-holds = record {
@@ -85,7 +86,7 @@ module _ (r : RunState) (es : List Export) (lawful : IsLawfulRun IsWritable r)
   its = made-origins is_one one-is roots r.definitions
 
   lawful-of : (e : Export) → IsMember e es → IsLawfulExport (run_basis IsWritable r) e
-  lawful-of e m = all-member (IsLawfulExport (run_basis IsWritable r)) es e exports m
+  lawful-of e m = All-at_member (IsLawfulExport (run_basis IsWritable r)) es e exports m
 
   rooted : (o : Origin Name) → IsMember o roots → RestsOn (run_basis IsWritable r) o
   rooted =
@@ -100,7 +101,7 @@ module _ (r : RunState) (es : List Export) (lawful : IsLawfulRun IsWritable r)
 
   made-rests : (m : Made) → IsMember m ms → RestsOn (run_basis IsWritable r) m.origin
   made-rests m i =
-      rests m.origin (found-reached m.origin (subst (IsMember m.origin) its (map-member (λ (z : Made). z.origin) m ms i)))
+      rests m.origin (found-reached m.origin (subst (IsMember m.origin) its (IsMember-map (λ (z : Made). z.origin) m ms i)))
 
   -- ---- what is written
 
@@ -157,7 +158,7 @@ module _ (r : RunState) (es : List Export) (lawful : IsLawfulRun IsWritable r)
 
   reached : AxiomsReached roots ds last
   reached = results-reached roots ds (map (λ (e : Export). e.roots.theorem) es) middle
-      (λ o m. let x = member-map (λ (e : Export). e.roots.theorem) o es m in
+      (λ o m. let x = IsMember-map_back (λ (e : Export). e.roots.theorem) o es m in
       subst (IsReached roots ds) x.2 (Root x.0.roots.theorem (export-roots es x.0 x.1).0))
       (definitions-reached roots ds E nothing_written (λ d m. found-reached d (subst (IsMember d) its m)) (λ o k m a. absurd m))
 
@@ -204,9 +205,9 @@ module _ (r : RunState) (es : List Export) (lawful : IsLawfulRun IsWritable r)
 
   all : (g : Given) → IsNeeded r es g → (q : Sequent Name) × IsMember q now.assumptions × IsSequentOf q g.sequent
   all g (m, at) =
-      let fits = all-member (λ (h : Given). Fits (run_basis IsWritable r) h.origin (theorem h.sequent))
+      let fits = All-at_member (λ (h : Given). Fits (run_basis IsWritable r) h.origin (theorem h.sequent))
       r.assumptions g lawful.assumptions m in
-      let is_axiom : IsAxiom g.origin = all-member (λ (h : Given). IsAxiom h.origin) r.assumptions g lawful.axioms m in
+      let is_axiom : IsAxiom g.origin = All-at_member (λ (h : Given). IsAxiom h.origin) r.assumptions g lawful.axioms m in
       let made = subst (IsReached roots ds) is_axiom.1 at in
       let written = theorem-written last roots ds found holds.closed premised root-good
       (λ j d a. (rests (Outcome j d) a).0) (reached-needed is_one one-is roots ds) _ is_axiom.0 made in

@@ -12,15 +12,16 @@ use Rattle.ot_plain.specs.Faults.{Fault, Primitive, SymbolInUse, BadDefinitionLi
 use Rattle.ot_plain.specs.Answers.{◌>>=◌, unless, some_or}
 use Rattle.ot_laws.specs.Conditions.{is_among, refuse_first, refuse_defined, checked_symbols, checked_const, checked_list, checked_type, are_distinct, only, given_by, given, terms_given, is_empty, function_of, are_names_of, is_closed, is_closed_but, keeps_type_vars}
 use Rattle.ot_laws.proofs.Tests.{tells_names}
-use Rattle.ot_laws.proofs.Steps.{bind-ok, some_or-ok, and_then-some}
+use Rattle.ot_laws.proofs.Steps.{and_then-some}
 use Rattle.ot_laws.proofs.Membership.{is_among-same_set}
 use Rattle.ot_laws.proofs.Sets.{same_set-self, same_set-append, distinct-length}
 use Rattle.ot_laws.proofs.Hypotheses.{same_sequent-is}
 use Rattle.ot_kernel.specs.Defining.{all_defined, all_used}
 use Rattle.ot_machine.specs.States.{Made}
 use Rattle.ot_machine.specs.Rows.{definitions_of}
-use Rattle.ot_written.proofs.Members.{member-left, member-right, member-cases}
 use Rattle.ot_proof_log.specs.Checked.{AreSame, IsDefinitionOf}
+use Rattle.ot_plain.proofs.Members.{IsMember-cases, IsMember-left, IsMember-right}
+use Rattle.ot_plain.proofs.Results.{bind-ok, some_or-ok}
 
 -- ---- symbols
 
@@ -37,7 +38,7 @@ symbols-same defs uses uses' premise premise' ss u p = λ i.
 all-symbols : (ts : List (Tm Name)) (s : Symbol Name) → IsMember s (symbols_all names ts)
     → (t : Tm Name) × IsMember t ts × IsMember s (symbols_tm names t)
 all-symbols [] s m = absurd m
-all-symbols (t ∷ ts) s m = elim (member-cases s (symbols_tm names t) (symbols_all names ts) m) [
+all-symbols (t ∷ ts) s m = elim (IsMember-cases s (symbols_tm names t) (symbols_all names ts) m) [
   | inl a ↦ (t, inl refl, a)
   | inr b ↦ (let r = all-symbols ts s b in (r.0, inr r.1, r.2))
 ]
@@ -46,8 +47,8 @@ symbols-all : (ts : List (Tm Name)) (t : Tm Name) (s : Symbol Name) → IsMember
     → IsMember s (symbols_all names ts)
 symbols-all [] t s m h = absurd m
 symbols-all (u ∷ ts) t s (inl e) h =
-    member-left s (symbols_tm names u) (symbols_all names ts) (subst (λ z. IsMember s (symbols_tm names z)) (sym e) h)
-symbols-all (u ∷ ts) t s (inr m) h = member-right s (symbols_tm names u) (symbols_all names ts) (symbols-all ts t s m h)
+    IsMember-left s (symbols_tm names u) (symbols_all names ts) (subst (λ z. IsMember s (symbols_tm names z)) (sym e) h)
+symbols-all (u ∷ ts) t s (inr m) h = IsMember-right s (symbols_tm names u) (symbols_all names ts) (symbols-all ts t s m h)
 
 all-part : (g h : List (Tm Name)) → IsPart g h → IsPart (symbols_all names g) (symbols_all names h)
 all-part g h p s m = let r = all-symbols g s m in symbols-all h r.0 s (p r.0 r.1) r.2

@@ -13,7 +13,7 @@ use Rattle.ot_plain.specs.declared.command.Cmd.TheVariants as words
 use Rattle.ot_laws.proofs.Tests.{tells_names}
 use Rattle.ot_laws.proofs.Typing.{app-typed}
 use Rattle.ot_laws.proofs.Equations.{equation-sides}
-use Rattle.ot_laws.proofs.Steps.{bind-ok, some_or-ok, within_limit-ok, sides-ok}
+use Rattle.ot_laws.proofs.Steps.{within_limit-ok, sides-ok}
 use Rattle.ot_laws.proofs.Sets.{same_set-then, same_set-both_ways, all-member, all-from_members}
 use Rattle.ot_laws.proofs.Hypotheses.{IsMember-union, IsMember-minus, distinct-union, distinct-minus}
 use Rattle.ot_records.specs.Steps.{log_depth, is_sequent_within}
@@ -33,6 +33,7 @@ use Rattle.ot_proof_log.proofs.Kept.{IsKept, AllFit}
 use Rattle.ot_proof_log.proofs.KeptWords.{IsChain, chain-of, lemma-of}
 use Rattle.ot_proof_log.proofs.Makes.{sequent-within, term-named, number-low, Makes, makes-all, kept-same}
 use Rattle.ot_proof_log.proofs.Singles.{Nodes, nodes-then, no-nodes}
+use Rattle.ot_plain.proofs.Results.{bind-ok, some_or-ok}
 
 abbrev wide : ℕ
 wide = depth_limit + 2

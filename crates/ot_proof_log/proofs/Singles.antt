@@ -37,7 +37,7 @@ use Rattle.ot_proof_log.proofs.KeptWords.{axiom-is, all-typed}
 use Rattle.ot_proof_log.proofs.Told.{AreNodes, AreOperands}
 use Rattle.ot_proof_log.proofs.Texts.{by_text-same, by_text-bool}
 use Rattle.ot_proof_log.proofs.Makes.{type-named, term-named, number-low, Makes, makes-one, same-refl, kept-within, kept-same}
-use Rattle.ot_proof_log.proofs.Read.{all-append}
+use Rattle.ot_plain.proofs.Elements.{AllByRecursion-append}
 
 pub more-fits : (t : Tm Name) → Fits names depth_limit t → Fits names log_depth t
 more-fits t f = fits-more names depth_limit log_depth (omega arith) t f
@@ -48,7 +48,7 @@ abbrev pub Nodes : List Node → Type 0
 Nodes ns = AreWithin ns × AreNodes IsWritable ns
 
 pub nodes-then : (ns ms : List Node) → Nodes ns → Nodes ms → Nodes (ns ++ ms)
-nodes-then ns ms h k = (within-append ns ms h.0 k.0, all-append _ ns ms h.1 k.1)
+nodes-then ns ms h k = (within-append ns ms h.0 k.0, AllByRecursion-append _ ns ms h.1 k.1)
 
 pub no-nodes : Nodes []
 no-nodes = (tt, tt)
@@ -163,7 +163,7 @@ subst-makes x st i sm m a r q s k typed hs hm h same rule =
       number-low x st i r s h,
       (
         omega (arith, long, l1),
-        all-append _ (flat_map type_pair sm) (Count (length m) ∷ flat_map term_pair m)
+        AllByRecursion-append _ (flat_map type_pair sm) (Count (length m) ∷ flat_map term_pair m)
             (type_pairs-told x.sequents n sm hs) (omega (arith, long, l2), term_pairs-told x.sequents n m hm),
       ),
     ) in

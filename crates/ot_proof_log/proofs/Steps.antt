@@ -9,7 +9,6 @@ use Rattle.ot_plain.specs.Answers.{◌>>=◌}
 use Rattle.ot_plain.specs.Rules.{refl_rule, assume_rule, eq_mp_rule, abs_thm_rule, app_thm_rule, deduct_antisym_rule, beta_conv_rule, subst_rule, sym_rule, trans_rule, prove_hyp_rule}
 use Rattle.ot_plain.specs.declared.command.Cmd.{Cmd}
 use Rattle.ot_plain.specs.declared.command.Cmd.TheVariants as words
-use Rattle.ot_laws.proofs.Steps.{same_Ok, bind-ok}
 use Rattle.ot_kernel.specs.Axioms.{axiom_rule}
 use Rattle.ot_machine.specs.Objects.{Object, Objects, name, list, a_type, variable, term, theorem}
 use Rattle.ot_machine.specs.Places.{as_name, as_list, as_type, as_variable, as_term, as_theorem, as_each}
@@ -17,6 +16,7 @@ use Rattle.ot_machine.specs.Substitutions.{maps_of}
 use Rattle.ot_machine.specs.Makers.{Read, of_top, of_two, maker, abs_thm_made, subst_made, axiom_made, one_theorem_made, two_theorems_made}
 use Rattle.ot_article.proofs.Operands.{made_of}
 use Rattle.ot_proof_log.specs.Derived.{makes_theorem}
+use Rattle.ot_plain.proofs.Results.{bind-ok, same_Ok}
 
 -- ---- an object of a kind
 

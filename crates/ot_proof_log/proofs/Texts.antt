@@ -18,9 +18,10 @@ use Rattle.ot_text.proofs.Ascending.{equal-is}
 use Rattle.ot_records.specs.State.{kept_once}
 use Rattle.ot_machine.specs.Lawful.{AreApart}
 use Rattle.ot_written.proofs.Filters.{bool_cases, any-to, any-from}
-use Rattle.ot_written.proofs.Members.{member-left, member-right, member-cases, member-get, get-push}
+use Rattle.ot_written.proofs.Members.{member-get, get-push}
 use Rattle.ot_entries.specs.Expansions.{put_between, with_term, by_text}
 use Rattle.ot_entries.specs.Making.{IsSame}
+use Rattle.ot_plain.proofs.Members.{IsMember-cases, IsMember-left, IsMember-right}
 
 -- ---- hypotheses by their texts
 
@@ -96,14 +97,14 @@ once-member qs q r m = by (there q qs) m
   where
     by : (b : Bool) → IsMember r (if b then qs else qs ++ q ∷ []) → IsMember r qs ⊎ (r ≡ q)
     by true i = inl i
-    by false i = elim (member-cases r qs (q ∷ []) i) [ inl k ↦ inl k | inr k ↦ elim k [ inl e ↦ inr (sym e) | inr n ↦ absurd n ] ]
+    by false i = elim (IsMember-cases r qs (q ∷ []) i) [ inl k ↦ inl k | inr k ↦ elim k [ inl e ↦ inr (sym e) | inr n ↦ absurd n ] ]
 
 pub member-once : (qs : List (Sequent Name)) (q r : Sequent Name) → IsMember r qs → IsMember r (kept_once names qs q)
 member-once qs q r m = by (there q qs)
   where
     by : (b : Bool) → IsMember r (if b then qs else qs ++ q ∷ [])
     by true = m
-    by false = member-left r qs (q ∷ []) m
+    by false = IsMember-left r qs (q ∷ []) m
 
 pub once-has : (qs : List (Sequent Name)) (q : Sequent Name)
     → (r : Sequent Name) × IsMember r (kept_once names qs q) × (same_sequent names r q ≡ true)
@@ -113,7 +114,7 @@ once-has qs q = elim (bool_cases (there q qs)) [
       (x.0, subst (λ b. IsMember x.0 (if b then qs else qs ++ q ∷ [])) (sym e) x.1, x.2))
   | inr e ↦ (
     q,
-    subst (λ b. IsMember q (if b then qs else qs ++ q ∷ [])) (sym e) (member-right q qs (q ∷ []) (inl refl)),
+    subst (λ b. IsMember q (if b then qs else qs ++ q ∷ [])) (sym e) (IsMember-right q qs (q ∷ []) (inl refl)),
     same-self q,
   )
 ]

@@ -1,7 +1,7 @@
 -- A log whose tokens can be said: its names are of one kind, and no number is greater than its length allows.
-use Rattle.std.specs.Prelude.{if◌then◌else◌, not, codes}
-use Rattle.std.specs.List.{AllByRecursion, position_or_len}
-use Rattle.std.proofs.Common.{◌≡◌, ℕ, suc, ◌+◌, ◌≤◌, Bool, true, false, cond, List, [], ◌∷◌, ◌++◌, map, length, refl, sym, ap, subst, ◌∙◌, arith, length-append, append-nil, inl, inr, ◌⊎◌}
+use Rattle.std.specs.Prelude.{if◌then◌else◌, codes}
+use Rattle.std.specs.List.{AllByRecursion}
+use Rattle.std.proofs.Common.{◌≡◌, ℕ, suc, ◌+◌, ◌≤◌, Bool, true, false, List, [], ◌∷◌, ◌++◌, map, length, refl, sym, ap, subst, ◌∙◌, arith, length-append, append-nil, inl, inr, ◌⊎◌}
 use Rattle.ot_plain.specs.Names.{Name}
 use Rattle.ot_plain.specs.Naming.{names}
 use Rattle.ot_plain.specs.Trees.{Ty, Tys, TyVar, TyOp, NoTys, MoreTys, Tm, Free, Con, Bound, App, Abs}
@@ -12,19 +12,11 @@ use Rattle.ot_records.specs.Steps.{log_depth}
 use Rattle.ot_machine.specs.NamesIn.{TyNamed, TysNamed, TmNamed}
 use Rattle.ot_entries.specs.Entries.{Operand, Count, AName, AType, ATerm, ASequent, Entry, Node, TypeNode, TermNode, type_list, type_count, node_entry, type_parts, types_nodes, type_nodes, term_parts, term_nodes, nodes_before}
 use Rattle.ot_entries.specs.Logged.{Log, header, put, token_of, has_node, with_node, write_node, write_nodes, write_entry, count_sequent, write_sequents}
-use Rattle.ot_proof_log.proofs.Read.{all-append}
+use Rattle.ot_plain.proofs.Elements.{AllByRecursion-append, position-bound}
 
 -- a word of a log
 abbrev pub IsWord : List ℕ → Type 0
 IsWord text = ((w : RecordWord) × (text ≡ spelling w)) ⊎ (text ≡ codes "otlog")
-
-place-low : {X : Type 0} (p : X → Bool) (xs : List X) → position_or_len p xs ≤ length xs
-place-low p [] = omega arith
-place-low p (x ∷ xs) = let h = place-low p xs in by (p x) h
-  where
-    by : (b : Bool) → position_or_len p xs ≤ length xs → cond (not b) (1 + position_or_len p xs) 0 ≤ length (x ∷ xs)
-    by true h = omega arith
-    by false h = omega (arith, h)
 
 module _ (P : Name → Type 0) where
   abbrev pub IsTokenTo : ℕ → Token Name → Type 0
@@ -81,15 +73,15 @@ module _ (P : Name → Type 0) where
     types-told : (ts : Tys Name) → TysNamed P ts → AreNodes (types_nodes ts)
     types-told NoTys h = tt
     types-told (MoreTys t ts) h =
-        all-append IsNode (type_nodes t) (types_nodes ts)
-        (all-append IsNode (type_parts t) (TypeNode t ∷ []) (type_parts-told t h.0) (own-type t h.0, tt)) (types-told ts h.1)
+        AllByRecursion-append IsNode (type_nodes t) (types_nodes ts)
+        (AllByRecursion-append IsNode (type_parts t) (TypeNode t ∷ []) (type_parts-told t h.0) (own-type t h.0, tt)) (types-told ts h.1)
 
     own-type : (t : Ty Name) → TyNamed P t → IsNode (TypeNode t)
     own-type (TyVar n) h = h
     own-type (TyOp n ts) h = h.0
 
   pub type-told : (t : Ty Name) → TyNamed P t → AreNodes (type_nodes t)
-  type-told t h = all-append IsNode (type_parts t) (TypeNode t ∷ []) (type_parts-told t h) (own-type t h, tt)
+  type-told t h = AllByRecursion-append IsNode (type_parts t) (TypeNode t ∷ []) (type_parts-told t h) (own-type t h, tt)
 
   -- under n abstractions
   own-term : (n : ℕ) (t : Tm Name) → IsWithin names n t → n + depth_tm names t ≤ log_depth → TmNamed P t → IsNode (TermNode t)
@@ -107,19 +99,19 @@ module _ (P : Name → Type 0) where
   term_parts-told n (App f x) w d h =
       let df : n + depth_tm names f ≤ log_depth = omega arith in
       let dx : n + depth_tm names x ≤ log_depth = omega arith in
-      all-append IsNode (term_nodes f) (term_nodes x)
-      (all-append IsNode (term_parts f) (TermNode f ∷ []) (term_parts-told n f w.0 df h.0) (own-term n f w.0 df h.0, tt))
-      (all-append IsNode (term_parts x) (TermNode x ∷ []) (term_parts-told n x w.1 dx h.1) (own-term n x w.1 dx h.1, tt))
+      AllByRecursion-append IsNode (term_nodes f) (term_nodes x)
+      (AllByRecursion-append IsNode (term_parts f) (TermNode f ∷ []) (term_parts-told n f w.0 df h.0) (own-term n f w.0 df h.0, tt))
+      (AllByRecursion-append IsNode (term_parts x) (TermNode x ∷ []) (term_parts-told n x w.1 dx h.1) (own-term n x w.1 dx h.1, tt))
   term_parts-told n (Abs t b) w d h =
       let db : suc n + depth_tm names b ≤ log_depth = omega arith in
-      all-append IsNode (type_nodes t) (term_nodes b) (type-told t h.0)
-      (all-append IsNode (term_parts b) (TermNode b ∷ []) (term_parts-told (suc n) b w db h.1) (own-term (suc n) b w db h.1, tt))
+      AllByRecursion-append IsNode (type_nodes t) (term_nodes b) (type-told t h.0)
+      (AllByRecursion-append IsNode (term_parts b) (TermNode b ∷ []) (term_parts-told (suc n) b w db h.1) (own-term (suc n) b w db h.1, tt))
 
   pub term-told : (t : Tm Name) → IsWithin names 0 t → depth_tm names t ≤ log_depth → TmNamed P t → AreNodes (term_nodes t)
   term-told t w d h =
       let z : 0 + depth_tm names t ≤ log_depth =
       omega arith in
-      all-append IsNode (term_parts t) (TermNode t ∷ []) (term_parts-told 0 t w z h) (own-term 0 t w z h, tt)
+      AllByRecursion-append IsNode (term_parts t) (TermNode t ∷ []) (term_parts-told 0 t w z h) (own-term 0 t w z h, tt)
 
   -- ---- records
 
@@ -138,8 +130,8 @@ module _ (P : Name → Type 0) where
       → IsTokenTo (log_depth + (length x.tokens + suc n)) (token_of x o)
   token-told x n (Count k) t h = omega arith
   token-told x n (AName m) t h = h
-  token-told x n (AType u) t h = let p = place-low (same_ty names u) x.types in let q = t.types in omega (arith, p, q)
-  token-told x n (ATerm u) t h = let p = place-low (same_tm names u) x.terms in let q = t.terms in omega (arith, p, q)
+  token-told x n (AType u) t h = let p = position-bound (same_ty names u) x.types in let q = t.types in omega (arith, p, q)
+  token-told x n (ATerm u) t h = let p = position-bound (same_tm names u) x.terms in let q = t.terms in omega (arith, p, q)
   token-told x n (ASequent i) t h = let q = t.sequents in omega (arith, q)
 
   map-told : (x : Log) (n : ℕ) (os : List Operand) → IsTold x → AreOperands x.sequents n os
@@ -162,7 +154,7 @@ module _ (P : Name → Type 0) where
       let n = length e.operands in
       let ts = Word (spelling e.word) ∷ map (token_of x) e.operands in
       subst (λ z. AreTokensTo (log_depth + z) (put e x).tokens) (sym (put-long e x))
-      (all-append (IsTokenTo (log_depth + (length x.tokens + suc n))) x.tokens ts
+      (AllByRecursion-append (IsTokenTo (log_depth + (length x.tokens + suc n))) x.tokens ts
       (tokens-more (log_depth + length x.tokens) (log_depth + (length x.tokens + suc n)) (omega arith) x.tokens t.tokens)
       (inl (e.word, refl), map-told x n e.operands t h))
 

@@ -14,7 +14,7 @@ use Rattle.ot_plain.specs.Rules.{op_rule, app_rule, abs_rule}
 use Rattle.ot_plain.specs.declared.command.Cmd.{Cmd}
 use Rattle.ot_plain.specs.declared.command.Cmd.TheVariants as words
 use Rattle.ot_laws.proofs.Tests.{tells_names}
-use Rattle.ot_laws.proofs.Steps.{same_Ok, bind-ok, some_or-ok, limit-ok, op_rule-ok, app_rule-ok, abs_rule-ok}
+use Rattle.ot_laws.proofs.Steps.{limit-ok, op_rule-ok, app_rule-ok, abs_rule-ok}
 use Rattle.ot_trace.specs.Origins.{Origin, Origins, Number, Named, Make, Define, Outcome, NoOrigins, MoreOrigins}
 use Rattle.ot_machine.specs.Objects.{Object, number, name, list, type_op, a_type, constant, variable, term, theorem, no_objects, more_objects, nesting}
 use Rattle.ot_machine.specs.Places.{as_name, as_list, as_type_op, as_type, as_constant, as_variable, as_term, as_each, arguments}
@@ -29,6 +29,7 @@ use Rattle.ot_proof_log.proofs.Steps.{IsStep, ByRefl, ByAssume, ByBeta, ByAbsThm
 use Rattle.ot_proof_log.proofs.Read.{maps-typed}
 use Rattle.ot_proof_log.proofs.Defining.{defining-of, defined-kept}
 use Rattle.ot_proof_log.proofs.KeptObjects.{IsKeptObject, each-term}
+use Rattle.ot_plain.proofs.Results.{bind-ok, same_Ok, some_or-ok}
 
 abbrev pub Each : List Object → Type 0
 Each = AllByRecursion IsKeptObject

@@ -8,10 +8,8 @@ use Rattle.ot_plain.specs.Trees.{Sequent}
 use Rattle.ot_plain.specs.declared.command.Cmd.{Cmd}
 use Rattle.ot_plain.specs.declared.command.Cmd.TheVariants as words
 use Rattle.ot_plain.specs.declared.kind.Kind.TheVariants as kinds
-use Rattle.ot_laws.proofs.Steps.{same_Ok, bind-ok}
 use Rattle.ot_trace.specs.Origins.{Origin, Origins, Number, Named, Make, Define, Outcome, NoOrigins, MoreOrigins}
 use Rattle.ot_records.specs.State.{LogState}
-use Rattle.ot_written.proofs.Members.{member-right}
 use Rattle.ot_written.proofs.Settled.{EachOutcome, EachOutcomes, IsTheoremOf}
 use Rattle.ot_machine.specs.Objects.{Object, number, name, list, type_op, a_type, constant, variable, term, theorem}
 use Rattle.ot_machine.specs.Makers.{Read, maker}
@@ -34,6 +32,8 @@ use Rattle.ot_proof_log.proofs.Values.{value-kept, values-kept}
 use Rattle.ot_proof_log.proofs.Makes.{Numbers}
 use Rattle.ot_proof_log.proofs.Words.{word-makes}
 use Rattle.ot_proof_log.proofs.Holds.{number-member, member-number, Has, HasTheorem, HasAll, theorem-kept, IsProvedAt, Holds, put_as, Goes, goes-none, put-goes}
+use Rattle.ot_plain.proofs.Members.{IsMember-right}
+use Rattle.ot_plain.proofs.Results.{bind-ok, same_Ok}
 
 -- ---- a word that makes no theorem
 
@@ -171,7 +171,7 @@ module _ (axioms defs : List (Origin Name)) (used : Origin Name → Bool) (E : L
         goes = goes;
         has = λ r g. (
           (write_sequents es x.log).sequents - 1,
-          member-right (Make w os, (write_sequents es x.log).sequents - 1) x.theorems
+          IsMember-right (Make w os, (write_sequents es x.log).sequents - 1) x.theorems
               ((Make w os, (write_sequents es x.log).sequents - 1) ∷ []) (inl refl),
         );
       })

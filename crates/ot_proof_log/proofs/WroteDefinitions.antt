@@ -9,13 +9,11 @@ use Rattle.ot_plain.specs.Trees.{Sequent, Definition}
 use Rattle.ot_plain.specs.Hol.{theorems}
 use Rattle.ot_plain.specs.declared.command.Cmd.{Cmd}
 use Rattle.ot_plain.specs.declared.command.Cmd.TheVariants as words
-use Rattle.ot_laws.proofs.Steps.{bind-ok}
 use Rattle.ot_laws.proofs.Sets.{all-member}
 use Rattle.ot_records.specs.State.{LogState}
 use Rattle.ot_trace.specs.Origins.{Origin, Origins, Make, Define, Outcome}
 use Rattle.ot_written.specs.Written.{theorem_count}
 use Rattle.ot_written.proofs.Settled.{EachOutcomes, IsTheoremOf}
-use Rattle.ot_written.proofs.Members.{member-left, member-right, member-cases}
 use Rattle.ot_machine.specs.Objects.{theorem}
 use Rattle.ot_machine.specs.States.{Made}
 use Rattle.ot_machine.specs.Rows.{definitions_of}
@@ -24,13 +22,11 @@ use Rattle.ot_machine.specs.Lawful.{IsAxiom, RestsOn, AreOn, AreApart}
 use Rattle.ot_machine.specs.Writable.{IsWritable}
 use Rattle.ot_article.specs.Article.{origins_made}
 use Rattle.ot_article.proofs.Operands.{given-of}
-use Rattle.ot_article.proofs.FromLawful.{map-snoc}
 use Rattle.ot_article.proofs.Fewer.{definition-less}
 use Rattle.ot_article.proofs.Writable.{AreWritable}
 use Rattle.ot_entries.specs.Entries.{Entry}
 use Rattle.ot_entries.specs.Logged.{write_entry}
 use Rattle.ot_entries.proofs.Standing.{Stands}
-use Rattle.ot_entries.proofs.Several.{kept-at}
 use Rattle.ot_entries.proofs.Definitions.{with_theorems}
 use Rattle.ot_proof_log.specs.Derived.{read, definition_entries}
 use Rattle.ot_proof_log.specs.Writing.{Written, numbers_of, write_all, write_entries, outcomes, add_outcomes, put_definition, write_definition, write_definitions}
@@ -44,6 +40,10 @@ use Rattle.ot_proof_log.proofs.Wrote.{b, HasOutcomes, values-named, numbers-of, 
 use Rattle.ot_proof_log.proofs.SameDefinitions.{AreMade, theorems-same, made-snoc}
 use Rattle.ot_proof_log.proofs.Defines.{Defines, word-defines}
 use Rattle.ot_proof_log.proofs.Outcomes.{numbered, added-theorems, added-log, HaveValues, values-long, numbered-at, outcome-values, outcome-numbered}
+use Rattle.ot_plain.proofs.Members.{IsMember-cases, IsMember-left, IsMember-right}
+use Rattle.ot_plain.proofs.Results.{bind-ok}
+use Rattle.ot_plain.proofs.TableLemmas.{slice_get-append_left}
+use Rattle.std.proofs.lemmas.List.{map_push}
 
 outcomes-short : (w : Cmd) (d : Origin Name) → length (outcomes w d) ≤ 2
 outcomes-short words.DefineTypeOp d = omega arith
@@ -79,14 +79,14 @@ module _ (x : Written) (st : LogState Name) (es : List Entry) (d : Definition Na
   old-length = h.stands.sequents ∙ sym put.sequents
 
   proved-new : (o : Origin Name) (k : ℕ) → IsMember (o, k) new.theorems → IsProvedAt now o k
-  proved-new o k i = elim (member-cases (o, k) x.theorems (numbered (write_entry m.entry x.log).sequents os) i) [
+  proved-new o k i = elim (IsMember-cases (o, k) x.theorems (numbered (write_entry m.entry x.log).sequents os) i) [
     | inl j ↦
         (let a = h.proved o k j in
         record {
           of = a.of;
           at = a.at;
           value_is = a.value_is;
-          there = ap (λ l. slice_get l k) at-end ∙ kept-at st.sequents (theorems names d) k a.at a.there;
+          there = ap (λ l. slice_get l k) at-end ∙ slice_get-append_left st.sequents (theorems names d) k a.at a.there;
           same = a.same;
         })
     | inr j ↦
@@ -107,7 +107,7 @@ module _ (x : Written) (st : LogState Name) (es : List Entry) (d : Definition Na
         origin = a.origin;
         number = a.number;
         of = a.of;
-        there = member-left (a.origin, a.number) x.theorems (numbered (write_entry m.entry x.log).sequents os) a.there;
+        there = IsMember-left (a.origin, a.number) x.theorems (numbered (write_entry m.entry x.log).sequents os) a.there;
         is_axiom = a.is_axiom;
         value_is = a.value_is;
         same = a.same;
@@ -115,7 +115,7 @@ module _ (x : Written) (st : LogState Name) (es : List Entry) (d : Definition Na
 
   all-new : (o : Origin Name) (k : ℕ) (p : Sequent Name) → IsMember (o, k) new.theorems → IsAxiom o → value o ≡ Ok (theorem p)
       → IsAssumed now p
-  all-new o k p i a e = elim (member-cases (o, k) x.theorems (numbered (write_entry m.entry x.log).sequents os) i) [
+  all-new o k p i a e = elim (IsMember-cases (o, k) x.theorems (numbered (write_entry m.entry x.log).sequents os) i) [
     | inl j ↦ (let r = h.all o k p j a e in (r.0, subst (IsMember r.0) (sym m.makes.assumptions) r.1, r.2))
     | inr j ↦
         absurd
@@ -139,9 +139,9 @@ module _ (x : Written) (st : LogState Name) (es : List Entry) (d : Definition Na
       subst (λ n. Stands (with_theorems (write_entry m.entry x.log) n) now) long m.makes.stands
 
   closed-new : (c : Cmd) (ps : Origins Name) (k : ℕ) → IsMember (Make c ps, k) new.theorems → HasAll new ps
-  closed-new c ps k i = elim (member-cases (Make c ps, k) x.theorems (numbered (write_entry m.entry x.log).sequents os) i) [
+  closed-new c ps k i = elim (IsMember-cases (Make c ps, k) x.theorems (numbered (write_entry m.entry x.log).sequents os) i) [
     | inl j ↦
-        all-kept x new ps (λ p n. member-left p x.theorems (numbered (write_entry m.entry x.log).sequents os) n)
+        all-kept x new ps (λ p n. IsMember-left p x.theorems (numbered (write_entry m.entry x.log).sequents os) n)
         (h.closed c ps k j)
     | inr j ↦
         absurd ((numbered-at os (theorems names d) st.sequents
@@ -208,10 +208,10 @@ module _ (axioms defs : List (Origin Name)) (used : Origin Name → Bool) where
       let added : add_outcomes outs z ≡ new = (λ i. record { log = added-log outs z i; theorems = added-theorems outs z i }) in
       let whole : write_definition (Define w os) x ≡ new = ap (add_outcomes outs) put_is ∙ added in
       let kept_all : (p : Origin Name × ℕ) → IsMember p x.theorems → IsMember p new.theorems =
-      λ p k. member-left p y.theorems (numbered (write_entry df.entry y.log).sequents outs) (all.goes.kept p k) in
+      λ p k. IsMember-left p y.theorems (numbered (write_entry df.entry y.log).sequents outs) (all.goes.kept p k) in
       let has_new : HasOutcomes axioms defs used (origins_made (earlier ++ m ∷ [])) new = λ o t.
-      elim (member-cases (Define t.word t.operands) E (m.origin ∷ [])
-      (subst (IsMember (Define t.word t.operands)) (map-snoc (λ (z : Made). z.origin) earlier m) t.of)) [
+      elim (IsMember-cases (Define t.word t.operands) E (m.origin ∷ [])
+      (subst (IsMember (Define t.word t.operands)) (map_push (λ (z : Made). z.origin) earlier m) t.of)) [
         | inl j ↦
             (let r = d.has o (record {
               place = t.place;
@@ -231,7 +231,7 @@ module _ (axioms defs : List (Origin Name)) (used : Origin Name → Bool) where
               let o_is : o ≡ Outcome (suc t.place) (Define w os) = t.is ∙ ap (Outcome (suc t.place)) same in
               subst (Has new) (sym o_is) (
                 r.0,
-                member-right (Outcome (suc t.place) (Define w os), r.0) y.theorems
+                IsMember-right (Outcome (suc t.place) (Define w os), r.0) y.theorems
                     (numbered (write_entry df.entry y.log).sequents outs) r.1,
               ))
           | inr n ↦ absurd n
@@ -240,14 +240,14 @@ module _ (axioms defs : List (Origin Name)) (used : Origin Name → Bool) where
       let new_premises : (v : Cmd) (ps : Origins Name) → IsMember (Define v ps) (origins_made (earlier ++ m ∷ []))
       → HasAll new ps =
       λ v ps i.
-      elim (member-cases (Define v ps) E (m.origin ∷ [])
-      (subst (IsMember (Define v ps)) (map-snoc (λ (z : Made). z.origin) earlier m) i)) [
+      elim (IsMember-cases (Define v ps) E (m.origin ∷ [])
+      (subst (IsMember (Define v ps)) (map_push (λ (z : Made). z.origin) earlier m) i)) [
         | inl j ↦ all-kept x new ps kept_all (d.premises v ps j)
         | inr j ↦ elim j [
           | inl e ↦ (let same : Define v ps ≡ Define w os = sym e ∙ is in
               let operands : ps ≡ os = cc in
               subst (HasAll new) (sym operands) (all-kept y new os
-              (λ p k. member-left p y.theorems (numbered (write_entry df.entry y.log).sequents outs) k) all.has))
+              (λ p k. IsMember-left p y.theorems (numbered (write_entry df.entry y.log).sequents outs) k) all.has))
           | inr n ↦ absurd n
         ]
       ] in

@@ -8,17 +8,14 @@ use Rattle.ot_plain.specs.Trees.{Sequent}
 use Rattle.ot_plain.specs.Hol.{same_sequent}
 use Rattle.ot_records.specs.State.{LogState, kept_once}
 use Rattle.ot_trace.specs.Origins.{Origin}
-use Rattle.ot_written.proofs.Members.{member-cases}
 use Rattle.ot_written.proofs.Settled.{EachOutcome, IsTheoremOf}
 use Rattle.ot_machine.specs.Objects.{theorem}
 use Rattle.ot_machine.specs.States.{Export, Made}
 use Rattle.ot_machine.specs.Values.{value}
 use Rattle.ot_machine.specs.Lawful.{RestsOn, AreApart}
 use Rattle.ot_machine.specs.Writable.{IsWritable}
-use Rattle.ot_article.proofs.FromLawful.{get-short, get-middle}
-use Rattle.ot_article.proofs.Rests.{member-place}
+use Rattle.ot_article.proofs.FromLawful.{get-middle}
 use Rattle.ot_entries.specs.Logged.{write_entry}
-use Rattle.ot_entries.proofs.Several.{kept-at}
 use Rattle.ot_entries.proofs.Ending.{result_of, result-stands}
 use Rattle.ot_proof_log.specs.Checked.{AreSame, IsSequentOf}
 use Rattle.ot_proof_log.specs.Writing.{Written, listed, result_entry, write, put_result, write_results}
@@ -28,6 +25,9 @@ use Rattle.ot_proof_log.proofs.Makes.{number-low}
 use Rattle.ot_proof_log.proofs.Holds.{number-member, member-number, Has, Keeps, Holds}
 use Rattle.ot_proof_log.proofs.Wrote.{b, HasOutcomes, outcomes-kept, proved-value, write-writes}
 use Rattle.ot_proof_log.proofs.SameDefinitions.{AreMade}
+use Rattle.ot_plain.proofs.Elements.{slice_get-low}
+use Rattle.ot_plain.proofs.Members.{IsMember-cases, IsMember-place}
+use Rattle.ot_plain.proofs.TableLemmas.{slice_get-append_left}
 
 abbrev pub AreResults : List (Sequent Name) → List Export → Type 0
 AreResults = AreSame (λ q (e : Export). IsSequentOf q e.sequent)
@@ -50,11 +50,11 @@ results-snoc (p ∷ qs) [] q e h k = absurd h
 earlier-apart : (es pre rest : List Export) (e f : Export) → es ≡ pre ++ e ∷ rest → AreApart (λ (x : Export). x.sequent) es
     → IsMember f pre → same_sequent names f.sequent e.sequent ≡ true → ⊥
 earlier-apart es pre rest e f whole apart m s =
-    let p = member-place f pre m in
+    let p = IsMember-place f pre m in
     let here = ap (λ l. slice_get l (length pre)) whole ∙ get-middle pre rest e in
-    let there = ap (λ l. slice_get l p.0) whole ∙ kept-at pre (e ∷ rest) p.0 f p.1 in
+    let there = ap (λ l. slice_get l p.0) whole ∙ slice_get-append_left pre (e ∷ rest) p.0 f p.1 in
     let one : p.0 ≡ length pre = apart p.0 (length pre) f e there here s in
-    let low = get-short pre p.0 f p.1 in
+    let low = slice_get-low pre p.0 f p.1 in
     omega (arith, one, low)
 
 module _ (axioms defs : List (Origin Name)) (used : Origin Name → Bool) (E : List (Origin Name)) (ms : List Made) where
@@ -139,7 +139,7 @@ module _ (axioms defs : List (Origin Name)) (used : Origin Name → Bool) (E : L
           has = outcomes-kept axioms defs used E x y d.now w.goes d.has;
           results =
               subst (λ l. AreResults l (pre ++ e ∷ [])) (sym (m.results ∙ fresh)) (results-snoc st.results pre q e old same);
-          written = λ f i. elim (member-cases f pre (e ∷ []) i) [
+          written = λ f i. elim (IsMember-cases f pre (e ∷ []) i) [
             | inl a ↦ (let r = d.written f a in (r.0, w.goes.kept (f.roots.theorem, r.0) r.1))
             | inr a ↦ elim a [ inl c ↦ subst (λ (z : Export). Has y z.roots.theorem) c has | inr n ↦ absurd n ]
           ];

@@ -5,7 +5,6 @@ use Rattle.ot_plain.specs.Trees.{Alphabet, Ty, TyVar, TyOp, Tm, Free, Con, Bound
 use Rattle.ot_plain.specs.Answers.{unless}
 use Rattle.ot_laws.specs.Theorem.{IsTheorem}
 use Rattle.ot_laws.proofs.Tests.{Tells}
-use Rattle.ot_laws.proofs.Steps.{same_Ok, bind-ok, some_or-ok}
 use Rattle.ot_records.specs.Tokens.{LogFault, BadHeader, BadReference, Token, Tokens, NoMore, Stopped, Then}
 use Rattle.ot_records.specs.declared.word.RecordWord.{RecordWord}
 use Rattle.ot_records.specs.declared.word.RecordWord.TheVariants as words
@@ -16,7 +15,9 @@ use Rattle.ot_records.specs.Check.{Ends, as_name, as_number, as_earlier, as_reco
 use Rattle.ot_records.specs.Sound.{LogsAreSound}
 use Rattle.ot_records.proofs.StepSound.{refl-sound, assume-sound, eq_mp-sound, abs_thm-sound, app_thm-sound, deduct_antisym-sound, beta-sound, subst-sound}
 use Rattle.ot_records.proofs.DefinitionSound.{constant-acceptable, constants-acceptable, type_operator-acceptable}
-use Rattle.ot_records.proofs.StateSound.{member_at, IsSound, nothing-sound, type-sound, term-sound, sequent-sound, result-sound, assumption-sound, definition-sound}
+use Rattle.ot_records.proofs.StateSound.{IsSound, nothing-sound, type-sound, term-sound, sequent-sound, result-sound, assumption-sound, definition-sound}
+use Rattle.ot_plain.proofs.Members.{IsMember-at}
+use Rattle.ot_plain.proofs.Results.{bind-ok, same_Ok, some_or-ok}
 
 module _ {N : Type 0} (alphabet : Alphabet N) where
   -- whatever a form is answered, it makes what is proved, from what is
@@ -85,7 +86,7 @@ module _ {N : Type 0} (alphabet : Alphabet N) (tells : Tells alphabet) where
   answered-sound st (AskSequent next) g t s k h =
       let (x, p, l) = bind-ok (as_earlier st.sequents t) _ g h in
       let (i, e) = earlier-ok st.sequents t x p in
-      same st (next x) g l (k x (s.sequents x (member_at st.sequents i x e)))
+      same st (next x) g l (k x (s.sequents x (IsMember-at st.sequents i x e)))
 
   -- ---- where the check is
   abbrev IsSoundPlace : Place alphabet → Type 0
@@ -144,6 +145,6 @@ module _ {N : Type 0} (alphabet : Alphabet N) (tells : Tells alphabet) where
       let s = check-sound tokens 0 AtFirst st tt h in
       record {
         accepted = s.accepted;
-        assumptions = λ i q e. (s.assumptions q (member_at st.assumptions i q e)).0;
-        results = λ i q e. s.results q (member_at st.results i q e);
+        assumptions = λ i q e. (s.assumptions q (IsMember-at st.assumptions i q e)).0;
+        results = λ i q e. s.results q (IsMember-at st.results i q e);
       }

@@ -1,33 +1,21 @@
 -- A definition that passes its conditions may be next, and its theorems are theorems.
-use Rattle.std.specs.List.{flat_map}
-use Rattle.std.proofs.Common.{◌≡◌, List, [], ◌∷◌, map, Result, Ok, Err, refl, sym, ap, subst, inl, inr}
-use Rattle.ot_plain.specs.Lists.{IsMember}
+use Rattle.std.proofs.Common.{◌≡◌, List, map, Result, Ok, Err, ap, subst}
 use Rattle.ot_plain.specs.Trees.{Alphabet, Variable, Tm, Sequent, Definition, ConDef, ListDef, TyDef}
 use Rattle.ot_plain.specs.Hol.{IsNext, defined, used}
 use Rattle.ot_plain.specs.Answers.{unless}
 use Rattle.ot_laws.specs.Theorem.{IsTheorem}
 use Rattle.ot_laws.proofs.Tests.{Tells}
-use Rattle.ot_laws.proofs.Steps.{same_Ok, bind-ok, unless-ok}
 use Rattle.ot_laws.proofs.Definitions.{HasPremise}
-use Rattle.ot_laws.proofs.Sets.{IsMember-left, IsMember-right, IsMember-cases}
 use Rattle.ot_records.specs.Tokens.{LogFault, BadStep}
 use Rattle.ot_laws.specs.Conditions.{checked_const, checked_list, checked_type}
 use Rattle.ot_laws.specs.Next.{AreSymbolsOf}
 use Rattle.ot_records.specs.Steps.{or_bad, is_well_typed, all_defined, all_used, constant_step, constants_step, type_operator_step}
 use Rattle.ot_laws.proofs.Next.{constants_are_next, lists_are_next, types_are_next}
 use Rattle.ot_records.proofs.StepSound.{well_typed-is}
+use Rattle.ot_plain.proofs.Members.{IsMember-flat_map, IsMember-flat_map_back}
+use Rattle.ot_plain.proofs.Results.{bind-ok, same_Ok, unless-ok}
 
 module _ {X Y : Type 0} (f : X → List Y) where
-  flat-from : (y : Y) (x : X) (xs : List X) → IsMember x xs → IsMember y (f x) → IsMember y (flat_map f xs)
-  flat-from y x (z ∷ xs) (inl e) m = IsMember-left y (f z) (flat_map f xs) (subst (λ w. IsMember y (f w)) (sym e) m)
-  flat-from y x (z ∷ xs) (inr i) m = IsMember-right y (f z) (flat_map f xs) (flat-from y x xs i m)
-  flat-from y x [] i m = absurd i
-
-  flat-to : (y : Y) (xs : List X) → IsMember y (flat_map f xs) → (x : X) × IsMember x xs × IsMember y (f x)
-  flat-to y [] i = absurd i
-  flat-to y (x ∷ xs) i = elim (IsMember-cases y (f x) (flat_map f xs) i) [
-    | inl m ↦ (x, inl refl, m)
-    | inr m ↦ let r = flat-to y xs m in (r.0, inr r.1, r.2)
   ]
 
 or_bad-ok : {A E : Type 0} (r : Result A E) (x : A) → or_bad r ≡ Ok x → r ≡ Ok x
@@ -37,8 +25,8 @@ or_bad-ok (Err e) x h = cc
 module _ {N : Type 0} (alphabet : Alphabet N) where
   all_symbols : (dl : List (Definition N)) → AreSymbolsOf alphabet dl (all_defined alphabet dl) (all_used alphabet dl)
   all_symbols dl = record {
-    defined = λ s. (λ m. flat-to (defined alphabet) s dl m, λ r. flat-from (defined alphabet) s r.0 dl r.1 r.2);
-    used = λ s. (λ m. flat-to (used alphabet) s dl m, λ r. flat-from (used alphabet) s r.0 dl r.1 r.2);
+    defined = λ s. (λ m. IsMember-flat_map_back (defined alphabet) s dl m, λ r. IsMember-flat_map (defined alphabet) s r.0 dl r.1 r.2);
+    used = λ s. (λ m. IsMember-flat_map_back (used alphabet) s dl m, λ r. IsMember-flat_map (used alphabet) s r.0 dl r.1 r.2);
   }
 
 -- a definition that may be next, of a premise that is a sequent

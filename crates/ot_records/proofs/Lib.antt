@@ -4,3 +4,4 @@ pub mod DefinitionSound
 pub mod StateSound
 pub mod CheckSound
 pub mod Walking
+pub mod Firsts

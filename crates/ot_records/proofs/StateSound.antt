@@ -1,9 +1,8 @@
 -- What the records of a log make stays proved.
-use Rattle.std.specs.Prelude.{slice_get, nat_le, if◌then◌else◌}
+use Rattle.std.specs.Prelude.{nat_le, if◌then◌else◌}
 use Rattle.std.specs.List.{list_all, list_any}
-use Rattle.std.proofs.Common.{◌≡◌, ℕ, zero, suc, Bool, true, false, ◌&&◌, ◌||◌, List, [], ◌∷◌, ◌++◌, Some, Result, Ok, refl, ap, subst, inl, inr, ◌⊎◌}
+use Rattle.std.proofs.Common.{◌≡◌, Bool, true, false, ◌&&◌, ◌||◌, List, [], ◌∷◌, ◌++◌, Result, Ok, refl, subst, inl, inr, ◌⊎◌}
 use Rattle.std.proofs.lemmas.Bool.{and_parts}
-use Rattle.std.proofs.lemmas.Option.{same_Some}
 use Rattle.ot_plain.specs.Lists.{IsMember, IsSameSet, AreDistinct}
 use Rattle.ot_plain.specs.Table.{Extends}
 use Rattle.ot_plain.specs.Trees.{Alphabet, Ty, Tm, Sequent, Definition}
@@ -12,8 +11,7 @@ use Rattle.ot_plain.specs.Answers.{unless}
 use Rattle.ot_plain.proofs.TableLemmas.{Extends-refl, Extends-append}
 use Rattle.ot_laws.specs.Theorem.{IsTheorem}
 use Rattle.ot_laws.proofs.Tests.{Tells}
-use Rattle.ot_laws.proofs.Sets.{IsMember-right, IsMember-cases, all-from_members}
-use Rattle.ot_laws.proofs.Steps.{same_Ok, bind-ok, unless-ok}
+use Rattle.ot_laws.proofs.Sets.{all-from_members}
 use Rattle.ot_laws.proofs.Grown.{grown-accepted, accepted-push, accepted-nil}
 use Rattle.ot_laws.proofs.Hypotheses.{same_sequent-is, distinct-once_each, IsMember-once_each}
 use Rattle.ot_laws.proofs.Theorems.{grown-theorem, assumption-theorem, defined-theorem}
@@ -22,18 +20,10 @@ use Rattle.ot_records.specs.Steps.{log_depth, is_proposition, is_sequent_within,
 use Rattle.ot_records.specs.State.{LogState, nothing_made, kept_once, makes_type, makes_term, makes_sequent, makes_assumption, makes_definition, makes_result}
 use Rattle.ot_records.proofs.StepSound.{proposition-is}
 use Rattle.ot_records.proofs.DefinitionSound.{IsAcceptable}
+use Rattle.ot_plain.proofs.Members.{IsMember-cases, IsMember-place, IsMember-right}
+use Rattle.ot_plain.proofs.Results.{bind-ok, same_Ok, unless-ok}
 
 -- ---- places and members
-pub member_at : {X : Type 0} (xs : List X) (i : ℕ) (x : X) → slice_get xs i ≡ Some x → IsMember x xs
-member_at [] i x h = cc
-member_at (y ∷ xs) zero x h = inl (same_Some y x h)
-member_at (y ∷ xs) (suc i) x h = inr (member_at xs i x h)
-
-pub place_of : {X : Type 0} (x : X) (xs : List X) → IsMember x xs → (i : ℕ) × (slice_get xs i ≡ Some x)
-place_of x (y ∷ xs) (inl e) = (0, ap Some e)
-place_of x (y ∷ xs) (inr m) = let r = place_of x xs m in (suc r.0, r.1)
-place_of x [] m = absurd m
-
 -- an element that passes the test, where some does
 module _ {X : Type 0} (test : X → Bool) where
   found : (xs : List X) → list_any test xs ≡ true → (x : X) × IsMember x xs × (test x ≡ true)
@@ -141,7 +131,7 @@ module _ {N : Type 0} (alphabet : Alphabet N) (tells : Tells alphabet) where
   -- the sequent of an assumption, whose hypotheses may stand in another order
   assumed : (al : List (Sequent N)) (dl : List (Definition N)) (q r : Sequent N) → IsMember r al → IsSameSet r.hyps q.hyps → r.concl ≡ q.concl → IsSequent alphabet r → AreDistinct r.hyps → IsSequent alphabet q → AreDistinct q.hyps → IsTheorem alphabet al dl q
   assumed al dl q r m same e s d sq dq =
-      let (i, at) = place_of r al m in
+      let (i, at) = IsMember-place r al m in
       let t = assumption-theorem alphabet al dl i r at s d in
       record { derivable = subst (λ z. Derivable alphabet al dl q.hyps z) e (SameSet same t.derivable); sequent = sq; distinct = dq }
 
@@ -175,7 +165,7 @@ module _ {N : Type 0} (alphabet : Alphabet N) (tells : Tells alphabet) where
       let dl = st.definitions ++ d ∷ [] in
       let T : Sequent N → Type 0 = IsTheorem alphabet st.assumptions dl in
       let grown : (z : Sequent N) → IsTheorem alphabet st.assumptions st.definitions z → T z = grown-theorem alphabet (Extends-refl st.assumptions) (Extends-append st.definitions (d ∷ [])) in
-      let own : (z : Sequent N) → IsMember z (theorems alphabet d) → T z = λ z m. let (j, at) = place_of z (theorems alphabet d) m in defined-theorem alphabet tells st.assumptions st.definitions d fine.next.fine fine.premise j z at in
+      let own : (z : Sequent N) → IsMember z (theorems alphabet d) → T z = λ z m. let (j, at) = IsMember-place z (theorems alphabet d) m in defined-theorem alphabet tells st.assumptions st.definitions d fine.next.fine fine.premise j z at in
       subst (IsSound alphabet) (same_Ok (record st { sequents = st.sequents ++ theorems alphabet d; definitions = dl }) now l) (record {
         sequents = more alphabet T st.sequents (theorems alphabet d) (λ z m. grown z (s.sequents z m)) own;
         assumptions = s.assumptions;

@@ -4,20 +4,20 @@ use Rattle.std.specs.List.{list_all}
 use Rattle.std.proofs.Common.{◌≡◌, Bool, true, List, [], ◌∷◌, ◌++◌, map, Option, Some, None, Ok, refl, sym, ap, ◌∙◌, subst}
 use Rattle.std.proofs.lemmas.Bool.{not-true, and_parts}
 use Rattle.std.proofs.lemmas.Bool.Decides.{not_from_Decides}
-use Rattle.ot_plain.specs.Lists.{IsSameSet, AreDistinct}
 use Rattle.ot_plain.specs.Trees.{Alphabet, Ty, Variable, Tm, App, Abs, Sequent, Definition}
-use Rattle.ot_plain.specs.Hol.{same_ty, fun_ty, bool_ty, as_fun_ty, type_in, type_of, HasType, IsWellTyped, close, opened, TypeMap, TermMap, subst_tm, same_tm, equation, as_equation, minus, union, once_each, is_free_in_some, IsTyped, IsSequent, Derivable, Refl, Assume, EqMp, AbsThm, AppThm, DeductAntisym, BetaConv, Subst, SameSet}
+use Rattle.ot_plain.specs.Hol.{same_ty, fun_ty, bool_ty, as_fun_ty, type_in, type_of, HasType, IsWellTyped, close, opened, TypeMap, TermMap, subst_tm, same_tm, equation, as_equation, minus, union, once_each, is_free_in_some, IsTyped, Refl, Assume, EqMp, AbsThm, AppThm, DeductAntisym, BetaConv, Subst}
 use Rattle.ot_plain.specs.Answers.{unless, some_or}
 use Rattle.ot_plain.specs.Rules.{has_type}
 use Rattle.ot_laws.specs.Theorem.{IsTheorem}
 use Rattle.ot_laws.proofs.Tests.{Tells, same_ty-is, same_tm-is, has_type-is, is_free_in_some-is}
 use Rattle.ot_laws.proofs.Typing.{as_fun_ty-some, type_of-typed}
 use Rattle.ot_laws.proofs.Equations.{as_equation-some}
-use Rattle.ot_laws.proofs.Steps.{same_Ok, bind-ok, unless-ok, some_or-ok}
 use Rattle.ot_laws.proofs.Hypotheses.{distinct-minus, same_set-union, distinct-union, same_set-once_each, distinct-once_each}
-use Rattle.ot_laws.proofs.Typed.{sequent, part-typed, refl-typed, assume-typed, eq_mp-typed, abs_thm-typed, app_thm-typed, deduct_antisym-typed, beta_conv-typed, subst_rule-typed}
+use Rattle.ot_laws.proofs.Typed.{sequent, refl-typed, assume-typed, eq_mp-typed, abs_thm-typed, app_thm-typed, deduct_antisym-typed, beta_conv-typed, subst_rule-typed}
 use Rattle.ot_records.specs.Tokens.{BadStep}
 use Rattle.ot_records.specs.Steps.{Step, is_well_typed, is_proposition, sides_of, refl_step, assume_step, eq_mp_step, abs_thm_step, app_thm_step, deduct_antisym_step, beta_step, first_pairs, subst_step}
+use Rattle.ot_plain.proofs.Results.{bind-ok, same_Ok, some_or-ok, unless-ok}
+use Rattle.ot_laws.proofs.Sound.{theorem-as, concluding}
 
 module _ {N : Type 0} (alphabet : Alphabet N) where
   -- a term that has a type
@@ -44,21 +44,13 @@ module _ {N : Type 0} (alphabet : Alphabet N) (tells : Tells alphabet) where
   sides_of-ok q e h = as_equation-some alphabet tells q.concl e.0 e.1 e.2 (some_or-ok BadStep (as_equation alphabet q.concl) e h)
 
 module _ {N : Type 0} (alphabet : Alphabet N) (tells : Tells alphabet) (al : List (Sequent N)) (dl : List (Definition N)) where
-  -- the theorem with other hypotheses of one set, each once
-  pub theorem-as : (g h : List (Tm N)) (p : Tm N) → IsSameSet g h → AreDistinct h → Derivable alphabet al dl g p → IsSequent alphabet (sequent alphabet g p) → IsTheorem alphabet al dl (sequent alphabet h p)
-  theorem-as g h p s d k w = record { derivable = SameSet s k; sequent = part-typed alphabet g h p s.back w; distinct = d }
-
-  -- the theorem with its conclusion in another form
-  concluding : (q : Sequent N) (p : Tm N) → q.concl ≡ p → IsTheorem alphabet al dl q → IsTheorem alphabet al dl (sequent alphabet q.hyps p)
-  concluding q p e t = subst (λ z. IsTheorem alphabet al dl (sequent alphabet q.hyps z)) e t
-
   -- what was given
   given : (q r : Sequent N) → ◌≡◌ {A = Step alphabet} (Ok q) (Ok r) → IsTheorem alphabet al dl q → IsTheorem alphabet al dl r
   given q r h t = subst (IsTheorem alphabet al dl) (same_Ok q r h) t
 
   -- an equation that a theorem concludes
   sides-sound : (q : Sequent N) (e : Ty N × Tm N × Tm N) → sides_of alphabet q ≡ Ok e → IsTheorem alphabet al dl q → IsTheorem alphabet al dl (sequent alphabet q.hyps (equation alphabet e.0 e.1 e.2))
-  sides-sound q e h t = concluding q (equation alphabet e.0 e.1 e.2) (sides_of-ok alphabet tells q e h) t
+  sides-sound q e h t = concluding alphabet tells al dl q (equation alphabet e.0 e.1 e.2) (sides_of-ok alphabet tells q e h) t
 
   pub refl-sound : (t : Tm N) (q : Sequent N) → refl_step alphabet t ≡ Ok q → IsTheorem alphabet al dl q
   refl-sound t q h =
@@ -80,9 +72,9 @@ module _ {N : Type 0} (alphabet : Alphabet N) (tells : Tells alphabet) (al : Lis
       let (u, r, l) = bind-ok (unless BadStep (same_tm alphabet e.1 b.concl)) _ q k in
       let same : e.1 ≡ b.concl = (same_tm-is alphabet tells e.1 b.concl).0 (unless-ok BadStep (same_tm alphabet e.1 b.concl) u r) in
       let left = sides-sound a e p s in
-      let right = concluding b e.1 (sym same) t in
+      let right = concluding alphabet tells al dl b e.1 (sym same) t in
       given (sequent alphabet (union alphabet a.hyps b.hyps) e.2) q l
-      (theorem-as (a.hyps ++ b.hyps) (union alphabet a.hyps b.hyps) e.2 (same_set-union alphabet tells a.hyps b.hyps) (distinct-union alphabet tells a.hyps b.hyps s.distinct t.distinct)
+      (theorem-as alphabet tells al dl (a.hyps ++ b.hyps) (union alphabet a.hyps b.hyps) e.2 (same_set-union alphabet tells a.hyps b.hyps) (distinct-union alphabet tells a.hyps b.hyps s.distinct t.distinct)
       (EqMp left.derivable right.derivable)
       (eq_mp-typed alphabet tells a.hyps b.hyps e.1 e.2 e.0 left.sequent right.sequent))
 
@@ -104,11 +96,11 @@ module _ {N : Type 0} (alphabet : Alphabet N) (tells : Tells alphabet) (al : Lis
       let (u, j, n) = bind-ok (unless BadStep (same_ty alphabet c.0 x.0)) _ q m in
       let split : f.0 ≡ fun_ty alphabet c.0 c.1 = as_fun_ty-some alphabet tells f.0 c.0 c.1 (some_or-ok BadStep (as_fun_ty alphabet f.0) c i) in
       let same : c.0 ≡ x.0 = (same_ty-is alphabet tells c.0 x.0).0 (unless-ok BadStep (same_ty alphabet c.0 x.0) u j) in
-      let left = concluding a (equation alphabet (fun_ty alphabet c.0 c.1) f.1 f.2) (sides_of-ok alphabet tells a f p ∙ ap (λ z. equation alphabet z f.1 f.2) split) s in
-      let right = concluding b (equation alphabet c.0 x.1 x.2) (sides_of-ok alphabet tells b x r ∙ ap (λ z. equation alphabet z x.1 x.2) (sym same)) t in
+      let left = concluding alphabet tells al dl a (equation alphabet (fun_ty alphabet c.0 c.1) f.1 f.2) (sides_of-ok alphabet tells a f p ∙ ap (λ z. equation alphabet z f.1 f.2) split) s in
+      let right = concluding alphabet tells al dl b (equation alphabet c.0 x.1 x.2) (sides_of-ok alphabet tells b x r ∙ ap (λ z. equation alphabet z x.1 x.2) (sym same)) t in
       let result : Tm N = equation alphabet c.1 (App f.1 x.1) (App f.2 x.2) in
       given (sequent alphabet (union alphabet a.hyps b.hyps) result) q n
-      (theorem-as (a.hyps ++ b.hyps) (union alphabet a.hyps b.hyps) result (same_set-union alphabet tells a.hyps b.hyps) (distinct-union alphabet tells a.hyps b.hyps s.distinct t.distinct)
+      (theorem-as alphabet tells al dl (a.hyps ++ b.hyps) (union alphabet a.hyps b.hyps) result (same_set-union alphabet tells a.hyps b.hyps) (distinct-union alphabet tells a.hyps b.hyps s.distinct t.distinct)
       (AppThm left.derivable right.derivable)
       (app_thm-typed alphabet tells a.hyps b.hyps f.1 f.2 x.1 x.2 c.0 c.1 left.sequent right.sequent))
 
@@ -118,7 +110,7 @@ module _ {N : Type 0} (alphabet : Alphabet N) (tells : Tells alphabet) (al : Lis
       let k = minus alphabet a.concl b.hyps in
       let result : Tm N = equation alphabet (bool_ty alphabet) a.concl b.concl in
       given (sequent alphabet (union alphabet g k) result) q h
-      (theorem-as (g ++ k) (union alphabet g k) result (same_set-union alphabet tells g k)
+      (theorem-as alphabet tells al dl (g ++ k) (union alphabet g k) result (same_set-union alphabet tells g k)
       (distinct-union alphabet tells g k (distinct-minus alphabet tells b.concl a.hyps s.distinct) (distinct-minus alphabet tells a.concl b.hyps t.distinct))
       (DeductAntisym s.derivable t.derivable)
       (deduct_antisym-typed alphabet tells a.hyps b.hyps a.concl b.concl s.sequent t.sequent))
@@ -142,6 +134,6 @@ module _ {N : Type 0} (alphabet : Alphabet N) (tells : Tells alphabet) (al : Lis
       let g = map (subst_tm alphabet s fm) a.hyps in
       let c : Tm N = subst_tm alphabet s fm a.concl in
       given (sequent alphabet (once_each alphabet g) c) q k
-      (theorem-as g (once_each alphabet g) c (same_set-once_each alphabet tells g) (distinct-once_each alphabet tells g)
+      (theorem-as alphabet tells al dl g (once_each alphabet g) c (same_set-once_each alphabet tells g) (distinct-once_each alphabet tells g)
       (Subst s fm w t.derivable)
       (subst_rule-typed alphabet tells a.hyps a.concl s fm w t.sequent))

@@ -15,7 +15,7 @@ use Rattle.ot_blocks.specs.Paths.{is_package, name_part}
 use Rattle.ot_repo.specs.Required.{BadIndex, full_names, names_of, picked_by_name}
 use Rattle.ot_repo.specs.Answers.{ArePackages}
 use Rattle.ot_repo.specs.Reading.{texts_of}
-use Rattle.ot_blocks.proofs.Members.{member_push}
+use Rattle.ot_plain.proofs.Members.{IsMember-push}
 
 -- ---- lines
 
@@ -64,7 +64,7 @@ listed_all path all left names s none =
     nothing (x ∷ xs) = ap (λ z. x ∷ z) (nothing xs)
 
 pub packages_more : (names : List (List ℕ)) (full : List ℕ) → ArePackages names → is_package full ≡ true → ArePackages (names ++ full ∷ [])
-packages_more names full are good name m = elim (member_push name names full m) [
+packages_more names full are good name m = elim (IsMember-push name names full m) [
   | inl h ↦ are name h
   | inr e ↦ subst (λ z. is_package z ≡ true) e good
 ]

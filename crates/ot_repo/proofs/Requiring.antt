@@ -18,21 +18,11 @@ use Rattle.ot_repo.specs.Walks.{HasEdge, Reaches, Leads, LeadInto, HasStop, Stay
 use Rattle.ot_repo.specs.Walks as walks
 use Rattle.ot_repo.specs.Required.{Refusal, NotInstalled, theory_at, requirements, index_path, index_at, picked, edge_of, edges_in, edges_of, walked, required_listed, required_over, required_by}
 use Rattle.ot_repo.specs.Laws.{ArePicked, Requires, IsNeeded, ByTag, ByPackage, LeadsTo, Same, Along, IsRequired, IsFile, First, OfPackage, IsRefused, BadFile, NoPackage, Round, AreRequired, GivesRequired, GivesRefusal, RequiredEnds}
-use Rattle.ot_blocks.proofs.Members.{member_push}
 use Rattle.ot_repo.proofs.Walking.{gives_walk, gives_stop}
 use Rattle.ot_repo.proofs.Turns.{gives_turns}
 use Rattle.ot_repo.proofs.Ending.{ends_always}
-
-same_Ok : {A E : Type 0} (x y : A) → ◌≡◌ {A = Result A E} (Ok x) (Ok y) → x ≡ y
-same_Ok x y e = cc
-
-bind_ok : {A B E : Type 0} (r : Result A E) (f : A → Result B E) (y : B) → (r >>= f) ≡ Ok y → (x : A) × (r ≡ Ok x) × (f x ≡ Ok y)
-bind_ok (Ok x) f y e = (x, refl, e)
-bind_ok (Err d) f y e = absurd cc
-
-pub some_ok : {A E : Type 0} (fault : E) (o : Option A) (x : A) → some_or fault o ≡ Ok x → o ≡ Some x
-some_ok fault None x e = absurd cc
-some_ok fault (Some y) x e = ap Some (same_Ok y x e)
+use Rattle.ot_plain.proofs.Members.{IsMember-push}
+use Rattle.ot_plain.proofs.Results.{bind-ok, same_Ok, some_or-ok}
 
 -- ---- what is picked
 
@@ -47,7 +37,7 @@ pub member_reverse : {X : Type 0} (x : X) (xs : List X) → IsMember x (reverse 
 member_reverse x [] m = m
 member_reverse x (y ∷ ys) m =
     let k : IsMember x (reverse ys ++ y ∷ []) = subst (IsMember x) (reverse-append (y ∷ []) ys) m in
-    elim (member_push x (reverse ys) y k) [ inl h ↦ inr (member_reverse x ys h) | inr e ↦ inl e ]
+    elim (IsMember-push x (reverse ys) y k) [ inl h ↦ inr (member_reverse x ys h) | inr e ↦ inl e ]
 
 pub picked_member : (listed : List (List ℕ)) (value full : List ℕ) → picked listed value ≡ Some full → IsMember full listed
 picked_member listed value full e = elim (cases_Bool (list_any (bytes_eq value) listed)) [
@@ -71,7 +61,7 @@ picked_member listed value full e = elim (cases_Bool (list_any (bytes_eq value) 
 edge_member : (listed : List (List ℕ)) (path : List ℕ) (tags : List TagText) (e : Edge (List ℕ) Refusal) (full : List ℕ) → IsMember e (map (edge_of listed path) tags) → e.target ≡ Ok full → IsMember full listed
 edge_member listed path [] e full m t = absurd m
 edge_member listed path (tag ∷ tags) e full (inl q) t =
-    picked_member listed tag.value full (some_ok (NotInstalled path tag.line) (picked listed tag.value) full (ap (λ z. z.target) q ∙ t))
+    picked_member listed tag.value full (some_or-ok (NotInstalled path tag.line) (picked listed tag.value) full (ap (λ z. z.target) q ∙ t))
 edge_member listed path (tag ∷ tags) e full (inr m) t = edge_member listed path tags e full m t
 
 are_picked : (listed : List (List ℕ)) (path : List ℕ) (tags : List TagText) (order : List (List ℕ)) (f : TagText → Edge (List ℕ) Refusal) → ((tag : TagText) → f tag ≡ edge_of listed path tag)
@@ -79,14 +69,14 @@ are_picked : (listed : List (List ℕ)) (path : List ℕ) (tags : List TagText) 
 are_picked listed path [] order f same into tag m = absurd m
 are_picked listed path (t ∷ tags) order f same into tag (inl q) =
     let (full, target, here) = into (f t) (inl refl) in
-    (full, some_ok (NotInstalled path tag.line) (picked listed tag.value) full (ap (λ z. some_or (NotInstalled path z.line) (picked listed z.value)) (sym q) ∙ ap (λ z. z.target) (sym (same t)) ∙ target), here)
+    (full, some_or-ok (NotInstalled path tag.line) (picked listed tag.value) full (ap (λ z. some_or (NotInstalled path z.line) (picked listed z.value)) (sym q) ∙ ap (λ z. z.target) (sym (same t)) ∙ target), here)
 are_picked listed path (t ∷ tags) order f same into tag (inr m) = are_picked listed path tags order f same (λ e i. into e (inr i)) tag m
 
 pub stays : (folder : Folder) (max : ℕ) (packages path : List ℕ) (listed : List (List ℕ)) (tags : List TagText) → StaysIn (edges_of folder max packages listed) (edges_in listed path tags) listed
 stays folder max packages path listed tags = record {
   first = λ e k m target. edge_member listed path tags e k m target;
   later = λ e j k has target.
-      let (u, read, are) = bind_ok (theory_at folder max (package_path packages j)) (λ u. Ok (edges_in listed (package_path packages j) (requirements u))) has.all has.are in
+      let (u, read, are) = bind-ok (theory_at folder max (package_path packages j)) (λ u. Ok (edges_in listed (package_path packages j) (requirements u))) has.all has.are in
       edge_member listed (package_path packages j) (requirements u) e k (subst (IsMember e) (sym (same_Ok (edges_in listed (package_path packages j) (requirements u)) has.all are)) has.here) target;
 }
 
@@ -124,13 +114,13 @@ module _ (folder : Folder) (max : ℕ) (packages : List ℕ) (listed : List (Lis
   edge_tag : (full : List ℕ) (e : Edge (List ℕ) Refusal) → HasEdge (edges_of folder max packages listed) full e → EdgeTag full e
   edge_tag full e h =
       let path = package_path packages full in
-      let (u, there, made) = bind_ok (theory_at folder max path) (λ u. Ok (edges_in listed path (requirements u))) h.all h.are in
+      let (u, there, made) = bind-ok (theory_at folder max path) (λ u. Ok (edges_in listed path (requirements u))) h.all h.are in
       let here : IsMember e (edges_in listed path (requirements u)) = subst (IsMember e) (sym (same_Ok (edges_in listed path (requirements u)) h.all made)) h.here in
       let (tag, has, is) = tag_of_edge listed path (requirements u) e here in
       record { theory = u; read = there; tag = tag; has = has; is = is }
 
   picks_target : (path : List ℕ) (tag : TagText) (e : Edge (List ℕ) Refusal) (k : List ℕ) → edge_of listed path tag ≡ e → e.target ≡ Ok k → picked listed tag.value ≡ Some k
-  picks_target path tag e k is t = some_ok (NotInstalled path tag.line) (picked listed tag.value) k (ap (λ z. z.target) is ∙ t)
+  picks_target path tag e k is t = some_or-ok (NotInstalled path tag.line) (picked listed tag.value) k (ap (λ z. z.target) is ∙ t)
 
   abbrev requires_by : (full other : List ℕ) (e : Edge (List ℕ) Refusal) → EdgeTag full e → e.target ≡ Ok other → Requires folder max packages listed full other
   requires_by full other e h t = record { theory = h.theory; read = h.read; tag = h.tag; has = h.has; picks = picks_target (package_path packages full) h.tag e other h.is t }
@@ -166,7 +156,7 @@ module _ (folder : Folder) (max : ℕ) (packages : List ℕ) (listed : List (Lis
         own = are_picked listed path tags order (edge_of listed path) (λ tag. refl) w.starts;
         behind = λ front back full cut.
             let (es, are, into) = w.behind front back full cut in
-            let (u, there, made) = bind_ok (theory_at folder max (package_path packages full)) (λ u. Ok (edges_in listed (package_path packages full) (requirements u))) es are in
+            let (u, there, made) = bind-ok (theory_at folder max (package_path packages full)) (λ u. Ok (edges_in listed (package_path packages full) (requirements u))) es are in
             let same = same_Ok (edges_in listed (package_path packages full) (requirements u)) es made in (
               u,
               there,
@@ -228,7 +218,7 @@ by_tags folder max packages path order t read [] none e = record {
 }
 by_tags folder max packages path order t read (tag ∷ tags) some e =
     let over : required_over folder max packages path (requirements t) ≡ Ok order = ap (required_over folder max packages path) some ∙ e in
-    let (listed, index, walk) = bind_ok (index_at folder (index_path packages)) (required_listed folder max packages path (requirements t)) order over in
+    let (listed, index, walk) = bind-ok (index_at folder (index_path packages)) (required_listed folder max packages path (requirements t)) order over in
     let whole = walk_from bytes_eq (edges_of folder max packages listed) (length listed) (edges_in listed path (requirements t)) in
     record {
       theory = t;
@@ -242,7 +232,7 @@ by_tags folder max packages path order t read (tag ∷ tags) some e =
 
 pub gives_required : GivesRequired
 gives_required folder max packages path order e =
-    let (t, read, rest) = bind_ok (theory_at folder max path) (λ t. required_by folder max packages path (requirements t)) order e in
+    let (t, read, rest) = bind-ok (theory_at folder max path) (λ t. required_by folder max packages path (requirements t)) order e in
     by_tags folder max packages path order t read (requirements t) refl rest
 
 refused_by : (folder : Folder) (max : ℕ) (packages path : List ℕ) (refusal : Refusal) (t : TheoryText) (tags : List TagText) → requirements t ≡ tags → required_by folder max packages path tags ≡ Err refusal

@@ -23,12 +23,14 @@ use Rattle.ot_repo.specs.declared.requirements.Requirement.{Requirement}
 use Rattle.ot_repo.specs.declared.walk.Waiting.{Waiting}
 use Rattle.ot_repo.specs.declared.walk.Mark.{Mark}
 use Rattle.ot_repo.specs.declared.walk.Mark.TheVariants.{Open, Done}
-use Rattle.ot_blocks.proofs.Members.{member_end, member_left}
+use Rattle.ot_blocks.proofs.Members.{member_end}
 use Rattle.ot_repo.proofs.Ending.{ends_always}
-use Rattle.ot_repo.proofs.Requiring.{some_ok, stays}
+use Rattle.ot_repo.proofs.Requiring.{stays}
 use Rattle.ot_repo.proofs.Tags.{listed_reversed}
 use Rattle.ot_repo.proofs.Rest.{path_of, rest_of, rest_nowhere, rest_known, rest_back, rest_zero, rest_stopped, rest_new}
 use Rattle.ot_repo.proofs.SoFar.{level_of, levels_of, is_among, mark_of, IsMarked, IsLevel, SoFar, Rests, is_new, new_count, stack_work, work}
+use Rattle.ot_plain.proofs.Members.{IsMember-left}
+use Rattle.ot_plain.proofs.Results.{some_or-ok}
 
 -- ---- marks
 
@@ -252,7 +254,7 @@ module _ (listed : List (List ℕ)) (file left : File) (r : Requirement) (items 
   popped_listed are full e = are r (subst (IsMember r) (sym items) (member_end left.left.items r)) full.now (ap (option_map (λ f. f.now)) e)
 
   pub popped_left : AreListed listed file.left.items → AreListed listed left.left.items
-  popped_left are q m full e = are q (subst (IsMember q) (sym items) (member_left q left.left.items (r ∷ []) m)) full e
+  popped_left are q m full e = are q (subst (IsMember q) (sym items) (IsMember-left q left.left.items (r ∷ []) m)) full e
 
 pub left_so_far : (listed : List (List ℕ)) (marked : List ℕ → Option Mark) (ws : List Waiting) (file left : File) (r : Requirement) (done : List (List ℕ)) → file.left.items ≡ left.left.items ++ r ∷ [] → SoFar listed marked ws file done → SoFar listed marked ws left done
 left_so_far listed marked ws file left r done items s = record { marks = s.marks; levels = s.levels; left = popped_left listed file left r items s.left }
@@ -297,7 +299,7 @@ module _ (listed : List (List ℕ)) (old new : List ℕ → Option Mark) (ws : L
 edge_listed : (listed : List (List ℕ)) (path : List ℕ) (rs : List Requirement) → AreListed listed rs → (e : Edge (List ℕ) Refusal) (k : List ℕ) → IsMember e (map (edge_at path) rs) → e.target ≡ Ok k → IsMember k listed
 edge_listed listed path [] are e k m t = absurd m
 edge_listed listed path (r ∷ rs) are e k (inl q) t =
-    are r (inl refl) k (some_ok (NotInstalled path r.line) (option_map (λ f. f.now) r.full) k (ap (λ z. z.target) q ∙ t))
+    are r (inl refl) k (some_or-ok (NotInstalled path r.line) (option_map (λ f. f.now) r.full) k (ap (λ z. z.target) q ∙ t))
 edge_listed listed path (r ∷ rs) are e k (inr m) t = edge_listed listed path rs (λ q h. are q (inr h)) e k m t
 
 pub walk_ends : (folder : Folder) (max : ℕ) (packages : List ℕ) (listed : List (List ℕ)) (first : File) → AreListed listed first.left.items

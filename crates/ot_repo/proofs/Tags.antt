@@ -19,9 +19,9 @@ use Rattle.ot_blocks.proofs.Collecting.{no_tag, map_more}
 use Rattle.ot_repo.specs.Required.{TheoryTooLarge, NotInstalled, RequiresCycle, is_requirement, picked, picked_by_name, edge_of, text_at, in_file, requirements, required_over, required_by, required}
 use Rattle.ot_repo.specs.Reading.{texts_of, edge_at, AreListed}
 use Rattle.ot_repo.specs.declared.requirements.Requirement.{Requirement}
-use Rattle.ot_blocks.proofs.Members.{member_push}
 use Rattle.ot_repo.proofs.Picking.{by_name_more, picked_so_far, so_far_more}
 use Rattle.ot_repo.proofs.Requiring.{picked_member, member_reverse}
+use Rattle.ot_plain.proofs.Members.{IsMember-push}
 
 -- ---- names
 
@@ -84,7 +84,7 @@ module _ (listed : List (List ℕ)) (ts : List Tag) (k : ℕ) (found : List Requ
         ∙ ap (λ z. map (edge_of listed path) (filter is_requirement (tags_of (take k ts))) ++ record { target = some_or (NotInstalled path (get_or ts k no_tag).line) z; back = RequiresCycle path (get_or ts k no_tag).line } ∷ []) pick
         ∙ sym (map-append (edge_of listed path) (filter is_requirement (tags_of (take k ts))) (tag_of (get_or ts k no_tag) ∷ []))
         ∙ ap (map (edge_of listed path)) (sym (filter_more true e));
-    picked = λ r m full at. elim (member_push r found (record { line = (get_or ts k no_tag).line; full = o }) m) [
+    picked = λ r m full at. elim (IsMember-push r found (record { line = (get_or ts k no_tag).line; full = o }) m) [
       | inl h ↦ s.picked r h full at
       | inr q ↦ picked_member listed (get_or ts k no_tag).value.now full (sym pick ∙ ap (λ z. option_map (λ f. f.now) z.full) q ∙ at)
     ];

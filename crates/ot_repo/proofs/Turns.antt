@@ -5,8 +5,9 @@ use Rattle.std.proofs.lemmas.Bool.{cases_Bool}
 use Rattle.ot_plain.specs.Lists.{IsMember, AreDistinct}
 use Rattle.ot_repo.specs.Walk.{Edge, Walk, Walked, Stops, TooDeep, ◌>>=◌, followed, is_in, arrive, walk_edges, walk_key}
 use Rattle.ot_repo.specs.Walks.{GivesTurns}
-use Rattle.ot_blocks.proofs.Members.{member_left, member_end, split_member}
+use Rattle.ot_blocks.proofs.Members.{member_end, split_member}
 use Rattle.ot_repo.proofs.Walking.{gives_walk}
+use Rattle.ot_plain.proofs.Members.{IsMember-left}
 
 module _ {K E : Type 0} where
   bind_more : (w : Walk K E) (h f g : List K → Walk K E) → ((ks : List K) → h ks ≡ f ks >>= g) → w >>= h ≡ (w >>= f) >>= g
@@ -106,7 +107,7 @@ module _ {K E : Type 0} (same : K → K → Bool) (tells : (x y : K) → Decides
       let (f, b, place) = split_member k mid (subst (λ z. IsMember z mid) is inside) in
       let whole : order ≡ f ++ k ∷ (b ++ more) = grown ∙ ap (λ z. z ++ more) place ∙ append_assoc f (k ∷ b) more in
       let at : f ≡ front = one_place k f (b ++ more) front back (subst AreDistinct whole total.once) (sym whole ∙ cut) in
-      part.reached j (subst (IsMember j) (sym place) (member_left j f (k ∷ b) (subst (IsMember j) (sym at) m)))
+      part.reached j (subst (IsMember j) (sym place) (IsMember-left j f (k ∷ b) (subst (IsMember j) (sym at) m)))
     where
       same_target : (x y : K) → ◌≡◌ {A = Result K E} (Ok x) (Ok y) → x ≡ y
       same_target x y e = cc

@@ -5,7 +5,8 @@ use Rattle.std.proofs.lemmas.Bool.{cases_Bool}
 use Rattle.ot_plain.specs.Lists.{IsMember, IsPart, AreDistinct}
 use Rattle.ot_repo.specs.Walk.{Edge, Walk, Walked, Stops, TooDeep, ◌>>=◌, followed, is_in, arrive, walk_edges, walk_key, walk_from}
 use Rattle.ot_repo.specs.Walks.{HasEdge, Reaches, First, Further, Leads, Here, Along, LeadInto, IsReached, HasStop, NoEdges, NoTarget, Cycle, GivesWalk, GivesStop}
-use Rattle.ot_blocks.proofs.Members.{member_from_test, apart_from_test, member_left, member_end, member_push, distinct_push, cut_push}
+use Rattle.ot_blocks.proofs.Members.{member_from_test, apart_from_test, member_end, cut_push}
+use Rattle.ot_plain.proofs.Members.{AreDistinct-push, IsMember-left, IsMember-push}
 
 -- ---- answers
 
@@ -43,12 +44,12 @@ module _ {K E : Type 0} (same : K → K → Bool) (tells : (x y : K) → Decides
 
   one_more : (ks : List K) (k : K) (es : List (Edge K E)) → IsSound ks → ¬ (IsMember k ks) → Reaches edges start k → edges k ≡ Ok es → LeadInto edges es ks → IsSound (ks ++ k ∷ [])
   one_more ks k es s new reached are into = record {
-    once = distinct_push ks k s.once new;
+    once = AreDistinct-push ks k s.once new;
     behind = λ front back c e. elim (cut_push ks k front c back e) [
       | inl at ↦ (es, ap edges (sym at.1) ∙ are, subst (λ z. LeadInto edges es z) at.0 into)
       | inr before ↦ s.behind front before.0 c before.1
     ];
-    reached = λ c m. elim (member_push c ks k m) [
+    reached = λ c m. elim (IsMember-push c ks k m) [
       | inl h ↦ s.reached c h
       | inr e ↦ subst (λ z. Reaches edges start z) e reached
     ];
@@ -151,8 +152,8 @@ module _ {K E : Type 0} (same : K → K → Bool) (tells : (x y : K) → Decides
       → AddsEdges (k ∷ path) done es more → Adds path done (more ++ k ∷ [])
   with_last path done more k es fresh new reached are a = record {
     sound = one_more more k es a.0.sound (λ m. apart_from_test same tells done k fresh (a.0.apart k (inl refl) m)) reached are a.1;
-    keeps = λ c m. member_left c more (k ∷ []) (a.0.keeps c m);
-    apart = λ c p m. elim (member_push c more k m) [
+    keeps = λ c m. IsMember-left c more (k ∷ []) (a.0.keeps c m);
+    apart = λ c p m. elim (IsMember-push c more k m) [
       | inl h ↦ a.0.apart c (inr p) h
       | inr e ↦ absurd (apart_from_test same tells path k new (subst (λ z. IsMember z path) (sym e) p))
     ];

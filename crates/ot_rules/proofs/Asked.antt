@@ -11,7 +11,6 @@ use Rattle.ot_plain.specs.Table.{IsInjective}
 use Rattle.ot_plain.specs.Trees.{Ty, Variable, Tm}
 use Rattle.ot_plain.specs.Hol.{same_var, vars_ty, vars_tm, type_of, IsFree}
 use Rattle.ot_laws.specs.Conditions.{are_distinct, are_names_of, is_closed_but, keeps_type_vars}
-use Rattle.ot_laws.proofs.Sets.{IsMember-map, IsMember-map_back}
 use Rattle.ot_laws.proofs.Tests.{tells_names, same_var-is}
 use Rattle.ot_laws.proofs.Membership.{any-is, are_names_of-is, is_closed_but-is, are_distinct-is}
 use Rattle.ot_nodes.specs.Items.{Item, HasName, name_at}
@@ -26,7 +25,8 @@ use Rattle.ot_rules.specs.declared.parts.Mark.{Mark}
 use Rattle.ot_rules.specs.declared.parts.Mark.TheVariants as mark
 use Rattle.ot_rules.specs.declared.parts.Parts.{Parts}
 use Rattle.ot_rules.proofs.Marked.{free-from_mark, mark-from_free, var-from_term, term-from_var, var-from_mark, mark-from_var}
-use Rattle.ot_rules.proofs.Signed.{all-is, mark-is}
+use Rattle.ot_rules.proofs.Signed.{mark-is}
+use Rattle.ot_plain.proofs.Members.{All-at_member, IsMember-map, IsMember-map_back}
 
 -- ---- tests of each mark
 all-decides : {X : Type 0} (p : X → Bool) (P : X → Type 0) → ((x : X) → Decides (p x) (P x)) → (xs : List X) → Decides (list_all p xs) ((x : X) → IsMember x xs → P x)
@@ -110,12 +110,12 @@ module _ (ts : List Item) (one : IsInjective ts) where
   member-name : (n : ℕ) (ns : List ℕ) → HasName ts n → All (HasName ts) ns → IsMember (name_at ts n) (names_at ts ns) → IsMember n ns
   member-name n ns g h m =
       let r = IsMember-map_back (name_at ts) (name_at ts n) ns m in
-      subst (λ k. IsMember k ns) (name-one ts one r.0 n (all-is (HasName ts) ns r.0 h r.1) g r.2) r.1
+      subst (λ k. IsMember k ns) (name-one ts one r.0 n (All-at_member (HasName ts) ns r.0 h r.1) g r.2) r.1
 
   member-variable : (v : VariableNode) (vs : List VariableNode) → HasVariable ts v → All (HasVariable ts) vs → IsMember (variable_at ts v) (map (variable_at ts) vs) → IsMember v vs
   member-variable v vs g h m =
       let r = IsMember-map_back (variable_at ts) (variable_at ts v) vs m in
-      subst (λ w. IsMember w vs) (variable-one r.0 v (all-is (HasVariable ts) vs r.0 h r.1) g r.2) r.1
+      subst (λ w. IsMember w vs) (variable-one r.0 v (All-at_member (HasVariable ts) vs r.0 h r.1) g r.2) r.1
 
   -- no variable is free but these
   pub closed-marks : (vs : List VariableNode) (p : Parts) (t : Tm Name) → All (HasVariable ts) vs → IsOf ts (marks_tm t) p → list_all (is_allowed vs) p.marks.keys ≡ is_closed_but names (map (variable_at ts) vs) t
@@ -130,7 +130,7 @@ module _ (ts : List Item) (one : IsInjective ts) where
           subst (λ x. IsMember x (map (variable_at ts) vs)) r.2 (IsMember-map (variable_at ts) r.0 vs (h (mark.Variable r.0) r.1))
 
       back : ((v : Variable Name) → IsFree names v t → IsMember v (map (variable_at ts) vs)) → (m : Mark) → IsMember m p.marks.keys → IsAllowed vs m
-      back h (mark.Variable w) i = member-variable w vs (all-is (HasMark ts) p.marks.keys (mark.Variable w) of.has i) has (h (variable_at ts w) (free-from_mark (variable_at ts w) t (of.all.back (FreeVar (variable_at ts w)) (IsMember-map (mark_at ts) (mark.Variable w) p.marks.keys i))))
+      back h (mark.Variable w) i = member-variable w vs (All-at_member (HasMark ts) p.marks.keys (mark.Variable w) of.has i) has (h (variable_at ts w) (free-from_mark (variable_at ts w) t (of.all.back (FreeVar (variable_at ts w)) (IsMember-map (mark_at ts) (mark.Variable w) p.marks.keys i))))
       back h (mark.TypeVar n) i = tt
       back h (mark.Operator n) i = tt
       back h (mark.Constant n) i = tt
@@ -148,7 +148,7 @@ module _ (ts : List Item) (one : IsInjective ts) where
           subst (λ x. IsMember x (names_at ts ns)) r.2 (IsMember-map (name_at ts) r.0 ns (h (mark.TypeVar r.0) r.1))
 
       back : IsPart (vars_tm names t) (names_at ts ns) → (m : Mark) → IsMember m p.marks.keys → IsVarOf (λ n. IsMember n ns) m
-      back h (mark.TypeVar n) i = member-name n ns (all-is (HasMark ts) p.marks.keys (mark.TypeVar n) of.has i) has (h (name_at ts n) (var-from_term (name_at ts n) t (of.all.back (TypeVar (name_at ts n)) (IsMember-map (mark_at ts) (mark.TypeVar n) p.marks.keys i))))
+      back h (mark.TypeVar n) i = member-name n ns (All-at_member (HasMark ts) p.marks.keys (mark.TypeVar n) of.has i) has (h (name_at ts n) (var-from_term (name_at ts n) t (of.all.back (TypeVar (name_at ts n)) (IsMember-map (mark_at ts) (mark.TypeVar n) p.marks.keys i))))
       back h (mark.Variable v) i = tt
       back h (mark.Operator n) i = tt
       back h (mark.Constant n) i = tt
@@ -173,7 +173,7 @@ module _ (ts : List Item) (one : IsInjective ts) where
       back h (mark.TypeVar n) i =
           let here = var-from_term (name_at ts n) t (of.all.back (TypeVar (name_at ts n)) (IsMember-map (mark_at ts) (mark.TypeVar n) p.marks.keys i)) in
           let r = marked-var (name_at ts n) own.marks.keys (mine.all.to (TypeVar (name_at ts n)) (mark-from_var (name_at ts n) ty (h (name_at ts n) here))) in
-          let same = name-one ts one r.0 n (all-is (HasMark ts) own.marks.keys (mark.TypeVar r.0) mine.has r.1) (all-is (HasMark ts) p.marks.keys (mark.TypeVar n) of.has i) r.2 in
+          let same = name-one ts one r.0 n (All-at_member (HasMark ts) own.marks.keys (mark.TypeVar r.0) mine.has r.1) (All-at_member (HasMark ts) p.marks.keys (mark.TypeVar n) of.has i) r.2 in
           subst (λ k. IsMember (mark.TypeVar k) own.marks.keys) same r.1
       back h (mark.Variable v) i = tt
       back h (mark.Operator n) i = tt

@@ -14,7 +14,6 @@ use Rattle.ot_plain.specs.Table.{Extends, IsInjective}
 use Rattle.ot_plain.specs.Trees.{Variable, Tm, Sequent, Symbol, ConSymbol, OpSymbol, Definition, ConDef, ListDef, TyDef}
 use Rattle.ot_plain.specs.Hol.{primitives, defined, used, premise_symbols, symbols_tm, symbols_all, symbols_of, symbols_in, theorems}
 use Rattle.ot_laws.specs.Conditions.{same_symbol, is_among}
-use Rattle.ot_laws.proofs.Sets.{IsMember-map, IsMember-map_back}
 use Rattle.ot_laws.proofs.Tests.{tells_names}
 use Rattle.ot_laws.proofs.Membership.{any-is, same_symbol-is}
 use Rattle.ot_records.specs.Steps.{all_defined, all_used}
@@ -33,7 +32,8 @@ use Rattle.ot_rules.specs.declared.signature.Signature.{Signature}
 use Rattle.ot_rules.proofs.Gathering.{inserted-cases, inserted-kept, inserted-there, inserted-each, inserted-each_all}
 use Rattle.ot_rules.proofs.Marked.{symbol-from_mark, mark-from_symbol, symbols-from_marks, marks-from_symbols, either-to}
 use Rattle.ot_rules.proofs.Staying.{map-agree}
-use Rattle.ot_rules.proofs.Signed.{all-is, mark-is, mark-one, marked-among, marked-as, has-mark}
+use Rattle.ot_rules.proofs.Signed.{mark-is, mark-one, marked-among, marked-as, has-mark}
+use Rattle.ot_plain.proofs.Members.{All-at_member, IsMember-map, IsMember-map_back}
 
 -- the code's test of a mark, after those before it
 abbrev pub fresh_mark : Signature → List Mark → List Mark → Mark → Bool
@@ -83,11 +83,11 @@ module _ (ts : List Item) (one : IsInjective ts) where
     is = λ s. (
       (λ i.
           let r = IsMember-map_back (mark_at ts) (mark_of s) ms i in
-          let same = mark_one_symbol s (symbol_of ts r.0) (sym r.2 ∙ marked-as ts one r.0 (all-is (IsSymbolMark ts) ms r.0 h r.1)) in
+          let same = mark_one_symbol s (symbol_of ts r.0) (sym r.2 ∙ marked-as ts one r.0 (All-at_member (IsSymbolMark ts) ms r.0 h r.1)) in
           subst (λ x. IsMember x (map (symbol_of ts) ms)) (sym same) (IsMember-map (symbol_of ts) r.0 ms r.1)),
       (λ i.
           let r = IsMember-map_back (symbol_of ts) s ms i in
-          subst (λ x. IsMember x (map (mark_at ts) ms)) (marked-as ts one r.0 (all-is (IsSymbolMark ts) ms r.0 h r.1) ∙ ap mark_of r.2) (IsMember-map (mark_at ts) r.0 ms r.1)),
+          subst (λ x. IsMember x (map (mark_at ts) ms)) (marked-as ts one r.0 (All-at_member (IsSymbolMark ts) ms r.0 h r.1) ∙ ap mark_of r.2) (IsMember-map (mark_at ts) r.0 ms r.1)),
     );
   }
     where

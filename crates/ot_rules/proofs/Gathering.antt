@@ -3,23 +3,23 @@ use Rattle.std.specs.Prelude.{Result, OnOk}
 use Rattle.std.specs.Bool.{Decides}
 use Rattle.std.specs.List.{All, list_any}
 use Rattle.std.proofs.Common.{◌≡◌, ◌<◌, ◌+◌, length, get_or, take, ℕ, Bool, true, false, List, [], ◌∷◌, ◌++◌, map, fold, if◌then◌else◌, nat_eq, refl, sym, ap, ◌∙◌, subst, inl, inr, ◌⊎◌}
-use Rattle.std.proofs.lemmas.List.{append_assoc, append-nil, take_more, map_more}
+use Rattle.std.proofs.lemmas.List.{append_assoc, append-nil, take_more, map_more, map-append}
 use Rattle.std.proofs.lemmas.List.Elements.{All-push, All-head, All-tail}
 use Rattle.std.proofs.lemmas.Bool.Decides.{Decides-eqb}
 use Rattle.indexmap.specs.IndexSet.{insert_key}
 use Rattle.ot_plain.specs.Lists.{IsMember, IsPart, IsSameSet}
-use Rattle.ot_laws.proofs.Sets.{IsMember-left, IsMember-right, IsMember-cases, same_set-self, same_set-then, same_set-append, IsMember-map}
+use Rattle.ot_laws.proofs.Sets.{same_set-self, same_set-then, same_set-append}
 use Rattle.ot_laws.proofs.Membership.{any-is}
 use Rattle.ot_nodes.specs.Items.{Item, type_at, types_at, term_at}
 use Rattle.ot_plain.specs.Names.{Name}
 use Rattle.ot_plain.specs.Trees.{Tm, Sequent}
-use Rattle.ot_nodes.proofs.MapLemmas.{on_ok-more}
 use Rattle.ot_rules.specs.Statements.{terms_at, sequent_at}
 use Rattle.ot_rules.specs.declared.statement.Statement.{Statement}
 use Rattle.ot_rules.specs.Parts.{Occurring, marks_ty, marks_all, marks_tm, marks_each, marks_sequent, marks_sequents, mark_at, HasMark, marks_at, IsGoneOver, Gathers, IsOf}
 use Rattle.ot_rules.specs.declared.parts.Mark.{Mark}
 use Rattle.ot_rules.specs.declared.parts.Parts.{Parts}
-use Rattle.ot_rules.proofs.Numbers.{map-append}
+use Rattle.ot_plain.proofs.Members.{IsMember-cases, IsMember-left, IsMember-map, IsMember-right}
+use Rattle.ot_plain.proofs.Results.{on_ok-then}
 
 -- ---- a key in a set
 module _ {K : Type 0} (eq : K → K → Bool) (is : (x y : K) → Decides (eq x y) (x ≡ y)) where
@@ -178,4 +178,4 @@ module _ (ts : List Item) (p q r : Parts) where
 -- ---- one after another, as the code answers
 module _ (ts : List Item) (p q r : Parts) (ms ns ks : List Occurring) (is : ms ≡ ns ++ ks) where
   pub gathers-on : {E : Type 0} (b : Result (Unit {0}) E) → Gathers ts ns p q → OnOk b (Gathers ts ks q r) → OnOk b (Gathers ts ms p r)
-  gathers-on b g h = on_ok-more b (λ k. subst (λ l. Gathers ts l p r) (sym is) (gathers-then ts ns ks p q r g k)) h
+  gathers-on b g h = on_ok-then b (λ k. subst (λ l. Gathers ts l p r) (sym is) (gathers-then ts ns ks p q r g k)) h

@@ -13,7 +13,6 @@ use Rattle.ot_plain.specs.Lists.{IsMember, IsPart, IsSameSet}
 use Rattle.ot_plain.specs.Table.{IsInjective}
 use Rattle.ot_plain.specs.Hol.{same_sequent}
 use Rattle.ot_laws.proofs.Tests.{tells_names}
-use Rattle.ot_laws.proofs.Sets.{IsMember-map, IsMember-map_back}
 use Rattle.ot_laws.proofs.Hypotheses.{same_sequent-is}
 use Rattle.ot_records.specs.State.{kept_once}
 use Rattle.ot_nodes.specs.Items.{Item, HasTerm, term_at}
@@ -23,7 +22,7 @@ use Rattle.ot_rules.specs.Keeping.{parts_of, parts_at, key_eq}
 use Rattle.ot_rules.specs.declared.kept.Key.{Key}
 use Rattle.ot_rules.specs.declared.statement.Statement.{Statement}
 use Rattle.ot_rules.proofs.Ordered.{ordered-same, same-ordered}
-use Rattle.ot_rules.proofs.Signed.{all-is}
+use Rattle.ot_plain.proofs.Members.{All-at_member, IsMember-map, IsMember-map_back}
 
 -- keys are one where their parts are
 key-parts : (k l : Key) → Decides (key_eq k l) (parts_of k ≡ parts_of l)
@@ -37,7 +36,7 @@ module _ (ts : List Item) (one : IsInjective ts) where
   part-terms : (xs ys : List ℕ) → All (HasTerm ts) xs → All (HasTerm ts) ys → IsPart (terms_at ts xs) (terms_at ts ys) → IsPart xs ys
   part-terms xs ys g h p i m =
       let r = IsMember-map_back (term_at ts) (term_at ts i) ys (p (term_at ts i) (IsMember-map (term_at ts) i xs m)) in
-      let same = term-one ts one r.0 i (all-is (HasTerm ts) ys r.0 h r.1) (all-is (HasTerm ts) xs i g m) r.2 in
+      let same = term-one ts one r.0 i (All-at_member (HasTerm ts) ys r.0 h r.1) (All-at_member (HasTerm ts) xs i g m) r.2 in
       subst (λ j. IsMember j ys) same r.1
 
   terms-part : (xs ys : List ℕ) → IsPart xs ys → IsPart (terms_at ts xs) (terms_at ts ys)

@@ -1,6 +1,5 @@
 pub mod Numbers
 pub mod Shaped
-pub mod Firsts
 pub mod Substituting
 pub mod Staying
 pub mod Cases
@@ -9,7 +8,6 @@ pub mod Gathering
 pub mod Fresh
 pub mod Marked
 pub mod Signed
-pub mod Hashed
 pub mod Ordered
 pub mod KeptOnce
 pub mod Asked

@@ -5,9 +5,9 @@ use Rattle.ot_plain.specs.Naming.{names}
 use Rattle.ot_plain.specs.Lists.{IsMember}
 use Rattle.ot_plain.specs.Trees.{Ty, Tys, TyVar, TyOp, NoTys, MoreTys, Variable, Tm, Free, Con, Bound, App, Abs, Symbol, ConSymbol, OpSymbol}
 use Rattle.ot_plain.specs.Hol.{vars_ty, vars_all, vars_tm, ops_ty, ops_all, symbols_ty, symbols_tm, symbols_all, IsFree}
-use Rattle.ot_laws.proofs.Sets.{IsMember-left, IsMember-right, IsMember-cases, IsMember-map, IsMember-map_back}
 use Rattle.ot_rules.specs.Parts.{TypeVar, Operator, Constant, FreeVar, marks_ty, marks_all, marks_tm, marks_each}
 use Rattle.ot_rules.specs.Symbols.{mark_of}
+use Rattle.ot_plain.proofs.Members.{IsMember-cases, IsMember-left, IsMember-map, IsMember-map_back, IsMember-right}
 
 -- members of a list after another
 pub either-to : {X Y : Type 0} (x : X) (y : Y) (xs us : List X) (ys vs : List Y) → (IsMember x xs → IsMember y ys) → (IsMember x us → IsMember y vs) → IsMember x (xs ++ us) → IsMember y (ys ++ vs)

@@ -4,7 +4,7 @@ use Rattle.std.specs.Bool.{Decides}
 use Rattle.std.specs.List.{All, list_any, list_all}
 use Rattle.std.proofs.Common.{◌≡◌, ℕ, ◌+◌, ◌-◌, ◌<◌, ◌&&◌, length, get_or, take, arith, drop, drop-cons, add-one, Bool, true, false, ◌||◌, cond, List, [], ◌∷◌, ◌++◌, map, Some, nat_eq, eq-eqb, eqb-true, true≢false, refl, sym, ap, ◌∙◌}
 use Rattle.std.proofs.lemmas.List.Elements.{All-head, All-tail, All-nil, All-cons}
-use Rattle.std.proofs.lemmas.List.{take_all, length-drop}
+use Rattle.std.proofs.lemmas.List.{take_all, length-drop, map-append}
 use Rattle.std.proofs.lemmas.Option.{slice_get_within, get_or_from_slice_get}
 use Rattle.ot_plain.specs.Names.{Name}
 use Rattle.ot_plain.specs.Naming.{names}
@@ -15,10 +15,6 @@ use Rattle.ot_laws.proofs.Tests.{tells_names, same_tm-is}
 use Rattle.ot_nodes.specs.Items.{Item, HasTerm, term_at}
 use Rattle.ot_nodes.proofs.ItemLemmas.{term-one}
 use Rattle.ot_rules.specs.Statements.{terms_at, once_of}
-
-pub map-append : {X Y : Type 0} (f : X → Y) (xs ys : List X) → map f (xs ++ ys) ≡ map f xs ++ map f ys
-map-append f [] ys = refl
-map-append f (x ∷ xs) ys = ap (λ l. f x ∷ l) (map-append f xs ys)
 
 -- the next of the numbers
 pub terms-drop : (ts : List Item) (ids : List ℕ) (k i : ℕ) → k < length ids → i ≡ get_or ids k i → terms_at ts (drop k ids) ≡ term_at ts i ∷ terms_at ts (drop (k + 1) ids)

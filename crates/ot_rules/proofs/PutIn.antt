@@ -21,7 +21,7 @@ use Rattle.ot_rules.specs.Statements.{terms_at, sequent_at, HasStatement}
 use Rattle.ot_rules.specs.Putting.{firsts, IsChanged, IsPut}
 use Rattle.ot_rules.specs.declared.statement.Statement.{Statement}
 use Rattle.ot_rules.proofs.Cases.{refused, passed}
-use Rattle.ot_rules.proofs.Firsts.{subst-first, subst-first_types}
+use Rattle.ot_records.proofs.Firsts.{subst-first, subst-first_types}
 use Rattle.ot_rules.proofs.Staying.{terms-stay}
 use Rattle.ot_rules.proofs.Substituting.{types-firsts, terms-firsts, first_types-numbers, first_pairs-numbers}
 

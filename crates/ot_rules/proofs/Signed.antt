@@ -1,15 +1,13 @@
 -- The symbols of definitions by number, against those of the names.
 use Rattle.std.specs.Bool.{Decides}
 use Rattle.std.specs.List.{All}
-use Rattle.std.proofs.Common.{◌≡◌, ◌&&◌, List, [], ◌∷◌, map, nat_eq, refl, sym, ap, ◌∙◌, subst, inl, inr}
+use Rattle.std.proofs.Common.{◌≡◌, ◌&&◌, List, map, nat_eq, refl, sym, ap, ◌∙◌, subst}
 use Rattle.std.proofs.lemmas.Bool.Decides.{Decides-like, Decides-and, Decides-eqb, same_from_decides}
-use Rattle.std.proofs.lemmas.List.Elements.{All-head, All-tail}
 use Rattle.ot_plain.specs.Names.{Name}
 use Rattle.ot_plain.specs.Naming.{names}
 use Rattle.ot_plain.specs.Lists.{IsMember}
 use Rattle.ot_plain.specs.Table.{IsInjective}
 use Rattle.ot_plain.specs.Trees.{Symbol}
-use Rattle.ot_laws.proofs.Sets.{IsMember-map, IsMember-map_back}
 use Rattle.ot_laws.proofs.Tests.{tells_names}
 use Rattle.ot_laws.specs.Conditions.{is_among}
 use Rattle.ot_laws.proofs.Membership.{any-is, is_among-is}
@@ -21,12 +19,7 @@ use Rattle.ot_rules.specs.Parts.{HasMark, mark_at}
 use Rattle.ot_rules.specs.Symbols.{mark_of, HasSymbols, symbol_of, IsSymbolMark, mark_eq, is_marked}
 use Rattle.ot_rules.specs.declared.parts.Mark.{Mark}
 use Rattle.ot_rules.specs.declared.parts.Mark.TheVariants as mark
-
--- a member of a list of which all are so
-pub all-is : {X : Type 0} (P : X → Type 0) (xs : List X) (x : X) → All P xs → IsMember x xs → P x
-all-is P [] x h m = absurd m
-all-is P (y ∷ xs) x h (inl e) = subst P e (All-head P y xs h)
-all-is P (y ∷ xs) x h (inr m) = all-is P xs x (All-tail P y xs h) m
+use Rattle.ot_plain.proofs.Members.{All-at_member, IsMember-map, IsMember-map_back}
 
 -- the test of variables and of marks
 variable-is : (v w : VariableNode) → Decides (nat_eq v.name w.name && nat_eq v.ty w.ty) (v ≡ w)
@@ -75,7 +68,7 @@ module _ (ts : List Item) (one : IsInjective ts) where
       (λ i. (k.is (symbol_of ts m)).0 (subst (λ o. IsMember o (map (mark_at ts) ms)) (marked-as m h) (IsMember-map (mark_at ts) m ms i)))
       (λ i.
       let r = IsMember-map_back (mark_at ts) (mark_of (symbol_of ts m)) ms ((k.is (symbol_of ts m)).1 i) in
-      let same : r.0 ≡ m = mark-one r.0 m (all-is (HasMark ts) ms r.0 has r.1) (has-mark m h) (r.2 ∙ sym (marked-as m h)) in
+      let same : r.0 ≡ m = mark-one r.0 m (All-at_member (HasMark ts) ms r.0 has r.1) (has-mark m h) (r.2 ∙ sym (marked-as m h)) in
       subst (λ x. IsMember x ms) same r.1)
       (any-is mark_eq mark-is m ms))
       (is_among-is names tells_names (symbol_of ts m) ss)

@@ -13,7 +13,7 @@ use Rattle.ot_plain.specs.Answers.{◌>>=◌, some_or}
 use Rattle.ot_plain.specs.Rules.{Rule, within_limit, sym_rule, trans_rule, proved_hyp}
 use Rattle.ot_plain.specs.Table.{Extends, IsInjective}
 use Rattle.ot_laws.proofs.Tests.{tells_names}
-use Rattle.ot_laws.proofs.Steps.{same_Ok, bind-ok, within_limit-ok}
+use Rattle.ot_laws.proofs.Steps.{within_limit-ok}
 use Rattle.ot_nodes.specs.Items.{Item, HasTerm, IsTerm, type_at, term_at}
 use Rattle.ot_nodes.proofs.ItemLemmas.{has-term, term-is}
 use Rattle.ot_rules.specs.Statements.{terms_at, sequent_at, HasStatement}
@@ -24,6 +24,7 @@ use Rattle.ot_rules.proofs.Numbers.{same-terms, in-numbers, minus-numbers, union
 use Rattle.ot_rules.proofs.Cases.{joined, has-joined}
 use Rattle.ot_rules.proofs.Staying.{terms-stay, still-terms}
 use Rattle.ot_sheet.specs.Derived.{IsStatementOf, outer_equation}
+use Rattle.ot_plain.proofs.Results.{bind-ok, same_Ok}
 
 module _ (ts : List Item) (one : IsInjective ts) where
   -- whether a conclusion is a hypothesis

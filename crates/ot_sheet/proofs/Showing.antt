@@ -1,8 +1,8 @@
 -- A sheet that goes on.
-use Rattle.std.specs.Prelude.{nat_eq, not, nat_lt}
+use Rattle.std.specs.Prelude.{nat_eq, nat_lt}
 use Rattle.std.specs.List.{All, list_any, flat_map, position, position_or_len}
 use Rattle.std.proofs.Common.{◌≡◌, ℕ, suc, ◌+◌, ◌<◌, ◌≤◌, Bool, true, false, ◌||◌, cond, List, [], ◌∷◌, ◌++◌, map, Some, None}
-use Rattle.std.proofs.Common.{length, get_or, drop, drop-cons, add-one, refl, sym, ap, subst, ◌∙◌, arith, eq-eqb, eqb-true}
+use Rattle.std.proofs.Common.{length, get_or, drop, add-one, refl, sym, ap, subst, ◌∙◌, arith, eq-eqb, eqb-true}
 use Rattle.std.proofs.Common.{true≢false, append-nil, append_assoc}
 use Rattle.std.proofs.lemmas.Bool.Decides.{nat_tests}
 use Rattle.std.proofs.Math.ListN.{drop_of_length-le}
@@ -16,7 +16,7 @@ use Rattle.ot_plain.specs.Table.{IsInjective}
 use Rattle.ot_laws.proofs.Tests.{tells_names, same_ty-is}
 use Rattle.ot_nodes.specs.Items.{Item, HasType, HasTerm, name_at, type_at, types_at, term_at}
 use Rattle.ot_nodes.proofs.ItemLemmas.{type-one}
-use Rattle.ot_rules.proofs.Numbers.{same-terms, map-append}
+use Rattle.ot_rules.proofs.Numbers.{same-terms}
 use Rattle.ot_records.specs.Tokens.{Token, Number, Named, Word, spelling}
 use Rattle.ot_records.specs.declared.word.RecordWord.TheVariants as words
 use Rattle.ot_text.specs.Pages.{Bytes, IsPut, printed}
@@ -30,6 +30,8 @@ use Rattle.ot_entries.specs.Closed.{IsClosed}
 use Rattle.ot_sheet.specs.Sheets.{operand_at, HasOperand, Shows, Moves}
 use Rattle.ot_sheet.specs.declared.operand.Operand as code
 use Rattle.ot_sheet.specs.declared.sheet.Sheet.{Sheet}
+use Rattle.std.proofs.lemmas.List.{map-append}
+use Rattle.ot_plain.proofs.Elements.{drop-item, position-bound}
 
 all-push : {X : Type 0} (P : X → Type 0) (xs : List X) (y : X) → All P xs → P y → All P (xs ++ y ∷ [])
 all-push P xs y h g = All-append P xs (y ∷ []) h (All-cons P y [] g (All-nil P))
@@ -170,26 +172,13 @@ tokens-more us vs x = ap (λ z. record { tokens = z; types = x.types; terms = x.
 pub tokens-none : (x : Log) → add_tokens [] x ≡ x
 tokens-none x = ap (λ z. record { tokens = z; types = x.types; terms = x.terms; sequents = x.sequents }) (append-nil x.tokens)
 
--- where no element passes the test, the place is the end
-place-bound : {X : Type 0} (p : X → Bool) (xs : List X) → position_or_len p xs ≤ length xs
-place-bound p [] = omega arith
-place-bound p (x ∷ xs) = by (p x) (place-bound p xs)
-  where
-    by : (b : Bool) → position_or_len p xs ≤ length xs → cond (not b) (1 + position_or_len p xs) 0 ≤ suc (length xs)
-    by true h = omega arith
-    by false h = omega (arith, h)
-
 pub no-place : {X : Type 0} (p : X → Bool) (xs : List X) → position p xs ≡ None → length xs ≡ position_or_len p xs
 no-place p xs e = by (nat_lt (position_or_len p xs) (length xs)) refl e
   where
     by : (b : Bool) → nat_lt (position_or_len p xs) (length xs) ≡ b → cond b (Some (position_or_len p xs)) None ≡ None
         → length xs ≡ position_or_len p xs
     by true h k = cc
-    by false h k = let n = place-bound p xs in grind (arith, nat_tests, n, h)
-
--- the next of a list
-pub next-item : {X : Type 0} (xs : List X) (k : ℕ) (x : X) → k < length xs → x ≡ get_or xs k x → drop k xs ≡ x ∷ drop (k + 1) xs
-next-item xs k x h e = drop-cons xs k x h ∙ (λ j. sym e j ∷ drop (sym (add-one k) j) xs)
+    by false h k = let n = position-bound p xs in grind (arith, nat_tests, n, h)
 
 pub nothing-left : {X : Type 0} (xs : List X) (k : ℕ) → length xs ≤ k → drop k xs ≡ []
 nothing-left xs k h = drop_of_length-le xs h
@@ -201,7 +190,7 @@ tokens_at ts os x = add_tokens (map (token_of x) (map (operand_at ts) os)) x
 pub tokens-next : (ts : List Item) (os : List code.Operand) (k : ℕ) (o : code.Operand) (y : Log) → k < length os
     → o ≡ get_or os k o → tokens_at ts (drop k os) y
     ≡ tokens_at ts (drop (k + 1) os) (add_tokens (token_of y (operand_at ts o) ∷ []) y)
-tokens-next ts os k o y h e = ap (λ l. tokens_at ts l y) (next-item os k o h e)
+tokens-next ts os k o y h e = ap (λ l. tokens_at ts l y) (drop-item os k o h e)
     ∙ sym (tokens-more (token_of y (operand_at ts o) ∷ []) (map (token_of y) (map (operand_at ts) (drop (k + 1) os))) y)
 
 pub tokens-end : (ts : List Item) (os : List code.Operand) (k : ℕ) (y : Log) → length os ≤ k → tokens_at ts (drop k os) y ≡ y
@@ -212,7 +201,7 @@ types_tokens ts is x = add_tokens (map (token_of x) (type_list (types_at ts is))
 
 pub types-next : (ts : List Item) (is : List ℕ) (k i : ℕ) (y : Log) → k < length is → i ≡ get_or is k i
     → types_tokens ts (drop k is) y ≡ types_tokens ts (drop (k + 1) is) (add_tokens (token_of y (AType (type_at ts i)) ∷ []) y)
-types-next ts is k i y h e = ap (λ l. types_tokens ts l y) (next-item is k i h e)
+types-next ts is k i y h e = ap (λ l. types_tokens ts l y) (drop-item is k i h e)
     ∙ sym (tokens-more (token_of y (AType (type_at ts i)) ∷ []) (map (token_of y) (type_list (types_at ts (drop (k + 1) is)))) y)
 
 pub types-end : (ts : List Item) (is : List ℕ) (k : ℕ) (y : Log) → length is ≤ k → types_tokens ts (drop k is) y ≡ y
@@ -243,7 +232,7 @@ types_written ts is = write_nodes (types_nodes (types_at ts is))
 
 pub written-next : (ts : List Item) (is : List ℕ) (k i : ℕ) (y : Log) → k < length is → i ≡ get_or is k i
     → types_written ts (drop k is) y ≡ types_written ts (drop (k + 1) is) (write_nodes (type_nodes (type_at ts i)) y)
-written-next ts is k i y h e = ap (λ l. types_written ts l y) (next-item is k i h e)
+written-next ts is k i y h e = ap (λ l. types_written ts l y) (drop-item is k i h e)
     ∙ nodes-append (type_nodes (type_at ts i)) (types_nodes (types_at ts (drop (k + 1) is))) y
 
 pub written-end : (ts : List Item) (is : List ℕ) (k : ℕ) (y : Log) → length is ≤ k → types_written ts (drop k is) y ≡ y
@@ -339,7 +328,7 @@ operands_written ts os = write_nodes (flat_map operand_nodes (map (operand_at ts
 pub operand-next : (ts : List Item) (os : List code.Operand) (k : ℕ) (o : code.Operand) (y : Log) → k < length os
     → o ≡ get_or os k o
     → operands_written ts (drop k os) y ≡ operands_written ts (drop (k + 1) os) (write_nodes (operand_nodes (operand_at ts o)) y)
-operand-next ts os k o y h e = ap (λ l. operands_written ts l y) (next-item os k o h e)
+operand-next ts os k o y h e = ap (λ l. operands_written ts l y) (drop-item os k o h e)
     ∙ nodes-append (operand_nodes (operand_at ts o)) (flat_map operand_nodes (map (operand_at ts) (drop (k + 1) os))) y
 
 pub operand-end : (ts : List Item) (os : List code.Operand) (k : ℕ) (y : Log) → length os ≤ k

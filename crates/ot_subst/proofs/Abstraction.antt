@@ -9,7 +9,6 @@ use Rattle.ot_plain.specs.Bounds.{bound_named}
 use Rattle.ot_laws.specs.Walk.{NamedMap, nameless_map}
 use Rattle.ot_laws.proofs.Tests.{tells_numbers, var_cases}
 use Rattle.ot_laws.proofs.Terms.{bind-agree}
-use Rattle.ot_laws.proofs.Sets.{IsMember-map_back}
 use Rattle.ot_laws.proofs.New.{IsOld, old-terms, apart-new}
 use Rattle.ot_type.specs.TypeTable.{type_at}
 use Rattle.ot_type.proofs.TypeTableLemmas.{type_at-Extends}
@@ -26,6 +25,7 @@ use Rattle.ot_subst.specs.Memory.{IsMemory}
 use Rattle.ot_subst.proofs.Becoming.{AreTyped, deep-abs_type, deep-abs_body}
 use Rattle.ot_subst.proofs.Growing.{Grows-trans, term_at-Grows, variable_of-Grows, type_part-Grows, named_part-Grows, renaming_of-Grows, becomes_at-Grows, AreReady-Grows, IsSetUp-Grows}
 use Rattle.ot_subst.proofs.Walked.{IsMemory-Grows}
+use Rattle.ot_plain.proofs.Members.{IsMember-map_back}
 
 -- the new binders have their types
 pub typed-renaming : (t : TermTable) (s : Substitution) (r : List (VarKey × VarKey)) → ((p : VarKey × VarKey) → IsMember p r → IsRenamed t s p) → AreTyped (type_part t s) (renaming_of t.types r)

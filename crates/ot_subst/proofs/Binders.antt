@@ -1,6 +1,6 @@
 -- When a binder may stay as it is.
 use Rattle.std.specs.Prelude.{◌≢◌, ◌||◌, take, IfOk, MatchBool}
-use Rattle.std.proofs.Common.{◌≡◌, ℕ, zero, suc, ◌+◌, ◌<◌, Bool, Decides, true, false, cond, List, [], ◌∷◌, ◌++◌, map, length, get_or, Some, None, is_some, Result, Ok, Err, true≢false, refl, sym, ap, subst, ◌∙◌, ◌⊎◌, inl, inr, arith}
+use Rattle.std.proofs.Common.{◌≡◌, ℕ, ◌+◌, ◌<◌, Bool, Decides, true, false, cond, List, [], ◌∷◌, ◌++◌, map, length, get_or, Some, None, is_some, Result, Ok, Err, true≢false, refl, sym, ap, subst, ◌∙◌, ◌⊎◌, inl, inr}
 use Rattle.std.specs.List.{All, list_any}
 use Rattle.std.specs.Map.{lookup}
 use Rattle.std.proofs.lemmas.List.{take_more}
@@ -9,7 +9,6 @@ use Rattle.ot_plain.specs.Trees.{Variable, Free, Named}
 use Rattle.ot_plain.specs.Hol.{inst, inst_var, term_at as term_for_variable, TermMap, TypeMap, Renaming, image, nameless, IsFree, IsFreeIn}
 use Rattle.ot_plain.specs.Naming.{numbers}
 use Rattle.ot_laws.proofs.Tests.{tells_numbers, cases_of, var_cases}
-use Rattle.ot_laws.proofs.Sets.{IsMember-cases, IsMember-map, IsMember-map_back}
 use Rattle.ot_laws.proofs.Named.{free-nameless, nameless-free}
 use Rattle.ot_laws.proofs.Apply.{term_at-cases}
 use Rattle.ot_type.specs.TypeTable.{images}
@@ -26,7 +25,8 @@ use Rattle.ot_subst.specs.Clash.{AreFrees, Coincides, MayStay, IsUnclashing, IsP
 use Rattle.ot_subst.proofs.Keys.{same_key-is, variable-injective}
 use Rattle.ot_subst.proofs.Growing.{variable_of-Grows}
 use Rattle.ot_subst.proofs.Variables.{image-other, put-none}
-use Rattle.ot_subst.proofs.Pairs.{none_from}
+use Rattle.ot_plain.proofs.Members.{IsMember-cases, IsMember-map, IsMember-map_back}
+use Rattle.ot_plain.proofs.Results.{none_from}
 
 -- ---- the loop over the free variables of a body
 module _ (t u : TermTable) (g : Grows t u) (s : Substitution) (types : All (λ p. p.1 < length t.types) s.types) (v w x : VarKey) (binder : w.ty < length t.types) (variable : x.ty < length t.types) where
@@ -38,11 +38,6 @@ module _ (t u : TermTable) (g : Grows t u) (s : Substitution) (types : All (λ p
 
   pub coincides-later : Coincides t s v w x → Coincides u s v w x
   coincides-later h = (h.0, instance-Grows ∙ h.1 ∙ sym (variable_of-Grows t u g w binder))
-
-pub member_at : {X : Type 0} (xs : List X) (i : ℕ) (d : X) → i < length xs → IsMember (get_or xs i d) xs
-member_at [] i d h = absurd (omega arith)
-member_at (x ∷ xs) zero d h = inl refl
-member_at (x ∷ xs) (suc i) d h = inr (member_at xs i d (omega arith))
 
 -- one element more
 pub member-more : {X : Type 0} (x y : X) (xs : List X) (i : ℕ) → i < length xs → y ≡ get_or xs i y → IsMember x (take (i + 1) xs) → IsMember x (take i xs) ⊎ (y ≡ x)

@@ -9,7 +9,7 @@ use Rattle.ot_plain.specs.Naming.{numbers}
 use Rattle.ot_plain.specs.Table.{Extends, IsInjective}
 use Rattle.ot_plain.proofs.TableLemmas.{get_or-IsInjective}
 use Rattle.ot_laws.proofs.Tests.{tells_numbers}
-use Rattle.ot_laws.proofs.Sets.{IsMember-left, IsMember-right, IsMember-cases, IsMember-map, IsMember-map_back, distinct-append}
+use Rattle.ot_laws.proofs.Sets.{distinct-append}
 use Rattle.ot_laws.proofs.Size.{part-self, remembered-size}
 use Rattle.ot_term.specs.Term.{TermTable}
 use Rattle.ot_term.specs.TermTable.{term_at, variable_of, Grows}
@@ -19,6 +19,7 @@ use Rattle.ot_subst.specs.Walk.{AreReady}
 use Rattle.ot_subst.specs.Memory.{keys, IsPartBelow, IsWalked, CountsParts, IsCounted}
 use Rattle.ot_subst.proofs.Growing.{term_at-Grows}
 use Rattle.ot_subst.proofs.Walked.{no_clash-Grows}
+use Rattle.ot_plain.proofs.Members.{IsMember-cases, IsMember-left, IsMember-map, IsMember-map_back, IsMember-right}
 
 -- the steps of a walk that gave a result
 pub counts-walked : (t u : TermTable) (s : Substitution) (r : List (VarKey × VarKey)) (m0 m1 : List (ℕ × ℕ)) (n0 n1 : ℕ) (x : Named ℕ) (k q : ℕ) → IsWalked t u s r m0 m1 n0 n1 x k q → IsCounted t s r m0 n0 n1 x k

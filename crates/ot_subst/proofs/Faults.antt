@@ -1,14 +1,10 @@
 -- Faults that are passed on.
-use Rattle.std.proofs.Common.{◌≡◌, Result, Ok, Err, IsErrAnd, refl}
+use Rattle.std.proofs.Common.{◌≡◌, refl}
 use Rattle.ot_type.specs.declared.fault.TableFault.{TableFault}
 use Rattle.ot_type.specs.declared.fault.TableFault.TheVariants as of_table
 use Rattle.ot_subst.specs.declared.fault.SubstFault.{SubstFault}
 use Rattle.ot_subst.specs.declared.fault.SubstFault.TheVariants.{Nesting, Memory}
 use Rattle.ot_subst.specs.Fault.{subst_fault}
-
-pub same_error : {T E : Type 0} (r : Result T E) (x z : E) → IsErrAnd r (λ y. y ≡ x) → r ≡ Err z → x ≡ z
-same_error (Ok v) x z h p = absurd h
-same_error (Err y) x z h p = let same : y ≡ x = h in cc
 
 pub nesting-from : (f : TableFault) → subst_fault f ≡ Nesting → f ≡ of_table.Nesting
 nesting-from of_table.Nesting e = refl

@@ -9,12 +9,12 @@ use Rattle.ot_plain.specs.Lists.{IsMember}
 use Rattle.ot_plain.specs.Trees.{Variable, Tm, Named}
 use Rattle.ot_plain.specs.Hol.{nameless, IsFree}
 use Rattle.ot_plain.specs.Naming.{numbers}
-use Rattle.ot_laws.proofs.Sets.{IsMember-left, IsMember-right, IsMember-cases, IsMember-map, IsMember-map_back}
 use Rattle.ot_term.specs.Term.{TermTable}
 use Rattle.ot_term.specs.TermTable.{term_at, variable_of}
 use Rattle.ot_term.specs.declared.term.VarKey.{VarKey}
 use Rattle.ot_subst.specs.Substitution.{Substitution, named_part}
 use Rattle.ot_subst.specs.Clash.{AreFrees}
+use Rattle.ot_plain.proofs.Members.{IsMember-cases, IsMember-left, IsMember-map, IsMember-map_back, IsMember-right}
 
 -- the variables that are free in the terms of these pairs
 pub record CollectsFrees (t : TermTable) (ps : List (VarKey × ℕ)) (frees : List VarKey) : Type 0 where

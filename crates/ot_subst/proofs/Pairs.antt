@@ -1,6 +1,6 @@
 -- The pairs of a substitution.
 use Rattle.std.specs.Prelude.{OnOk, OnErr}
-use Rattle.std.proofs.Common.{◌≡◌, ℕ, ◌<◌, Bool, true, false, cond, length, Result, Ok, Err, List, [], ◌∷◌, ◌++◌, Option, Some, None, is_some, true≢false, refl, sym, ap, subst, ◌∙◌}
+use Rattle.std.proofs.Common.{◌≡◌, ℕ, ◌<◌, Bool, true, false, cond, length, Result, Ok, Err, List, [], ◌∷◌, ◌++◌, Some, is_some, refl, sym, ap, subst, ◌∙◌}
 use Rattle.std.specs.Map.{lookup}
 use Rattle.std.proofs.lemmas.List.Elements.{All-push}
 use Rattle.ot_plain.specs.Trees.{Variable, Tm}
@@ -15,10 +15,7 @@ use Rattle.indexmap.specs.IndexMap.{IndexMap, insert_entry}
 use Rattle.indexmap.proofs.CallerLemmas.{insert_entry-new}
 use Rattle.ot_term.specs.declared.term.VarKey.{VarKey}
 use Rattle.ot_subst.specs.Substitution.{Substitution, same_key, term_for, with_pair, variable_part, IsSubstOf}
-
-pub none_from : {X : Type 0} (o : Option X) → is_some o ≡ false → o ≡ None
-none_from None p = refl
-none_from (Some x) p = absurd (true≢false p)
+use Rattle.ot_plain.proofs.Results.{none_from}
 
 -- a pair that is added
 pub added : {S : Type 0} (tys : List (ℕ × ℕ)) (m : IndexMap VarKey ℕ S) (now : Substitution) (v : VarKey) (t : ℕ) (new : List (VarKey × ℕ)) → ◌≡◌ {A = Substitution} (record { types = tys; terms = m.entries }) now → is_some (lookup (same_key v) m.entries) ≡ false → new ≡ insert_entry same_key m.entries v t → ◌≡◌ {A = Substitution} (record { types = tys; terms = new }) (with_pair now v t)

@@ -7,7 +7,6 @@ use Rattle.ot_plain.specs.Trees.{Ty, TyVar, Named, NVar, NConst, NApp, NAbs}
 use Rattle.ot_plain.specs.Hol.{nameless, named_type, fun_ty, parts, size, HasNoClash}
 use Rattle.ot_plain.specs.Naming.{numbers}
 use Rattle.ot_laws.proofs.Tests.{tells_numbers}
-use Rattle.ot_laws.proofs.Sets.{IsMember-left}
 use Rattle.ot_laws.proofs.Size.{part-self}
 use Rattle.ot_laws.proofs.Opened.{within-nameless, beta-subst}
 use Rattle.ot_laws.proofs.Typing.{applied-some, abs-some, type-nameless}
@@ -21,6 +20,7 @@ use Rattle.ot_subst.specs.Memory.{CountsParts}
 use Rattle.ot_subst.specs.Beta.{contracted, HasNoBetaClash}
 use Rattle.ot_subst.proofs.Counting.{numbers-size}
 use Rattle.ot_subst.proofs.Unchanged.{open-self}
+use Rattle.ot_plain.proofs.Members.{IsMember-left}
 
 -- a substitution of one pair
 pub one_pair : (s start : Substitution) (types : List (ℕ × ℕ)) (v : VarKey) (x : ℕ) → s ≡ with_pair start v x → start ≡ record { types = types; terms = [] } → types ≡ [] → s ≡ record { types = []; terms = (v, x) ∷ [] }

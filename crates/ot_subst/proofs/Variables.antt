@@ -11,7 +11,6 @@ use Rattle.ot_plain.specs.Hol.{inst, inst_var, term_at as term_for_variable, Ter
 use Rattle.ot_plain.specs.Naming.{numbers}
 use Rattle.ot_laws.specs.Walk.{nameless_map}
 use Rattle.ot_laws.proofs.Tests.{tells_numbers}
-use Rattle.ot_laws.proofs.Sets.{IsMember-map_back}
 use Rattle.ot_laws.proofs.Apply.{term_at-kept}
 use Rattle.ot_type.specs.TypeTable.{type_at, IsTypeTable}
 use Rattle.ot_type.proofs.SubtypeLemmas.{All-member}
@@ -24,6 +23,7 @@ use Rattle.ot_subst.specs.Walk.{becomes, HasForm, IsRenamed, bound_of, AreReady}
 use Rattle.ot_subst.proofs.Keys.{same_var-key}
 use Rattle.ot_subst.proofs.Shallow.{deep-free}
 use Rattle.ot_subst.proofs.Growing.{named_part-Grows, IsSubstOf-Grows}
+use Rattle.ot_plain.proofs.Members.{IsMember-map_back}
 
 -- a term that was made
 pub made : (u : TermTable) (id : ℕ) (t : Named ℕ) (x : Tm ℕ) → slice_get u.terms id ≡ Some t → nameless numbers t ≡ x → HasForm u id x

@@ -7,7 +7,6 @@ use Rattle.ot_plain.specs.Hol.{inst, inst_var, image, nameless, parts, HasNoClas
 use Rattle.ot_plain.specs.Naming.{numbers}
 use Rattle.ot_laws.specs.Walk.{nameless_map}
 use Rattle.ot_laws.proofs.Tests.{tells_numbers}
-use Rattle.ot_laws.proofs.Sets.{IsMember-left, IsMember-right, IsMember-cases, IsMember-map, IsMember-map_back}
 use Rattle.ot_laws.proofs.Size.{part-self}
 use Rattle.ot_laws.proofs.Apply.{abs-kept, abs-renamed}
 use Rattle.ot_term.specs.Term.{TermTable}
@@ -20,6 +19,7 @@ use Rattle.ot_subst.specs.Clash.{MayStay, IsUnclashing}
 use Rattle.ot_subst.specs.Memory.{keys, IsEntry, IsMemory, IsPartBelow, IsWalked}
 use Rattle.ot_subst.proofs.Variables.{made}
 use Rattle.ot_subst.proofs.Growing.{Grows-trans, renaming_of-Grows, term_at-Grows, variable_of-Grows, type_part-Grows, named_part-Grows, becomes_at-Grows, HasForm-Grows}
+use Rattle.ot_plain.proofs.Members.{IsMember-cases, IsMember-left, IsMember-map, IsMember-map_back, IsMember-right}
 
 -- ---- what is remembered, as a table grows
 module _ (t u : TermTable) (g : Grows t u) (s : Substitution) (inside : IsSubstOf t s) where

@@ -5,7 +5,6 @@ use Rattle.ot_plain.specs.Lists.{IsMember, AreDistinct}
 use Rattle.ot_plain.specs.Trees.{Ty, Variable, Tm, Free, Con, Bound, App, Abs, Named}
 use Rattle.ot_plain.specs.Hol.{IsClosed, IsFree, nameless}
 use Rattle.ot_plain.specs.Naming.{numbers}
-use Rattle.ot_laws.proofs.Sets.{IsMember-map, IsMember-map_back}
 use Rattle.ot_type.specs.TypeTable.{type_at}
 use Rattle.ot_type.proofs.SubtypeLemmas.{All-from_member}
 use Rattle.ot_class.specs.Class.{class_at, variable_by, numbered, variable_of as nameless_variable}
@@ -18,6 +17,7 @@ use Rattle.ot_term.specs.declared.table.Beside.{Beside}
 use Rattle.ot_term.specs.declared.term.TermNode.{TermNode}
 use Rattle.ot_term.specs.declared.term.VarKey.{VarKey}
 use Rattle.ot_term.proofs.TermTableLemmas.{table_of}
+use Rattle.ot_plain.proofs.Members.{IsMember-map, IsMember-map_back}
 
 -- the images of distinct items by a function that tells them apart
 pub distinct-map : {X Y : Type 0} (f : X → Y) → ((x y : X) → f x ≡ f y → x ≡ y) → (xs : List X) → AreDistinct xs → AreDistinct (map f xs)

@@ -11,7 +11,6 @@ use Rattle.ot_plain.specs.Hol.{IsFree, is_free, nameless}
 use Rattle.ot_plain.specs.Naming.{numbers}
 use Rattle.ot_plain.specs.Table.{IsInjective}
 use Rattle.ot_plain.proofs.TableLemmas.{get_or-IsInjective}
-use Rattle.ot_laws.proofs.Sets.{IsMember-map, IsMember-map_back}
 use Rattle.ot_laws.proofs.Tests.{tells_numbers, is_free-is}
 use Rattle.ot_type.proofs.SubtypeLemmas.{All-member, All-from_member}
 use Rattle.ot_class.specs.Class.{class_at, variable_by}
@@ -19,6 +18,7 @@ use Rattle.ot_term.specs.Free.{key_at, AreTypesOf}
 use Rattle.ot_term.specs.TermTable.{variable_of, IsClassOf}
 use Rattle.ot_term.proofs.FreeLemmas.{free-over, spelled-free, free-spelled, distinct-map}
 use Rattle.ot_term.specs.declared.term.VarKey.{VarKey}
+use Rattle.ot_plain.proofs.Members.{IsMember-map, IsMember-map_back}
 
 -- ---- the types that stand beside a name
 pub types_of_class : (tys : List (Ty ℕ)) (cs : List (Tm ℕ)) (t : Named ℕ) (c name : ℕ) (ks : List ℕ) → IsClassOf tys cs t c

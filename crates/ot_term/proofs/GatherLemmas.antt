@@ -10,7 +10,7 @@ use Rattle.ot_plain.specs.Trees.{Ty, Tys, TyVar, TyOp, NoTys, MoreTys, Named, NV
 use Rattle.ot_plain.proofs.TableLemmas.{get_or-IsInjective}
 use Rattle.ot_type.specs.TypeTable.{type_at}
 use Rattle.ot_type.specs.Subtypes.{IsSubtype, IsInside, IsFalling}
-use Rattle.ot_laws.proofs.Sets.{IsMember-left, IsMember-right, IsMember-cases, IsMember-map, IsMember-map_back, same_set-then, same_set-append, same_set-self, same_set-both_ways}
+use Rattle.ot_laws.proofs.Sets.{same_set-then, same_set-append, same_set-self, same_set-both_ways}
 use Rattle.ot_laws.proofs.Symbols.{vars-abs, symbols-abs}
 use Rattle.ot_laws.proofs.Tests.{tells_numbers}
 use Rattle.ot_term.specs.Term.{TermTable}
@@ -23,6 +23,7 @@ use Rattle.ot_term.specs.declared.term.SymbolKind.TheVariants.{Con}
 use Rattle.ot_term.specs.declared.term.TermNode.{TermNode}
 use Rattle.ot_term.specs.declared.term.TermNode.TheVariants.{Var, Const, App, Abs}
 use Rattle.ot_term.proofs.Gathering.{take_item}
+use Rattle.ot_plain.proofs.Members.{IsMember-cases, IsMember-left, IsMember-map, IsMember-map_back, IsMember-right}
 
 -- ---- a loop that adds what each number gives
 module _ {A : Type 0} (f : ℕ → List A) (old : List A) (ids : List ℕ) (i x : ℕ) (within : i < length ids) (item : x ≡ get_or ids i x) where

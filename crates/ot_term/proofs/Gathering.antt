@@ -10,13 +10,13 @@ use Rattle.ot_plain.specs.Trees.{Ty, TyVar, TyOp, Variable, Named, NVar, NConst,
 use Rattle.ot_type.specs.TypeTable.{type_at, types_at}
 use Rattle.ot_type.specs.Subtypes.{IsSubtype}
 use Rattle.ot_type.proofs.SubtypeLemmas.{IsSubtype-refl, IsSubtype-trans, parts_of_op}
-use Rattle.ot_laws.proofs.Sets.{IsMember-left, IsMember-right, IsMember-cases}
 use Rattle.ot_term.specs.Term.{TermTable}
 use Rattle.ot_term.specs.TermTable.{term_at, term_of}
 use Rattle.ot_term.specs.Walk.{AddsParts, AreFound, IsInsideSome}
 use Rattle.ot_term.specs.Gather.{IsSubterm, own_type, IsMentioned, AreOwnTypes}
 use Rattle.ot_term.specs.declared.term.TermNode.{TermNode}
 use Rattle.ot_term.proofs.Walking.{IsSearch, search_start, member_push, set_one, set_with}
+use Rattle.ot_plain.proofs.Members.{IsMember-cases, IsMember-left, IsMember-right}
 
 -- ---- subterms
 pub IsSubterm-refl : (t : Named ℕ) → IsSubterm t t

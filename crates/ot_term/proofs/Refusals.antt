@@ -12,11 +12,6 @@ use Rattle.ot_term.specs.Fault.{term_fault}
 use Rattle.ot_term.specs.declared.term.TermFault.{TermFault}
 use Rattle.ot_term.specs.declared.term.TermFault.TheVariants.{Nesting}
 
--- a refusal that is handed on as it is
-pub same_error : {T E : Type 0} (r : Result T E) (x z : E) → IsErrAnd r (λ y. y ≡ x) → r ≡ Err z → x ≡ z
-same_error (Ok v) x z h p = absurd h
-same_error (Err y) x z h p = let same : y ≡ x = h in cc
-
 -- a refusal that is handed on as `Nesting` was one
 pub nesting_from : {T : Type 0} (r : Result T TermFault) (x : TableFault) → IsErrAnd r (λ y. y ≡ term_fault x) → r ≡ Err Nesting → x ≡ of_types.Nesting
 nesting_from (Ok v) x h p = absurd h

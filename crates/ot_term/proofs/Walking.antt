@@ -8,13 +8,10 @@ use Rattle.std.specs.BTreeSet.{insert_key}
 use Rattle.ot_plain.specs.Lists.{IsMember, IsSameSet}
 use Rattle.ot_type.specs.Subtypes.{IsFalling}
 use Rattle.ot_type.proofs.SubtypeLemmas.{less_is, added_one, All-member}
-use Rattle.ot_laws.proofs.Sets.{IsMember-left, IsMember-right, IsMember-cases}
 use Rattle.ot_term.specs.Walk.{AreFound, AddsParts, IsInsideSome}
+use Rattle.ot_plain.proofs.Members.{IsMember-cases, IsMember-last, IsMember-left, IsMember-right}
 
 module _ {X : Type 0} where
-  pub member_last : (x : X) (xs : List X) → IsMember x (xs ++ x ∷ [])
-  member_last x xs = IsMember-right x xs (x ∷ []) (inl refl)
-
   pub member_push : (x y : X) (xs : List X) → IsMember y (xs ++ x ∷ []) → IsMember y xs ⊎ (x ≡ y)
   member_push x y xs h = elim (IsMember-cases y xs (x ∷ []) h) [ inl a ↦ inl a | inr b ↦ elim b [ inl e ↦ inr e | inr never ↦ absurd never ] ]
 
@@ -72,7 +69,7 @@ module _ {T : Type 0} (tree : ℕ → T) (Inside : T → T → Type 0) (len : �
 
     pub search_step : ((u v : T) → Inside u v → IsAsked v → IsAsked u) → IsSearch (found ++ k ∷ []) qs
     search_step closed =
-        let top = s.each_pending k (member_last k ps) in
+        let top = s.each_pending k (IsMember-last k ps) in
         record {
           each_found = λ x m. elim (member_push k x found m) [
             | inl a ↦ s.each_found x a
@@ -83,16 +80,16 @@ module _ {T : Type 0} (tree : ℕ → T) (Inside : T → T → Type 0) (len : �
             | inr b ↦ (omega (arith, b.0, top.0), closed (tree y) (tree k) b.1 top.1)
           ];
           apart = λ x y m n. let low = all_below y n in elim (member_push k x found m) [
-            | inl a ↦ omega (arith, low, s.apart x k a (member_last k ps))
+            | inl a ↦ omega (arith, low, s.apart x k a (IsMember-last k ps))
             | inr e ↦ subst (λ x. y < x) e low
           ];
-          falling = falling-push found k s.falling (λ x m. s.apart x k m (member_last k ps));
+          falling = falling-push found k s.falling (λ x m. s.apart x k m (IsMember-last k ps));
           all = λ u h. elim (s.all u h) [
             | inl a ↦ inl (a.0, IsMember-left a.0 found (k ∷ []) a.1, a.2)
             | inr b ↦ elim (member_push k b.0 ps b.1) [
               | inl m ↦ inr (b.0, adds.kept b.0 m, b.2)
               | inr e ↦ elim (adds.all u (subst (λ y. Inside u (tree y)) (sym e) b.2)) [
-                | inl same ↦ inl (k, member_last k found, sym same)
+                | inl same ↦ inl (k, IsMember-last k found, sym same)
                 | inr rest ↦ inr rest
               ]
             ]

@@ -1,5 +1,5 @@
 -- Texts gathered in order: what an insertion does, and how many bytes there are.
-use Rattle.std.specs.Prelude.{◌≡◌, ℕ, zero, suc, ◌+◌, ◌<◌, ◌≤◌, true, false, ◌||◌, List, [], ◌∷◌, ◌++◌, map, length, take, codes}
+use Rattle.std.specs.Prelude.{◌≡◌, ℕ, suc, ◌+◌, ◌<◌, ◌≤◌, true, false, ◌||◌, List, [], ◌∷◌, ◌++◌, map, length, take, codes}
 use Rattle.std.specs.BTreeMap.{is_at}
 use Rattle.std.specs.BTreeSet.{insert_key}
 use Rattle.std.specs.Global.{Vec}
@@ -18,6 +18,7 @@ use Rattle.ot_laws.proofs.Sets.{same_set-swap}
 use Rattle.ot_text.specs.Texts.{tm_text, order, ascending, further_hyps, hyps_text, sequent_text}
 use Rattle.ot_text.specs.Gathered.{bytes_in}
 use Rattle.ot_text.proofs.Ascending.{ascending-same, ascending-member}
+use Rattle.ot_plain.proofs.Members.{IsMember-get_or}
 
 -- ---- an insertion into a set of vectors is one into the list of their bytes
 abbrev by_bytes : Vec ℕ → Vec ℕ → Ordering
@@ -98,11 +99,6 @@ sequent-bytes room q h =
     let n = length-append (hyps_text (ascending (map tm_text q.hyps))) (tm_text q.concl) in
     omega arith
 
-get-member : {X : Type 0} (xs : List X) (k : ℕ) (d : X) → k < length xs → IsMember (get_or xs k d) xs
-get-member [] k d h = absurd (omega arith)
-get-member (x ∷ xs) zero d h = inl refl
-get-member (x ∷ xs) (suc k) d h = inr (get-member xs k d (omega arith))
-
 ascending-step : (xs : List (List ℕ)) (i : ℕ) (d : List ℕ) → i < length xs → ascending (take (i + 1) xs) ≡ insert_key order (ascending (take i xs)) (get_or xs i d)
 ascending-step xs i d h =
     let n : i + 1 ≡ suc i = omega arith in
@@ -127,7 +123,7 @@ module _ {X : Type 0} (f : X → List ℕ) (items : List X) (i : ℕ) (x : X) (w
   -- one text alone is too large
   pub one-too_large : (max : ℕ) → max < length (f x) → max < bytes_in (ascending texts)
   one-too_large max g =
-      let a = member-bytes (get_or texts i []) (ascending texts) (ascending-member _ texts (get-member texts i [] text_inside)) in
+      let a = member-bytes (get_or texts i []) (ascending texts) (ascending-member _ texts (IsMember-get_or texts i [] text_inside)) in
       let b = ap length text_is in
       omega arith
 

@@ -12,8 +12,9 @@ use Rattle.ot_theory.specs.declared.keys.Key.{Key}
 use Rattle.ot_theory.specs.declared.keys.Key.TheVariants.{Interpret}
 use Rattle.ot_theory.specs.declared.fault.Refusal.{Refusal}
 use Rattle.std.proofs.lemmas.Result.{on_ok_weaker}
-use Rattle.ot_theory.proofs.Steps.{bind_ok, same_ok}
+use Rattle.ot_theory.proofs.Steps.{bind_ok}
 use Rattle.ot_theory.specs.declared.symbols.Symbols.{Symbols}
+use Rattle.ot_plain.proofs.Results.{same_Ok}
 
 pub any_map : {X Y : Type 0} (f : X → Y) (p : Y → Bool) (xs : List X) → list_any p (map f xs) ≡ list_any (λ x. p (f x)) xs
 any_map f p [] = refl
@@ -85,7 +86,7 @@ name_kept ks blocks b c t holds e name =
     let h = bind_ok (statement_allowed t b.statements) _ c e in
     holds name
     ∙ any_last (λ x. bytes_eq x.name name) blocks b
-    ∙ ap (λ (z : BlockText). bytes_eq z.name name || has_block blocks name) (same_ok (with_statement b t) c h.1.1)
+    ∙ ap (λ (z : BlockText). bytes_eq z.name name || has_block blocks name) (same_Ok (with_statement b t) c h.1.1)
     ∙ sym (any_last (λ x. bytes_eq x.name name) blocks c)
 
 -- ---- an `interpret:` statement

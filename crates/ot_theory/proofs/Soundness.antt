@@ -15,9 +15,10 @@ use Rattle.ot_theory.specs.Answers.{Parses, theory_of}
 use Rattle.ot_theory.specs.declared.theory.Theory.{Theory}
 use Rattle.ot_theory.specs.declared.fault.TheoryError.{TheoryError}
 use Rattle.ot_theory.specs.Sound.{IsRightBlock, IsSound}
-use Rattle.ot_theory.proofs.Statements.{all_append, all_front, all_last, distinct_last, both_false, second_false, Allowed, allowed, block_right}
+use Rattle.ot_theory.proofs.Statements.{all_front, all_last, distinct_last, both_false, second_false, Allowed, allowed, block_right}
 use Rattle.ot_theory.proofs.LineForms.{IsPlainLine, plain_lines, value_plain}
 use Rattle.ot_theory.proofs.Steps.{bind_ok, tag_at, OnSteps, kept, ended}
+use Rattle.ot_plain.proofs.Elements.{AllByRecursion-append}
 
 abbrev pub all_blocks : State → List BlockText
 all_blocks s = s.blocks ++ option_to_list s.open_block
@@ -40,7 +41,7 @@ no_block (b ∷ bs) name e = λ m. elim m [
 block_more : (blocks : List BlockText) (b : BlockText) → AreSound blocks → has_block blocks b.name ≡ false → IsRightBlock b → AreSound (blocks ++ b ∷ [])
 block_more blocks b p new right = record {
   names = rw (map-append (λ (z : BlockText). z.name) blocks (b ∷ [])) (distinct_last b.name (names_of blocks) p.names (no_block blocks b.name new));
-  right = all_append IsRightBlock blocks (b ∷ []) p.right (right, tt);
+  right = AllByRecursion-append IsRightBlock blocks (b ∷ []) p.right (right, tt);
 }
 
 -- a statement more in the last block
@@ -48,7 +49,7 @@ statement_more : (blocks : List BlockText) (b : BlockText) (t : TagText) → Are
     → AreSound (blocks ++ with_statement b t ∷ [])
 statement_more blocks b t p plain a = record {
   names = rw (map-append (λ (z : BlockText). z.name) blocks (with_statement b t ∷ [])) (rw (map-append (λ (z : BlockText). z.name) blocks (b ∷ [])) at p.names);
-  right = all_append IsRightBlock blocks (with_statement b t ∷ []) (all_front IsRightBlock blocks (b ∷ []) p.right)
+  right = AllByRecursion-append IsRightBlock blocks (with_statement b t ∷ []) (all_front IsRightBlock blocks (b ∷ []) p.right)
       (block_right b t (all_last IsRightBlock blocks (b ∷ []) p.right).0 plain a, tt);
 }
 

@@ -10,10 +10,11 @@ use Rattle.ot_theory.specs.Lines.{LineText, numbered, lines_of}
 use Rattle.ot_theory.specs.Forms.{LineForm, Statement, Opening, Closing, NoForm, form}
 use Rattle.ot_theory.specs.Theory.{TagText, BlockText, TheoryText, State, with_statement, read_lines, finish, no_lines, theory}
 use Rattle.ot_theory.specs.Places.{Part, tag_parts, block_parts, newlines, StandsAt, StandInOrder, InPlace}
-use Rattle.ot_theory.proofs.Steps.{same_ok, bind_ok, tag_at, OnSteps, by_step, first_line, ended, if_ok}
+use Rattle.ot_theory.proofs.Steps.{bind_ok, tag_at, OnSteps, by_step, first_line, ended, if_ok}
 use Rattle.ot_theory.proofs.Soundness.{all_blocks}
 use Rattle.ot_theory.proofs.Trims.{newlines-append, one_newline, TextIn, text_in}
 use Rattle.ot_theory.proofs.LineForms.{FormIn, form_in}
+use Rattle.ot_plain.proofs.Results.{same_Ok}
 
 -- ---- lines
 
@@ -224,7 +225,7 @@ pub record StateFrom (lines : List LineText) (old new : State) : Type 0 where
 
 state_from : (lines : List LineText) (s after : State) → read_lines lines s ≡ Ok after → StateFrom lines s after
 state_from [] s after e =
-    let same = same_ok _ _ e in
+    let same = same_Ok _ _ e in
     record {
       tags = ([], (ap state_tags (sym same) ∙ sym (append-nil (state_tags s)), refl));
       blocks = ([], (ap state_blocks (sym same) ∙ sym (append-nil (state_blocks s)), refl));

@@ -20,13 +20,11 @@ use Rattle.ot_theory.specs.Theory.{TagText, BlockText, is_symbol, renamed, has_s
 use Rattle.ot_theory.specs.Sound.{IsRightValue, IsRightBlock}
 use Rattle.ot_theory.proofs.Interpreting.{bind_some, one_interpretation}
 use Rattle.ot_theory.proofs.Paths.{tells_paths}
-use Rattle.ot_theory.proofs.Steps.{err_ok, same_ok, bind_ok, unless_ok, not_false}
+use Rattle.ot_theory.proofs.Steps.{bind_ok, not_false}
+use Rattle.ot_plain.proofs.Elements.{AllByRecursion-append}
+use Rattle.ot_plain.proofs.Results.{some_or-ok, unless-ok}
 
 -- ---- lists with one element more
-
-pub all_append : {X : Type 0} (P : X → Type 0) (xs ys : List X) → AllByRecursion P xs → AllByRecursion P ys → AllByRecursion P (xs ++ ys)
-all_append P [] ys h k = k
-all_append P (x ∷ xs) ys h k = (h.0, all_append P xs ys h.1 k)
 
 pub all_front : {X : Type 0} (P : X → Type 0) (xs ys : List X) → AllByRecursion P (xs ++ ys) → AllByRecursion P xs
 all_front P [] ys h = tt
@@ -58,10 +56,6 @@ second_false false y e = e
 
 -- ---- values
 
-some_or_ok : {A E : Type 0} (d : E) (o : Option A) (x : A) → some_or d o ≡ Ok x → o ≡ Some x
-some_or_ok d None x e = absurd (err_ok d x e)
-some_or_ok d (Some y) x e = ap Some (same_ok y x e)
-
 -- what an allowed value says
 pub record Allowed (k : Key) (value : List ℕ) (earlier : List TagText) : Type 0 where
   pub right : IsRightValue k value
@@ -72,18 +66,18 @@ no_source : (k : Key) (earlier : List TagText) → is_source k ≡ false → is_
 no_source k earlier n h = absurd (true≢false (sym h ∙ n))
 
 one_source : (earlier : List TagText) (u : Unit {0}) → source_allowed earlier ≡ Ok u → has_source earlier ≡ false
-one_source earlier u e = not_false (has_source earlier) (unless_ok TwoSources (not (has_source earlier)) u e)
+one_source earlier u e = not_false (has_source earlier) (unless-ok TwoSources (not (has_source earlier)) u e)
 
 pub allowed : (k : Key) (value : List ℕ) (earlier : List TagText) → value_allowed k value earlier ≡ Ok tt → Allowed k value earlier
 allowed Import value earlier e = record {
-  right = unless_ok BadLine (is_identifier value) tt e;
+  right = unless-ok BadLine (is_identifier value) tt e;
   source = no_source Import earlier refl;
   renaming = λ s h. absurd (none-some s h);
 }
 allowed Article value earlier e =
     let h = bind_ok (unless BadLine (is_path value)) _ tt e in
     record {
-      right = (tells_paths value).0 (unless_ok BadLine (is_path value) h.0 h.1.0);
+      right = (tells_paths value).0 (unless-ok BadLine (is_path value) h.0 h.1.0);
       source = λ is. one_source earlier tt h.1.1;
       renaming = λ s h. absurd (none-some s h);
     }
@@ -94,9 +88,9 @@ allowed Package value earlier e = record {
 }
 allowed Interpret value earlier e =
     let h = bind_ok (some_or BadInterpret (symbol_of value)) (renaming_allowed earlier) tt e in
-    let symbol : symbol_of value ≡ Some h.0 = some_or_ok BadInterpret (symbol_of value) h.0 h.1.0 in
+    let symbol : symbol_of value ≡ Some h.0 = some_or-ok BadInterpret (symbol_of value) h.0 h.1.0 in
     let parts = bind_some (split_interpret value) _ h.0 symbol in
-    let new : has_renaming earlier h.0 ≡ false = not_false (has_renaming earlier h.0) (unless_ok DuplicateInterpret (not (has_renaming earlier h.0)) tt h.1.1) in
+    let new : has_renaming earlier h.0 ≡ false = not_false (has_renaming earlier h.0) (unless-ok DuplicateInterpret (not (has_renaming earlier h.0)) tt h.1.1) in
     record {
       right = record {
         kind = parts.0.0;
@@ -168,8 +162,8 @@ renamings_more earlier t d new = rw (filter_map-append symbol_in earlier (t ∷ 
 
 pub block_right : (b : BlockText) (t : TagText) → IsRightBlock b → ¬ (IsMember 10 t.value) → Allowed (key_of t.key) t.value b.statements → IsRightBlock (with_statement b t)
 block_right b t p plain a = record {
-  lines = all_append (λ (s : TagText). ¬ (IsMember 10 s.value)) b.statements (t ∷ []) p.lines (plain, tt);
-  values = all_append (λ (s : TagText). IsRightValue (key_of s.key) s.value) b.statements (t ∷ []) p.values (a.right, tt);
+  lines = AllByRecursion-append (λ (s : TagText). ¬ (IsMember 10 s.value)) b.statements (t ∷ []) p.lines (plain, tt);
+  values = AllByRecursion-append (λ (s : TagText). IsRightValue (key_of s.key) s.value) b.statements (t ∷ []) p.values (a.right, tt);
   sources = sources_more b.statements t p.sources a.source;
   renamings = renamings_more b.statements t p.renamings a.renaming;
 }

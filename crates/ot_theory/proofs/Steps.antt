@@ -8,28 +8,22 @@ use Rattle.ot_theory.specs.Forms.{LineForm, Statement, Opening, Closing, NoForm,
 use Rattle.ot_theory.specs.Theory.{TagText, BlockText, TheoryText, State, has_block, statement_allowed, statement_added, with_statement, line_outside, line_inside, line_at, line_step, at_line, read_lines, finish, finish_at}
 use Rattle.ot_theory.specs.declared.fault.TheoryFault.{TheoryFault}
 use Rattle.ot_theory.specs.declared.fault.TheoryFault.TheVariants.{DuplicateBlock, BadBlock, BadLine, NoMain}
+use Rattle.ot_plain.proofs.Results.{same_Ok, unless-ok}
 
 pub err_ok : {A E : Type 0} (e : E) (x : A) → ◌≡◌ {A = Result A E} (Err e) (Ok x) → ⊥
 err_ok e x h = cc
-
-pub same_ok : {A E : Type 0} (x y : A) → ◌≡◌ {A = Result A E} (Ok x) (Ok y) → x ≡ y
-same_ok x y h = cc
 
 -- what a step that passes was given
 pub bind_ok : {A B E : Type 0} (r : Result A E) (f : A → Result B E) (y : B) → (r >>= f) ≡ Ok y → (x : A) × ((r ≡ Ok x) × (f x ≡ Ok y))
 bind_ok (Ok x) f y e = (x, (refl, e))
 bind_ok (Err d) f y e = absurd (err_ok d y e)
 
-pub unless_ok : {E : Type 0} (d : E) (b : Bool) (u : Unit {0}) → unless d b ≡ Ok u → b ≡ true
-unless_ok d true u e = refl
-unless_ok d false u e = absurd (err_ok d u e)
-
 pub not_false : (b : Bool) → not b ≡ true → b ≡ false
 not_false true e = cc
 not_false false e = refl
 
 pub at_line_ok : {A : Type 0} (line : ℕ) (r : Result A TheoryFault) (x : A) → at_line line r ≡ Ok x → r ≡ Ok x
-at_line_ok line (Ok y) x e = ap Ok (same_ok y x e)
+at_line_ok line (Ok y) x e = ap Ok (same_Ok y x e)
 at_line_ok line (Err fault) x e = absurd (err_ok (line, fault) x e)
 
 abbrev pub tag_at : ℕ → List ℕ → List ℕ → TagText
@@ -49,10 +43,10 @@ pub record OnSteps (s : State) (line : LineText) (P : State → Type 0) : Type 0
 
 outside_step : (s : State) (line : LineText) (P : State → Type 0) → OnSteps s line P → s.open_block ≡ None
     → (f : LineForm) → form line.text ≡ f → (after : State) → line_outside s line.number f ≡ Ok after → P after
-outside_step s line P on o (Statement key value) is after e = subst P (same_ok _ _ e) (on.tagged key value o is)
+outside_step s line P on o (Statement key value) is after e = subst P (same_Ok _ _ e) (on.tagged key value o is)
 outside_step s line P on o (Opening name) is after e =
     let h = bind_ok (unless DuplicateBlock (not (has_block s.blocks name))) _ after e in
-    subst P (same_ok _ _ h.1.1) (on.opened name o is (not_false _ (unless_ok DuplicateBlock _ h.0 h.1.0)))
+    subst P (same_Ok _ _ h.1.1) (on.opened name o is (not_false _ (unless-ok DuplicateBlock _ h.0 h.1.0)))
 outside_step s line P on o Closing is after e = absurd (err_ok BadBlock after e)
 outside_step s line P on o NoForm is after e = absurd (err_ok BadLine after e)
 
@@ -61,10 +55,10 @@ inside_step : (s : State) (line : LineText) (P : State → Type 0) → OnSteps s
 inside_step s line P on b o (Statement key value) is after e =
     let h = bind_ok (statement_added b (tag_at line.number key value)) _ after e in
     let k = bind_ok (statement_allowed (tag_at line.number key value) b.statements) _ h.0 h.1.0 in
-    let more : with_statement b (tag_at line.number key value) ≡ h.0 = same_ok _ _ k.1.1 in
-    subst P (ap (λ z. record s { open_block = Some z }) more ∙ same_ok _ _ h.1.1) (on.added b key value o is k.1.0)
+    let more : with_statement b (tag_at line.number key value) ≡ h.0 = same_Ok _ _ k.1.1 in
+    subst P (ap (λ z. record s { open_block = Some z }) more ∙ same_Ok _ _ h.1.1) (on.added b key value o is k.1.0)
 inside_step s line P on b o (Opening name) is after e = absurd (err_ok BadBlock after e)
-inside_step s line P on b o Closing is after e = subst P (same_ok _ _ e) (on.closed b o is)
+inside_step s line P on b o Closing is after e = subst P (same_Ok _ _ e) (on.closed b o is)
 inside_step s line P on b o NoForm is after e = absurd (err_ok BadLine after e)
 
 -- a line that passes is one of the four
@@ -84,7 +78,7 @@ first_line line lines s after e =
 -- what each of these lines keeps holds behind all of them
 pub kept : (Q : LineText → Type 0) (P : State → Type 0) → ((s : State) (line : LineText) → Q line → P s → OnSteps s line P)
     → (lines : List LineText) (s after : State) → AllByRecursion Q lines → read_lines lines s ≡ Ok after → P s → P after
-kept Q P on [] s after q e p = subst P (same_ok _ _ e) p
+kept Q P on [] s after q e p = subst P (same_Ok _ _ e) p
 kept Q P on (line ∷ lines) s after q e p =
     let h = first_line line lines s after e in
     kept Q P on lines h.0 after q.1 h.1.1 (by_step s line h.0 P (on s line q.0 p) h.1.0)
@@ -102,8 +96,8 @@ ended last s t e = by_block s.open_block refl e where
       let h = bind_ok (at_line last (unless NoMain (has_block s.blocks (codes "main")))) _ t e in
       record {
         closed = o;
-        is = sym (same_ok _ _ h.1.1);
-        main = unless_ok NoMain _ h.0 (at_line_ok last (unless NoMain (has_block s.blocks (codes "main"))) h.0 h.1.0);
+        is = sym (same_Ok _ _ h.1.1);
+        main = unless-ok NoMain _ h.0 (at_line_ok last (unless NoMain (has_block s.blocks (codes "main"))) h.0 h.1.0);
       }
   by_block (Some b) o e = absurd (err_ok (b.line, BadBlock) t e)
 

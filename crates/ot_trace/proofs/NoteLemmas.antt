@@ -10,8 +10,9 @@ use Rattle.ot_trace.specs.Walk.{Notes, IsNoted, AreDefiners, symbol_numbers}
 use Rattle.ot_trace.specs.declared.step.Step.{Step}
 use Rattle.ot_trace.specs.declared.step.Step.TheVariants as steps
 use Rattle.ot_trace.proofs.TraceLemmas.{origin_at-injective}
-use Rattle.ot_trace.proofs.WalkLemmas.{member-left, member-last, member-push, taken}
+use Rattle.ot_trace.proofs.WalkLemmas.{taken}
 use Rattle.ot_trace.proofs.EdgeLemmas.{map-at, map-from, all-member}
+use Rattle.ot_plain.proofs.Members.{IsMember-last, IsMember-left, IsMember-push}
 
 pub not-false : (b : Bool) → false ≡ not b → b ≡ true
 not-false true p = refl
@@ -21,11 +22,11 @@ module _ (symbol d : ℕ) (first further : List (ℕ × ℕ)) where
   -- another definition was first
   pub notes-further : Notes (symbol ∷ []) d first further first (further ++ (symbol, d) ∷ [])
   notes-further = record {
-    kept = λ s e n. elim n [ inl p ↦ inl p | inr m ↦ inr (member-left (s, e) further ((symbol, d) ∷ []) m) ];
-    noted = λ s m. elim m [ inl e ↦ inr (subst (λ p. IsMember p (further ++ (symbol, d) ∷ [])) (λ z. (e z, d)) (member-last (symbol, d) further)) | inr never ↦ absurd never ];
+    kept = λ s e n. elim n [ inl p ↦ inl p | inr m ↦ inr (IsMember-left (s, e) further ((symbol, d) ∷ []) m) ];
+    noted = λ s m. elim m [ inl e ↦ inr (subst (λ p. IsMember p (further ++ (symbol, d) ∷ [])) (λ z. (e z, d)) (IsMember-last (symbol, d) further)) | inr never ↦ absurd never ];
     only = λ s e n. elim n [
       | inl p ↦ inl (inl p)
-      | inr m ↦ elim (member-push (s, e) further (symbol, d) m) [ inl a ↦ inl (inr a) | inr q ↦ inr (inl (λ z. (q z).0), λ z. (sym q z).1) ]
+      | inr m ↦ elim (IsMember-push (s, e) further (symbol, d) m) [ inl a ↦ inl (inr a) | inr q ↦ inr (inl (λ z. (q z).0), λ z. (sym q z).1) ]
     ];
   }
 
@@ -65,10 +66,10 @@ notes-more ss i k d f g h j l m within item v w =
     let more = taken ss i k within item in
     record {
       kept = λ s e n. w.kept s e (v.kept s e n);
-      noted = λ s n. elim (member-push s (take i ss) k (subst (IsMember s) more n)) [ inl a ↦ w.kept s d (v.noted s a) | inr e ↦ w.noted s (inl e) ];
+      noted = λ s n. elim (IsMember-push s (take i ss) k (subst (IsMember s) more n)) [ inl a ↦ w.kept s d (v.noted s a) | inr e ↦ w.noted s (inl e) ];
       only = λ s e n. elim (w.only s e n) [
-        | inl a ↦ elim (v.only s e a) [ inl b ↦ inl b | inr b ↦ inr (subst (IsMember s) (sym more) (member-left s (take i ss) (k ∷ []) b.0), b.1) ]
-        | inr a ↦ inr (subst (IsMember s) (sym more) (elim a.0 [ inl e ↦ subst (λ s. IsMember s (take i ss ++ k ∷ [])) e (member-last k (take i ss)) | inr never ↦ absurd never ]), a.1)
+        | inl a ↦ elim (v.only s e a) [ inl b ↦ inl b | inr b ↦ inr (subst (IsMember s) (sym more) (IsMember-left s (take i ss) (k ∷ []) b.0), b.1) ]
+        | inr a ↦ inr (subst (IsMember s) (sym more) (elim a.0 [ inl e ↦ subst (λ s. IsMember s (take i ss ++ k ∷ [])) e (IsMember-last k (take i ss)) | inr never ↦ absurd never ]), a.1)
       ];
     }
 
@@ -97,12 +98,12 @@ definers-more ts one ds i d s f g h j within item here get below has old notes =
     let tree : origin_at ts d ≡ origin_of ts s = get_or_from_slice_get ts d _ (Number (pos 0)) get in
     let syms : map (origin_at ts) (symbol_numbers s) ≡ symbols (origin_at ts d) = symbols-of ts s has ∙ ap symbols (sym tree) in
     record {
-      inside = λ e m. elim (member-push e (take i ds) d (subst (IsMember e) more m)) [ inl a ↦ old.inside e a | inr q ↦ subst (λ e. e < length ts) q here ];
+      inside = λ e m. elim (IsMember-push e (take i ds) d (subst (IsMember e) more m)) [ inl a ↦ old.inside e a | inr q ↦ subst (λ e. e < length ts) q here ];
       sound = λ k e n. elim (notes.only k e n) [
-        | inl a ↦ (subst (IsMember e) (sym more) (member-left e (take i ds) (d ∷ []) (old.sound k e a).0), (old.sound k e a).1)
-        | inr a ↦ (subst (IsMember e) (sym more) (subst (λ e. IsMember e (take i ds ++ d ∷ [])) (sym a.1) (member-last d (take i ds))), subst (λ e. IsMember (origin_at ts k) (symbols (origin_at ts e))) (sym a.1) (subst (IsMember (origin_at ts k)) syms (map-at ts (symbol_numbers s) k a.0)))
+        | inl a ↦ (subst (IsMember e) (sym more) (IsMember-left e (take i ds) (d ∷ []) (old.sound k e a).0), (old.sound k e a).1)
+        | inr a ↦ (subst (IsMember e) (sym more) (subst (λ e. IsMember e (take i ds ++ d ∷ [])) (sym a.1) (IsMember-last d (take i ds))), subst (λ e. IsMember (origin_at ts k) (symbols (origin_at ts e))) (sym a.1) (subst (IsMember (origin_at ts k)) syms (map-at ts (symbol_numbers s) k a.0)))
       ];
-      all = λ k e w m n. elim (member-push e (take i ds) d (subst (IsMember e) more m)) [
+      all = λ k e w m n. elim (IsMember-push e (take i ds) d (subst (IsMember e) more m)) [
         | inl a ↦ notes.kept k e (old.all k e w a n)
         | inr q ↦
             let r = map-from ts (symbol_numbers s) (origin_at ts k) (subst (IsMember (origin_at ts k)) (sym syms) (subst (λ e. IsMember (origin_at ts k) (symbols (origin_at ts e))) (sym q) n)) in

@@ -8,8 +8,8 @@ use Rattle.ot_trace.specs.Trace.{origin_at, IsStepTable, IsPartOf}
 use Rattle.ot_trace.specs.Reach.{IsMarked, IsReached, Root, Operand, OfTheorem, OfSymbol, MarksReached}
 use Rattle.ot_trace.specs.Walk.{Visits, StepLeadsTo, unmarked}
 use Rattle.ot_trace.proofs.TraceLemmas.{origin_at-injective}
-use Rattle.ot_trace.proofs.WalkLemmas.{member-left, member-last, member-push}
 use Rattle.ot_trace.proofs.EdgeLemmas.{map-at, map-from, all-member}
+use Rattle.ot_plain.proofs.Members.{IsMember-last, IsMember-left, IsMember-push}
 
 pub empty-from : (xs : List ℕ) → length xs ≡ 0 → xs ≡ []
 empty-from [] p = refl
@@ -45,14 +45,14 @@ module _ (ts : List (Origin ℕ)) (roots ds : List ℕ) where
 
   pub walk-step : (ms : List Bool) (ps : List ℕ) (k : ℕ) (ns : List Bool) (qs : List ℕ) → IsWalk ms (ps ++ k ∷ []) → Visits (StepLeadsTo ts ds k) ms ps ns qs → IsWalk ns qs
   walk-step ms ps k ns qs w v =
-      let here : IsMarked ms k = w.waiting k (member-last k ps) in
+      let here : IsMarked ms k = w.waiting k (IsMember-last k ps) in
       record {
         length_is = v.same_length ∙ w.length_is;
         sound = λ i m. elim (v.only i m) [ inl a ↦ w.sound i a | inr a ↦ reached-next k i (w.sound k here) a.0 ];
-        waiting = λ i m. elim (v.each i m) [ inl a ↦ v.kept i (w.waiting i (member-left i ps (k ∷ []) a)) | inr a ↦ v.visited i a ];
+        waiting = λ i m. elim (v.each i m) [ inl a ↦ v.kept i (w.waiting i (IsMember-left i ps (k ∷ []) a)) | inr a ↦ v.visited i a ];
         followed = λ i m. elim (v.only i m) [
           | inl a ↦ elim (w.followed i a) [
-            | inl b ↦ elim (member-push i ps k b) [ inl d ↦ inl (v.waits i d) | inr e ↦ inr (λ j l. v.visited j (subst (λ i. StepLeadsTo ts ds i j) (sym e) l)) ]
+            | inl b ↦ elim (IsMember-push i ps k b) [ inl d ↦ inl (v.waits i d) | inr e ↦ inr (λ j l. v.visited j (subst (λ i. StepLeadsTo ts ds i j) (sym e) l)) ]
             | inr b ↦ inr (λ j l. v.kept j (b j l))
           ]
           | inr a ↦ inl a.1
@@ -61,7 +61,7 @@ module _ (ts : List (Origin ℕ)) (roots ds : List ℕ) where
       }
 
   pub waiting-below : (ms : List Bool) (ps olds : List ℕ) (k : ℕ) → olds ≡ ps ++ k ∷ [] → IsWalk ms olds → k < length ts
-  waiting-below ms ps olds k same w = subst (λ n. k < n) w.length_is (slice_get_within ms k true (w.waiting k (subst (IsMember k) (sym same) (member-last k ps))))
+  waiting-below ms ps olds k same w = subst (λ n. k < n) w.length_is (slice_get_within ms k true (w.waiting k (subst (IsMember k) (sym same) (IsMember-last k ps))))
 
   -- each step takes one away
   pub walk-less : (ms : List Bool) (ps olds : List ℕ) (k : ℕ) (ns : List Bool) (qs : List ℕ) → olds ≡ ps ++ k ∷ [] → Visits (StepLeadsTo ts ds k) ms ps ns qs → unmarked ns + length qs < unmarked ms + length olds

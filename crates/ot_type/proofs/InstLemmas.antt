@@ -1,5 +1,5 @@
 -- Lemmas on substitution in the table of types.
-use Rattle.std.proofs.Common.{◌≡◌, ℕ, ◌<◌, ◌≤◌, Bool, true, false, ◌&&◌, cond, nat_eq, eq-eqb, eqb-true, ◌⊎◌, inl, inr, IsSome, List, [], ◌∷◌, ◌++◌, length, slice_get, Option, None, Some, Result, Ok, Err, IsErrAnd, is_some, unwrap_or, true≢false, refl, sym, ap, subst, ◌∙◌, arith}
+use Rattle.std.proofs.Common.{◌≡◌, ℕ, ◌<◌, ◌≤◌, Bool, true, false, ◌&&◌, cond, nat_eq, eq-eqb, eqb-true, ◌⊎◌, inl, inr, IsSome, List, [], ◌∷◌, ◌++◌, length, slice_get, Some, is_some, unwrap_or, true≢false, refl, sym, ap, subst, ◌∙◌, arith}
 use Rattle.std.specs.List.{All}
 use Rattle.std.specs.Map.{lookup}
 use Rattle.std.proofs.lemmas.List.Elements.{All-head, All-tail, All-cons, All-nil}
@@ -17,17 +17,15 @@ use Rattle.ot_plain.proofs.TableLemmas.{Extends-trans, get_or-IsInjective}
 use Rattle.ot_type.specs.TypeTable.{type_at, types_at, tree_of, images, is_ground, are_ground, IsTypeTable}
 use Rattle.ot_type.specs.Instance.{IsMemo, AreResults, KnowsArgs}
 use Rattle.ot_type.specs.Subtypes.{IsSubtype, IsInside, IsFalling}
-use Rattle.ot_type.proofs.SubtypeLemmas.{member_left, member_last, member_push, All-member, All-from_member, inside_at, IsSubtype-refl, IsSubtype-trans}
+use Rattle.ot_type.proofs.SubtypeLemmas.{member_push, All-member, All-from_member, inside_at, IsSubtype-refl, IsSubtype-trans}
 use Rattle.ot_type.specs.declared.node.TypeNode.{TypeNode}
 use Rattle.ot_type.specs.declared.node.TypeNode.TheVariants.{Var, Op}
 use Rattle.ot_type.proofs.TypeTableLemmas.{type_at-Extends}
 use Rattle.ot_type.proofs.NamesIn.{bound_ty-type_at}
+use Rattle.ot_plain.proofs.Members.{IsMember-last, IsMember-left}
+use Rattle.ot_plain.proofs.Results.{none_from}
 
 -- ---- a pair that is added to a substitution
-none_from : {X : Type 0} (o : Option X) → is_some o ≡ false → o ≡ None
-none_from None p = refl
-none_from (Some x) p = absurd (true≢false p)
-
 -- a pair of a new name goes to the end
 pub appended : {S : Type 0} (m : IndexMap ℕ ℕ S) (old : List (ℕ × ℕ)) → m.entries ≡ old → (n t : ℕ) → is_some (lookup (nat_eq n) m.entries) ≡ false → (new : List (ℕ × ℕ)) → new ≡ insert_entry nat_eq m.entries n t
     → (new ≡ old ++ (n, t) ∷ []) × (is_some (lookup (nat_eq n) old) ≡ false)
@@ -103,7 +101,6 @@ IsMemo-insert ts s old new k v memo within tree after = record { known = λ q w 
     by q w false e p = memo.known q w (sym (ap (λ b. cond b (Some v) (lookup (nat_eq q) old)) e) ∙ p)
 
 -- ---- the walk over the subtypes of a type, those inside first
-
 -- the tree u has a result
 pub record IsDone (ts : List (Ty ℕ)) (u : Ty ℕ) (es : List (ℕ × ℕ)) : Type 0 where
   pub id : ℕ
@@ -130,7 +127,7 @@ falling_last : (xs : List ℕ) (k : ℕ) → IsFalling (xs ++ k ∷ []) → IsFa
 falling_last [] k f = (tt, λ x never. absurd never)
 falling_last (y ∷ xs) k f =
     let rest = falling_last xs k f.1 in
-    ((λ z m. f.0 z (member_left z xs (k ∷ []) m), rest.0), λ x m. elim m [ inl e ↦ subst (λ x. k < x) e (f.0 k (member_last k xs)) | inr h ↦ rest.1 x h ])
+    ((λ z m. f.0 z (IsMember-left z xs (k ∷ []) m), rest.0), λ x m. elim m [ inl e ↦ subst (λ x. k < x) e (f.0 k (IsMember-last k xs)) | inr h ↦ rest.1 x h ])
 
 mutual
   -- an instance is as deep as that of each subtype, at least
@@ -156,7 +153,7 @@ module _ (s : List (ℕ × ℕ)) (ts us : List (Ty ℕ)) (t : Ty ℕ) (left xs :
 
   -- the type that comes next
   next : (k < length ts) × IsSubtype (type_at ts k) t
-  next = walk.each k (member_last k xs)
+  next = walk.each k (IsMember-last k xs)
 
   pub next_within : k < length us
   next_within = omega (arith, next.0, walk.extends.longer)
@@ -199,7 +196,7 @@ module _ (s : List (ℕ × ℕ)) (ts us : List (Ty ℕ)) (t : Ty ℕ) (left xs :
     names = omega (arith, names, walk.names);
     memo = IsMemo-insert vs (images ts s) es fs k v (IsMemo-Extends us vs e (images ts s) es walk.memo) (omega (arith, next_within, e.longer))
         (tree ∙ ap Some next_tree ∙ ap (λ u. Some (inst numbers (images ts s) u)) (sym (type_at-Extends us vs e k next_within ∙ same_type))) after;
-    each = λ x m. walk.each x (member_left x xs (k ∷ []) m);
+    each = λ x m. walk.each x (IsMember-left x xs (k ∷ []) m);
     falling = (falling_last xs k walk.falling).0;
     all = λ u h. elim (walk.all u h) [
       | inl d ↦ inl (record { id = d.id; within = d.within; tree = d.tree; known = still_known es fs k v d.id after d.known })
@@ -243,11 +240,6 @@ module _ (ts : List (Ty ℕ)) (s : List (ℕ × Ty ℕ)) (es : List (ℕ × ℕ)
   instance_op id n ids found root h = ap (TyOp n) (results_trees ids found h) ∙ ap (inst numbers s) (sym root)
 
 -- ---- the cases of a node
--- the fault that `?` hands on
-pub same_error : {T E : Type 0} (r : Result T E) (x z : E) → IsErrAnd r (λ y. y ≡ x) → r ≡ Err z → x ≡ z
-same_error (Ok v) x z h p = absurd h
-same_error (Err y) x z h p = let same : y ≡ x = h in cc
-
 -- the name of an operator is one of the table's
 pub name_within : (ts : List (Ty ℕ)) (id : ℕ) (node : TypeNode) (n : ℕ) (a : SmallVec ℕ) → slice_get ts id ≡ Some (tree_of ts node) → node ≡ Op n a → n < names_in ts
 name_within ts id node n a tree is =

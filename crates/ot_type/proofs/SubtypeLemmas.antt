@@ -11,28 +11,12 @@ use Rattle.ot_plain.specs.Lists.{IsMember, IsSameSet}
 use Rattle.ot_plain.specs.Trees.{Ty, Tys, TyVar, TyOp, NoTys, MoreTys}
 use Rattle.ot_type.specs.TypeTable.{type_at, types_at}
 use Rattle.ot_type.specs.Subtypes.{IsSubtype, IsInside, IsFalling, AddsParts}
+use Rattle.ot_plain.proofs.Members.{IsMember-cases, IsMember-last, IsMember-left, IsMember-right}
 
 -- ---- members
 module _ {X : Type 0} where
-  pub member_left : (x : X) (xs ys : List X) → IsMember x xs → IsMember x (xs ++ ys)
-  member_left x [] ys h = absurd h
-  member_left x (y ∷ xs) ys (inl e) = inl e
-  member_left x (y ∷ xs) ys (inr h) = inr (member_left x xs ys h)
-
-  pub member_right : (x : X) (xs ys : List X) → IsMember x ys → IsMember x (xs ++ ys)
-  member_right x [] ys h = h
-  member_right x (y ∷ xs) ys h = inr (member_right x xs ys h)
-
-  pub member_cases : (x : X) (xs ys : List X) → IsMember x (xs ++ ys) → IsMember x xs ⊎ IsMember x ys
-  member_cases x [] ys h = inr h
-  member_cases x (y ∷ xs) ys (inl e) = inl (inl e)
-  member_cases x (y ∷ xs) ys (inr h) = elim (member_cases x xs ys h) [ inl a ↦ inl (inr a) | inr b ↦ inr b ]
-
-  pub member_last : (x : X) (xs : List X) → IsMember x (xs ++ x ∷ [])
-  member_last x xs = member_right x xs (x ∷ []) (inl refl)
-
   pub member_push : (x y : X) (xs : List X) → IsMember y (xs ++ x ∷ []) → IsMember y xs ⊎ (x ≡ y)
-  member_push x y xs h = elim (member_cases y xs (x ∷ []) h) [ inl a ↦ inl a | inr b ↦ elim b [ inl e ↦ inr e | inr never ↦ absurd never ] ]
+  member_push x y xs h = elim (IsMember-cases y xs (x ∷ []) h) [ inl a ↦ inl a | inr b ↦ elim b [ inl e ↦ inr e | inr never ↦ absurd never ] ]
 
   member_at : (xs : List X) (i : ℕ) (d : X) → i < length xs → IsMember (get_or xs i d) xs
   member_at [] i d h = absurd (omega arith)
@@ -99,18 +83,18 @@ added_one ks olds ids i k new within item same is = record { to = to; back = bac
 
     to : (x : ℕ) → IsMember x new → IsMember x (olds ++ take (i + 1) ids)
     to x h = elim (insert_to k x ks (subst (IsMember x) is h)) [
-      | inl m ↦ elim (member_cases x olds (take i ids) (same.to x m)) [
-        | inl a ↦ member_left x olds (take (i + 1) ids) a
-        | inr b ↦ member_right x olds (take (i + 1) ids) (rw more (member_left x (take i ids) (k ∷ []) b))
+      | inl m ↦ elim (IsMember-cases x olds (take i ids) (same.to x m)) [
+        | inl a ↦ IsMember-left x olds (take (i + 1) ids) a
+        | inr b ↦ IsMember-right x olds (take (i + 1) ids) (rw more (IsMember-left x (take i ids) (k ∷ []) b))
       ]
-      | inr e ↦ member_right x olds (take (i + 1) ids) (rw more (member_right x (take i ids) (k ∷ []) (inl e)))
+      | inr e ↦ IsMember-right x olds (take (i + 1) ids) (rw more (IsMember-right x (take i ids) (k ∷ []) (inl e)))
     ]
 
     back : (x : ℕ) → IsMember x (olds ++ take (i + 1) ids) → IsMember x new
-    back x h = subst (IsMember x) (sym is) (insert_back k x ks (elim (member_cases x olds (take (i + 1) ids) h) [
-      | inl a ↦ inl (same.back x (member_left x olds (take i ids) a))
+    back x h = subst (IsMember x) (sym is) (insert_back k x ks (elim (IsMember-cases x olds (take (i + 1) ids) h) [
+      | inl a ↦ inl (same.back x (IsMember-left x olds (take i ids) a))
       | inr b ↦ elim (member_push k x (take i ids) (rw more at b)) [
-        | inl c ↦ inl (same.back x (member_right x olds (take i ids) c))
+        | inl c ↦ inl (same.back x (IsMember-right x olds (take i ids) c))
         | inr e ↦ inr e
       ]
     ]))
@@ -145,14 +129,14 @@ inside_from ts u (i ∷ is) (inr h) = let rest = inside_from ts u is h in (rest.
 -- what the arguments of a type add
 pub parts_of_op : (ts : List (Ty ℕ)) (i n : ℕ) (args xs ys : List ℕ) → type_at ts i ≡ TyOp n (types_at ts args) → All (λ k. k < i) args → IsSameSet ys (xs ++ args) → AddsParts ts i xs ys
 parts_of_op ts i n args xs ys root below same = record {
-  kept = λ y m. same.back y (member_left y xs args m);
-  each = λ y m. elim (member_cases y xs args (same.to y m)) [
+  kept = λ y m. same.back y (IsMember-left y xs args m);
+  each = λ y m. elim (IsMember-cases y xs args (same.to y m)) [
     | inl a ↦ inl a
     | inr b ↦ inr (All-member (λ k. k < i) args below y b, subst (IsSubtype (type_at ts y)) (sym root) (inr (inside_at ts y args b)))
   ];
   all = λ u h. elim (subst (IsSubtype u) root h) [
     | inl e ↦ inl (e ∙ sym root)
-    | inr a ↦ let part = inside_from ts u args a in inr (part.0, same.back part.0 (member_right part.0 xs args part.1), part.2)
+    | inr a ↦ let part = inside_from ts u args a in inr (part.0, same.back part.0 (IsMember-right part.0 xs args part.1), part.2)
   ];
 }
 
@@ -189,23 +173,23 @@ module _ (ts : List (Ty ℕ)) (t : Ty ℕ) (found ps : List ℕ) (k : ℕ) (qs :
   search_step = record {
     each_found = λ x m. elim (member_push k x found m) [
       | inl a ↦ s.each_found x a
-      | inr e ↦ subst (λ x. (x < length ts) × IsSubtype (type_at ts x) t) e (s.each_pending k (member_last k ps))
+      | inr e ↦ subst (λ x. (x < length ts) × IsSubtype (type_at ts x) t) e (s.each_pending k (IsMember-last k ps))
     ];
     each_pending = λ y m. elim (adds.each y m) [
-      | inl a ↦ s.each_pending y (member_left y ps (k ∷ []) a)
-      | inr b ↦ let top = s.each_pending k (member_last k ps) in (omega (arith, b.0, top.0), IsSubtype-trans (type_at ts y) (type_at ts k) t b.1 top.1)
+      | inl a ↦ s.each_pending y (IsMember-left y ps (k ∷ []) a)
+      | inr b ↦ let top = s.each_pending k (IsMember-last k ps) in (omega (arith, b.0, top.0), IsSubtype-trans (type_at ts y) (type_at ts k) t b.1 top.1)
     ];
     apart = λ x y m n. let low = all_below y n in elim (member_push k x found m) [
-      | inl a ↦ omega (arith, low, s.apart x k a (member_last k ps))
+      | inl a ↦ omega (arith, low, s.apart x k a (IsMember-last k ps))
       | inr e ↦ subst (λ x. y < x) e low
     ];
-    falling = IsFalling-push found k s.falling (λ x m. s.apart x k m (member_last k ps));
+    falling = IsFalling-push found k s.falling (λ x m. s.apart x k m (IsMember-last k ps));
     all = λ u h. elim (s.all u h) [
-      | inl a ↦ inl (a.0, member_left a.0 found (k ∷ []) a.1, a.2)
+      | inl a ↦ inl (a.0, IsMember-left a.0 found (k ∷ []) a.1, a.2)
       | inr b ↦ elim (member_push k b.0 ps b.1) [
         | inl m ↦ inr (b.0, adds.kept b.0 m, b.2)
         | inr e ↦ elim (adds.all u (subst (λ y. IsSubtype u (type_at ts y)) (sym e) b.2)) [
-          | inl same ↦ inl (k, member_last k found, sym same)
+          | inl same ↦ inl (k, IsMember-last k found, sym same)
           | inr rest ↦ inr rest
         ]
       ]

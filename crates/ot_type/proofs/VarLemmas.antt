@@ -10,7 +10,7 @@ use Rattle.ot_plain.specs.Table.{IsInjective}
 use Rattle.ot_plain.proofs.TableLemmas.{get_or-IsInjective}
 use Rattle.ot_type.specs.TypeTable.{type_at}
 use Rattle.ot_type.specs.Subtypes.{IsSubtype, IsInside, IsFalling, AreSubtypes}
-use Rattle.ot_type.proofs.SubtypeLemmas.{member_left, member_right, member_cases}
+use Rattle.ot_plain.proofs.Members.{IsMember-cases, IsMember-left, IsMember-right}
 
 -- the name of a type variable
 abbrev pub name_of : Ty ℕ → List ℕ
@@ -39,7 +39,7 @@ mutual
 
   vars_to : (n : ℕ) (ts : Tys ℕ) → IsMember n (vars_all numbers ts) → IsInside (TyVar n) ts
   vars_to n NoTys h = absurd h
-  vars_to n (MoreTys t ts) h = elim (member_cases n (vars_ty numbers t) (vars_all numbers ts) h) [ inl a ↦ inl (var_to n t a) | inr b ↦ inr (vars_to n ts b) ]
+  vars_to n (MoreTys t ts) h = elim (IsMember-cases n (vars_ty numbers t) (vars_all numbers ts) h) [ inl a ↦ inl (var_to n t a) | inr b ↦ inr (vars_to n ts b) ]
 
 mutual
   var_from : (n : ℕ) (t : Ty ℕ) → IsSubtype (TyVar n) t → IsMember n (vars_ty numbers t)
@@ -49,8 +49,8 @@ mutual
 
   vars_from : (n : ℕ) (ts : Tys ℕ) → IsInside (TyVar n) ts → IsMember n (vars_all numbers ts)
   vars_from n NoTys h = absurd h
-  vars_from n (MoreTys t ts) (inl h) = member_left n (vars_ty numbers t) (vars_all numbers ts) (var_from n t h)
-  vars_from n (MoreTys t ts) (inr h) = member_right n (vars_ty numbers t) (vars_all numbers ts) (vars_from n ts h)
+  vars_from n (MoreTys t ts) (inl h) = IsMember-left n (vars_ty numbers t) (vars_all numbers ts) (var_from n t h)
+  vars_from n (MoreTys t ts) (inr h) = IsMember-right n (vars_ty numbers t) (vars_all numbers ts) (vars_from n ts h)
 
 -- ---- the names among numbers
 name_to : (n : ℕ) (t : Ty ℕ) → IsMember n (name_of t) → t ≡ TyVar n
@@ -59,15 +59,15 @@ name_to n (TyOp m ts) h = absurd h
 
 names_to : (ts : List (Ty ℕ)) (n : ℕ) (xs : List ℕ) → IsMember n (names_of ts xs) → (x : ℕ) × IsMember x xs × (type_at ts x ≡ TyVar n)
 names_to ts n [] h = absurd h
-names_to ts n (x ∷ xs) h = elim (member_cases n (name_of (type_at ts x)) (names_of ts xs) h) [
+names_to ts n (x ∷ xs) h = elim (IsMember-cases n (name_of (type_at ts x)) (names_of ts xs) h) [
   | inl a ↦ (x, inl refl, name_to n (type_at ts x) a)
   | inr b ↦ let rest = names_to ts n xs b in (rest.0, inr rest.1, rest.2)
 ]
 
 names_from : (ts : List (Ty ℕ)) (n x : ℕ) (xs : List ℕ) → IsMember x xs → type_at ts x ≡ TyVar n → IsMember n (names_of ts xs)
 names_from ts n x [] h p = absurd h
-names_from ts n x (y ∷ xs) (inl e) p = member_left n (name_of (type_at ts y)) (names_of ts xs) (subst (λ t. IsMember n (name_of t)) (sym (ap (type_at ts) e ∙ p)) (inl refl))
-names_from ts n x (y ∷ xs) (inr h) p = member_right n (name_of (type_at ts y)) (names_of ts xs) (names_from ts n x xs h p)
+names_from ts n x (y ∷ xs) (inl e) p = IsMember-left n (name_of (type_at ts y)) (names_of ts xs) (subst (λ t. IsMember n (name_of t)) (sym (ap (type_at ts) e ∙ p)) (inl refl))
+names_from ts n x (y ∷ xs) (inr h) p = IsMember-right n (name_of (type_at ts y)) (names_of ts xs) (names_from ts n x xs h p)
 
 pub names_same : (ts : List (Ty ℕ)) (t : Ty ℕ) (xs : List ℕ) → AreSubtypes ts t xs → IsSameSet (names_of ts xs) (vars_ty numbers t)
 names_same ts t xs parts = record {

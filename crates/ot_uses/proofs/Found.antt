@@ -1,8 +1,7 @@
 -- The marked places of a session are those of what is used.
-use Rattle.std.proofs.Common.{◌≡◌, ℕ, suc, ◌<◌, Bool, List, [], ◌∷◌, length, map, refl, sym, subst, ◌∙◌, inl, inr, arith}
+use Rattle.std.proofs.Common.{◌≡◌, ℕ, suc, ◌<◌, Bool, List, [], ◌∷◌, length, map, sym, subst, ◌∙◌, inl, inr, arith}
 use Rattle.std.specs.Prelude.{pos}
 use Rattle.std.specs.List.{All, filter}
-use Rattle.ot_plain.specs.Lists.{IsMember}
 use Rattle.ot_plain.specs.Table.{IsInjective}
 use Rattle.ot_plain.specs.Names.{Name}
 use Rattle.ot_plain.specs.Naming.{name_of, IsNameTable}
@@ -22,15 +21,12 @@ use Rattle.ot_uses.specs.Used.{numbered, places_in, same, assumption_places, def
 use Rattle.ot_uses.proofs.Numbering.{filter-places, firsts-places}
 use Rattle.ot_uses.proofs.Marking.{IsIn, assumptions-found, definitions-found}
 use Rattle.ot_uses.proofs.Standing.{given-origins, made-origins}
+use Rattle.ot_plain.proofs.Members.{map_agree}
 
 members-in : (n : ℕ) (is : List ℕ) → All (λ i. i < n) is → IsIn n is
 members-in n [] h i m = absurd m
 members-in n (x ∷ is) h i (inl e) = subst (λ z. z < n) e (h 0 x (omega arith))
 members-in n (x ∷ is) h i (inr m) = members-in n is (λ k d l. h (suc k) d (omega arith)) i m
-
-map-same : {X Y : Type 0} (f g : X → Y) (xs : List X) → ((x : X) → IsMember x xs → f x ≡ g x) → map f xs ≡ map g xs
-map-same f g [] h = refl
-map-same f g (x ∷ xs) h = let e = h x (inl refl) in let r = map-same f g xs (λ y m. h y (inr m)) in λ i. e i ∷ r i
 
 module _ (s : Session) (run : IsRun s) (table : IsNameTable s.kernel.names)
     (steps : IsInjective s.trace) (root : ℕ) (root_in : root < length s.trace) (marks : List Bool)
@@ -51,7 +47,7 @@ module _ (s : Session) (run : IsRun s) (table : IsNameTable s.kernel.names)
       (name_of-index s.kernel.names table) (origin_at s.trace i) (run.named i (Number (pos 0)) h)
 
   all-at : (is : List ℕ) → IsIn (length s.trace) is → map at is ≡ map (origin_of s) is
-  all-at is h = map-same at (origin_of s) is (λ i n. at-is i (h i n))
+  all-at is h = map_agree at (origin_of s) is (λ i n. at-is i (h i n))
 
   assumptions_in : IsIn (length s.trace) s.assumption_steps.items
   assumptions_in = members-in (length s.trace) s.assumption_steps.items run.assumptions

@@ -24,7 +24,8 @@ use Rattle.ot_written.proofs.Same.{same-origin-law}
 use Rattle.ot_uses.specs.Placing.{is_marked, marked_places, first_places}
 use Rattle.ot_uses.specs.Used.{numbered, places_in, same}
 use Rattle.ot_uses.proofs.Numbering.{filter-places, firsts-places, numbered-member}
-use Rattle.ot_uses.proofs.Renamed.{reached-to, reached-from, member-map}
+use Rattle.ot_uses.proofs.Renamed.{reached-to, reached-from}
+use Rattle.ot_plain.proofs.Members.{IsMember-map}
 
 tells : Tells same
 tells = same-origin-law names.same same_name-Decides
@@ -116,7 +117,7 @@ module _ (ts : List (Origin ℕ)) (once_in : IsInjective ts) (f : ℕ → Name) 
   marked-definition : (i : ℕ) → IsMember i ds → is_marked marks i ≡ is_among same (at i) found
   marked-definition i here = both (is_marked marks i) (is_among same (at i) found)
       (λ e. among-from same tells (at i) found (reached-needed same tells R D
-      (at i) (member-map at i ds here) (marked-reached i (ds_in i here) e)))
+      (at i) (IsMember-map at i ds here) (marked-reached i (ds_in i here) e)))
       (λ e. reached-marked i (ds_in i here) (needed-reached same tells R D (at i) (among-to same tells (at i) found e)).1)
 
   once : (i j : ℕ) → i < length ts → j < length ts → at i ≡ at j → i ≡ j

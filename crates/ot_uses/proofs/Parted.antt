@@ -1,7 +1,6 @@
 -- Definitions that are accepted as a part of others.
 use Rattle.std.specs.Prelude.{slice_get}
-use Rattle.std.proofs.Common.{◌≡◌, ℕ, zero, suc, List, [], ◌∷◌, ap, inl, inr, Some, take}
-use Rattle.std.proofs.lemmas.Option.{same_Some}
+use Rattle.std.proofs.Common.{◌≡◌, ℕ, suc, List, [], ◌∷◌, ap, inl, inr, Some, take}
 use Rattle.ot_plain.specs.Lists.{IsMember, IsPart}
 use Rattle.ot_plain.specs.Trees.{Alphabet, Sequent, Definition, ConDef, ListDef, TyDef}
 use Rattle.ot_plain.specs.Hol.{Derivable, IsFine, Accepted}
@@ -10,11 +9,6 @@ use Rattle.ot_plain.specs.Hol.{Derivable, IsFine, Accepted}
 abbrev pub IsInOrder : {X : Type 0} → List X → List X → Type 0
 IsInOrder {X} part whole =
     (i : ℕ) (x : X) → slice_get part i ≡ Some x → (k : ℕ) × (slice_get whole k ≡ Some x) × IsPart (take i part) (take k whole)
-
-pub at_member : {X : Type 0} (xs : List X) (i : ℕ) (x : X) → slice_get xs i ≡ Some x → IsMember x xs
-at_member [] i x e = absurd cc
-at_member (y ∷ ys) zero x e = inl (same_Some y x e)
-at_member (y ∷ ys) (suc i) x e = inr (at_member ys i x e)
 
 pub member_at : {X : Type 0} (xs : List X) (x : X) → IsMember x xs → (i : ℕ) × (slice_get xs i ≡ Some x)
 member_at [] x m = absurd m

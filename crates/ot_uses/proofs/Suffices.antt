@@ -33,8 +33,11 @@ use Rattle.ot_uses.proofs.Parted.{IsInOrder, HasPremise, HavePremises}
 use Rattle.ot_uses.proofs.Leaves.{IsGood, IsLeaf, HasLeaves, HaveLeaves}
 use Rattle.ot_machine.specs.Rows.{definitions_of}
 use Rattle.ot_uses.proofs.Resting.{IsAssumed, StandsOn, AllStand, PartsSuffice}
-use Rattle.ot_uses.proofs.Parted.{at_member, member_at, accepted_part}
+use Rattle.ot_uses.proofs.Parted.{member_at, accepted_part}
 use Rattle.ot_uses.proofs.Goodness.{if_bind, any_bind, value_at-good, read-theorem, value-good, values-good}
+use Rattle.ot_plain.proofs.Elements.{slice_get-map}
+use Rattle.ot_plain.proofs.Members.{IsMember-at, IsMember-map, IsPart-map, IsPart-take}
+use Rattle.ot_plain.proofs.Results.{if_ok}
 
 -- ---- axioms
 
@@ -42,10 +45,6 @@ use Rattle.ot_uses.proofs.Goodness.{if_bind, any_bind, value_at-good, read-theor
 abbrev pub IsProposed : Object → Type 0
 IsProposed (theorem q) = IsSequent names q × AreDistinct q.hyps
 IsProposed _ = ⊥
-
-if_ok : {A E : Type 0} (r : Result A E) (P : A → Type 0) → ((x : A) → r ≡ Ok x → P x) → IfOk r P
-if_ok (Ok x) P h = h x refl
-if_ok (Err e) P h = tt
 
 pub ok_if : {A E : Type 0} (r : Result A E) (P : A → Type 0) → IfOk r P → (x : A) → r ≡ Ok x → P x
 ok_if (Ok y) P h x e = let q : y ≡ x = cc in subst P q h
@@ -106,32 +105,11 @@ value-axiom os =
 
 -- ---- leaves
 
-pub member-map : {A B : Type 0} (f : A → B) (x : A) (xs : List A) → IsMember x xs → IsMember (f x) (map f xs)
-member-map f x [] m = absurd m
-member-map f x (y ∷ ys) (inl e) = inl (ap f e)
-member-map f x (y ∷ ys) (inr m) = inr (member-map f x ys m)
-
-map-part : {A B : Type 0} (f : A → B) (xs ys : List A) → IsPart xs ys → IsPart (map f xs) (map f ys)
-map-part f [] ys p z m = absurd m
-map-part f (x ∷ xs) ys p z (inl e) = subst (λ w. IsMember w (map f ys)) e (member-map f x ys (p x (inl refl)))
-map-part f (x ∷ xs) ys p z (inr m) = map-part f xs ys (λ w n. p w (inr n)) z m
-
-pub take-part : {A : Type 0} (k : ℕ) (xs : List A) → IsPart (take k xs) xs
-take-part zero xs z m = absurd m
-take-part (suc k) [] z m = absurd m
-take-part (suc k) (x ∷ xs) z (inl e) = inl e
-take-part (suc k) (x ∷ xs) z (inr m) = inr (take-part k xs z m)
-
 pub get-map : {A B : Type 0} (f : A → B) (xs : List A) (i : ℕ) (y : B) → slice_get (map f xs) i ≡ Some y
     → (x : A) × (slice_get xs i ≡ Some x) × (f x ≡ y)
 get-map f [] i y e = absurd cc
 get-map f (x ∷ xs) zero y e = (x, refl, same_Some (f x) y e)
 get-map f (x ∷ xs) (suc i) y e = get-map f xs i y e
-
-map-get : {A B : Type 0} (f : A → B) (xs : List A) (i : ℕ) (x : A) → slice_get xs i ≡ Some x → slice_get (map f xs) i ≡ Some (f x)
-map-get f [] i x e = absurd cc
-map-get f (y ∷ ys) zero x e = ap (λ z. Some (f z)) (same_Some y x e)
-map-get f (y ∷ ys) (suc i) x e = map-get f ys i x e
 
 module _ (al bl : List (Sequent Name)) (ms : List Made) (seqs : AreSequents names al)
     (acc : Accepted names al (definitions_of ms)) where
@@ -159,8 +137,8 @@ module _ (al bl : List (Sequent Name)) (ms : List Made) (seqs : AreSequents name
           → IfOk {E = Fault Name} (some_or StackEmpty o >>= λ q. Ok (theorem q)) (IsGood bl (definitions_of es))
       go None e = tt
       go (Some q) e =
-          let (i, at) = member_at (definitions_of es) m.definition (member-map (λ x. x.definition) m es here) in
-          let (k, old) = member_at (definitions_of ms) m.definition (member-map (λ x. x.definition) m ms (part m here)) in
+          let (i, at) = member_at (definitions_of es) m.definition (IsMember-map (λ x. x.definition) m es here) in
+          let (k, old) = member_at (definitions_of ms) m.definition (IsMember-map (λ x. x.definition) m ms (part m here)) in
           record {
             derivable = Defined i j at e;
             sequent = accepted-sequents names tells_names al (definitions_of ms) seqs acc k m.definition old j q e;
@@ -247,17 +225,17 @@ parts_suffice al bl ms es seqs acc order made = record {
 }
   where
     part : IsPart es ms
-    part x m = let (i, at) = member_at es x m in let (k, old, before) = order i x at in at_member ms k x old
+    part x m = let (i, at) = member_at es x m in let (k, old, before) = order i x at in IsMember-at ms k x old
 
     in-order : IsInOrder (definitions_of es) (definitions_of ms)
     in-order i d at =
         let (m, here, same) = get-map (λ m. m.definition) es i d at in
         let (k, old, before) = order i m here in (
           k,
-          map-get (λ m. m.definition) ms k m old ∙ ap Some same,
+          slice_get-map (λ m. m.definition) ms k m old ∙ ap Some same,
           subst (λ z. IsPart z (take k (definitions_of ms))) (sym (take-map (λ m. m.definition) i es))
               (subst (λ z. IsPart (definitions_of (take i es)) z) (sym (take-map (λ m. m.definition) k ms))
-              (map-part (λ m. m.definition) (take i es) (take k ms) before)),
+              (IsPart-map (λ m. m.definition) (take i es) (take k ms) before)),
         )
 
     premises : HavePremises names bl (definitions_of es)
@@ -265,7 +243,7 @@ parts_suffice al bl ms es seqs acc order made = record {
         let (m, here, same) = get-map (λ m. m.definition) es i d at in
         let s = made i m here in
         let (k, old, before) = order i m here in
-        let inner : IsPart (take i es) ms = λ x n. take-part k ms x (before x n) in
+        let inner : IsPart (take i es) ms = λ x n. IsPart-take k ms x (before x n) in
         let h = ok_if (definition_of s.before (Define s.word s.operands)) (HasPremise names bl (definitions_of (take i es)))
         (premised bl (definitions_of (take i es)) s.word s.operands s.before
         (all-leaves al bl ms seqs acc (take i es) inner s.operands s.stand))

@@ -30,14 +30,11 @@ use Rattle.ot_machine.proofs.Fewer.{none-fewer}
 use Rattle.ot_machine.proofs.DefinitionFewer.{definition-fewer}
 use Rattle.ot_uses.specs.Used.{same, is_assumed, used_assumptions, used_definitions}
 use Rattle.ot_uses.specs.Suffices.{UsesSuffice}
-use Rattle.ot_uses.proofs.Parted.{IsInOrder, at_member, member_at}
+use Rattle.ot_uses.proofs.Parted.{IsInOrder, member_at}
 use Rattle.ot_uses.proofs.Resting.{IsAssumed, StandsOn, AllStand, StandsMade, Suffice}
-use Rattle.ot_uses.proofs.Suffices.{parts_suffice, member-map, take-part, get-map, ok_if, value-axiom, IsProposed}
-
-map-member : {A B : Type 0} (f : A → B) (y : B) (xs : List A) → IsMember y (map f xs) → (x : A) × IsMember x xs × (f x ≡ y)
-map-member f y [] m = absurd m
-map-member f y (x ∷ xs) (inl e) = (x, inl refl, e)
-map-member f y (x ∷ xs) (inr m) = let (z, i, e) = map-member f y xs m in (z, inr i, e)
+use Rattle.ot_uses.proofs.Suffices.{parts_suffice, get-map, ok_if, value-axiom, IsProposed}
+use Rattle.ot_plain.proofs.Members.{IsMember-at, IsMember-map, IsMember-map_back, IsPart-take}
+use Rattle.ot_plain.proofs.Results.{same_Ok}
 
 all-member : {A : Type 0} (P : A → Type 0) (xs : List A) → All P xs → (x : A) → IsMember x xs → P x
 all-member P [] h x m = absurd m
@@ -186,9 +183,6 @@ is-define ds (Make w os) x e = absurd cc
 is-define ds (Define w os) x e = (w, os, refl)
 is-define ds (Outcome j d) x e = absurd cc
 
-same_ok : {A E : Type 0} (x y : A) → ◌≡◌ {A = Result A E} (Ok x) (Ok y) → x ≡ y
-same_ok x y e = cc
-
 same_theorem : (p q : Sequent Name) → ◌≡◌ {A = Object} (theorem p) (theorem q) → p ≡ q
 same_theorem p q e = cc
 
@@ -229,7 +223,7 @@ uses_suffice IsNamed r lawful acc e law = record {
     seqs : AreSequents names al
     seqs i q at =
         let (g, here, is) = get-map (λ g. g.sequent) r.assumptions i q at in
-        let m = at_member r.assumptions i g here in
+        let m = IsMember-at r.assumptions i g here in
         let (os, made) = all-member (λ g. (os : Origins Name) × (g.origin ≡ Make words.Axiom os))
         r.assumptions lawful.axioms g m in
         let v : value (Make words.Axiom os) ≡ Ok (theorem q) = ap value (sym made) ∙ given g m ∙ ap (λ z. Ok (theorem z)) is in
@@ -237,17 +231,17 @@ uses_suffice IsNamed r lawful acc e law = record {
 
     held : (g : Given) → IsMember g r.assumptions → IsReached (o ∷ []) ds g.origin → IsMember g.sequent bl
     held g m reach =
-        member-map (λ g. g.sequent) g (used_assumptions r o)
+        IsMember-map (λ g. g.sequent) g (used_assumptions r o)
         (filter-from (is_assumed r o) g r.assumptions m
         (among-from same tells g.origin (needed_origins same (o ∷ []) ds) (reached-origin same tells (o ∷ []) ds g.origin reach)))
 
     axioms : (os : Origins Name) (p : Sequent Name) → IsMember (Make words.Axiom os) (map (λ g. g.origin) r.assumptions)
         → IsReached (o ∷ []) ds (Make words.Axiom os) → value (Make words.Axiom os) ≡ Ok (theorem p) → IsMember p bl
     axioms os p m reach e =
-        let (g, here, is) = map-member (λ g. g.origin) (Make words.Axiom os) r.assumptions m in
+        let (g, here, is) = IsMember-map_back (λ g. g.origin) (Make words.Axiom os) r.assumptions m in
         let v : ◌≡◌ {A = Result Object (Fault Name)} (Ok (theorem g.sequent)) (Ok (theorem p)) =
         sym (given g here) ∙ ap value is ∙ e in
-        subst (λ z. IsMember z bl) (same_theorem g.sequent p (same_ok (theorem g.sequent) (theorem p) v))
+        subst (λ z. IsMember z bl) (same_theorem g.sequent p (same_Ok (theorem g.sequent) (theorem p) v))
         (held g here (subst (IsReached (o ∷ []) ds) (sym is) reach))
 
     -- the definitions that are kept
@@ -259,15 +253,15 @@ uses_suffice IsNamed r lawful acc e law = record {
 
     es-part : IsPart es ms
     es-part y n =
-        let (i, at) = member_at es y n in let (k, old, part, has) = kept-place found [] ms i y at in at_member ms k y old
+        let (i, at) = member_at es y n in let (k, old, part, has) = kept-place found [] ms i y at in IsMember-at ms k y old
 
     -- of a front of the definitions, each that is reached is kept
     front : (xs keeps : List Made) → IsPart xs ms → IsPart keeps ms → HasKept found [] xs keeps → (d : Origin Name)
         → IsMember d (map (λ m. m.origin) xs) → IsReached (o ∷ []) ds d
         → (m : Made) × IsMember m keeps × (definition_of [] d ≡ Ok m.definition)
     front xs keeps part inner has d m reach =
-        let (x, here, is) = map-member (λ m. m.origin) d xs m in
-        let inside : IsMember d ds = subst (λ z. IsMember z ds) is (member-map (λ m. m.origin) x ms (part x here)) in
+        let (x, here, is) = IsMember-map_back (λ m. m.origin) d xs m in
+        let inside : IsMember d ds = subst (λ z. IsMember z ds) is (IsMember-map (λ m. m.origin) x ms (part x here)) in
         let (y, kept_y, same_y) = has x here
         (subst (λ z. IsMember z found) (sym is) (reached-needed same tells (o ∷ []) ds d inside reach)) (λ h. h) in
         (y, kept_y, ap (definition_of []) (sym (same_y ∙ is)) ∙ own y (inner y kept_y))
@@ -281,10 +275,10 @@ uses_suffice IsNamed r lawful acc e law = record {
         let law = lawful.definitions k m old in
         let (w, os, is) = is-define (definitions_of (take k ms)) m.origin m.definition law.accepted in
         let reach : IsReached (o ∷ []) ds m.origin =
-        (needed-reached same tells (o ∷ []) ds m.origin (kept-found found [] ms m (at_member es i m at))).1 in
+        (needed-reached same tells (o ∷ []) ds m.origin (kept-found found [] ms m (IsMember-at es i m at))).1 in
         let st : StandsOn bl (take i es) m.origin =
         reached-stands bl (o ∷ []) ds (basis_of IsNamed r.assumptions (take k ms)) (take i es)
-        (front (take k ms) (take i es) (take-part k ms) (λ x n. es-part x (take-part i es x n)) has)
+        (front (take k ms) (take i es) (IsPart-take k ms) (λ x n. es-part x (IsPart-take i es x n)) has)
         axioms m.origin law.rests reach in
         record {
           word = w;

@@ -16,9 +16,10 @@ use Rattle.ot_machine.specs.Objects.{Object, name, type_op, a_type, constant, va
 use Rattle.ot_machine.specs.Places.{as_type, as_each, arguments}
 use Rattle.ot_machine.specs.Makers.{Read, of_top, of_two, type_op_made, op_type_made, var_type_made, var_made, var_term_made, const_made, const_term_made, app_term_made, abs_term_made}
 use Rattle.ot_machine.specs.Values.{value, applied}
-use Rattle.ot_machine.proofs.Tops.{bind-ok, same-ok}
+use Rattle.ot_machine.proofs.Tops.{same-ok}
 use Rattle.ot_values.specs.Steps.{Makes}
 use Rattle.ot_values.specs.Lists.{ReadsAs}
+use Rattle.ot_plain.proofs.Results.{bind-ok}
 
 -- ---- the operands of what has a value
 

@@ -1,5 +1,5 @@
 -- Lists of pairs, and the maps of a substitution, as they are read.
-use Rattle.std.specs.Prelude.{◌≡◌, ◌<◌, ◌+◌, ℕ, length, take, None, Bool, true, false, nat_eq, ◌||◌, is_some, Option, Some, List, [], ◌∷◌, ◌++◌, map, Ok, Err, if◌then◌else◌}
+use Rattle.std.specs.Prelude.{◌≡◌, ◌<◌, ◌+◌, ℕ, length, take, Bool, true, false, nat_eq, ◌||◌, is_some, Option, Some, List, [], ◌∷◌, ◌++◌, map, Ok, Err, if◌then◌else◌}
 use Rattle.std.specs.Map.{lookup}
 use Rattle.std.specs.List.{All, list_any}
 use Rattle.std.proofs.Common.{refl, sym, ap, subst, ◌∙◌, get_or, add-one}
@@ -26,11 +26,12 @@ use Rattle.ot_machine.specs.Substitutions.{type_pair, term_pair, types_onto, ter
 use Rattle.ot_machine.specs.Parts.{Reading, or_bad}
 use Rattle.ot_machine.specs.Meaning.{origin_of}
 use Rattle.ot_machine.specs.declared.session.Session.{Session}
-use Rattle.ot_machine.proofs.Tops.{bind-ok, same-ok}
+use Rattle.ot_machine.proofs.Tops.{same-ok}
 use Rattle.ot_values.specs.Steps.{IsNameOf, IsTypeOf, IsVariableOf, IsTermOf}
 use Rattle.ot_values.specs.Lists.{AreElementsOf, AreMapsOf}
 use Rattle.ot_values.specs.Reading.{IsPairOf, IsTypePairOf, IsTermPairOf, AreTypePairsOf, AreTermPairsOf, with_first, add_firsts, all_first}
 use Rattle.ot_values.proofs.Listing.{two-of}
+use Rattle.ot_plain.proofs.Results.{bind-ok}
 
 -- ---- a list of two
 
@@ -74,10 +75,6 @@ module _ (s : Session) (ts : List Item) where
   }
 
 -- ---- the first pair for each key
-
-pub nothing-there : {V : Type 0} (o : Option V) → is_some o ≡ false → o ≡ None
-nothing-there None h = refl
-nothing-there (Some v) h = absurd (cc)
 
 -- two lists that had one and the same, and got one more
 pub both-pushed : {X : Type 0} (old new items pushed : List X) (x : X) → new ≡ old ++ x ∷ [] → old ≡ items

@@ -1,7 +1,7 @@
 -- What assumptions, definitions and results add to a log.
 use Rattle.std.specs.List.{All, AllByRecursion, list_all}
-use Rattle.std.proofs.Common.{Result, ◌≡◌, ℕ, Bool, true, false, List, [], ◌∷◌, ◌++◌, map, Ok, Err, refl, sym, ap, ◌∙◌, subst, inl, inr}
-use Rattle.std.proofs.lemmas.List.{map-append}
+use Rattle.std.proofs.Common.{Result, ◌≡◌, ℕ, Bool, true, false, List, [], ◌∷◌, ◌++◌, map, Ok, Err, sym, ap, ◌∙◌, subst}
+use Rattle.std.proofs.lemmas.List.{map-append, map_push}
 use Rattle.std.proofs.lemmas.List.Elements.{All-nil, All-cons, All-push, All-append}
 use Rattle.ot_plain.specs.Names.{Name}
 use Rattle.ot_plain.specs.Naming.{names}
@@ -10,14 +10,12 @@ use Rattle.ot_plain.specs.Trees.{Tm, Sequent, Definition}
 use Rattle.ot_plain.specs.Hol.{bool_ty, HasType as IsOfType, IsWellTyped, IsSequent, theorems}
 use Rattle.ot_plain.specs.Answers.{◌>>=◌, unless}
 use Rattle.ot_laws.specs.Theorem.{IsTheorem}
-use Rattle.ot_laws.proofs.Sets.{IsMember-map}
-use Rattle.ot_laws.proofs.Steps.{same_Ok}
 use Rattle.ot_laws.proofs.Tests.{tells_names}
 use Rattle.ot_laws.proofs.Theorems.{defined-theorem}
 use Rattle.ot_records.specs.Tokens as stated
 use Rattle.ot_records.specs.Steps.{is_sequent_within, assumption_step}
 use Rattle.ot_records.specs.State.{kept_once, makes_assumption, makes_definition, makes_result}
-use Rattle.ot_records.proofs.StateSound.{place_of, assumption-sound, definition-sound, result-sound}
+use Rattle.ot_records.proofs.StateSound.{assumption-sound, definition-sound, result-sound}
 use Rattle.ot_nodes.specs.Items.{Item, term_at}
 use Rattle.ot_rules.specs.Limits.{AreWellTyped}
 use Rattle.ot_rules.specs.Statements.{terms_at, sequent_at, HasStatement}
@@ -26,7 +24,8 @@ use Rattle.ot_rules.specs.Accepting.{accepted_at, HasAccepted}
 use Rattle.ot_rules.specs.declared.definition.Accepted.{Accepted}
 use Rattle.ot_verify.specs.Held.{Held, state_of, IsAcceptable, IsLog}
 use Rattle.ot_verify.proofs.Sound.{sound-stated, sound-here, premise-stated, acceptable-stated}
-use Rattle.ot_verify.proofs.Logging.{map-push}
+use Rattle.ot_plain.proofs.Members.{All-from_members, IsMember-map, IsMember-place}
+use Rattle.ot_plain.proofs.Results.{same_Ok}
 
 -- ---- terms of theorems are well typed
 all-typed : (ts : List (Tm Name)) → AllByRecursion (λ h. IsOfType names h (bool_ty names)) ts → All (IsWellTyped names) ts
@@ -36,16 +35,12 @@ all-typed (t ∷ ts) h = All-cons (IsWellTyped names) t ts (bool_ty names, h.0) 
 pub sequent-typed : (q : Sequent Name) → IsSequent names q → AreWellTyped q
 sequent-typed q h = record { hyps = all-typed q.hyps h.hyps; concl = (bool_ty names, h.concl) }
 
-all-from : {X : Type 0} (P : X → Type 0) (xs : List X) → ((x : X) → IsMember x xs → P x) → All P xs
-all-from P [] h = All-nil P
-all-from P (x ∷ xs) h = All-cons P x xs (h x (inl refl)) (all-from P xs (λ y m. h y (inr m)))
-
 pub theorems-typed : (al : List (Sequent Name)) (dl : List (Definition Name))
     (d : Definition Name) (ts : List Item) (qs : List Statement)
     → IsAcceptable al dl d → map (sequent_at ts) qs ≡ theorems names d → All (λ q. AreWellTyped (sequent_at ts q)) qs
 theorems-typed al dl d ts qs a are =
-    all-from (λ q. AreWellTyped (sequent_at ts q)) qs (λ q m.
-    let (j, at) = place_of (sequent_at ts q) (theorems names d)
+    All-from_members (λ q. AreWellTyped (sequent_at ts q)) qs (λ q m.
+    let (j, at) = IsMember-place (sequent_at ts q) (theorems names d)
     (subst (IsMember (sequent_at ts q)) are (IsMember-map (sequent_at ts) q qs m)) in
     sequent-typed (sequent_at ts q) (defined-theorem names tells_names al dl d
     a.next.fine (premise-stated d a.premise) j (sequent_at ts q) at).sequent)
@@ -76,7 +71,7 @@ module _ (ts : List Item) (h : Held) (l : IsLog ts h) where
         → makes_assumption names (Ok (sequent_at ts q)) (state_of ts h) ≡ Ok (state_of ts assumed)
     assumption-made e k =
         assumption-by true e
-        ∙ (λ i. Ok (record (state_of ts h) { sequents = sym (map-push (sequent_at ts) h.sequents q) i; assumptions = sym k i }))
+        ∙ (λ i. Ok (record (state_of ts h) { sequents = sym (map_push (sequent_at ts) h.sequents q) i; assumptions = sym k i }))
 
     pub assumption-deep : is_sequent_within names (sequent_at ts q) ≡ false
         → makes_assumption names (Ok (sequent_at ts q)) (state_of ts h) ≡ Err stated.LogNesting
@@ -135,7 +130,7 @@ module _ (ts : List Item) (h : Held) (l : IsLog ts h) where
           ∙ sym (map-append (sequent_at ts) h.sequents qs) in
           definition-by true e
           ∙ (λ i. Ok
-          (record (state_of ts h) { sequents = all i; definitions = sym (map-push (accepted_at ts) h.definitions a) i }))
+          (record (state_of ts h) { sequents = all i; definitions = sym (map_push (accepted_at ts) h.definitions a) i }))
 
       pub with-definition : All (HasStatement ts) qs
           → IsAcceptable (map (sequent_at ts) h.assumptions) (map (accepted_at ts) h.definitions) d

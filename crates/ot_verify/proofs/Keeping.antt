@@ -1,9 +1,8 @@
 -- What a log is after each addition, over a table that grew.
 use Rattle.std.specs.Prelude.{◌&&◌, nat_le, IsErrAnd}
 use Rattle.std.specs.List.{All, list_all}
-use Rattle.std.proofs.Common.{◌≡◌, ℕ, Bool, true, false, Option, Some, List, [], ◌∷◌, ◌++◌, map, slice_get, Result, Ok, Err, refl, sym, ap, ◌∙◌, subst, inl, inr}
+use Rattle.std.proofs.Common.{◌≡◌, ℕ, Bool, true, false, Option, Some, List, [], ◌∷◌, ◌++◌, map, slice_get, Result, Ok, Err, sym, ap, ◌∙◌, subst, inl, inr}
 use Rattle.std.proofs.lemmas.Bool.{and_parts}
-use Rattle.std.proofs.lemmas.List.Elements.{All-nil, All-cons}
 use Rattle.ot_plain.specs.Names.{Name}
 use Rattle.ot_plain.specs.Naming.{names}
 use Rattle.ot_plain.specs.Lists.{IsMember}
@@ -13,7 +12,6 @@ use Rattle.ot_plain.specs.Hol.{bool_ty, IsWellTyped, depth_ty, depth_tm, once_ea
 use Rattle.ot_plain.specs.Answers.{unless}
 use Rattle.ot_laws.specs.Theorem.{IsTheorem}
 use Rattle.ot_laws.proofs.Hypotheses.{IsMember-once_each}
-use Rattle.ot_laws.proofs.Steps.{same_Ok, bind-ok, unless-ok}
 use Rattle.ot_laws.proofs.Tests.{tells_names}
 use Rattle.ot_records.specs.Tokens as stated
 use Rattle.ot_records.specs.Steps.{log_depth, is_proposition, is_sequent_within, assumption_step}
@@ -41,7 +39,10 @@ use Rattle.ot_verify.specs.declared.log.Log.TheInside.{Inside}
 use Rattle.ot_verify.specs.declared.log.Refusal.{Refusal}
 use Rattle.ot_verify.specs.declared.log.Refusal.TheVariants as refusals
 use Rattle.ot_verify.proofs.Adding.{sequent-typed, theorems-typed, assumption-made, assumption-deep, with-assumption, definition-made, definition-deep, with-definition, result-made, with-result}
-use Rattle.ot_verify.proofs.Logging.{held_of, IsKept, map-push, accepted-stays, still-accepted, state-stays, log-grown, log-kept, sequent-here, theorem-now, state-then, with-type, type-made, type-deep, with-term, term-made, term-deep, with-sequent, sequent-made, sequent-deep}
+use Rattle.ot_verify.proofs.Logging.{held_of, IsKept, accepted-stays, still-accepted, state-stays, log-grown, log-kept, sequent-here, theorem-now, state-then, with-type, type-made, type-deep, with-term, term-made, term-deep, with-sequent, sequent-made, sequent-deep}
+use Rattle.ot_plain.proofs.Members.{All-from_members}
+use Rattle.ot_plain.proofs.Results.{bind-ok, same_Ok, unless-ok}
+use Rattle.std.proofs.lemmas.List.{map_push}
 
 -- a change of the same thing
 pub made-by : {A : Type 0} (f : A → Change names) (x y : A) (r : Result (Unit {0}) Refusal) (old mid new : LogState Name)
@@ -201,10 +202,6 @@ hyps-typed (y ∷ hs) h x (inl e) =
 hyps-typed (y ∷ hs) h x (inr m) = hyps-typed hs (and_parts (is_proposition names y) (list_all (is_proposition names) hs) h).1 x m
 hyps-typed [] h x m = absurd m
 
-all-members : {X : Type 0} (P : X → Type 0) (xs : List X) → ((x : X) → IsMember x xs → P x) → All P xs
-all-members P [] h = All-nil P
-all-members P (x ∷ xs) h = All-cons P x xs (h x (inl refl)) (all-members P xs (λ y m. h y (inr m)))
-
 step-typed : (hyps : List (Tm Name)) (p : Tm Name) (q : Sequent Name) → assumption_step names hyps p ≡ Ok q → AreWellTyped q
 step-typed hyps p q h =
     let test : Bool = is_proposition names p && list_all (is_proposition names) hyps in
@@ -213,7 +210,7 @@ step-typed hyps p q h =
     let made : Sequent Name = record { hyps = once_each names hyps; concl = p } in
     let typed : AreWellTyped made = record {
       hyps =
-          all-members (IsWellTyped names) (once_each names hyps)
+          All-from_members (IsWellTyped names) (once_each names hyps)
           (λ x m. hyps-typed hyps both.1 x ((IsMember-once_each names tells_names x hyps).0 m));
       concl = (bool_ty names, proposition-is names tells_names p both.0);
     } in
@@ -375,7 +372,7 @@ module _ (l : Inside) (k : IsKept l.nodes l) (now : LogView) (is : view_of l.nod
                   with-definition us (held_of l) (log-grown l.nodes us e (held_of l) k.log)
                   a accepted-there qs same' all acceptable-there (accepted-within true t);
               typings = t';
-              signature = subst (λ dl. IsSignature us dl s) (sym (map-push (accepted_at us) l.definitions.items a)) sig;
+              signature = subst (λ dl. IsSignature us dl s) (sym (map_push (accepted_at us) l.definitions.items a)) sig;
               assumptions = k.assumptions;
               results = k.results;
             })

@@ -1,9 +1,8 @@
 -- A log whose table grows, and what is added to it.
 use Rattle.std.specs.Prelude.{◌≢◌, nat_le}
-use Rattle.std.specs.List.{All}
-use Rattle.std.proofs.Common.{◌≡◌, ℕ, Bool, true, false, List, [], ◌∷◌, ◌++◌, map, slice_get, Option, Some, None, Result, Ok, Err, refl, sym, ap, ◌∙◌, subst, zero, suc, inl, inr}
+use Rattle.std.proofs.Common.{◌≡◌, ℕ, Bool, true, false, List, [], ◌∷◌, ◌++◌, map, slice_get, Option, Some, None, Result, Ok, Err, sym, ap, ◌∙◌, subst, zero, suc, inl, inr}
 use Rattle.std.proofs.lemmas.Option.{same_Some}
-use Rattle.std.proofs.lemmas.List.Elements.{All-nil, All-head, All-tail, All-push, All-weaker}
+use Rattle.std.proofs.lemmas.List.Elements.{All-nil, All-push, All-weaker}
 use Rattle.ot_plain.specs.Names.{Name}
 use Rattle.ot_plain.specs.Naming.{names}
 use Rattle.ot_plain.specs.Lists.{IsMember}
@@ -12,11 +11,10 @@ use Rattle.ot_plain.specs.Hol.{depth_ty, depth_tm, theorems}
 use Rattle.ot_plain.specs.Answers.{◌>>=◌, unless}
 use Rattle.ot_plain.specs.Table.{Extends}
 use Rattle.ot_laws.specs.Theorem.{IsTheorem}
-use Rattle.ot_laws.proofs.Sets.{IsMember-cases}
 use Rattle.ot_records.specs.Tokens as stated
 use Rattle.ot_records.specs.Steps.{Step, log_depth, is_sequent_within}
 use Rattle.ot_records.specs.State.{LogState, nothing_made, makes_type, makes_term, makes_sequent}
-use Rattle.ot_records.proofs.StateSound.{nothing-sound, member_at}
+use Rattle.ot_records.proofs.StateSound.{nothing-sound}
 use Rattle.ot_nodes.specs.Items.{Item, IsName, HasType, HasTerm, type_at, term_at}
 use Rattle.ot_nodes.specs.Typing.{AreTypings}
 use Rattle.ot_nodes.specs.declared.table.typing.Scope.{Scope}
@@ -40,14 +38,11 @@ use Rattle.ot_verify.specs.Held.{Held, state_of, view_of, IsSound, IsLog, IsWhol
 use Rattle.ot_verify.proofs.Sound.{sound-here}
 use Rattle.ot_verify.specs.declared.log.Log.TheInside.{Inside}
 use Rattle.ot_verify.specs.declared.log.Refusal.{Refusal}
+use Rattle.ot_plain.proofs.Elements.{All-slice_get, slice_get-map}
+use Rattle.ot_plain.proofs.Members.{IsMember-at, IsMember-cases}
+use Rattle.std.proofs.lemmas.List.{map_push}
 
 -- ---- places
-pub map-at : {X A : Type 0} (f : X → A) (xs : List X) (i : ℕ) (x : X) → slice_get xs i ≡ Some x
-    → slice_get (map f xs) i ≡ Some (f x)
-map-at f [] i x h = cc
-map-at f (y ∷ xs) zero x h = ap (λ z. Some (f z)) (same_Some y x h)
-map-at f (y ∷ xs) (suc i) x h = map-at f xs i x h
-
 pub map-none : {X A : Type 0} (f : X → A) (xs : List X) (i : ℕ) (a : A) → slice_get xs i ≡ None → slice_get (map f xs) i ≢ Some a
 map-none f [] i a h e = cc
 map-none f (y ∷ xs) zero a h e = cc
@@ -56,20 +51,11 @@ map-none f (y ∷ xs) (suc i) a h e = map-none f xs i a h e
 -- what stands at a place is what the number there stands for
 pub found-at : {X A : Type 0} (f : X → A) (xs : List X) (i : ℕ) (x : X) (a : A) → slice_get xs i ≡ Some x
     → slice_get (map f xs) i ≡ Some a → f x ≡ a
-found-at f xs i x a h e = same_Some (f x) a (sym (map-at f xs i x h) ∙ e)
-
-pub all-at : {X : Type 0} (P : X → Type 0) (xs : List X) (i : ℕ) (x : X) → All P xs → slice_get xs i ≡ Some x → P x
-all-at P [] i x h e = cc
-all-at P (y ∷ xs) zero x h e = subst P (same_Some y x e) (All-head P y xs h)
-all-at P (y ∷ xs) (suc i) x h e = all-at P xs i x (All-tail P y xs h) e
+found-at f xs i x a h e = same_Some (f x) a (sym (slice_get-map f xs i x h) ∙ e)
 
 -- a place of a list that is another
 pub at-same : {X : Type 0} (xs ys : List X) (i : ℕ) (o : Option X) → xs ≡ ys → slice_get xs i ≡ o → slice_get ys i ≡ o
 at-same xs ys i o e h = subst (λ s. slice_get s i ≡ o) e h
-
-pub map-push : {X A : Type 0} (f : X → A) (xs : List X) (x : X) → map f (xs ++ x ∷ []) ≡ map f xs ++ f x ∷ []
-map-push f [] x = refl
-map-push f (y ∷ xs) x = ap (λ l. f y ∷ l) (map-push f xs x)
 
 -- ---- a table that grows
 module _ (ts us : List Item) (e : Extends ts us) where
@@ -145,7 +131,7 @@ module _ (ts : List Item) (h : Held) (l : IsLog ts h) where
       ap (λ b. unless stated.LogNesting b
       >>= λ _. Ok (record (state_of ts h) { types = map (type_at ts) h.types ++ type_at ts id ∷ [] }))
       e
-      ∙ ap (λ ys. Ok (record (state_of ts h) { types = ys })) (sym (map-push (type_at ts) h.types id))
+      ∙ ap (λ ys. Ok (record (state_of ts h) { types = ys })) (sym (map_push (type_at ts) h.types id))
 
   pub type-deep : (id : ℕ) → nat_le (depth_ty names (type_at ts id)) log_depth ≡ false
       → makes_type names (type_at ts id) (state_of ts h) ≡ Err stated.LogNesting
@@ -177,7 +163,7 @@ module _ (ts : List Item) (h : Held) (l : IsLog ts h) where
       ap (λ b. unless stated.LogNesting b
       >>= λ _. Ok (record (state_of ts h) { terms = map (term_at ts) h.terms ++ term_at ts id ∷ [] }))
       e
-      ∙ ap (λ ys. Ok (record (state_of ts h) { terms = ys })) (sym (map-push (term_at ts) h.terms id))
+      ∙ ap (λ ys. Ok (record (state_of ts h) { terms = ys })) (sym (map_push (term_at ts) h.terms id))
 
   pub term-deep : (id : ℕ) → nat_le (depth_tm names (term_at ts id)) log_depth ≡ false
       → makes_term names (term_at ts id) (state_of ts h) ≡ Err stated.LogNesting
@@ -203,7 +189,7 @@ module _ (ts : List Item) (h : Held) (l : IsLog ts h) where
         definitions = l.definitions;
         results = l.results;
         sound = record {
-          sequents = subst (λ ys. (r : Sequent Name) → IsMember r ys → T r) (sym (map-push (sequent_at ts) h.sequents q)) more;
+          sequents = subst (λ ys. (r : Sequent Name) → IsMember r ys → T r) (sym (map_push (sequent_at ts) h.sequents q)) more;
           assumptions = l.sound.assumptions;
           accepted = l.sound.accepted;
           results = l.sound.results;
@@ -217,7 +203,7 @@ module _ (ts : List Item) (h : Held) (l : IsLog ts h) where
       ap (λ b. unless stated.LogNesting b
       >>= λ _. Ok (record (state_of ts h) { sequents = map (sequent_at ts) h.sequents ++ sequent_at ts q ∷ [] }))
       e
-      ∙ ap (λ ys. Ok (record (state_of ts h) { sequents = ys })) (sym (map-push (sequent_at ts) h.sequents q))
+      ∙ ap (λ ys. Ok (record (state_of ts h) { sequents = ys })) (sym (map_push (sequent_at ts) h.sequents q))
 
   pub sequent-deep : (q : Statement) → is_sequent_within names (sequent_at ts q) ≡ false
       → makes_sequent names (Ok (sequent_at ts q)) (state_of ts h) ≡ Err stated.LogNesting
@@ -342,27 +328,27 @@ theorem-here l us e k i q h =
     subst (λ (s : LogState Name). IsTheorem names s.assumptions s.definitions (sequent_at l.nodes q))
     (sym (state-stays l.nodes us e (held_of l) k.log))
     (k.log.sound.sequents (sequent_at l.nodes q)
-    (member_at (map (sequent_at l.nodes) l.sequents.items) i
-    (sequent_at l.nodes q) (map-at (sequent_at l.nodes) l.sequents.items i q h)))
+    (IsMember-at (map (sequent_at l.nodes) l.sequents.items) i
+    (sequent_at l.nodes q) (slice_get-map (sequent_at l.nodes) l.sequents.items i q h)))
 
 -- its numbers are of the table
 pub statement-here : (l : Inside) → IsKept l.nodes l → (i : ℕ) (q : Statement) → slice_get l.sequents.items i ≡ Some q
     → HasStatement l.nodes q
-statement-here l k i q h = all-at (HasStatement l.nodes) l.sequents.items i q k.log.sequents h
+statement-here l k i q h = All-slice_get (HasStatement l.nodes) l.sequents.items i q k.log.sequents h
 
 pub typed-here : (l : Inside) → IsKept l.nodes l → (i id : ℕ) → slice_get l.types.items i ≡ Some id → HasType l.nodes id
-typed-here l k i id h = all-at (HasType l.nodes) l.types.items i id k.log.types h
+typed-here l k i id h = All-slice_get (HasType l.nodes) l.types.items i id k.log.types h
 
 pub held-here : (l : Inside) → IsKept l.nodes l → (i id : ℕ) → slice_get l.terms.items i ≡ Some id → HasTerm l.nodes id
-held-here l k i id h = all-at (HasTerm l.nodes) l.terms.items i id k.log.terms h
+held-here l k i id h = All-slice_get (HasTerm l.nodes) l.terms.items i id k.log.terms h
 
 -- a sequent of the log is a theorem
 pub theorem-now : (l : Inside) → IsKept l.nodes l → (i : ℕ) (q : Statement) → slice_get l.sequents.items i ≡ Some q
     → IsTheorem names (state_of l.nodes (held_of l)).assumptions (state_of l.nodes (held_of l)).definitions (sequent_at l.nodes q)
 theorem-now l k i q h =
     k.log.sound.sequents (sequent_at l.nodes q)
-    (member_at (map (sequent_at l.nodes) l.sequents.items) i
-    (sequent_at l.nodes q) (map-at (sequent_at l.nodes) l.sequents.items i q h))
+    (IsMember-at (map (sequent_at l.nodes) l.sequents.items) i
+    (sequent_at l.nodes q) (slice_get-map (sequent_at l.nodes) l.sequents.items i q h))
 
 -- nothing is made yet
 abbrev pub nothing_held : Held

@@ -13,7 +13,6 @@ use Rattle.ot_plain.specs.Faults.{Fault, Nesting}
 use Rattle.ot_plain.specs.Answers.{◌>>=◌, unless}
 use Rattle.ot_plain.specs.declared.command.Cmd.TheVariants as words
 use Rattle.ot_laws.specs.Conditions.{checked_const, checked_list, checked_type}
-use Rattle.ot_laws.proofs.Steps.{same_Ok, bind-ok}
 use Rattle.ot_kernel.specs.Defining.{all_defined, all_used, limited_definition, const_definition, list_definition}
 use Rattle.ot_kernel.specs.Defining.{type_definition, zipped}
 use Rattle.ot_records.specs.Tokens.{LogFault, BadStep}
@@ -44,6 +43,7 @@ use Rattle.ot_proof_log.specs.Writing.{write_entries}
 use Rattle.ot_words.specs.Listing.{constant_operands}
 use Rattle.ot_words.specs.Recording.{Defined, HasResult, IsNotRefused}
 use Rattle.ot_words.proofs.Recorded.{err-ok, handed}
+use Rattle.ot_plain.proofs.Results.{bind-ok, same_Ok}
 
 -- ---- what is accepted
 

@@ -16,14 +16,14 @@ use Rattle.ot_plain.specs.Rules.{prove_hyp_rule}
 use Rattle.ot_plain.specs.declared.command.Cmd.{Cmd}
 use Rattle.ot_plain.specs.declared.command.Cmd.TheVariants as words
 use Rattle.ot_laws.proofs.Tests.{tells_names}
-use Rattle.ot_laws.proofs.Steps.{same_Ok, bind-ok, unless-ok, within_limit-ok}
+use Rattle.ot_laws.proofs.Steps.{within_limit-ok}
 use Rattle.ot_records.specs.Tokens.{LogFault, BadStep}
 use Rattle.ot_records.specs.Steps.{Step, is_well_typed, is_proposition, refl_step, beta_step, subst_step, assumption_step}
 use Rattle.ot_records.specs.Steps.{first_pairs}
 use Rattle.ot_entries.specs.Entries.{Entry}
 use Rattle.ot_entries.specs.Logged.{Log, write_sequents}
 use Rattle.ot_entries.specs.Expansions.{sym_entries, sym_of, trans_of, prove_hyp_entries}
-use Rattle.ot_entries.proofs.Firsts.{subst-first}
+use Rattle.ot_records.proofs.Firsts.{subst-first}
 use Rattle.ot_nodes.specs.Items.{Item, type_at, term_at}
 use Rattle.ot_rules.specs.Statements.{sequent_at, HasStatement, Gives}
 use Rattle.ot_rules.specs.declared.statement.Statement.{Statement}
@@ -44,6 +44,7 @@ use Rattle.ot_machine.specs.Values.{applied}
 use Rattle.ot_proof_log.specs.Derived.{theorem_entries}
 use Rattle.ot_words.specs.Recording.{HasResult, IsNotRefused, IsTheoremOf, Records, sides_at}
 use Rattle.ot_words.specs.declared.words.Made.{Made}
+use Rattle.ot_plain.proofs.Results.{bind-ok, same_Ok, unless-ok}
 
 -- ---- tables that grow
 

@@ -10,6 +10,7 @@ use Rattle.ot_trace.specs.Origins.{Origin}
 use Rattle.ot_trace.specs.Trace.{IsStepTable, origin_at}
 use Rattle.ot_write.specs.Emitting.{same, HasKeys, count_of}
 use Rattle.ot_written.proofs.Same.{same-origin-law}
+use Rattle.ot_plain.proofs.Elements.{slice_get-set_other, slice_get-set_same}
 
 eq-is : (a b : ℕ) → Decides (nat_eq a b) (a ≡ b)
 eq-is a b = (λ h. grind (arith, nat_tests), λ h. grind (arith, nat_tests))
@@ -38,18 +39,6 @@ key-snoc p o (q ∷ ps) = go (same p q) (w.key_of same p ps) (key-snoc p o ps)
     go true r e = refl
     go false r e = ap (option_map suc) e ∙ later r (same p o) (length ps)
 
-pub get-set_same : {X : Type 0} (xs : List X) (i : ℕ) (x : X) → i < length xs → slice_get (set xs i x) i ≡ Some x
-get-set_same [] i x h = absurd (omega arith)
-get-set_same (y ∷ xs) zero x h = refl
-get-set_same (y ∷ xs) (suc i) x h = get-set_same xs i x (omega arith)
-
-pub get-set_other : {X : Type 0} (xs : List X) (i j : ℕ) (x : X) → j ≢ i → slice_get (set xs i x) j ≡ slice_get xs j
-get-set_other [] i j x h = refl
-get-set_other (y ∷ xs) zero zero x h = absurd (h refl)
-get-set_other (y ∷ xs) zero (suc j) x h = refl
-get-set_other (y ∷ xs) (suc i) zero x h = refl
-get-set_other (y ∷ xs) (suc i) (suc j) x h = get-set_other xs i j x (λ e. h (ap suc e))
-
 module _ (ts : List (Origin ℕ)) (keys : List (Option ℕ)) (stored : List ℕ) (id : ℕ) (inside : id < length ts) (has : HasKeys ts keys stored) where
   more : (i : ℕ) → w.key_of same (origin_at ts i) (map (origin_at ts) (stored ++ id ∷ [])) ≡ or_last (w.key_of same (origin_at ts i) (map (origin_at ts) stored)) (same (origin_at ts i) (origin_at ts id)) (length stored)
   more i = ap (w.key_of same (origin_at ts i)) (map-append (origin_at ts) stored (id ∷ [])) ∙ key-snoc (origin_at ts i) (origin_at ts id) (map (origin_at ts) stored)
@@ -66,11 +55,11 @@ module _ (ts : List (Origin ℕ)) (keys : List (Option ℕ)) (stored : List ℕ)
       | inl e ↦
           let self : same (origin_at ts i) (origin_at ts id) ≡ true = (same-is (origin_at ts i) (origin_at ts id)).1 (ap (origin_at ts) e.1) in
           let empty : w.key_of same (origin_at ts i) (map (origin_at ts) stored) ≡ None = none-of i (ap (slice_get keys) e.1 ∙ free) h in
-          let there : slice_get (set keys id (Some (length stored))) i ≡ Some (Some (length stored)) = ap (slice_get (set keys id (Some (length stored)))) e.1 ∙ get-set_same keys id (Some (length stored)) (omega (arith, has.long)) in
+          let there : slice_get (set keys id (Some (length stored))) i ≡ Some (Some (length stored)) = ap (slice_get (set keys id (Some (length stored)))) e.1 ∙ slice_get-set_same keys id (Some (length stored)) (omega (arith, has.long)) in
           there ∙ ap Some (sym (more i ∙ rw (empty, self) refl))
       | inr e ↦
           let other : same (origin_at ts i) (origin_at ts id) ≡ false = differ i h e.1 in
-          get-set_other keys id i (Some (length stored)) e.1 ∙ has.each i h ∙ ap Some (sym (more i ∙ rw other (or_none (w.key_of same (origin_at ts i) (map (origin_at ts) stored)))))
+          slice_get-set_other keys id i (Some (length stored)) e.1 ∙ has.each i h ∙ ap Some (sym (more i ∙ rw other (or_none (w.key_of same (origin_at ts i) (map (origin_at ts) stored)))))
     ];
   }
     where

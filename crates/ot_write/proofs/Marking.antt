@@ -17,20 +17,12 @@ use Rattle.ot_written.proofs.NeededLaw.{among-to, among-from}
 use Rattle.ot_written.proofs.Renaming.{filter-map}
 use Rattle.ot_written.proofs.Walk.{marked-to, marked-in, marked-distinct, get-low, needed-by-test}
 use Rattle.ot_write.specs.Emitting.{same, is_marked, taken}
-use Rattle.ot_write.proofs.Keys.{same-is, once-at, get-set_same, get-set_other}
+use Rattle.ot_write.proofs.Keys.{same-is, once-at}
+use Rattle.ot_plain.proofs.Elements.{slice_get-set_other, slice_get-set_same}
+use Rattle.ot_plain.proofs.Members.{IsMember-map, IsMember-map_back}
 
 abbrev pub IsIn : ℕ → List ℕ → Type 0
 IsIn n is = (i : ℕ) → IsMember i is → i < n
-
-member-map : {X Y : Type 0} (f : X → Y) (y : Y) (xs : List X) → IsMember y (map f xs) → (x : X) × IsMember x xs × (f x ≡ y)
-member-map f y [] m = elim m [ ]
-member-map f y (x ∷ xs) (inl e) = (x, inl refl, e)
-member-map f y (x ∷ xs) (inr m) = let r = member-map f y xs m in (r.0, inr r.1, r.2)
-
-map-member : {X Y : Type 0} (f : X → Y) (x : X) (xs : List X) → IsMember x xs → IsMember (f x) (map f xs)
-map-member f x (y ∷ xs) (inl e) = inl (ap f e)
-map-member f x (y ∷ xs) (inr m) = inr (map-member f x xs m)
-map-member f x [] m = elim m [ ]
 
 module _ (ts : List (Origin ℕ)) (table : IsStepTable ts) (roots ds : List ℕ) (roots_in : IsIn (length ts) roots) (ds_in : IsIn (length ts) ds) (marks : List Bool) (w : MarksReached ts roots ds marks) where
   abbrev at : ℕ → Origin ℕ
@@ -50,7 +42,7 @@ module _ (ts : List (Origin ℕ)) (table : IsStepTable ts) (roots ds : List ℕ)
   part-in i k p h l e = (k, omega arith, e)
 
   in-table : (o : Origin ℕ) → IsReached R D o → Found o
-  in-table o (Root _ m) = let r = member-map at o roots m in (r.0, roots_in r.0 r.1, r.2)
+  in-table o (Root _ m) = let r = IsMember-map_back at o roots m in (r.0, roots_in r.0 r.1, r.2)
   in-table p (Operand o _ a m) =
       let x = in-table o a in
       let k = table.closed x.0 p x.1 (inl (subst (λ z. IsMember p (operands z)) (sym x.2) m)) in
@@ -59,7 +51,7 @@ module _ (ts : List (Origin ℕ)) (table : IsStepTable ts) (roots ds : List ℕ)
       let x = in-table (Outcome j d) a in
       let k = table.closed x.0 d x.1 (inr (j, x.2)) in
       part-in x.0 k.0 d x.1 k.1 k.2
-  in-table d (OfSymbol o _ a m s) = let r = member-map at d ds m in (r.0, ds_in r.0 r.1, r.2)
+  in-table d (OfSymbol o _ a m s) = let r = IsMember-map_back at d ds m in (r.0, ds_in r.0 r.1, r.2)
 
   -- ---- the marked numbers
 
@@ -80,17 +72,17 @@ module _ (ts : List (Origin ℕ)) (table : IsStepTable ts) (roots ds : List ℕ)
   marked-member i h = let e : 0 + i ≡ i = omega arith in subst (λ z. IsMember z marked) e (marked-in marks 0 i h)
 
   marked-reached : (o : Origin ℕ) → IsMember o (map at marked) → IsReached R D o
-  marked-reached o m = let r = member-map at o marked m in let p = marked-place r.0 r.1 in subst (IsReached R D) r.2 ((w.marked r.0 p.1).0 p.0)
+  marked-reached o m = let r = IsMember-map_back at o marked m in let p = marked-place r.0 r.1 in subst (IsReached R D) r.2 ((w.marked r.0 p.1).0 p.0)
 
   reached-marked : (o : Origin ℕ) → IsReached R D o → IsMember o (map at marked)
   reached-marked o a =
       let x = in-table o a in
-      subst (λ z. IsMember z (map at marked)) x.2 (map-member at x.0 marked (marked-member x.0 ((w.marked x.0 x.1).1 (subst (IsReached R D) (sym x.2) a))))
+      subst (λ z. IsMember z (map at marked)) x.2 (IsMember-map at x.0 marked (marked-member x.0 ((w.marked x.0 x.1).1 (subst (IsReached R D) (sym x.2) a))))
 
   distinct-origins : (is : List ℕ) → IsIn (length ts) is → AreDistinct is → AreDistinct (map at is)
   distinct-origins [] h d = tt
   distinct-origins (i ∷ is) h d = (
-    λ m. let r = member-map at (at i) is m in d.0 (subst (λ z. IsMember z is) (once-at ts table r.0 i (h r.0 (inr r.1)) (h i (inl refl)) r.2) r.1),
+    λ m. let r = IsMember-map_back at (at i) is m in d.0 (subst (λ z. IsMember z is) (once-at ts table r.0 i (h r.0 (inr r.1)) (h i (inl refl)) r.2) r.1),
     distinct-origins is (λ j m. h j (inr m)) d.1,
   )
 
@@ -145,7 +137,7 @@ module _ (ts : List (Origin ℕ)) (table : IsStepTable ts) (roots ds : List ℕ)
       | inl e ↦ (let r = marked-reached (at i) (among-to same same-is (at i) found e) in is-of-get marks i true ((w.marked i h).1 r) ∙ sym (rw e refl))
       | inr e ↦ elim (bool_cases (is_marked marks i)) [
         | inl f ↦ absurd (let n : length marks ≡ length ts = w.length_is in let g : slice_get marks i ≡ Some true = marked-is marks i (omega arith) ∙ ap Some f in
-            let z : is_among same (at i) found ≡ true = among-from same same-is (at i) found (map-member at i marked (marked-member i g)) in cc)
+            let z : is_among same (at i) found ≡ true = among-from same same-is (at i) found (IsMember-map at i marked (marked-member i g)) in cc)
         | inr f ↦ f ∙ sym (rw e refl)
       ]
     ],
@@ -180,10 +172,10 @@ module _ (ts : List (Origin ℕ)) (table : IsStepTable ts) (roots ds : List ℕ)
   unmarked-next now seen x k a = (
     set-long now x false ∙ a.0,
     λ i h. elim (cases-of i x) [
-      | inl e ↦ (let n : length now ≡ length ts = a.0 in is-of-get (set now x false) i false (ap (slice_get (set now x false)) e ∙ get-set_same now x false (omega arith))
+      | inl e ↦ (let n : length now ≡ length ts = a.0 in is-of-get (set now x false) i false (ap (slice_get (set now x false)) e ∙ slice_get-set_same now x false (omega arith))
           ∙ sym (ap (λ z. is_among same (at i) found && not (is_among same (at z) (at x ∷ seen))) e ∙ ap (λ b. is_among same (at i) found && not b) (seen-self x seen) ∙ never (is_among same (at i) found)))
       | inr n ↦ (let m : length now ≡ length ts = a.0 in let s : length (set now x false) ≡ length now = set-long now x false in
-          is-of-get (set now x false) i (is_marked now i) (get-set_other now x i false n ∙ marked-is now i (omega arith)) ∙ a.1 i h ∙ ap (λ b. is_among same (at i) found && not b) (sym (seen-other i x seen h k n)))
+          is-of-get (set now x false) i (is_marked now i) (slice_get-set_other now x i false n ∙ marked-is now i (omega arith)) ∙ a.1 i h ∙ ap (λ b. is_among same (at i) found && not b) (sym (seen-other i x seen h k n)))
     ],
   )
     where

@@ -8,8 +8,9 @@ use Rattle.ot_written.specs.Written.{Line, Numeral, Spelled, Order, Text, theore
 use Rattle.ot_plain.specs.declared.command.Cmd.{Cmd}
 use Rattle.ot_plain.specs.declared.command.Cmd.TheVariants as words
 use Rattle.ot_written.proofs.Settled.{IsMark, EachOutcome, EachOutcomes}
-use Rattle.ot_written.proofs.Members.{member-left, member-cases, member-last, member-get}
+use Rattle.ot_written.proofs.Members.{member-get}
 use Rattle.ot_written.proofs.Growth.{key-get, key-none, Grows, grows-store, grows-emit, grows-emit_all, grows-pops, grows-outcomes, outcomes-mono}
+use Rattle.ot_plain.proofs.Members.{IsMember-cases, IsMember-last, IsMember-left}
 
 module _ {N : Type 0} where
   -- each mark among these is made
@@ -21,13 +22,13 @@ module _ {N : Type 0} where
   IsCovered t = (x : Origin N) → IsMember x t.stored → AreMade (parts x) t
 
   pub grown-made : (ps : List (Origin N)) (t u : Text N) → Grows t u → AreMade ps t → AreMade ps u
-  grown-made ps t u g h p m k = subst (λ l. IsMember p l) (sym g.made) (member-left p t.made g.more (h p m k))
+  grown-made ps t u g h p m k = subst (λ l. IsMember p l) (sym g.made) (IsMember-left p t.made g.more (h p m k))
 
   module _ (same : Origin N → Origin N → Bool) (same-is : (a b : Origin N) → Decides (same a b) (a ≡ b)) (keep : Origin N → Bool) where
     -- what is stored next is covered
     store-covered : (b : Bool) (o : Origin N) (t : Text N) → AreMade (parts o) t → IsCovered t → IsCovered (cond b (w.store same o t) t)
     store-covered false o t h c x m = c x m
-    store-covered true o t h c x m = elim (member-cases x t.stored (o ∷ []) m) [ inl p ↦ c x p | inr p ↦ elim p [ inl e ↦ subst (λ z. AreMade (parts z) t) e h | inr q ↦ elim q [ ] ] ]
+    store-covered true o t h c x m = elim (IsMember-cases x t.stored (o ∷ []) m) [ inl p ↦ c x p | inr p ↦ elim p [ inl e ↦ subst (λ z. AreMade (parts z) t) e h | inr q ↦ elim q [ ] ] ]
 
     -- a text with its origin written
     pub record IsDone (o : Origin N) (u : Text N) : Type 0 where
@@ -51,8 +52,8 @@ module _ {N : Type 0} where
       emit-done (Named n) t h c =
           recalled-done (w.key_of same (Named n) t.stored) (λ u. w.keep_made same keep (Named n) (w.make same (Named n) (Spelled n) u)) t (Named n) refl c
           (λ new. kept-done (Named n) (w.make same (Named n) (Spelled n) t) (record {
-            parts_made = λ p m q. elim m [ inl e ↦ subst (λ z. IsMember z (t.made ++ Named n ∷ [])) e (member-last (Named n) t.made) | inr n ↦ elim n [ ] ];
-            covered = λ x m p q r. member-left p t.made (Named n ∷ []) (c x m p q r);
+            parts_made = λ p m q. elim m [ inl e ↦ subst (λ z. IsMember z (t.made ++ Named n ∷ [])) e (IsMember-last (Named n) t.made) | inr n ↦ elim n [ ] ];
+            covered = λ x m p q r. IsMember-left p t.made (Named n ∷ []) (c x m p q r);
           }))
       emit-done (Make d os) t h c =
           let o : Origin N = Make d os in
@@ -61,8 +62,8 @@ module _ {N : Type 0} where
           (λ new.
           let rest = emit_all-done os t h c in
           kept-done o (w.make same o (Order d) u) (record {
-            parts_made = λ p m q. elim m [ inl e ↦ subst (λ z. IsMember z (u.made ++ o ∷ [])) e (member-last o u.made) | inr n ↦ member-left p u.made (o ∷ []) (rest.parts_made p n q) ];
-            covered = λ x m p q r. member-left p u.made (o ∷ []) (rest.covered x m p q r);
+            parts_made = λ p m q. elim m [ inl e ↦ subst (λ z. IsMember z (u.made ++ o ∷ [])) e (IsMember-last o u.made) | inr n ↦ IsMember-left p u.made (o ∷ []) (rest.parts_made p n q) ];
+            covered = λ x m p q r. IsMember-left p u.made (o ∷ []) (rest.covered x m p q r);
           }))
       emit-done (Define d os) t h c = elim h [ ]
       emit-done (Outcome j d) t h c = recalled-done (w.key_of same (Outcome j d) t.stored) (λ u. u) t (Outcome j d) refl c (λ new. absurd (new h))
@@ -75,7 +76,7 @@ module _ {N : Type 0} where
           let later = outcomes-mono (λ r. IsMember r t.stored) (λ r. IsMember r u.stored) ((grows-emit same keep o t).stored) os h.1 in
           let rest = emit_all-done os u later first.covered in
           record {
-            parts_made = λ p m q. elim (member-cases p (parts o) (parts_all os) m) [ inl a ↦ grown-made (parts o) u _ (grows-emit_all same keep os u) first.parts_made p a q | inr b ↦ rest.parts_made p b q ];
+            parts_made = λ p m q. elim (IsMember-cases p (parts o) (parts_all os) m) [ inl a ↦ grown-made (parts o) u _ (grows-emit_all same keep os u) first.parts_made p a q | inr b ↦ rest.parts_made p b q ];
             covered = rest.covered;
           }
 
@@ -96,8 +97,8 @@ module _ {N : Type 0} where
           let made : Text N = w.make same d (Order c) u in
           let proved : Text N = w.outcomes same keep used d (theorem_count c) made in
           let rest = emit_all-done os t h i in
-          let all : AreMade (parts d) made = λ p m q. elim m [ inl e ↦ subst (λ z. IsMember z (u.made ++ d ∷ [])) e (member-last d u.made) | inr n ↦ member-left p u.made (d ∷ []) (rest.parts_made p n q) ] in
-          let covered : IsCovered proved = outcomes-done d (theorem_count c) made all (λ x m p q r. member-left p u.made (d ∷ []) (rest.covered x m p q r)) in
+          let all : AreMade (parts d) made = λ p m q. elim m [ inl e ↦ subst (λ z. IsMember z (u.made ++ d ∷ [])) e (IsMember-last d u.made) | inr n ↦ IsMember-left p u.made (d ∷ []) (rest.parts_made p n q) ] in
+          let covered : IsCovered proved = outcomes-done d (theorem_count c) made all (λ x m p q r. IsMember-left p u.made (d ∷ []) (rest.covered x m p q r)) in
           record {
             parts_made = grown-made (parts d) proved _ (grows-pops same keep used (symbol_count c) proved) (grown-made (parts d) made proved (grows-outcomes same keep used d (theorem_count c) made) all);
             covered = pops-covered (symbol_count c) proved covered;

@@ -3,7 +3,7 @@ use Rattle.std.proofs.Common.{◌≡◌, suc, ◌<◌, ◌≤◌, ◌⊎◌, inl
 use Rattle.std.specs.Prelude.{◌||◌, ◌&&◌}
 use Rattle.std.specs.List.{filter, list_any, flat_map}
 use Rattle.ot_plain.specs.Lists.{IsMember, AreDistinct}
-use Rattle.ot_written.proofs.Members.{member-left, member-right, member-cases}
+use Rattle.ot_plain.proofs.Members.{IsMember-cases, IsMember-left, IsMember-right}
 
 pub bool_cases : (b : Bool) → (b ≡ true) ⊎ (b ≡ false)
 bool_cases true = inl refl
@@ -93,12 +93,12 @@ module _ {X : Type 0} where
 
 pub member-flat_map : {X A : Type 0} (a : A) (f : X → List A) (xs : List X) → IsMember a (flat_map f xs) → (x : X) × IsMember x xs × IsMember a (f x)
 member-flat_map a f [] m = elim m [ ]
-member-flat_map a f (x ∷ xs) m = elim (member-cases a (f x) (flat_map f xs) m) [ inl p ↦ (x, inl refl, p) | inr p ↦ (let r = member-flat_map a f xs p in (r.0, inr r.1, r.2)) ]
+member-flat_map a f (x ∷ xs) m = elim (IsMember-cases a (f x) (flat_map f xs) m) [ inl p ↦ (x, inl refl, p) | inr p ↦ (let r = member-flat_map a f xs p in (r.0, inr r.1, r.2)) ]
 
 pub flat_map-member : {X A : Type 0} (a : A) (x : X) (f : X → List A) (xs : List X) → IsMember x xs → IsMember a (f x) → IsMember a (flat_map f xs)
 flat_map-member a x f [] m p = elim m [ ]
-flat_map-member a x f (y ∷ xs) (inl e) p = member-left a (f y) (flat_map f xs) (subst (λ z. IsMember a (f z)) (sym e) p)
-flat_map-member a x f (y ∷ xs) (inr m) p = member-right a (f y) (flat_map f xs) (flat_map-member a x f xs m p)
+flat_map-member a x f (y ∷ xs) (inl e) p = IsMember-left a (f y) (flat_map f xs) (subst (λ z. IsMember a (f z)) (sym e) p)
+flat_map-member a x f (y ∷ xs) (inr m) p = IsMember-right a (f y) (flat_map f xs) (flat_map-member a x f xs m p)
 
 pub filter-filter : {X : Type 0} (p q : X → Bool) (xs : List X) → filter p (filter q xs) ≡ filter (λ x. p x && q x) xs
 filter-filter p q [] = refl

@@ -12,7 +12,7 @@ use Rattle.ot_trace.specs.Origins.{Roots}
 use Rattle.ot_plain.specs.declared.command.Cmd.{Cmd}
 use Rattle.ot_plain.specs.declared.command.Cmd.TheVariants as words
 use Rattle.ot_written.proofs.Settled.{EachOutcome, EachOutcomes}
-use Rattle.ot_written.proofs.Members.{member-left}
+use Rattle.ot_plain.proofs.Members.{IsMember-left}
 
 pub flat_map-snoc : {X A : Type 0} (f : X → List A) → (xs : List X) (x : X) → flat_map f (xs ++ x ∷ []) ≡ flat_map f xs ++ f x
 flat_map-snoc f [] x = append-nil (f x)
@@ -79,7 +79,7 @@ module _ {N : Type 0} where
     grows-make o l t = record { more = o ∷ []; made = refl; stored = λ r p. p }
 
     pub grows-store : (b : Bool) (o : Origin N) (t : Text N) → Grows t (cond b (w.store same o t) t)
-    grows-store true o t = record { more = []; made = sym (append-nil t.made); stored = λ r p. member-left r t.stored (o ∷ []) p }
+    grows-store true o t = record { more = []; made = sym (append-nil t.made); stored = λ r p. IsMember-left r t.stored (o ∷ []) p }
     grows-store false o t = grows-refl t
 
     grows-recalled : (k : Option ℕ) (write : Text N → Text N) (t : Text N) → Grows t (write t) → Grows t (w.recalled same k write t)

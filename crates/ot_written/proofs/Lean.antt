@@ -12,9 +12,9 @@ use Rattle.ot_plain.specs.declared.command.Cmd.{Cmd}
 use Rattle.ot_plain.specs.declared.command.Cmd.TheVariants as words
 use Rattle.std.specs.Prelude.{pos}
 use Rattle.ot_written.proofs.Settled.{stores, IsMade, IsNeededList}
-use Rattle.ot_written.proofs.Members.{member-left, member-right, member-cases, member-last, distinct-last}
 use Rattle.ot_written.proofs.Counting.{count-append, count-moved, count-self, count-more, count-member, sum-part}
 use Rattle.ot_written.proofs.Growth.{flat_map-snoc, key-none, made-store, grows-store, grows-pops, grows-outcomes, made-definition}
+use Rattle.ot_plain.proofs.Members.{AreDistinct-push, IsMember-cases, IsMember-last, IsMember-left, IsMember-right}
 
 module _ {N : Type 0} where
   abbrev mutual
@@ -53,7 +53,7 @@ module _ {N : Type 0} (same : Origin N → Origin N → Bool) (same-is : (a b : 
   fresh-claim ops o ps t bigger new need mark i h = go (stores same keep o) refl
     where
       go : (b : Bool) → stores same keep o ≡ b → ⊥
-      go true e = elim (member-cases o ops t.made h) [ inl p ↦ (let q = bigger o p in absurd (omega arith)) | inr p ↦ new e (i.kept o p e) ]
+      go true e = elim (IsMember-cases o ops t.made h) [ inl p ↦ (let q = bigger o p in absurd (omega arith)) | inr p ↦ new e (i.kept o p e) ]
       go false e =
           let most = needs.once o need mark e in
           let all = sum-part same same-is operands (ops ++ t.made) needed i.distinct i.inside o in
@@ -79,8 +79,8 @@ module _ {N : Type 0} (same : Origin N → Origin N → Bool) (same-is : (a b : 
   close-claim ops o ps t u e grown held i =
       let moved : ops ++ u.made ≡ (ops ++ t.made) ++ o ∷ [] = ap (λ l. ops ++ l) e ∙ sym (append_assoc ops t.made (o ∷ [])) in
       record {
-        distinct = subst (λ l. AreDistinct l) (sym moved) (distinct-last (ops ++ t.made) o i.distinct.1 i.distinct.0);
-        inside = λ x m. elim (member-cases x (ops ++ t.made) (o ∷ []) (subst (λ l. IsMember x l) moved m)) [ inl p ↦ i.inside x (inr p) | inr p ↦ elim p [ inl q ↦ i.inside x (inl q) | inr q ↦ elim q [ ] ] ];
+        distinct = subst (λ l. AreDistinct l) (sym moved) (AreDistinct-push (ops ++ t.made) o i.distinct.1 i.distinct.0);
+        inside = λ x m. elim (IsMember-cases x (ops ++ t.made) (o ∷ []) (subst (λ l. IsMember x l) moved m)) [ inl p ↦ i.inside x (inr p) | inr p ↦ elim p [ inl q ↦ i.inside x (inl q) | inr q ↦ elim q [ ] ] ];
         claims = λ x.
             let h = i.claims x in
             let a = count-append same same-is x (ops ++ t.made) (o ∷ []) in
@@ -89,7 +89,7 @@ module _ {N : Type 0} (same : Origin N → Origin N → Bool) (same-is : (a b : 
             let d = count-moved same same-is x o (ops ++ t.made) [] in
             let f = count-append same same-is x (operands o) (flat_map operands (ops ++ t.made)) in
             subst (λ l. count same x l + count same x ps ≤ count same x roots + count same x (flat_map operands l)) (sym moved) (omega arith);
-        kept = λ x m h. elim (member-cases x t.made (o ∷ []) (subst (λ l. IsMember x l) e m)) [ inl p ↦ grown x (i.kept x p h) | inr p ↦ elim p [ inl q ↦ subst (λ z. IsMember z u.stored) q (held (ap (stores same keep) q ∙ h)) | inr q ↦ elim q [ ] ] ];
+        kept = λ x m h. elim (IsMember-cases x t.made (o ∷ []) (subst (λ l. IsMember x l) e m)) [ inl p ↦ grown x (i.kept x p h) | inr p ↦ elim p [ inl q ↦ subst (λ z. IsMember z u.stored) q (held (ap (stores same keep) q ∙ h)) | inr q ↦ elim q [ ] ] ];
       }
 
   listed-needed : (o : Origin N) (c : Cmd) (os : Origins N) → operands o ≡ listed os → IsMember o needed → (x : Origin N) → IsMember x (listed os) → IsMember x needed
@@ -100,7 +100,7 @@ module _ {N : Type 0} (same : Origin N → Origin N → Bool) (same-is : (a b : 
   recalled-fine (Some k) write t ops o ps e i new = drop-claim ops o ps t (w.put same (Order words.Ref) (w.put same (Numeral (pos k)) t)) refl refl i
 
   stored-made : (o : Origin N) (t : Text N) → keep o ≡ true → IsMember o (w.keep_made same keep o t).stored
-  stored-made o t e = subst (λ b. IsMember o (cond b (w.store same o t) t).stored) (sym e) (member-last o t.stored)
+  stored-made o t e = subst (λ b. IsMember o (cond b (w.store same o t) t).stored) (sym e) (IsMember-last o t.stored)
 
   mutual
     emit-fine : (o : Origin N) (t : Text N) (ops ps : List (Origin N)) → ((x : Origin N) → IsMember x ops → size o < size x) → IsMember o needed → IsFine ops (o ∷ ps) t → IsFine ops ps (w.emit same keep o t)
@@ -139,7 +139,7 @@ module _ {N : Type 0} (same : Origin N → Origin N → Bool) (same-is : (a b : 
     recalled-keeps (Some k) write t h m = m
 
     made-keeps : (o : Origin N) (l : Line N) (t : Text N) → (o ≡ Define c ps → ⊥) → IsMember (Define c ps) (w.keep_made same keep o (w.make same o l t)).made → IsMember (Define c ps) t.made
-    made-keeps o l t n m = elim (member-cases (Define c ps) t.made (o ∷ []) (subst (λ z. IsMember (Define c ps) z) (made-store same (keep o) o (w.make same o l t)) m)) [ inl a ↦ a | inr b ↦ elim b [ inl e ↦ absurd (n e) | inr q ↦ elim q [ ] ] ]
+    made-keeps o l t n m = elim (IsMember-cases (Define c ps) t.made (o ∷ []) (subst (λ z. IsMember (Define c ps) z) (made-store same (keep o) o (w.make same o l t)) m)) [ inl a ↦ a | inr b ↦ elim b [ inl e ↦ absurd (n e) | inr q ↦ elim q [ ] ] ]
 
     mutual
       emit-keeps : (o : Origin N) (t : Text N) → IsMember (Define c ps) (w.emit same keep o t).made → IsMember (Define c ps) t.made
@@ -177,7 +177,7 @@ module _ {N : Type 0} (same : Origin N → Origin N → Bool) (same-is : (a b : 
         definitions-fine ds (w.emit_definition same keep used d t) ps one.1 (later d one.0 none) (λ e m. need e (inr m)) (first d (need d (inl refl)) (λ c os e. none c os (inl e)) i)
       where
         later : (d : Origin N) → ¬ (IsMember d ds) → NoneMade (d ∷ ds) t → NoneMade ds (w.emit_definition same keep used d t)
-        later (Define c os) apart none e qs m h = elim (member-cases (Define e qs) (w.emit_all same keep os t).made (Define c os ∷ []) (subst (λ z. IsMember (Define e qs) z) (made-definition same keep used c os t) h)) [
+        later (Define c os) apart none e qs m h = elim (IsMember-cases (Define e qs) (w.emit_all same keep os t).made (Define c os ∷ []) (subst (λ z. IsMember (Define e qs) z) (made-definition same keep used c os t) h)) [
           | inl a ↦ none e qs (inr m) (emit_all-keeps e qs os t a)
           | inr b ↦ elim b [ inl p ↦ apart (subst (λ z. IsMember z ds) (sym p) m) | inr q ↦ q ]
         ]
@@ -216,6 +216,6 @@ written-once {N} same same-is keep used ds es needed one needs =
     let roots : List (Origin N) = ds ++ roots_of es in
     let mid : Text N = w.emit_definitions same keep used ds begin in
     let first : IsFine same same-is keep roots needed needs [] roots begin = record { distinct = tt; inside = λ x m. elim m [ ]; claims = λ x. omega arith; kept = λ x m. elim m [ ] } in
-    let defs : IsFine same same-is keep roots needed needs [] (roots_of es) mid = definitions-fine same same-is keep roots needed needs used ds begin (roots_of es) one (λ c ps m h. h) (λ d m. needs.has_roots d (member-left d ds (roots_of es) m)) first in
-    let all = exports-fine same same-is keep roots needed needs used es mid (λ o m. needs.has_roots o (member-right o ds (roots_of es) m)) defs in
+    let defs : IsFine same same-is keep roots needed needs [] (roots_of es) mid = definitions-fine same same-is keep roots needed needs used ds begin (roots_of es) one (λ c ps m h. h) (λ d m. needs.has_roots d (IsMember-left d ds (roots_of es) m)) first in
+    let all = exports-fine same same-is keep roots needed needs used es mid (λ o m. needs.has_roots o (IsMember-right o ds (roots_of es) m)) defs in
     (all.distinct, all.inside)

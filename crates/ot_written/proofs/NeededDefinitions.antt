@@ -8,9 +8,9 @@ use Rattle.ot_trace.specs.Origins.{Origin, Origins, Number, Named, Make, Define,
 use Rattle.ot_written.specs.Needed as n
 use Rattle.ot_trace.specs.Reach.{IsReached, Root, Operand, OfTheorem, OfSymbol}
 use Rattle.ot_written.specs.Needed.{firsts}
-use Rattle.ot_written.proofs.Members.{member-left, member-right, member-cases}
 use Rattle.ot_written.proofs.Filters.{bool_cases, or_cases, or_left, or_right, filter-to, filter-from, filter-all, filter-distinct, filter-length, filter-grows, any-to, any-from, member-flat_map, flat_map-member}
 use Rattle.ot_written.proofs.Parts.{part-self, part-operand, part-theorem}
+use Rattle.ot_plain.proofs.Members.{IsMember-cases, IsMember-left, IsMember-right}
 
 module _ {N : Type 0} (same : Origin N → Origin N → Bool) (same-is : (a b : Origin N) → Decides (same a b) (a ≡ b)) where
   pub firsts-to : (x : Origin N) (xs : List (Origin N)) → IsMember x (firsts same xs) → IsMember x xs
@@ -66,7 +66,7 @@ module _ {N : Type 0} (same : Origin N → Origin N → Bool) (same-is : (a b : 
     touched-mono : (xs ys : List (Origin N)) → IsPart xs ys → (d : Origin N) → touched xs d ≡ true → touched ys d ≡ true
     touched-mono xs ys h d e =
         let x = any-to (n.touches same d) (roots ++ xs) e in
-        any-from (n.touches same d) x.0 (roots ++ ys) (elim (member-cases x.0 roots xs x.1) [ inl a ↦ member-left x.0 roots ys a | inr b ↦ member-right x.0 roots ys (h x.0 b) ]) x.2
+        any-from (n.touches same d) x.0 (roots ++ ys) (elim (IsMember-cases x.0 roots xs x.1) [ inl a ↦ IsMember-left x.0 roots ys a | inr b ↦ IsMember-right x.0 roots ys (h x.0 b) ]) x.2
 
     rounds-part : (k : ℕ) → IsPart (after k) (after (suc k))
     rounds-part zero x m = elim m [ ]
@@ -115,7 +115,7 @@ module _ {N : Type 0} (same : Origin N → Origin N → Bool) (same-is : (a b : 
 
       pub reached-parts : (os : Origins N) (p : Origin N) → ((q : Origin N) → IsMember q (listed os) → Reached q) → IsMember p (parts_all os) → Reached p
       reached-parts NoOrigins p h m = elim m [ ]
-      reached-parts (MoreOrigins o os) p h m = elim (member-cases p (parts o) (parts_all os) m) [
+      reached-parts (MoreOrigins o os) p h m = elim (IsMember-cases p (parts o) (parts_all os) m) [
         | inl a ↦ reached-part o p (h o (inl refl)) a
         | inr b ↦ reached-parts os p (λ q i. h q (inr i)) b
       ]
@@ -125,21 +125,21 @@ module _ {N : Type 0} (same : Origin N → Origin N → Bool) (same-is : (a b : 
     rounds-reached (suc k) d m =
         let a = filter-to (touched roots ds (n.rounds same k roots ds)) d ds m in
         let x = any-to (n.touches same d) (roots ++ n.rounds same k roots ds) a.1 in
-        let here : Reached x.0 = elim (member-cases x.0 roots (n.rounds same k roots ds) x.1) [ inl r ↦ Root x.0 r | inr f ↦ (rounds-reached k x.0 f).1 ] in
+        let here : Reached x.0 = elim (IsMember-cases x.0 roots (n.rounds same k roots ds) x.1) [ inl r ↦ Root x.0 r | inr f ↦ (rounds-reached k x.0 f).1 ] in
         (a.0, elim (touches-to d x.0 x.2) [ inl p ↦ reached-part x.0 d here p | inr q ↦ OfSymbol q.0 d (reached-part x.0 q.0 here q.1) a.0 q.2 ])
 
     -- what is reached is a part of a root or of a definition found, once nothing is added any more
     reached-found : (k : ℕ) → length ds ≤ k → (o : Origin N) → Reached o → (r : Origin N) × IsMember r (n.rounds same k roots ds ++ roots) × IsMember o (parts r)
-    reached-found k h o (Root _ m) = (o, member-right o (n.rounds same k roots ds) roots m, part-self o)
+    reached-found k h o (Root _ m) = (o, IsMember-right o (n.rounds same k roots ds) roots m, part-self o)
     reached-found k h p (Operand o _ a m) = let x = reached-found k h o a in (x.0, x.1, part-operand x.0 o p x.2 m)
     reached-found k h d (OfTheorem j _ a) = let x = reached-found k h (Outcome j d) a in (x.0, x.1, part-theorem x.0 d j x.2)
     reached-found k h d (OfSymbol o _ a m s) =
         let found : List (Origin N) = n.rounds same k roots ds in
         let x = reached-found k h o a in
-        let there : IsMember x.0 (roots ++ found) = elim (member-cases x.0 found roots x.1) [ inl f ↦ member-right x.0 roots found f | inr r ↦ member-left x.0 roots found r ] in
+        let there : IsMember x.0 (roots ++ found) = elim (IsMember-cases x.0 found roots x.1) [ inl f ↦ IsMember-right x.0 roots found f | inr r ↦ IsMember-left x.0 roots found r ] in
         let yes : touched roots ds found d ≡ true = any-from (n.touches same d) x.0 (roots ++ found) there (touches-from d x.0 (inr (o, x.2, s))) in
         let next : IsMember d (n.rounds same (suc k) roots ds) = filter-from (touched roots ds found) d ds m yes in
-        (d, member-left d found roots (subst (λ l. IsMember d l) (rounds-end roots ds k h) next), part-self d)
+        (d, IsMember-left d found roots (subst (λ l. IsMember d l) (rounds-end roots ds k h) next), part-self d)
 
     -- the rounds give no more than a closed set has
     rounds-least : (S : Origin N → Type 0) → ((d r : Origin N) → IsMember d ds → IsMember r roots ⊎ S r → Touches d r → S d) → (k : ℕ) (d : Origin N) → IsMember d (n.rounds same k roots ds) → S d
@@ -147,7 +147,7 @@ module _ {N : Type 0} (same : Origin N → Origin N → Bool) (same-is : (a b : 
     rounds-least S h (suc k) d m =
         let a = filter-to (touched roots ds (n.rounds same k roots ds)) d ds m in
         let x = any-to (n.touches same d) (roots ++ n.rounds same k roots ds) a.1 in
-        h d x.0 a.0 (elim (member-cases x.0 roots (n.rounds same k roots ds) x.1) [ inl r ↦ inl r | inr f ↦ inr (rounds-least S h k x.0 f) ]) (touches-to d x.0 x.2)
+        h d x.0 a.0 (elim (IsMember-cases x.0 roots (n.rounds same k roots ds) x.1) [ inl r ↦ inl r | inr f ↦ inr (rounds-least S h k x.0 f) ]) (touches-to d x.0 x.2)
 
     rounds-distinct : (k : ℕ) → AreDistinct ds → AreDistinct (n.rounds same k roots ds)
     rounds-distinct zero d = tt
@@ -158,7 +158,7 @@ module _ {N : Type 0} (same : Origin N → Origin N → Bool) (same-is : (a b : 
     rounds-found k h d m a =
         let found : List (Origin N) = n.rounds same k roots ds in
         let x = reached-found k h d a in
-        let there : IsMember x.0 (roots ++ found) = elim (member-cases x.0 found roots x.1) [ inl f ↦ member-right x.0 roots found f | inr r ↦ member-left x.0 roots found r ] in
+        let there : IsMember x.0 (roots ++ found) = elim (IsMember-cases x.0 found roots x.1) [ inl f ↦ IsMember-right x.0 roots found f | inr r ↦ IsMember-left x.0 roots found r ] in
         let yes : touched roots ds found d ≡ true = any-from (n.touches same d) x.0 (roots ++ found) there (touches-from d x.0 (inl x.2)) in
         subst (λ l. IsMember d l) (rounds-end roots ds k h) (filter-from (touched roots ds found) d ds m yes)
 
@@ -213,7 +213,7 @@ module _ {N : Type 0} (same : Origin N → Origin N → Bool) (same-is : (a b : 
     pub origin-reached : (o : Origin N) → IsMember o (n.needed_origins same roots ds) → IsReached roots ds o
     origin-reached o m =
         let x = member-flat_map o parts (found ++ roots) (firsts-to o (flat_map parts (found ++ roots)) m) in
-        reached-part roots ds x.0 o (elim (member-cases x.0 found roots x.1) [ inl f ↦ (needed-reached x.0 f).1 | inr r ↦ Root x.0 r ]) x.2
+        reached-part roots ds x.0 o (elim (IsMember-cases x.0 found roots x.1) [ inl f ↦ (needed-reached x.0 f).1 | inr r ↦ Root x.0 r ]) x.2
 
     pub reached-origin : (o : Origin N) → IsReached roots ds o → IsMember o (n.needed_origins same roots ds)
     reached-origin o a =

@@ -13,20 +13,8 @@ use Rattle.ot_written.specs.Uses.{use_count}
 use Rattle.ot_written.proofs.Filters.{bool_cases, member-flat_map}
 use Rattle.ot_written.proofs.Counting.{sum-part}
 use Rattle.ot_written.proofs.NeededDefinitions.{firsts-distinct, reached-origin, origin-reached}
-
-member-map : {X Y : Type 0} (f : X → Y) (y : Y) (xs : List X) → IsMember y (map f xs) → (x : X) × IsMember x xs × (f x ≡ y)
-member-map f y [] m = elim m [ ]
-member-map f y (x ∷ xs) (inl e) = (x, inl refl, e)
-member-map f y (x ∷ xs) (inr m) = let r = member-map f y xs m in (r.0, inr r.1, r.2)
-
-map-member : {X Y : Type 0} (f : X → Y) (x : X) (xs : List X) → IsMember x xs → IsMember (f x) (map f xs)
-map-member f x (y ∷ xs) (inl e) = inl (ap f e)
-map-member f x (y ∷ xs) (inr m) = inr (map-member f x xs m)
-map-member f x [] m = elim m [ ]
-
-map-append : {X Y : Type 0} (f : X → Y) (xs ys : List X) → map f (xs ++ ys) ≡ map f xs ++ map f ys
-map-append f [] ys = refl
-map-append f (x ∷ xs) ys = ap (λ l. f x ∷ l) (map-append f xs ys)
+use Rattle.ot_plain.proofs.Members.{IsMember-map, IsMember-map_back}
+use Rattle.std.proofs.lemmas.List.{map-append}
 
 eq-is : (a b : ℕ) → Decides (nat_eq a b) (a ≡ b)
 eq-is a b = (λ h. grind (arith, nat_tests), λ h. grind (arith, nat_tests))
@@ -35,7 +23,7 @@ module _ (same : Origin ℕ → Origin ℕ → Bool) (same-is : (a b : Origin �
   distinct-trees : (is : List ℕ) → ((i : ℕ) → IsMember i is → i < n) → AreDistinct is → AreDistinct (map tree is)
   distinct-trees [] below d = tt
   distinct-trees (i ∷ is) below d = (
-    λ x. let r = member-map tree (tree i) is x in d.0 (subst (λ z. IsMember z is) (m.once r.0 i (below r.0 (inr r.1)) (below i (inl refl)) r.2) r.1),
+    λ x. let r = IsMember-map_back tree (tree i) is x in d.0 (subst (λ z. IsMember z is) (m.once r.0 i (below r.0 (inr r.1)) (below i (inl refl)) r.2) r.1),
     distinct-trees is (λ j x. below j (inr x)) d.1,
   )
 
@@ -57,10 +45,10 @@ module _ (same : Origin ℕ → Origin ℕ → Bool) (same-is : (a b : Origin �
       ]
 
   to-needed : (o : Origin ℕ) → IsMember o (map tree marked) → IsMember o (needed_origins same (map tree roots) ds)
-  to-needed o x = let r = member-map tree o marked x in subst (λ z. IsMember z (needed_origins same (map tree roots) ds)) r.2 (reached-origin same same-is (map tree roots) ds (tree r.0) (m.reached r.0 r.1))
+  to-needed o x = let r = IsMember-map_back tree o marked x in subst (λ z. IsMember z (needed_origins same (map tree roots) ds)) r.2 (reached-origin same same-is (map tree roots) ds (tree r.0) (m.reached r.0 r.1))
 
   from-needed : (o : Origin ℕ) → IsMember o (needed_origins same (map tree roots) ds) → IsMember o (map tree marked)
-  from-needed o x = let r = m.all o (origin-reached same same-is (map tree roots) ds o x) in subst (λ z. IsMember z (map tree marked)) r.2 (map-member tree r.0 marked r.1)
+  from-needed o x = let r = m.all o (origin-reached same same-is (map tree roots) ds o x) in subst (λ z. IsMember z (map tree marked)) r.2 (IsMember-map tree r.0 marked r.1)
 
   -- what is counted by number are the uses
   pub number-uses : (j : ℕ) → j < n → use_count same (map tree roots) ds (tree j) ≡ (count nat_eq j roots + count nat_eq j (flat_map ops marked))

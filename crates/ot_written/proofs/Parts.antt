@@ -2,7 +2,7 @@
 use Rattle.std.proofs.Common.{◌≡◌, ℕ, inl, inr, ◌++◌, refl, sym, subst}
 use Rattle.ot_plain.specs.Lists.{IsMember}
 use Rattle.ot_trace.specs.Origins.{Origin, Origins, Number, Named, Make, Define, Outcome, NoOrigins, MoreOrigins, listed, operands, parts, parts_all}
-use Rattle.ot_written.proofs.Members.{member-left, member-right, member-cases}
+use Rattle.ot_plain.proofs.Members.{IsMember-cases, IsMember-left, IsMember-right}
 
 module _ {N : Type 0} where
   pub part-self : (o : Origin N) → IsMember o (parts o)
@@ -14,8 +14,8 @@ module _ {N : Type 0} where
 
   part-listed : (os : Origins N) (p : Origin N) → IsMember p (listed os) → IsMember p (parts_all os)
   part-listed NoOrigins p m = elim m [ ]
-  part-listed (MoreOrigins o os) p (inl e) = subst (λ z. IsMember z (parts o ++ parts_all os)) e (member-left o (parts o) (parts_all os) (part-self o))
-  part-listed (MoreOrigins o os) p (inr m) = member-right p (parts o) (parts_all os) (part-listed os p m)
+  part-listed (MoreOrigins o os) p (inl e) = subst (λ z. IsMember z (parts o ++ parts_all os)) e (IsMember-left o (parts o) (parts_all os) (part-self o))
+  part-listed (MoreOrigins o os) p (inr m) = IsMember-right p (parts o) (parts_all os) (part-listed os p m)
 
   mutual
     -- an operand of a part is a part
@@ -33,7 +33,7 @@ module _ {N : Type 0} where
 
     pub part-operands : (os : Origins N) (o p : Origin N) → IsMember o (parts_all os) → IsMember p (operands o) → IsMember p (parts_all os)
     part-operands NoOrigins o p n m = elim n [ ]
-    part-operands (MoreOrigins r os) o p n m = elim (member-cases o (parts r) (parts_all os) n) [ inl a ↦ member-left p (parts r) (parts_all os) (part-operand r o p a m) | inr b ↦ member-right p (parts r) (parts_all os) (part-operands os o p b m) ]
+    part-operands (MoreOrigins r os) o p n m = elim (IsMember-cases o (parts r) (parts_all os) n) [ inl a ↦ IsMember-left p (parts r) (parts_all os) (part-operand r o p a m) | inr b ↦ IsMember-right p (parts r) (parts_all os) (part-operands os o p b m) ]
 
   mutual
     -- the definition of a theorem that is a part
@@ -51,4 +51,4 @@ module _ {N : Type 0} where
 
     pub part-theorems : (os : Origins N) (d : Origin N) (j : ℕ) → IsMember (Outcome j d) (parts_all os) → IsMember d (parts_all os)
     part-theorems NoOrigins d j n = elim n [ ]
-    part-theorems (MoreOrigins r os) d j n = elim (member-cases (Outcome j d) (parts r) (parts_all os) n) [ inl a ↦ member-left d (parts r) (parts_all os) (part-theorem r d j a) | inr b ↦ member-right d (parts r) (parts_all os) (part-theorems os d j b) ]
+    part-theorems (MoreOrigins r os) d j n = elim (IsMember-cases (Outcome j d) (parts r) (parts_all os) n) [ inl a ↦ IsMember-left d (parts r) (parts_all os) (part-theorem r d j a) | inr b ↦ IsMember-right d (parts r) (parts_all os) (part-theorems os d j b) ]

@@ -15,18 +15,12 @@ use Rattle.ot_written.specs.Bytes.{line_with}
 use Rattle.ot_written.specs.Laws.{roots_with, RenamedArticleLaw}
 use Rattle.ot_trace.specs.Uses.{count}
 use Rattle.ot_written.proofs.Filters.{bool_cases}
-
-map-append : {X Y : Type 0} (f : X → Y) (xs ys : List X) → map f (xs ++ ys) ≡ map f xs ++ map f ys
-map-append f [] ys = refl
-map-append f (x ∷ xs) ys = ap (λ l. f x ∷ l) (map-append f xs ys)
+use Rattle.ot_plain.proofs.Elements.{list_any-image}
+use Rattle.std.proofs.lemmas.List.{map-append}
 
 map-length : {X Y : Type 0} (f : X → Y) (xs : List X) → length (map f xs) ≡ length xs
 map-length f [] = refl
 map-length f (x ∷ xs) = ap suc (map-length f xs)
-
-any-map : {X Y : Type 0} (f : X → Y) (p : Y → Bool) (q : X → Bool) → ((x : X) → p (f x) ≡ q x) → (xs : List X) → list_any p (map f xs) ≡ list_any q xs
-any-map f p q h [] = refl
-any-map f p q h (x ∷ xs) = λ i. h x i || any-map f p q h xs i
 
 pub filter-map : {X Y : Type 0} (f : X → Y) (p : Y → Bool) (q : X → Bool) → ((x : X) → p (f x) ≡ q x) → (xs : List X) → filter p (map f xs) ≡ map f (filter q xs)
 filter-map f p q h [] = refl
@@ -50,7 +44,7 @@ module _ {M N : Type 0} (f : M → N) where
   listed-map NoOrigins = refl
   listed-map (MoreOrigins o os) = ap (λ l. to o ∷ l) (listed-map os)
 
-  operands-map : (o : Origin M) → operands (to o) ≡ map to (operands o)
+  pub operands-map : (o : Origin M) → operands (to o) ≡ map to (operands o)
   operands-map (Number k) = refl
   operands-map (Named n) = refl
   operands-map (Make c os) = listed-map os
@@ -85,7 +79,7 @@ module _ {M N : Type 0} (f : M → N) where
   constants-map [] = refl
   constants-map (p ∷ ps) = λ i. constant_origin (operand-map 0 p i) ∷ constants-map ps i
 
-  symbols-map : (o : Origin M) → symbols (to o) ≡ map to (symbols o)
+  pub symbols-map : (o : Origin M) → symbols (to o) ≡ map to (symbols o)
   symbols-map (Define words.DefineConst os) = λ i. constant_origin (operand-map 0 (Define words.DefineConst os) i) ∷ []
   symbols-map (Define words.DefineConstList os) =
       let d : Origin M = Define words.DefineConstList os in
@@ -98,7 +92,7 @@ module _ {M N : Type 0} (f : M → N) where
   abbrev roots_to : Roots M → Roots N
   roots_to = roots_with f
 
-  roots-map : (es : List (Roots M)) → roots_of (map roots_to es) ≡ map to (roots_of es)
+  pub roots-map : (es : List (Roots M)) → roots_of (map roots_to es) ≡ map to (roots_of es)
   roots-map [] = refl
   roots-map (e ∷ es) = ap (λ l. to e.theorem ∷ to e.list ∷ to e.term ∷ l) (roots-map es)
 
@@ -116,8 +110,8 @@ module _ {M N : Type 0} (f : M → N) where
     touches-map : (d r : Origin M) → n.touches same (to d) (to r) ≡ n.touches same_one d r
     touches-map d r =
         ap (list_any (λ p. same p (to d) || list_any (same p) (symbols (to d)))) (parts-map r)
-        ∙ any-map to (λ p. same p (to d) || list_any (same p) (symbols (to d))) (λ p. same_one p d || list_any (same_one p) (symbols d))
-        (λ p i. tells p d i || (ap (list_any (same (to p))) (symbols-map d) ∙ any-map to (same (to p)) (same_one p) (λ q. tells p q) (symbols d)) i) (parts r)
+        ∙ list_any-image to (λ p. same p (to d) || list_any (same p) (symbols (to d))) (λ p. same_one p d || list_any (same_one p) (symbols d))
+        (λ p i. tells p d i || (ap (list_any (same (to p))) (symbols-map d) ∙ list_any-image to (same (to p)) (same_one p) (λ q. tells p q) (symbols d)) i) (parts r)
 
     rounds-map : (k : ℕ) (roots ds : List (Origin M)) → n.rounds same k (map to roots) (map to ds) ≡ map to (n.rounds same_one k roots ds)
     rounds-map zero roots ds = refl
@@ -125,9 +119,9 @@ module _ {M N : Type 0} (f : M → N) where
         let found : List (Origin M) = n.rounds same_one k roots ds in
         ap (λ l. filter (λ d. list_any (n.touches same d) (map to roots ++ l)) (map to ds)) (rounds-map k roots ds)
         ∙ filter-map to (λ d. list_any (n.touches same d) (map to roots ++ map to found)) (λ d. list_any (n.touches same_one d) (roots ++ found))
-        (λ d. ap (list_any (n.touches same (to d))) (sym (map-append to roots found)) ∙ any-map to (n.touches same (to d)) (n.touches same_one d) (touches-map d) (roots ++ found)) ds
+        (λ d. ap (list_any (n.touches same (to d))) (sym (map-append to roots found)) ∙ list_any-image to (n.touches same (to d)) (n.touches same_one d) (touches-map d) (roots ++ found)) ds
 
-    definitions-map : (roots ds : List (Origin M)) → n.needed_definitions same (map to roots) (map to ds) ≡ map to (n.needed_definitions same_one roots ds)
+    pub definitions-map : (roots ds : List (Origin M)) → n.needed_definitions same (map to roots) (map to ds) ≡ map to (n.needed_definitions same_one roots ds)
     definitions-map roots ds = (λ i. n.rounds same (map-length to ds i) (map to roots) (firsts-map ds i)) ∙ rounds-map (length ds) roots (n.firsts same_one ds)
 
     origins-map : (roots ds : List (Origin M)) → n.needed_origins same (map to roots) (map to ds) ≡ map to (n.needed_origins same_one roots ds)

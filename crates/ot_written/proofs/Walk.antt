@@ -15,6 +15,7 @@ use Rattle.ot_written.proofs.Marked.{AreMarked}
 use Rattle.std.proofs.Common.{◌++◌}
 use Rattle.ot_written.proofs.Filters.{bool_cases, filter-to, filter-from, filter-same}
 use Rattle.ot_written.proofs.NeededDefinitions.{needed-filter, needed-reached, reached-needed, firsts-to}
+use Rattle.ot_plain.proofs.Members.{IsMember-map_back}
 
 pub needed-by-test : {N : Type 0} (same : Origin N → Origin N → Bool) → ((a b : Origin N) → Decides (same a b) (a ≡ b)) → (roots ds : List (Origin N)) (test : Origin N → Bool)
     → ((d : Origin N) → IsMember d ds → (test d ≡ true) ↔ IsReached roots ds d) → needed_definitions same roots ds ≡ filter test (firsts same ds)
@@ -72,11 +73,6 @@ get-low [] j b h = absurd (cc)
 get-low (c ∷ bs) zero b h = omega arith
 get-low (c ∷ bs) (suc j) b h = let r = get-low bs j b h in omega arith
 
-member-map : {X Y : Type 0} (f : X → Y) (y : Y) (xs : List X) → IsMember y (map f xs) → (x : X) × IsMember x xs × (f x ≡ y)
-member-map f y [] m = elim m [ ]
-member-map f y (x ∷ xs) (inl e) = (x, inl refl, e)
-member-map f y (x ∷ xs) (inr m) = let r = member-map f y xs m in (r.0, inr r.1, r.2)
-
 module _ (ts : List (Origin ℕ)) (ops : ℕ → List ℕ) (roots ds : List ℕ) (table : IsTable ts ops roots ds) where
   abbrev at : ℕ → Origin ℕ
   at = origin_at ts
@@ -86,13 +82,13 @@ module _ (ts : List (Origin ℕ)) (ops : ℕ → List ℕ) (roots ds : List ℕ)
 
   -- what is reached is in the table
   in-table : (o : Origin ℕ) → IsReached (map at roots) (map at ds) o → Found o
-  in-table o (Root _ m) = let r = member-map at o roots m in (r.0, table.roots_in r.0 r.1, r.2)
+  in-table o (Root _ m) = let r = IsMember-map_back at o roots m in (r.0, table.roots_in r.0 r.1, r.2)
   in-table p (Operand o _ a m) =
       let x = in-table o a in
-      let r = member-map at p (ops x.0) (subst (λ l. IsMember p l) (table.operands_are x.0 x.1) (subst (λ z. IsMember p (operands z)) (sym x.2) m)) in
+      let r = IsMember-map_back at p (ops x.0) (subst (λ l. IsMember p l) (table.operands_are x.0 x.1) (subst (λ z. IsMember p (operands z)) (sym x.2) m)) in
       (r.0, table.operands_in x.0 r.0 x.1 r.1, r.2)
   in-table d (OfTheorem j _ a) = let x = in-table (Outcome j d) a in table.theorem_in x.0 j d x.1 x.2
-  in-table d (OfSymbol o _ a m s) = let r = member-map at d ds m in (r.0, table.definitions_in r.0 r.1, r.2)
+  in-table d (OfSymbol o _ a m s) = let r = IsMember-map_back at d ds m in (r.0, table.definitions_in r.0 r.1, r.2)
 
   pub marks-are : (marks : List Bool) → MarksReached ts roots ds marks → AreMarked (length ts) at ops roots (map at ds) (marked_from 0 marks)
   marks-are marks w = record {

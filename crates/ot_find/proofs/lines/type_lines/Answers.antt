@@ -1,5 +1,5 @@
-use Rattle.std.specs.Prelude.{Result, Ok, Err, IsErrAnd}
-use Rattle.std.proofs.Common.{◌≡◌, ◌<◌, map, ap, sym, ◌∙◌, subst, arith}
+use Rattle.std.specs.Prelude.{Err}
+use Rattle.std.proofs.Common.{◌<◌, map, ap, ◌∙◌, subst, arith}
 use Rattle.std.proofs.lemmas.List.{take_all}
 use Rattle.ot_kernel.proofs.Namings.{length-map}
 use Rattle.ot_text.specs.Texts.{ascending}
@@ -7,18 +7,14 @@ use Rattle.ot_text.specs.Gathered.{texts_of, bytes_in}
 use Rattle.ot_text.proofs.Gathering.{one-kept, one-too_large, together-too_large}
 use Rattle.ot_find.proofs.Indented.{type_line_at, type-lines}
 use Rattle.ot_find.proofs.lines.type_lines.Goals as goal
-
--- a fault that is handed on
-handed : {A E : Type 0} (r : Result A E) (e f : E) → IsErrAnd r (λ x. x ≡ e) → r ≡ Err f → e ≡ f
-handed (Ok a) e f h p = cc
-handed (Err x) e f h p = let q : x ≡ f = cc in sym h ∙ q
+use Rattle.ot_plain.proofs.Results.{same_Err}
 
 pub returns-in_err-line-clause-too_large : goal.returns-in_err-line-clause-too_large
 returns-in_err-line-clause-too_large c = λ p.
     subst (λ ts. c.args.max < bytes_in (ascending ts)) (type-lines c.args.kernel.now c.args.types.now)
     (one-too_large (type_line_at c.args.kernel.now) c.args.types.now c.loop-item.item-index
     c.item-item.result c.loop-item-test.true c.item-item.is c.args.max
-    (c.in_err-line.ensures.too_large (ap Err (handed _ _ _ c.from_residual.ensures.1 p))))
+    (c.in_err-line.ensures.too_large (ap Err (same_Err _ _ _ c.from_residual.ensures.1 p))))
 
 pub returns-in_err-add_text-clause-too_large : goal.returns-in_err-add_text-clause-too_large
 returns-in_err-add_text-clause-too_large c = λ p.
@@ -27,7 +23,7 @@ returns-in_err-add_text-clause-too_large c = λ p.
     c.loop-item.item-index c.item-item.result c.loop-item-test.true c.item-item.is
     c.in_ok-line.line.items (texts_of c.loop-item.lines) (texts_of c.loop-item.lines) c.args.max c.loop-item.room c.loop-item.room
     c.loop-item.invariant.0 c.loop-item.invariant.1 c.in_ok-line.ensures.ok
-    (c.in_err-add_text.ensures.too_large (ap Err (handed _ _ _ c.from_residual-in_err-add_text.ensures.1 p))))
+    (c.in_err-add_text.ensures.too_large (ap Err (same_Err _ _ _ c.from_residual-in_err-add_text.ensures.1 p))))
 
 pub loop-item-preserved : goal.loop-item-preserved
 loop-item-preserved c =

@@ -12,8 +12,9 @@ use Rattle.ot_machine.specs.Meaning.{run_of, export_of, origin_of}
 use Rattle.ot_machine.specs.Writable.{IsWritable}
 use Rattle.ot_log.specs.Keeping.{IsDefinable, IsNumbered}
 use Rattle.ot_log.specs.Logs.{Writes, roots_in}
-use Rattle.ot_log.proofs.Whole.{all-member, member-all, lawful-definable, lawful-proofs, roots-inside, log-is, checked}
+use Rattle.ot_log.proofs.Whole.{lawful-definable, lawful-proofs, roots-inside, log-is, checked}
 use Rattle.ot_log.proofs.writing.write_log.Goals as goal
+use Rattle.ot_plain.proofs.Members.{All-at_member, All-from_members}
 
 pub needed_steps-requires-clause-exports : goal.needed_steps-requires-clause-exports
 needed_steps-requires-clause-exports c =
@@ -28,8 +29,8 @@ write_steps-requires-clause-inside c =
     let part : IsPart c.deref-2.result.now s.definition_steps.items =
     λ i m. subst (IsMember i) c.definition_steps.ensures
     (c.in_ok-needed.ensures.some i (subst (IsMember i) c.deref-2.ensures.value m)) in
-    member-all (λ i. i < length s.trace) c.deref-2.result.now
-    (λ i m. all-member (λ i. i < length s.trace) s.definition_steps.items i c.requires.run.definitions (part i m))
+    All-from_members (λ i. i < length s.trace) c.deref-2.result.now
+    (λ i m. All-at_member (λ i. i < length s.trace) s.definition_steps.items i c.requires.run.definitions (part i m))
 
 pub write_steps-requires-clause-definable : goal.write_steps-requires-clause-definable
 write_steps-requires-clause-definable c =
@@ -37,7 +38,7 @@ write_steps-requires-clause-definable c =
     let part : IsPart c.deref-2.result.now s.definition_steps.items =
     λ i m. subst (IsMember i) c.definition_steps.ensures
     (c.in_ok-needed.ensures.some i (subst (IsMember i) c.deref-2.ensures.value m)) in
-    member-all (λ i. IsDefinable (origin_of s i)) c.deref-2.result.now
+    All-from_members (λ i. IsDefinable (origin_of s i)) c.deref-2.result.now
     (λ i m. lawful-definable s c.requires.run.each_definition c.requires.lawful.run i (part i m))
 
 pub write_steps-requires-clause-proofs : goal.write_steps-requires-clause-proofs

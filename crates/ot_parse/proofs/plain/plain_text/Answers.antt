@@ -1,5 +1,5 @@
-use Rattle.std.specs.Prelude.{Result, Ok, Err, IsErrAnd, OnOk, length, ◌<◌, map, ◌++◌}
-use Rattle.std.proofs.Common.{◌≡◌, ap, sym, ◌∙◌, subst}
+use Rattle.std.specs.Prelude.{Err, OnOk, length, ◌<◌, map, ◌++◌}
+use Rattle.std.proofs.Common.{ap, ◌∙◌, subst}
 use Rattle.ot_text.specs.Texts.{tm_text, ascending, hyps_text}
 use Rattle.ot_text.specs.Gathered.{bytes_in}
 use Rattle.ot_text.specs.Pages.{Appended}
@@ -7,17 +7,13 @@ use Rattle.ot_text.proofs.Gathering.{texts-through, sequent-bytes}
 use Rattle.ot_plain.specs.PlainTrees.{term_of_tree}
 use Rattle.ot_parse.specs.Plain.{sequent_of}
 use Rattle.ot_parse.proofs.plain.plain_text.Goals as goal
-
--- a fault that is handed on
-handed : {A E : Type 0} (r : Result A E) (e f : E) → IsErrAnd r (λ x. x ≡ e) → r ≡ Err f → e ≡ f
-handed (Ok a) e f h p = cc
-handed (Err x) e f h p = let q : x ≡ f = cc in sym h ∙ q
+use Rattle.ot_plain.proofs.Results.{same_Err}
 
 pub returns-in_err-texts-clause-too_large : goal.returns-in_err-texts-clause-too_large
 returns-in_err-texts-clause-too_large c = λ p.
     sequent-bytes c.args.max (sequent_of c.args.sequent.now)
     (subst (λ ts. c.args.max < bytes_in (ascending ts)) (texts-through tm_text term_of_tree c.as_slice.result.now (sequent_of c.args.sequent.now).hyps (ap (map term_of_tree) c.as_slice.ensures.value))
-    (c.in_err-texts.ensures.too_large (ap Err (handed _ _ _ c.from_residual.ensures.1 p))))
+    (c.in_err-texts.ensures.too_large (ap Err (same_Err _ _ _ c.from_residual.ensures.1 p))))
 
 pub returns-clause-ok : goal.returns-clause-ok
 returns-clause-ok c =

@@ -1,19 +1,15 @@
-use Rattle.std.specs.Prelude.{flat_map, Result, Ok, Err, IsErrAnd}
-use Rattle.std.proofs.Common.{◌≡◌, ◌-◌, ap, sym, ◌∙◌, arith}
+use Rattle.std.specs.Prelude.{flat_map, Err}
+use Rattle.std.proofs.Common.{◌-◌, ap, ◌∙◌, arith}
 use Rattle.std.proofs.lemmas.List.{take_all}
 use Rattle.ot_read.proofs.Filling.{line_of, lines_are, past, past-end}
 use Rattle.ot_read.proofs.printing.sequents_text.Goals as goal
-
--- a fault that is handed on
-handed : {A E : Type 0} (r : Result A E) (e f : E) → IsErrAnd r (λ x. x ≡ e) → r ≡ Err f → e ≡ f
-handed (Ok a) e f h p = cc
-handed (Err x) e f h p = let q : x ≡ f = cc in sym h ∙ q
+use Rattle.ot_plain.proofs.Results.{same_Err}
 
 pub returns-in_err-plain_text-clause-too_large : goal.returns-in_err-plain_text-clause-too_large
 returns-in_err-plain_text-clause-too_large c = λ p.
     past c.args.sequents.now c.loop-sequent.sequent-index c.sequent-item.result c.loop-sequent-test.true c.sequent-item.is
     c.loop-sequent.text.items c.args.max (c.args.max - c.len.result) c.loop-sequent.invariant.0 (let l = c.len.ensures in let w = c.loop-sequent.invariant.1 in omega (arith, l, w))
-    (c.in_err-plain_text.ensures.too_large (ap Err (handed _ _ _ c.from_residual.ensures.1 p)))
+    (c.in_err-plain_text.ensures.too_large (ap Err (same_Err _ _ _ c.from_residual.ensures.1 p)))
 
 pub returns-then-len-max-clause-too_large : goal.returns-then-len-max-clause-too_large
 returns-then-len-max-clause-too_large c = λ p.

@@ -1,5 +1,5 @@
 use Rattle.std.proofs.Common.{◌≡◌, rules, take, length, ap, ◌∙◌}
-use Rattle.ot_rules.proofs.Hashed.{all-kept}
+use Rattle.ot_laws.proofs.Hashed.{all-kept}
 use Rattle.ot_rules.proofs.sets.add_all.Goals as goal
 
 pub returns-in-Err-clause-err : goal.returns-in-Err-clause-err

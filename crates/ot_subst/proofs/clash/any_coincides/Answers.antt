@@ -3,15 +3,16 @@ use Rattle.ot_plain.specs.Lists.{IsMember}
 use Rattle.ot_term.specs.declared.term.VarKey.{VarKey}
 use Rattle.ot_subst.specs.Clash.{Coincides}
 use Rattle.ot_subst.proofs.Growing.{Grows-trans}
-use Rattle.ot_subst.proofs.Binders.{coincides-before, coincides-later, member_at, member-more}
+use Rattle.ot_subst.proofs.Binders.{coincides-before, coincides-later, member-more}
 use Rattle.ot_type.proofs.SubtypeLemmas.{All-member}
 use Rattle.ot_subst.proofs.clash.any_coincides.Goals as goal
+use Rattle.ot_plain.proofs.Members.{IsMember-get_or}
 
 pub returns-then-branch-clause-ok : goal.returns-then-branch-clause-ok
 returns-then-branch-clause-ok g c =
     let x = c.x-item.result in
     let t = g.N.Nodes.table c.args.terms.now in
-    let m = subst (λ (z : VarKey). IsMember z c.args.xs.now) (sym c.x-item.is) (member_at c.args.xs.now c.loop-x.x-index x c.loop-x-test.true) in
+    let m = subst (λ (z : VarKey). IsMember z c.args.xs.now) (sym c.x-item.is) (IsMember-get_or c.args.xs.now c.loop-x.x-index x c.loop-x-test.true) in
     let inside = All-member (λ (z : VarKey). z.ty < length t.types) c.args.xs.now c.requires.variables x m in
     (x, m, coincides-before t (g.N.Nodes.table c.loop-x.terms) c.loop-x.invariant.grows c.args.subst.now c.requires.pairs c.args.v.now c.args.w.now x c.requires.binder inside (c.in_ok-coincides.ensures.ok.0 c.if-branch.true))
 
@@ -30,7 +31,7 @@ loop-x-preserved g c = record {
     missed_now h =
         let x = c.x-item.result in
         let t = g.N.Nodes.table c.args.terms.now in
-        let m = subst (λ (z : VarKey). IsMember z c.args.xs.now) (sym c.x-item.is) (member_at c.args.xs.now c.loop-x.x-index x c.loop-x-test.true) in
+        let m = subst (λ (z : VarKey). IsMember z c.args.xs.now) (sym c.x-item.is) (IsMember-get_or c.args.xs.now c.loop-x.x-index x c.loop-x-test.true) in
         let inside = All-member (λ (z : VarKey). z.ty < length t.types) c.args.xs.now c.requires.variables x m in
         let hit = c.in_ok-coincides.ensures.ok.1 (coincides-later t (g.N.Nodes.table c.loop-x.terms) c.loop-x.invariant.grows c.args.subst.now c.requires.pairs c.args.v.now c.args.w.now x c.requires.binder inside h) in
         true≢false (sym hit ∙ c.if-branch.false)

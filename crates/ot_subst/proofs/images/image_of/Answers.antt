@@ -1,9 +1,9 @@
 use Rattle.std.proofs.Common.{arith, ap, sym, Err}
 use Rattle.std.proofs.lemmas.Option.{slice_get_within}
-use Rattle.ot_subst.proofs.Faults.{same_error}
 use Rattle.ot_subst.specs.Renamed.{pairs_of}
 use Rattle.ot_subst.proofs.Variables.{renamed-lookup, bound-lookup, becomes-renamed, becomes-deep, becomes-found, becomes-kept}
 use Rattle.ot_subst.proofs.images.image_of.Goals as goal
+use Rattle.ot_plain.proofs.Results.{same_Err}
 
 pub var-requires : goal.var-requires
 var-requires g c = renamed-lookup (g.N.Nodes.table c.args.terms.now) c.args.subst.now c.args.v c.in-Some.new (pairs_of c.args.renamed.now) c.requires.ready.binders (sym c.in-Some.ensures)
@@ -18,7 +18,7 @@ returns-in-Some-clause-names g c =
 
 pub returns-in_err-ty-clause-nesting : goal.returns-in_err-ty-clause-nesting
 returns-in_err-ty-clause-nesting g c p = becomes-deep (g.N.Nodes.table c.args.terms.now) c.args.subst.now (pairs_of c.args.renamed.now) c.args.v c.requires.ready c.requires.variable (sym c.in_default.ensures)
-    (rw c.types.ensures at (c.in_err-ty.ensures.nesting (ap Err (same_error c.from_residual-in_err-ty.result _ _ c.from_residual-in_err-ty.ensures.1 p))))
+    (rw c.types.ensures at (c.in_err-ty.ensures.nesting (ap Err (same_Err c.from_residual-in_err-ty.result _ _ c.from_residual-in_err-ty.ensures.1 p))))
 
 pub var-requires-in-None : goal.var-requires-in-None
 var-requires-in-None g c = slice_get_within (g.N.Nodes.table c.type_inst.new.self).types c.in_ok-ty.ty _ c.in_ok-ty.ensures.ok

@@ -6,7 +6,6 @@ use Rattle.ot_term.specs.TermTable.{term_at, term_of, variable_of}
 use Rattle.ot_subst.specs.Renamed.{pairs_of}
 use Rattle.ot_subst.specs.Walk.{becomes, HasForm}
 use Rattle.ot_subst.specs.Memory.{above, IsWalked}
-use Rattle.ot_subst.proofs.Faults.{same_error}
 use Rattle.ot_subst.proofs.Abstraction.{deep-type, ready-then, instance-in, instance-then, instance-later, stays-before, clash-before, set_up-then, memory-then, body-then, deep-kept, deep-new, set_up-new, typed-new, apart_new, IsMemory-nil}
 use Rattle.ot_subst.proofs.Growing.{AreKnown-Grows, known-later, below-UpTo, Grows-refl, Grows-trans, AreReady-Grows, IsSetUp-Grows, becomes_at-Grows, IsLater-table, IsLater-trans}
 use Rattle.ot_subst.proofs.Shallow.{deep-right}
@@ -15,11 +14,12 @@ use Rattle.ot_subst.proofs.Walked.{walked-leaf, walked-recalled, walked_left, wa
 use Rattle.ot_subst.proofs.Taken.{if_ok, above-below, more-below, node-tree, node-bound, parts-typed, recalled, absent-member, absent-lookup, later-name, on_ok, on_err}
 use Rattle.ot_subst.proofs.Counting.{counts-walked, counts-left, counts-right, counts-body, counts-whole}
 use Rattle.ot_subst.proofs.walk.+walk.Goals as goal
+use Rattle.ot_plain.proofs.Results.{same_Err}
 
 pub abstraction-returns-in_err-ty-clause-nesting : goal.abstraction-returns-in_err-ty-clause-nesting
 abstraction-returns-in_err-ty-clause-nesting g t c p =
     deep-type (length c.args.names.now) (g.N.Nodes.table c.args.terms.now) c.args.work.now.subst.now (pairs_of c.args.work.now.renamed.now) c.args.v c.args.body c.requires.set_up c.requires.typed.0 c.requires.typed.1
-    (rw c.types.ensures at (c.in_err-ty.ensures.nesting (ap Err (same_error c.from_residual.result _ _ c.from_residual.ensures.1 p))))
+    (rw c.types.ensures at (c.in_err-ty.ensures.nesting (ap Err (same_Err c.from_residual.result _ _ c.from_residual.ensures.1 p))))
 
 pub abstraction-clashes-requires-clause-ready : goal.abstraction-clashes-requires-clause-ready
 abstraction-clashes-requires-clause-ready g t c = ready-then (length c.args.names.now) (g.N.Nodes.table c.args.terms.now) (g.N.Nodes.table c.type_inst.new.self) c.args.work.now.subst.now (pairs_of c.args.work.now.renamed.now) c.args.v c.in_ok-ty.ty c.args.body c.requires.set_up c.requires.v c.requires.body c.in_ok-ty.ensures.grows c.in_ok-ty.ensures.table (rw c.types.ensures at c.in_ok-ty.ensures.ok)
@@ -34,7 +34,7 @@ pub abstraction-walk-requires : goal.abstraction-walk-requires
 abstraction-walk-requires g t c κs h = (omega (arith, c.decreases), (h.0, (h.1, (set_up-then (length c.args.names.now) (g.N.Nodes.table c.args.terms.now) (g.N.Nodes.table c.type_inst.new.self) c.args.work.now.subst.now (pairs_of c.args.work.now.renamed.now) c.args.v c.in_ok-ty.ty c.args.body c.requires.set_up c.requires.v c.requires.body c.in_ok-ty.ensures.grows c.in_ok-ty.ensures.table (rw c.types.ensures at c.in_ok-ty.ensures.ok) (g.N.Nodes.table c.clashes.new.terms) c.in_ok-clashes.ensures.grows c.in_ok-clashes.ensures.table (below-UpTo 0 (length c.args.names.now) (g.N.Nodes.table c.type_inst.new.self) (g.N.Nodes.table c.clashes.new.terms) (below-UpTo 0 (length c.args.names.now) (g.N.Nodes.table c.args.terms.now) (g.N.Nodes.table c.type_inst.new.self) c.requires.set_up.names c.in_ok-ty.ensures.names (omega arith)) c.in_ok-clashes.ensures.names (omega arith)), (memory-then (length c.args.names.now) (g.N.Nodes.table c.args.terms.now) (g.N.Nodes.table c.type_inst.new.self) c.args.work.now.subst.now (pairs_of c.args.work.now.renamed.now) c.args.v c.in_ok-ty.ty c.args.body c.requires.set_up c.requires.v c.requires.body c.in_ok-ty.ensures.grows c.in_ok-ty.ensures.table (rw c.types.ensures at c.in_ok-ty.ensures.ok) (g.N.Nodes.table c.clashes.new.terms) c.in_ok-clashes.ensures.grows c.in_ok-clashes.ensures.table (below-UpTo 0 (length c.args.names.now) (g.N.Nodes.table c.type_inst.new.self) (g.N.Nodes.table c.clashes.new.terms) (below-UpTo 0 (length c.args.names.now) (g.N.Nodes.table c.args.terms.now) (g.N.Nodes.table c.type_inst.new.self) c.requires.set_up.names c.in_ok-ty.ensures.names (omega arith)) c.in_ok-clashes.ensures.names (omega arith)) c.args.memory.now c.requires.remembered, (c.in_ok-clashes.ensures.frees, body-then (length c.args.names.now) (g.N.Nodes.table c.args.terms.now) (g.N.Nodes.table c.type_inst.new.self) c.args.work.now.subst.now (pairs_of c.args.work.now.renamed.now) c.args.v c.in_ok-ty.ty c.args.body c.requires.set_up c.requires.v c.requires.body c.in_ok-ty.ensures.grows c.in_ok-ty.ensures.table (rw c.types.ensures at c.in_ok-ty.ensures.ok) (g.N.Nodes.table c.clashes.new.terms) c.in_ok-clashes.ensures.grows c.in_ok-clashes.ensures.table (below-UpTo 0 (length c.args.names.now) (g.N.Nodes.table c.type_inst.new.self) (g.N.Nodes.table c.clashes.new.terms) (below-UpTo 0 (length c.args.names.now) (g.N.Nodes.table c.args.terms.now) (g.N.Nodes.table c.type_inst.new.self) c.requires.set_up.names c.in_ok-ty.ensures.names (omega arith)) c.in_ok-clashes.ensures.names (omega arith))))))))
 
 pub abstraction-returns-in_err-body-clause-nesting : goal.abstraction-returns-in_err-body-clause-nesting
-abstraction-returns-in_err-body-clause-nesting g t c p = deep-kept (length c.args.names.now) (g.N.Nodes.table c.args.terms.now) (g.N.Nodes.table c.type_inst.new.self) c.args.work.now.subst.now (pairs_of c.args.work.now.renamed.now) c.args.v c.in_ok-ty.ty c.args.body c.requires.set_up c.requires.v c.requires.body c.in_ok-ty.ensures.grows c.in_ok-ty.ensures.table (rw c.types.ensures at c.in_ok-ty.ensures.ok) (g.N.Nodes.table c.clashes.new.terms) c.in_ok-clashes.ensures.grows c.in_ok-clashes.ensures.table (below-UpTo 0 (length c.args.names.now) (g.N.Nodes.table c.type_inst.new.self) (g.N.Nodes.table c.clashes.new.terms) (below-UpTo 0 (length c.args.names.now) (g.N.Nodes.table c.args.terms.now) (g.N.Nodes.table c.type_inst.new.self) c.requires.set_up.names c.in_ok-ty.ensures.names (omega arith)) c.in_ok-clashes.ensures.names (omega arith)) (stays-before (length c.args.names.now) (g.N.Nodes.table c.args.terms.now) (g.N.Nodes.table c.type_inst.new.self) c.args.work.now.subst.now (pairs_of c.args.work.now.renamed.now) c.args.v c.in_ok-ty.ty c.args.body c.requires.set_up c.requires.v c.requires.body c.in_ok-ty.ensures.grows c.in_ok-ty.ensures.table (rw c.types.ensures at c.in_ok-ty.ensures.ok) (rw c.if-not-branch.true at c.in_ok-clashes.ensures.ok)) (c.in_err-body.ensures.nesting (ap Err (same_error c.from_residual-in_err-body.result _ _ c.from_residual-in_err-body.ensures.1 p)))
+abstraction-returns-in_err-body-clause-nesting g t c p = deep-kept (length c.args.names.now) (g.N.Nodes.table c.args.terms.now) (g.N.Nodes.table c.type_inst.new.self) c.args.work.now.subst.now (pairs_of c.args.work.now.renamed.now) c.args.v c.in_ok-ty.ty c.args.body c.requires.set_up c.requires.v c.requires.body c.in_ok-ty.ensures.grows c.in_ok-ty.ensures.table (rw c.types.ensures at c.in_ok-ty.ensures.ok) (g.N.Nodes.table c.clashes.new.terms) c.in_ok-clashes.ensures.grows c.in_ok-clashes.ensures.table (below-UpTo 0 (length c.args.names.now) (g.N.Nodes.table c.type_inst.new.self) (g.N.Nodes.table c.clashes.new.terms) (below-UpTo 0 (length c.args.names.now) (g.N.Nodes.table c.args.terms.now) (g.N.Nodes.table c.type_inst.new.self) c.requires.set_up.names c.in_ok-ty.ensures.names (omega arith)) c.in_ok-clashes.ensures.names (omega arith)) (stays-before (length c.args.names.now) (g.N.Nodes.table c.args.terms.now) (g.N.Nodes.table c.type_inst.new.self) c.args.work.now.subst.now (pairs_of c.args.work.now.renamed.now) c.args.v c.in_ok-ty.ty c.args.body c.requires.set_up c.requires.v c.requires.body c.in_ok-ty.ensures.grows c.in_ok-ty.ensures.table (rw c.types.ensures at c.in_ok-ty.ensures.ok) (rw c.if-not-branch.true at c.in_ok-clashes.ensures.ok)) (c.in_err-body.ensures.nesting (ap Err (same_Err c.from_residual-in_err-body.result _ _ c.from_residual-in_err-body.ensures.1 p)))
 
 pub abstraction-abs-requires-clause-ty : goal.abstraction-abs-requires-clause-ty
 abstraction-abs-requires-clause-ty g t c = omega (arith, instance-in (length c.args.names.now) (g.N.Nodes.table c.args.terms.now) (g.N.Nodes.table c.type_inst.new.self) c.args.work.now.subst.now (pairs_of c.args.work.now.renamed.now) c.args.v c.in_ok-ty.ty c.args.body c.requires.set_up c.requires.v c.requires.body c.in_ok-ty.ensures.grows c.in_ok-ty.ensures.table (rw c.types.ensures at c.in_ok-ty.ensures.ok), c.in_ok-clashes.ensures.grows.types.longer, c.in_ok-body.ensures.later.grows.types.longer)
@@ -52,7 +52,7 @@ pub abstraction-walk-requires-2 : goal.abstraction-walk-requires-2
 abstraction-walk-requires-2 g t c κs h = (omega (arith, c.decreases), (h.0, (h.1, (set_up-new (length c.args.names.now) (g.N.Nodes.table c.args.terms.now) (g.N.Nodes.table c.type_inst.new.self) c.args.work.now.subst.now (pairs_of c.args.work.now.renamed.now) c.args.v c.in_ok-ty.ty c.args.body c.requires.set_up c.requires.v c.requires.body c.in_ok-ty.ensures.grows c.in_ok-ty.ensures.table (rw c.types.ensures at c.in_ok-ty.ensures.ok) (g.N.Nodes.table c.clashes.new.terms) c.in_ok-clashes.ensures.grows c.in_ok-clashes.ensures.table (below-UpTo 0 (length c.args.names.now) (g.N.Nodes.table c.type_inst.new.self) (g.N.Nodes.table c.clashes.new.terms) (below-UpTo 0 (length c.args.names.now) (g.N.Nodes.table c.args.terms.now) (g.N.Nodes.table c.type_inst.new.self) c.requires.set_up.names c.in_ok-ty.ensures.names (omega arith)) c.in_ok-clashes.ensures.names (omega arith)) c.in_ok-name.name c.in_ok-name.ensures.ok.0 (omega (arith, c.requires.bound)) (length c.add_new.new.self) c.in_ok-name.ensures.extends.longer c.in_ok-name.ensures.ok.1, (IsMemory-nil (g.N.Nodes.table c.clashes.new.terms) c.args.work.now.subst.now ((c.args.v, (record { name = c.in_ok-name.name; ty = c.in_ok-ty.ty })) ∷ (pairs_of c.args.work.now.renamed.now)) c.hashed-results.result c.hashed-results.ensures, (c.in_ok-clashes.ensures.frees, body-then (length c.args.names.now) (g.N.Nodes.table c.args.terms.now) (g.N.Nodes.table c.type_inst.new.self) c.args.work.now.subst.now (pairs_of c.args.work.now.renamed.now) c.args.v c.in_ok-ty.ty c.args.body c.requires.set_up c.requires.v c.requires.body c.in_ok-ty.ensures.grows c.in_ok-ty.ensures.table (rw c.types.ensures at c.in_ok-ty.ensures.ok) (g.N.Nodes.table c.clashes.new.terms) c.in_ok-clashes.ensures.grows c.in_ok-clashes.ensures.table (below-UpTo 0 (length c.args.names.now) (g.N.Nodes.table c.type_inst.new.self) (g.N.Nodes.table c.clashes.new.terms) (below-UpTo 0 (length c.args.names.now) (g.N.Nodes.table c.args.terms.now) (g.N.Nodes.table c.type_inst.new.self) c.requires.set_up.names c.in_ok-ty.ensures.names (omega arith)) c.in_ok-clashes.ensures.names (omega arith))))))))
 
 pub abstraction-returns-in_err-body-2-clause-nesting : goal.abstraction-returns-in_err-body-2-clause-nesting
-abstraction-returns-in_err-body-2-clause-nesting g t c p = deep-new (length c.args.names.now) (g.N.Nodes.table c.args.terms.now) (g.N.Nodes.table c.type_inst.new.self) c.args.work.now.subst.now (pairs_of c.args.work.now.renamed.now) c.args.v c.in_ok-ty.ty c.args.body c.requires.set_up c.requires.v c.requires.body c.in_ok-ty.ensures.grows c.in_ok-ty.ensures.table (rw c.types.ensures at c.in_ok-ty.ensures.ok) (g.N.Nodes.table c.clashes.new.terms) c.in_ok-clashes.ensures.grows c.in_ok-clashes.ensures.table (below-UpTo 0 (length c.args.names.now) (g.N.Nodes.table c.type_inst.new.self) (g.N.Nodes.table c.clashes.new.terms) (below-UpTo 0 (length c.args.names.now) (g.N.Nodes.table c.args.terms.now) (g.N.Nodes.table c.type_inst.new.self) c.requires.set_up.names c.in_ok-ty.ensures.names (omega arith)) c.in_ok-clashes.ensures.names (omega arith)) c.in_ok-name.name c.in_ok-name.ensures.ok.0 (omega (arith, c.requires.bound)) (c.in_err-body-2.ensures.nesting (ap Err (same_error c.from_residual-in_err-body-2.result _ _ c.from_residual-in_err-body-2.ensures.1 p)))
+abstraction-returns-in_err-body-2-clause-nesting g t c p = deep-new (length c.args.names.now) (g.N.Nodes.table c.args.terms.now) (g.N.Nodes.table c.type_inst.new.self) c.args.work.now.subst.now (pairs_of c.args.work.now.renamed.now) c.args.v c.in_ok-ty.ty c.args.body c.requires.set_up c.requires.v c.requires.body c.in_ok-ty.ensures.grows c.in_ok-ty.ensures.table (rw c.types.ensures at c.in_ok-ty.ensures.ok) (g.N.Nodes.table c.clashes.new.terms) c.in_ok-clashes.ensures.grows c.in_ok-clashes.ensures.table (below-UpTo 0 (length c.args.names.now) (g.N.Nodes.table c.type_inst.new.self) (g.N.Nodes.table c.clashes.new.terms) (below-UpTo 0 (length c.args.names.now) (g.N.Nodes.table c.args.terms.now) (g.N.Nodes.table c.type_inst.new.self) c.requires.set_up.names c.in_ok-ty.ensures.names (omega arith)) c.in_ok-clashes.ensures.names (omega arith)) c.in_ok-name.name c.in_ok-name.ensures.ok.0 (omega (arith, c.requires.bound)) (c.in_err-body-2.ensures.nesting (ap Err (same_Err c.from_residual-in_err-body-2.result _ _ c.from_residual-in_err-body-2.ensures.1 p)))
 
 pub abstraction-returns-in_err-body-2-clause-later : goal.abstraction-returns-in_err-body-2-clause-later
 abstraction-returns-in_err-body-2-clause-later g t c = IsLater-trans c.args.names.now c.add_new.new.self c.walk-2.new.names (g.N.Nodes.table c.args.terms.now) (g.N.Nodes.table c.clashes.new.terms) (g.N.Nodes.table c.walk-2.new.terms) (IsLater-trans c.args.names.now c.args.names.now c.add_new.new.self (g.N.Nodes.table c.args.terms.now) (g.N.Nodes.table c.clashes.new.terms) (g.N.Nodes.table c.clashes.new.terms) (IsLater-trans c.args.names.now c.args.names.now c.args.names.now (g.N.Nodes.table c.args.terms.now) (g.N.Nodes.table c.type_inst.new.self) (g.N.Nodes.table c.clashes.new.terms) (IsLater-table 0 c.args.names.now (g.N.Nodes.table c.args.terms.now) (g.N.Nodes.table c.type_inst.new.self) c.requires.set_up.names c.in_ok-ty.ensures.grows c.in_ok-ty.ensures.table c.in_ok-ty.ensures.names (omega arith)) (IsLater-table 0 c.args.names.now (g.N.Nodes.table c.type_inst.new.self) (g.N.Nodes.table c.clashes.new.terms) (below-UpTo 0 (length c.args.names.now) (g.N.Nodes.table c.args.terms.now) (g.N.Nodes.table c.type_inst.new.self) c.requires.set_up.names c.in_ok-ty.ensures.names (omega arith)) c.in_ok-clashes.ensures.grows c.in_ok-clashes.ensures.table c.in_ok-clashes.ensures.names (omega arith))) (later-name c.args.names.now c.add_new.new.self (g.N.Nodes.table c.clashes.new.terms) c.in_ok-name.ensures.extends c.in_ok-name.ensures.table c.in_ok-clashes.ensures.table (below-UpTo 0 (length c.args.names.now) (g.N.Nodes.table c.type_inst.new.self) (g.N.Nodes.table c.clashes.new.terms) (below-UpTo 0 (length c.args.names.now) (g.N.Nodes.table c.args.terms.now) (g.N.Nodes.table c.type_inst.new.self) c.requires.set_up.names c.in_ok-ty.ensures.names (omega arith)) c.in_ok-clashes.ensures.names (omega arith)))) c.in_err-body-2.ensures.later
@@ -77,7 +77,7 @@ abstraction-returns-clause-later g t c =
 pub application-returns-in_err-x-clause-nesting : goal.application-returns-in_err-x-clause-nesting
 application-returns-in_err-x-clause-nesting g t c p =
     deep-right (becomes (g.N.Nodes.table c.args.terms.now) c.args.work.now.subst.now (pairs_of c.args.work.now.renamed.now) (nameless numbers (term_at (g.N.Nodes.table c.args.terms.now).terms c.args.f))) (becomes (g.N.Nodes.table c.args.terms.now) c.args.work.now.subst.now (pairs_of c.args.work.now.renamed.now) (nameless numbers (term_at (g.N.Nodes.table c.args.terms.now).terms c.args.x)))
-    (ap (is_shallow numbers) (sym (becomes_at-Grows (g.N.Nodes.table c.args.terms.now) (g.N.Nodes.table c.walk.new.terms) c.in_ok-f.ensures.later.grows c.args.work.now.subst.now c.requires.set_up.ready.subst (pairs_of c.args.work.now.renamed.now) c.requires.set_up.ready.binders c.args.x c.requires.x)) ∙ c.in_err-x.ensures.nesting (ap Err (same_error c.from_residual-in_err-x.result _ _ c.from_residual-in_err-x.ensures.1 p)))
+    (ap (is_shallow numbers) (sym (becomes_at-Grows (g.N.Nodes.table c.args.terms.now) (g.N.Nodes.table c.walk.new.terms) c.in_ok-f.ensures.later.grows c.args.work.now.subst.now c.requires.set_up.ready.subst (pairs_of c.args.work.now.renamed.now) c.requires.set_up.ready.binders c.args.x c.requires.x)) ∙ c.in_err-x.ensures.nesting (ap Err (same_Err c.from_residual-in_err-x.result _ _ c.from_residual-in_err-x.ensures.1 p)))
 
 pub application-join-requires-clause-typed : goal.application-join-requires-clause-typed
 application-join-requires-clause-typed g t c = parts-typed (g.N.Nodes.table c.args.terms.now) (g.N.Nodes.table c.walk-2.new.terms) c.args.work.now.subst.now (pairs_of c.args.work.now.renamed.now) c.requires.set_up.ready (term_at (g.N.Nodes.table c.args.terms.now).terms c.args.f) (term_at (g.N.Nodes.table c.args.terms.now).terms c.args.x) c.requires.typed.0 c.requires.typed.1 c.in_ok-f.f c.in_ok-x.x (walked_left (g.N.Nodes.table c.args.terms.now) (g.N.Nodes.table c.walk.new.terms) (g.N.Nodes.table c.walk-2.new.terms) (g.N.Nodes.table c.walk-2.new.terms) c.in_ok-f.ensures.later.grows c.in_ok-x.ensures.later.grows (Grows-refl (g.N.Nodes.table c.walk-2.new.terms)) c.args.work.now.subst.now (pairs_of c.args.work.now.renamed.now) c.requires.set_up.ready (AreReady-Grows (g.N.Nodes.table c.args.terms.now) (g.N.Nodes.table c.walk.new.terms) c.in_ok-f.ensures.later.grows c.args.work.now.subst.now c.requires.set_up.ready.subst (pairs_of c.args.work.now.renamed.now) c.requires.set_up.ready c.in_ok-f.ensures.later.table) (AreReady-Grows (g.N.Nodes.table c.args.terms.now) (g.N.Nodes.table c.walk-2.new.terms) (Grows-trans c.in_ok-f.ensures.later.grows c.in_ok-x.ensures.later.grows) c.args.work.now.subst.now c.requires.set_up.ready.subst (pairs_of c.args.work.now.renamed.now) c.requires.set_up.ready c.in_ok-x.ensures.later.table) c.args.memory.now c.walk.new.memory c.walk-2.new.memory c.args.steps.now c.walk.new.steps c.walk-2.new.steps c.args.f c.args.x c.in_ok-f.f c.in_ok-x.x 0 c.requires.f c.requires.x c.in_ok-f.ensures.ok c.in_ok-x.ensures.ok) (walked_right (g.N.Nodes.table c.args.terms.now) (g.N.Nodes.table c.walk.new.terms) (g.N.Nodes.table c.walk-2.new.terms) (g.N.Nodes.table c.walk-2.new.terms) c.in_ok-f.ensures.later.grows c.in_ok-x.ensures.later.grows (Grows-refl (g.N.Nodes.table c.walk-2.new.terms)) c.args.work.now.subst.now (pairs_of c.args.work.now.renamed.now) c.requires.set_up.ready (AreReady-Grows (g.N.Nodes.table c.args.terms.now) (g.N.Nodes.table c.walk.new.terms) c.in_ok-f.ensures.later.grows c.args.work.now.subst.now c.requires.set_up.ready.subst (pairs_of c.args.work.now.renamed.now) c.requires.set_up.ready c.in_ok-f.ensures.later.table) (AreReady-Grows (g.N.Nodes.table c.args.terms.now) (g.N.Nodes.table c.walk-2.new.terms) (Grows-trans c.in_ok-f.ensures.later.grows c.in_ok-x.ensures.later.grows) c.args.work.now.subst.now c.requires.set_up.ready.subst (pairs_of c.args.work.now.renamed.now) c.requires.set_up.ready c.in_ok-x.ensures.later.table) c.args.memory.now c.walk.new.memory c.walk-2.new.memory c.args.steps.now c.walk.new.steps c.walk-2.new.steps c.args.f c.args.x c.in_ok-f.f c.in_ok-x.x 0 c.requires.f c.requires.x c.in_ok-f.ensures.ok c.in_ok-x.ensures.ok)
@@ -120,7 +120,7 @@ walk-returns-in-Some-clause-ok g t c = walked-recalled (g.N.Nodes.table c.args.t
 
 pub walk-returns-in_err-image-clause-nesting : goal.walk-returns-in_err-image-clause-nesting
 walk-returns-in_err-image-clause-nesting g t c p =
-    ap (λ x. is_shallow numbers (becomes (g.N.Nodes.table c.args.terms.now) c.args.work.now.subst.now (pairs_of c.args.work.now.renamed.now) (nameless numbers x))) (node-tree (g.N.Nodes.table c.args.terms.now) c.args.id c.take-node.result c.take-node.ensures.tree) ∙ c.in_err-image.ensures.nesting (ap Err (same_error c.from_residual.result _ _ c.from_residual.ensures.1 p))
+    ap (λ x. is_shallow numbers (becomes (g.N.Nodes.table c.args.terms.now) c.args.work.now.subst.now (pairs_of c.args.work.now.renamed.now) (nameless numbers x))) (node-tree (g.N.Nodes.table c.args.terms.now) c.args.id c.take-node.result c.take-node.ensures.tree) ∙ c.in_err-image.ensures.nesting (ap Err (same_Err c.from_residual.result _ _ c.from_residual.ensures.1 p))
 
 pub walk-keep-requires : goal.walk-keep-requires
 walk-keep-requires g t c = absent-lookup c.image_of_node.new.memory c.args.id (still_absent (g.N.Nodes.table c.args.terms.now) (g.N.Nodes.table c.image_of_node.new.terms) c.args.work.now.subst.now (pairs_of c.args.work.now.renamed.now) c.args.memory.now c.image_of_node.new.memory c.take-node.new.steps c.image_of_node.new.steps c.args.id (above c.take-node.result) c.in_ok-image.image (term_of (g.N.Nodes.table c.args.terms.now).types (g.N.Nodes.table c.args.terms.now).terms c.take-node.result) (above-below (length (g.N.Nodes.table c.args.terms.now).types) c.args.id c.take-node.result c.take-node.ensures.below) c.in_ok-image.ensures.ok (absent-member c.args.memory.now c.args.id (sym c.in_default.ensures)))

@@ -6,8 +6,9 @@ use Rattle.ot_class.specs.Table.{tree_of}
 use Rattle.ot_class.proofs.ClassLemmas.{less_than}
 use Rattle.ot_class.proofs.Distinct.{any_to}
 use Rattle.std.proofs.lemmas.Bool.Decides.{Decides-eqb}
-use Rattle.ot_class.proofs.GatheringLemmas.{adds-none, adds-newer, adds-seen, adds-same, adds-other, adds-application, adds-abstraction, adds-at, seen_grown, seen_insert, on_ok-then}
+use Rattle.ot_class.proofs.GatheringLemmas.{adds-none, adds-newer, adds-seen, adds-same, adds-other, adds-application, adds-abstraction, adds-at, seen_grown, seen_insert}
 use Rattle.ot_class.proofs.table.Classes.+add_types.Goals as goal
+use Rattle.ot_plain.proofs.Results.{on_ok-then}
 
 pub add_node_types-returns-then-eq-clause-added : goal.add_node_types-returns-then-eq-clause-added
 add_node_types-returns-then-eq-clause-added t c = on_ok-then c.add_once.result (λ e. subst (AddsFree (variable_by c.args.name) (class_at c.args.self.now c.args.id) c.args.types.now.items) (sym e) (adds-at (variable_by c.args.name) c.args.self.now c.args.id _ _ _ (subst (λ n. slice_get c.args.self.now c.args.id ≡ Some (tree_of c.args.self.now n)) c.in-Free.is c.node.ensures.tree) (adds-same c.args.name c.in-Free.v.name c.in-Free.v.ty c.args.types.now.items (sym c.eq.ensures ∙ c.if-eq.true)))) c.add_once.ensures

@@ -5,8 +5,9 @@ use Rattle.ot_class.specs.Gathering.{AddsFree, AreSeen}
 use Rattle.ot_class.specs.Table.{tree_of}
 use Rattle.ot_class.proofs.Distinct.{any_to}
 use Rattle.std.proofs.lemmas.Bool.Decides.{Decides-eqb}
-use Rattle.ot_class.proofs.GatheringLemmas.{adds-none, adds-closed, adds-seen, adds-key, adds-application, adds-abstraction, adds-at, seen_grown, seen_insert, on_ok-then}
+use Rattle.ot_class.proofs.GatheringLemmas.{adds-none, adds-closed, adds-seen, adds-key, adds-application, adds-abstraction, adds-at, seen_grown, seen_insert}
 use Rattle.ot_class.proofs.table.Classes.+add_vars.Goals as goal
+use Rattle.ot_plain.proofs.Results.{on_ok-then}
 
 -- the variable of a free node is added
 added : (t : ℕ) (c : goal.add_node_vars-In_ok-insert-in-Free t) → AddsFree variable_of (class_at c.args.self.now c.args.id) c.args.vars.now.keys c.insert.new.self.keys

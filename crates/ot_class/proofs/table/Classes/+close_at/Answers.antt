@@ -8,8 +8,9 @@ use Rattle.ot_plain.proofs.TableLemmas.{get_or-Extends}
 use Rattle.ot_class.specs.Class.{class_at, numbered, variable_of}
 use Rattle.ot_class.specs.Table.{tree_of, AreBelow}
 use Rattle.ot_class.proofs.ClassLemmas.{less_than}
-use Rattle.ot_class.proofs.ClosingLemmas.{newer, closing_grown, closing_insert, closed-application, closed-abstraction, closed-other, closed-leaf, on_ok}
+use Rattle.ot_class.proofs.ClosingLemmas.{newer, closing_grown, closing_insert, closed-application, closed-abstraction, closed-other, closed-leaf}
 use Rattle.ot_class.proofs.table.Classes.+close_at.Goals as goal
+use Rattle.ot_plain.proofs.Results.{on_ok}
 
 pub close_at-returns-then-lt-clause-ok : goal.close_at-returns-then-lt-clause-ok
 close_at-returns-then-lt-clause-ok t c =

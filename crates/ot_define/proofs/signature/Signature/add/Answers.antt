@@ -2,7 +2,7 @@ use Rattle.std.proofs.Common.{◌≡◌, length, map, take, ap, ◌∙◌}
 use Rattle.ot_term.specs.Symbols.{symbol_of}
 use Rattle.ot_term.proofs.Distinct.{symbol_eq}
 use Rattle.ot_define.specs.Signature.{Symbols, with_symbols}
-use Rattle.ot_define.proofs.Hashed.{all-kept}
+use Rattle.ot_laws.proofs.Hashed.{all-kept}
 use Rattle.ot_define.proofs.Keys.{recorded}
 use Rattle.ot_define.proofs.signature.Signature.add.Goals as goal
 

@@ -1,9 +1,9 @@
 use Rattle.std.proofs.Common.{rules, refl}
 use Rattle.ot_plain.specs.declared.command.Cmd.TheVariants as words
 use Rattle.ot_machine.proofs.Kept.{leaves}
-use Rattle.ot_machine.proofs.Turning.{then-ok}
 use Rattle.ot_machine.proofs.RuleRows.{turned}
 use Rattle.ot_machine.proofs.rows.terms.app_term.Goals as goal
+use Rattle.ot_plain.proofs.Results.{bind-to}
 
 pub make_two-requires-clause-of : goal.make_two-requires-clause-of
 make_two-requires-clause-of c = (leaves _ _ _ c.requires c.app.ensures.keeps c.app.ensures.same.basis).machine.of
@@ -22,5 +22,5 @@ pub returns : goal.returns
 returns c =
     let there = c.in_ok-make_two.ensures in
     turned _ _ _ _ _ words.AppTerm _ (leaves _ _ _ c.requires c.app.ensures.keeps c.app.ensures.same.basis)
-    (then-ok _ _ _ _ c.in_ok-argument.ensures.found (then-ok _ _ _ _ c.in_ok-function.ensures.found (then-ok _ _ _ _ c.in_ok-term.ensures.made.1 refl)))
+    (bind-to _ _ _ _ c.in_ok-argument.ensures.found (bind-to _ _ _ _ c.in_ok-function.ensures.found (bind-to _ _ _ _ c.in_ok-term.ensures.made.1 refl)))
     there.ok there.kernel there.run there.trace there.of

@@ -3,9 +3,9 @@ use Rattle.ot_plain.specs.declared.command.Cmd.TheVariants as words
 use Rattle.std.specs.Prelude.{Ok}
 use Rattle.ot_machine.specs.Objects.{term}
 use Rattle.ot_machine.proofs.Kept.{leaves}
-use Rattle.ot_machine.proofs.Turning.{then-ok}
 use Rattle.ot_machine.proofs.RuleRows.{turned}
 use Rattle.ot_machine.proofs.rows.terms.const_term.Goals as goal
+use Rattle.ot_plain.proofs.Results.{bind-to}
 
 pub make_two-requires-clause-of : goal.make_two-requires-clause-of
 make_two-requires-clause-of c = (leaves _ _ _ c.requires c.constant.ensures.keeps c.constant.ensures.same.basis).machine.of
@@ -24,5 +24,5 @@ pub returns : goal.returns
 returns c =
     let there = c.in_ok-make_two.ensures in
     turned _ _ _ _ _ words.ConstTerm _ (leaves _ _ _ c.requires c.constant.ensures.keeps c.constant.ensures.same.basis)
-    (then-ok _ _ _ _ c.in_ok-ty.ensures.found (then-ok _ _ _ _ c.in_ok-name.ensures.found (ap (λ t. Ok (term t)) (sym c.in_ok-term.ensures.ok))))
+    (bind-to _ _ _ _ c.in_ok-ty.ensures.found (bind-to _ _ _ _ c.in_ok-name.ensures.found (ap (λ t. Ok (term t)) (sym c.in_ok-term.ensures.ok))))
     there.ok there.kernel there.run there.trace there.of

@@ -5,9 +5,9 @@ use Rattle.ot_plain.specs.Rules.{op_rule}
 use Rattle.ot_kernel.specs.State.{name_at, types_at}
 use Rattle.ot_machine.proofs.Elements.{types_at-arguments}
 use Rattle.ot_machine.proofs.Kept.{leaves}
-use Rattle.ot_machine.proofs.Turning.{then-ok}
 use Rattle.ot_machine.proofs.RuleRows.{turned}
 use Rattle.ot_machine.proofs.rows.terms.op_type.Goals as goal
+use Rattle.ot_plain.proofs.Results.{bind-to}
 
 pub make_two-requires-clause-of : goal.make_two-requires-clause-of
 make_two-requires-clause-of c = (leaves _ _ _ c.requires c.type_op.ensures.keeps c.type_op.ensures.same.basis).machine.of
@@ -30,5 +30,5 @@ returns c =
     let args = sym (types_at-arguments k c.in_ok-args.args.items) ∙ ap (types_at k) (sym c.deref.ensures.value) in
     let made = ap (op_rule names (name_at k c.in_ok-name.name)) args ∙ c.in_ok-ty.ensures.made.1 in
     turned _ _ _ _ _ words.OpType _ (leaves _ _ _ c.requires c.type_op.ensures.keeps c.type_op.ensures.same.basis)
-    (then-ok _ _ _ _ c.in_ok-args.ensures.found (then-ok _ _ _ _ c.in_ok-name.ensures.found (then-ok _ _ _ _ made refl)))
+    (bind-to _ _ _ _ c.in_ok-args.ensures.found (bind-to _ _ _ _ c.in_ok-name.ensures.found (bind-to _ _ _ _ made refl)))
     there.ok there.kernel there.run there.trace there.of

@@ -3,9 +3,9 @@ use Rattle.ot_plain.specs.declared.command.Cmd.TheVariants as words
 use Rattle.std.specs.Prelude.{Ok}
 use Rattle.ot_machine.specs.Objects.{term}
 use Rattle.ot_machine.proofs.Kept.{leaves}
-use Rattle.ot_machine.proofs.Turning.{then-ok}
 use Rattle.ot_machine.proofs.RuleRows.{turned}
 use Rattle.ot_machine.proofs.rows.terms.var_term.Goals as goal
+use Rattle.ot_plain.proofs.Results.{bind-to}
 
 pub make_one-requires-clause-of : goal.make_one-requires-clause-of
 make_one-requires-clause-of c = (leaves _ _ _ c.requires c.var.ensures.keeps c.var.ensures.same.basis).machine.of
@@ -24,5 +24,5 @@ pub returns : goal.returns
 returns c =
     let there = c.in_ok-make_one.ensures in
     turned _ _ _ _ _ words.VarTerm _ (leaves _ _ _ c.requires c.var.ensures.keeps c.var.ensures.same.basis)
-    (then-ok _ _ _ _ c.in_ok-variable.ensures.found (ap (λ t. Ok (term t)) (sym c.in_ok-term.ensures.ok)))
+    (bind-to _ _ _ _ c.in_ok-variable.ensures.found (ap (λ t. Ok (term t)) (sym c.in_ok-term.ensures.ok)))
     there.ok there.kernel there.run there.trace there.of

@@ -5,9 +5,9 @@ use Rattle.std.proofs.lemmas.Option.{get_or_from_slice_get}
 use Rattle.ot_plain.specs.Trees.{TyVar}
 use Rattle.ot_machine.specs.Objects.{a_type}
 use Rattle.ot_machine.proofs.Kept.{leaves}
-use Rattle.ot_machine.proofs.Turning.{then-ok}
 use Rattle.ot_machine.proofs.RuleRows.{turned}
 use Rattle.ot_machine.proofs.rows.terms.var_type.Goals as goal
+use Rattle.ot_plain.proofs.Results.{bind-to}
 
 pub make_one-requires-clause-of : goal.make_one-requires-clause-of
 make_one-requires-clause-of c = (leaves _ _ _ c.requires c.type_var.ensures.keeps c.type_var.ensures.same.basis).machine.of
@@ -26,5 +26,5 @@ pub returns : goal.returns
 returns c =
     let there = c.in_ok-make_one.ensures in
     turned _ _ _ _ _ words.VarType _ (leaves _ _ _ c.requires c.type_var.ensures.keeps c.type_var.ensures.same.basis)
-    (then-ok _ _ _ _ c.in_ok-name.ensures.found (ap (λ t. Ok (a_type t)) (sym (get_or_from_slice_get c.type_var.new.self.types c.in_ok-ty.ty _ (TyVar []) c.in_ok-ty.ensures.ok))))
+    (bind-to _ _ _ _ c.in_ok-name.ensures.found (ap (λ t. Ok (a_type t)) (sym (get_or_from_slice_get c.type_var.new.self.types c.in_ok-ty.ty _ (TyVar []) c.in_ok-ty.ensures.ok))))
     there.ok there.kernel there.run there.trace there.of

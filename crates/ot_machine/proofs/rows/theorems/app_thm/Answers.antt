@@ -1,9 +1,9 @@
 use Rattle.std.proofs.Common.{refl}
 use Rattle.ot_plain.specs.declared.command.Cmd.TheVariants as words
 use Rattle.ot_machine.proofs.Kept.{leaves}
-use Rattle.ot_machine.proofs.Turning.{then-ok}
 use Rattle.ot_machine.proofs.RuleRows.{gives-inside, by-rule}
 use Rattle.ot_machine.proofs.rows.theorems.app_thm.Goals as goal
+use Rattle.ot_plain.proofs.Results.{bind-to}
 
 pub conclude_two-requires-clause-of : goal.conclude_two-requires-clause-of
 conclude_two-requires-clause-of c = (leaves _ _ _ c.requires c.app_thm-answer.ensures.keeps c.app_thm-answer.ensures.same).machine.of
@@ -15,4 +15,4 @@ pub returns : goal.returns
 returns c =
     by-rule _ _ _ _ _ words.AppThm _ c.app_thm-answer.result _
     (leaves _ _ _ c.requires c.app_thm-answer.ensures.keeps c.app_thm-answer.ensures.same) c.app_thm-answer.ensures.concludes
-    (then-ok _ _ _ _ c.in_ok-top.ensures.found (then-ok _ _ _ _ c.in_ok-lower.ensures.found refl)) (c.conclude_two.ensures _)
+    (bind-to _ _ _ _ c.in_ok-top.ensures.found (bind-to _ _ _ _ c.in_ok-lower.ensures.found refl)) (c.conclude_two.ensures _)

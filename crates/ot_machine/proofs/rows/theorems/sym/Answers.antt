@@ -1,9 +1,9 @@
 use Rattle.std.proofs.Common.{refl}
 use Rattle.ot_plain.specs.declared.command.Cmd.TheVariants as words
 use Rattle.ot_machine.proofs.Kept.{leaves}
-use Rattle.ot_machine.proofs.Turning.{then-ok}
 use Rattle.ot_machine.proofs.RuleRows.{gives-inside, by-rule}
 use Rattle.ot_machine.proofs.rows.theorems.sym.Goals as goal
+use Rattle.ot_plain.proofs.Results.{bind-to}
 
 pub conclude_one-requires-clause-of : goal.conclude_one-requires-clause-of
 conclude_one-requires-clause-of c = (leaves _ _ _ c.requires c.sym-answer.ensures.keeps c.sym-answer.ensures.same).machine.of
@@ -15,4 +15,4 @@ pub returns : goal.returns
 returns c =
     by-rule _ _ _ _ _ words.Sym _ c.sym-answer.result _
     (leaves _ _ _ c.requires c.sym-answer.ensures.keeps c.sym-answer.ensures.same) c.sym-answer.ensures.concludes
-    (then-ok _ _ _ _ c.in_ok-premise.ensures.found refl) (c.conclude_one.ensures _)
+    (bind-to _ _ _ _ c.in_ok-premise.ensures.found refl) (c.conclude_one.ensures _)

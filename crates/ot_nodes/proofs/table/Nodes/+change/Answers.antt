@@ -5,9 +5,10 @@ use Rattle.ot_nodes.specs.Items.{TermItem, IsTerm, term_at}
 use Rattle.ot_nodes.specs.Changing.{changed, changing, inner_of}
 use Rattle.ot_nodes.specs.Table.{term_tree, HasTermParts}
 use Rattle.ot_nodes.proofs.ItemLemmas.{has-type, has-term, term-stays, still-term}
-use Rattle.ot_nodes.proofs.MapLemmas.{still-change, changing-stays, changed-insert, done-now, on_ok}
+use Rattle.ot_nodes.proofs.MapLemmas.{still-change, changing-stays, changed-insert, done-now}
 use Rattle.ot_nodes.proofs.ChangeLemmas.{changed-application, changed-abstraction, changed-constant, changed-place}
 use Rattle.ot_nodes.proofs.table.Nodes.+change.Goals as goal
+use Rattle.ot_plain.proofs.Results.{on_ok}
 
 pub change_at-returns-in-Some-clause-ok : goal.change_at-returns-in-Some-clause-ok
 change_at-returns-in-Some-clause-ok t c = (c.requires.done.terms.known (record { depth = c.args.depth; id = c.args.id }) c.in-Some.known.now (sym c.in-Some.ensures.value)).1

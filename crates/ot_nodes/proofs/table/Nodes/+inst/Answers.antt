@@ -10,9 +10,10 @@ use Rattle.ot_nodes.specs.Items.{TypeItem, IsType, name_at, type_at, types_at}
 use Rattle.ot_nodes.specs.Changing.{type_map, AreInstances, HasInstances}
 use Rattle.ot_nodes.specs.Table.{type_tree, HasTypeParts}
 use Rattle.ot_nodes.proofs.ItemLemmas.{name-stays, type-stays, still-type, still-types}
-use Rattle.ot_nodes.proofs.MapLemmas.{type_map-stays, still-types_of, instances-insert, instances-now, on_ok}
+use Rattle.ot_nodes.proofs.MapLemmas.{type_map-stays, still-types_of, instances-insert, instances-now}
 use Rattle.ot_nodes.proofs.InstanceLemmas.{instance-found, instance-kept, instances-push, instance-operator}
 use Rattle.ot_nodes.proofs.table.Nodes.+inst.Goals as goal
+use Rattle.ot_plain.proofs.Results.{on_ok}
 
 pub inst-returns-clause-done : goal.inst-returns-clause-done
 inst-returns-clause-done t c =

@@ -7,9 +7,9 @@ use Rattle.ot_nodes.specs.Items.{HasType, type_at, term_at}
 use Rattle.ot_nodes.specs.Table.{term_tree, HasTermParts}
 use Rattle.ot_nodes.specs.Typing.{binders_at, IsTyping}
 use Rattle.ot_nodes.proofs.ItemLemmas.{type-stays, term-stays, still-term, still-types}
-use Rattle.ot_nodes.proofs.MapLemmas.{on_ok}
 use Rattle.ot_nodes.proofs.TypingLemmas.{typing-grown, typings-grown, typings-insert, binders-stay, typing-cut, typing-number}
 use Rattle.ot_nodes.proofs.table.Nodes.+typing.Goals as goal
+use Rattle.ot_plain.proofs.Results.{on_ok}
 
 pub typing_under-returns-in-Some-clause-ok : goal.typing_under-returns-in-Some-clause-ok
 typing_under-returns-in-Some-clause-ok t c =

@@ -4,14 +4,15 @@ use Rattle.ot_nodes.specs.Items.{TermItem}
 use Rattle.ot_nodes.specs.Changing.{type_map, term_map, changing, AreInstances, HasChange, IsDone}
 use Rattle.ot_nodes.specs.declared.table.change.Done.{Done}
 use Rattle.ot_nodes.proofs.ItemLemmas.{has-type, still-name}
-use Rattle.ot_nodes.proofs.MapLemmas.{type_map-stays, still-change, changing-stays, done-now, on_ok, on_ok-more}
+use Rattle.ot_nodes.proofs.MapLemmas.{type_map-stays, still-change, changing-stays, done-now}
 use Rattle.ot_nodes.proofs.ChangeLemmas.{closed-variable, other-variable, put-variable, free-variable, done-retyped}
 use Rattle.ot_nodes.proofs.table.Nodes.retype.Goals as goal
+use Rattle.ot_plain.proofs.Results.{on_ok, on_ok-then}
 
 pub returns-in-Put-clause-done : goal.returns-in-Put-clause-done
 returns-in-Put-clause-done c =
     let us = c.inst.new.self in
-    on_ok-more c.inst.result (λ (types : AreInstances us (type_map us c.in-Put.types.entries) c.inst.new.done.entries). done-retyped c.args.self.now us c.inst.ensures.extends c.args.change.now c.in-Put.types c.in-Put._terms c.args.done.now (record { types = c.inst.new.done; terms = c.args.done.now.terms }) c.in-Put.is c.requires.change c.requires.done refl types)
+    on_ok-then c.inst.result (λ (types : AreInstances us (type_map us c.in-Put.types.entries) c.inst.new.done.entries). done-retyped c.args.self.now us c.inst.ensures.extends c.args.change.now c.in-Put.types c.in-Put._terms c.args.done.now (record { types = c.inst.new.done; terms = c.args.done.now.terms }) c.in-Put.is c.requires.change c.requires.done refl types)
     c.inst.ensures.done
 
 pub returns-in-Put-clause-change : goal.returns-in-Put-clause-change

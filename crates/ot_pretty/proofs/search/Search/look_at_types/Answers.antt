@@ -2,16 +2,17 @@ use Rattle.std.proofs.Common.{◌∙◌, refl, arith, ap, sym, subst}
 use Rattle.ot_laws.proofs.Sets.{same_set-self}
 use Rattle.ot_plain.specs.Lists.{IsMember}
 use Rattle.ot_type.proofs.SubtypeLemmas.{above, above-le, above-last}
-use Rattle.ot_term.proofs.Walking.{member_last, no_more}
+use Rattle.ot_term.proofs.Walking.{no_more}
 use Rattle.ot_pretty.specs.Found.{symbols_with}
 use Rattle.ot_pretty.proofs.Finding.{types-below, looked-type, no-terms, reached-same}
 use Rattle.ot_pretty.proofs.search.Search.look_at_types.Goals as goal
+use Rattle.ot_plain.proofs.Members.{IsMember-last}
 
 pub loop-id-init : goal.loop-id-init
 loop-id-init c = (record { search = c.requires.search; symbols = same_set-self (symbols_with c.args.kernel.now c.args.self.now) }, c.requires.no_terms)
 
 pub look_at_type-requires : goal.look_at_type-requires
-look_at_type-requires c = c.loop-id.invariant.0.search.types c.in-Some.id (subst (IsMember c.in-Some.id) (sym c.in-Some.ensures.removal) (member_last c.in-Some.id c.pop_last.new.self.keys))
+look_at_type-requires c = c.loop-id.invariant.0.search.types c.in-Some.id (subst (IsMember c.in-Some.id) (sym c.in-Some.ensures.removal) (IsMember-last c.in-Some.id c.pop_last.new.self.keys))
 
 pub loop-id-smaller : goal.loop-id-smaller
 loop-id-smaller c =

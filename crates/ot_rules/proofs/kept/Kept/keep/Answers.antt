@@ -3,11 +3,11 @@ use Rattle.std.specs.List.{All}
 use Rattle.std.proofs.Common.{List, [], ◌∷◌, ◌++◌, ◌≡◌, subst, sym, ◌∙◌}
 use Rattle.std.proofs.lemmas.List.Elements.{All-push}
 use Rattle.ot_nodes.specs.Items.{HasTerm, term_at}
-use Rattle.ot_nodes.proofs.MapLemmas.{on_ok-more}
 use Rattle.ot_rules.specs.Statements.{terms_at, sequent_at, HasStatement}
 use Rattle.ot_rules.specs.Keeping.{ordered}
 use Rattle.ot_rules.proofs.KeptOnce.{kept-before, kept-there, kept-new}
 use Rattle.ot_rules.proofs.kept.Kept.keep.Goals as goal
+use Rattle.ot_plain.proofs.Results.{on_ok-then}
 
 -- all of a list that has one more, or is as it was
 kept-all : {X E : Type 0} (P : X → Type 0) (r : Result (Unit {0}) E) (xs ys : List X) (x : X) → OnOk r (ys ≡ xs ++ x ∷ []) → OnErr r (ys ≡ xs) → All P xs → P x → All P ys
@@ -40,5 +40,5 @@ returns-clause-ok c =
     let k = c.args.self.now in
     let copy = c.in_ok-copy.copy in
     let same : sequent_at ts copy ≡ sequent_at ts c.args.statement.now = (λ i. record { hyps = terms_at ts (c.in_ok-copy.ensures.0 i); concl = term_at ts (c.in_ok-copy.ensures.1 i) }) in
-    on_ok-more c.add.result (λ e. kept-new ts c.primitives.ensures.once k.statements.items c.add.new.self.statements.items c.args.statement.now copy c.contains.result e same
+    on_ok-then c.add.result (λ e. kept-new ts c.primitives.ensures.once k.statements.items c.add.new.self.statements.items c.args.statement.now copy c.contains.result e same
     (c.contains.ensures ∙ kept-before ts c.primitives.ensures.once k.statements.items k.keys.keys c.in_ok-key.key c.args.statement.now c.requires.all c.requires.statement c.requires.kept.keys c.in_ok-key.ensures) c.if-contains.false) c.add.ensures.ok

@@ -2,12 +2,12 @@ use Rattle.std.proofs.Common.{ℕ, List, subst, sym, ap, refl, ◌∙◌, ◌∷
 use Rattle.std.proofs.lemmas.List.{take_all}
 use Rattle.ot_nodes.specs.Items.{name_at, type_at, types_at}
 use Rattle.ot_nodes.specs.Table.{type_tree}
-use Rattle.ot_nodes.proofs.MapLemmas.{on_ok-more}
 use Rattle.ot_plain.specs.Trees.{TyOp}
 use Rattle.ot_rules.specs.Parts.{marks_ty, marks_all, mark_at, Gathers}
 use Rattle.ot_rules.specs.declared.parts.Mark.TheVariants as mark
 use Rattle.ot_rules.proofs.Gathering.{gathers-nothing, gathers-on, gathers-known_type, gathers-type, gathers-next_type}
 use Rattle.ot_rules.proofs.parts.Parts.+types.Goals as goal
+use Rattle.ot_plain.proofs.Results.{on_ok-then}
 
 pub add_type-returns-then-contains : goal.add_type-returns-then-contains
 add_type-returns-then-contains t c = gathers-known_type c.args.nodes.now c.args.self.now c.args.id c.contains.result c.requires.gone c.contains.ensures c.if-contains.true
@@ -18,7 +18,7 @@ add_type-returns t c = gathers-type c.args.nodes.now (marks_ty (type_at c.args.n
 pub add_type_node-returns-in-Var : goal.add_type_node-returns-in-Var
 add_type_node-returns-in-Var t c =
     let ts = c.args.nodes.now in
-    on_ok-more c.add_mark.result (λ g. subst (λ e. Gathers ts (marks_ty e) c.args.self.now c.add_mark.new.self) (sym (c.type_node.ensures.tree ∙ ap (type_tree ts) c.in-Var.is)) g) c.add_mark.ensures
+    on_ok-then c.add_mark.result (λ g. subst (λ e. Gathers ts (marks_ty e) c.args.self.now c.add_mark.new.self) (sym (c.type_node.ensures.tree ∙ ap (type_tree ts) c.in-Var.is)) g) c.add_mark.ensures
 
 pub add_type_node-returns-in_ok-add_mark-in-Op : goal.add_type_node-returns-in_ok-add_mark-in-Op
 add_type_node-returns-in_ok-add_mark-in-Op t c =

@@ -1,6 +1,6 @@
 use Rattle.std.proofs.Common.{length, take, ap, ◌∙◌}
 use Rattle.ot_rules.specs.Symbols.{mark_eq}
-use Rattle.ot_rules.proofs.Hashed.{all-kept}
+use Rattle.ot_laws.proofs.Hashed.{all-kept}
 use Rattle.ot_rules.proofs.signature.Signature.add.Goals as goal
 
 pub returns-in-Err-clause-err : goal.returns-in-Err-clause-err

@@ -7,17 +7,17 @@ use Rattle.ot_type.proofs.NamesIn.{bound_ty-type_at}
 use Rattle.ot_term.specs.TermTable.{term_at, variable_of}
 use Rattle.ot_term.proofs.Limit.{past-depth}
 use Rattle.ot_term.proofs.Suiting.{suits-abstraction}
-use Rattle.ot_term.proofs.Refusals.{same_error}
 use Rattle.ot_term.proofs.Growing.{abstraction-Grows}
 use Rattle.ot_term.proofs.NamesIn.{bound_named-term_at}
 use Rattle.ot_term.proofs.table.Terms.abs.Goals as goal
+use Rattle.ot_plain.proofs.Results.{same_Err}
 
 pub returns-then-inner-ge-DEPTH_LIMIT-clause-nesting : goal.returns-then-inner-ge-DEPTH_LIMIT-clause-nesting
 returns-then-inner-ge-DEPTH_LIMIT-clause-nesting c =
     λ _. past-depth (NAbs (variable_of c.args.self.now.types c.args.v) (term_at c.args.self.now.terms c.args.body)) (omega (arith, c.depth-inner.ensures.depth, c.if-inner-ge-DEPTH_LIMIT.true))
 
 pub returns-in_err-ty-clause-nesting : goal.returns-in_err-ty-clause-nesting
-returns-in_err-ty-clause-nesting c = λ p. c.in_err-ty.ensures.nesting (ap Err (same_error c.from_residual.result _ _ c.from_residual.ensures.1 p))
+returns-in_err-ty-clause-nesting c = λ p. c.in_err-ty.ensures.nesting (ap Err (same_Err c.from_residual.result _ _ c.from_residual.ensures.1 p))
 
 pub intern-requires-clause-suits : goal.intern-requires-clause-suits
 intern-requires-clause-suits c =

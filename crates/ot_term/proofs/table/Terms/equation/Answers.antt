@@ -8,10 +8,10 @@ use Rattle.ot_type.specs.TypeTable.{type_at}
 use Rattle.ot_term.specs.TermTable.{term_at, is_within_limit}
 use Rattle.ot_term.specs.Equality.{named_equation, equality_ty}
 use Rattle.ot_term.proofs.Limit.{past-function}
-use Rattle.ot_term.proofs.Refusals.{same_error}
 use Rattle.ot_term.proofs.Equations.{left_tree, left_typed, equation_tree, equation_typed}
 use Rattle.ot_term.proofs.table.Terms.equation.Goals as goal
 use Rattle.ot_term.proofs.table.Terms.equation.Goals.{In_ok-left}
+use Rattle.ot_plain.proofs.Results.{same_Err}
 
 pub apply-requires-clause-typed : goal.apply-requires-clause-typed
 apply-requires-clause-typed c = left_typed c.args.self.now c.equality.new.self c.equality.ensures.grows c.args.ty c.args.a c.in_ok-equality.equality c.requires.a c.in_ok-equality.ensures.ok c.requires.typed_a
@@ -20,7 +20,7 @@ pub returns-in_err-left-clause-nesting : goal.returns-in_err-left-clause-nesting
 returns-in_err-left-clause-nesting c =
     λ p.
     let tree = left_tree c.args.self.now c.equality.new.self c.equality.ensures.grows c.args.ty c.args.a c.in_ok-equality.equality c.requires.a c.in_ok-equality.ensures.ok c.requires.typed_a in
-    let passes = c.in_err-left.ensures.nesting (ap Err (same_error c.from_residual-in_err-left.result _ _ c.from_residual-in_err-left.ensures.1 p)) in
+    let passes = c.in_err-left.ensures.nesting (ap Err (same_Err c.from_residual-in_err-left.result _ _ c.from_residual-in_err-left.ensures.1 p)) in
     past-function (NApp (NConst numbers.equals (equality_ty (type_at c.args.self.now.types c.args.ty))) (term_at c.args.self.now.terms c.args.a)) (term_at c.args.self.now.terms c.args.b) (ap is_within_limit (sym tree) ∙ passes)
 
 pub apply-requires-2-clause-f : goal.apply-requires-2-clause-f

@@ -3,16 +3,17 @@ use Rattle.ot_plain.specs.Lists.{IsMember}
 use Rattle.ot_type.proofs.SubtypeLemmas.{above, above-le, above-last}
 use Rattle.ot_term.specs.TermTable.{term_at}
 use Rattle.ot_term.specs.Gather.{IsSubterm}
-use Rattle.ot_term.proofs.Walking.{IsSearch, search_step, search_end, all_below, member_last, no_more}
+use Rattle.ot_term.proofs.Walking.{IsSearch, search_step, search_end, all_below, no_more}
 use Rattle.ot_term.proofs.Gathering.{subterms_start, IsSubterm-trans}
 use Rattle.ot_term.proofs.table.Terms.subterms.Goals as goal
+use Rattle.ot_plain.proofs.Members.{IsMember-last}
 
 pub loop-next-init : goal.loop-next-init
 loop-next-init c = rw (c.new-found.ensures.items, c.in_ok-insert.ensures.keys, c.new-pending.ensures.empty) (subterms_start c.args.self.now.terms c.args.id c.requires)
 
 pub add_parts-requires : goal.add_parts-requires
 add_parts-requires c =
-    (c.loop-next.invariant.each_pending c.in-Some.next (subst (IsMember c.in-Some.next) (sym c.in-Some.ensures.removal) (member_last c.in-Some.next c.pop_last.new.self.keys))).0
+    (c.loop-next.invariant.each_pending c.in-Some.next (subst (IsMember c.in-Some.next) (sym c.in-Some.ensures.removal) (IsMember-last c.in-Some.next c.pop_last.new.self.keys))).0
 
 -- the search, with the number that is taken
 taken : (c : goal.In_ok-push) → IsSearch (term_at c.args.self.now.terms) IsSubterm (length c.args.self.now.terms) (λ u. IsSubterm u (term_at c.args.self.now.terms c.args.id)) c.loop-next.found.items (c.pop_last.new.self.keys ++ c.in-Some.next ∷ [])

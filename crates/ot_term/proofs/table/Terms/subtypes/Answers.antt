@@ -4,16 +4,17 @@ use Rattle.ot_type.specs.TypeTable.{type_at}
 use Rattle.ot_type.specs.Subtypes.{IsSubtype}
 use Rattle.ot_type.proofs.SubtypeLemmas.{above, above-le, above-last, All-member}
 use Rattle.ot_term.specs.Walk.{IsInsideSome}
-use Rattle.ot_term.proofs.Walking.{IsSearch, search_step, search_end, all_below, member_last, no_more}
+use Rattle.ot_term.proofs.Walking.{IsSearch, search_step, search_end, all_below, no_more}
 use Rattle.ot_term.proofs.Gathering.{subtypes_start, inside_closed}
 use Rattle.ot_term.proofs.table.Terms.subtypes.Goals as goal
+use Rattle.ot_plain.proofs.Members.{IsMember-last}
 
 pub loop-next-init : goal.loop-next-init
 loop-next-init c = rw c.new-found.ensures.items (subtypes_start c.args.self.now.types c.args.pending.keys (All-member _ _ c.requires))
 
 pub add_arguments-requires : goal.add_arguments-requires
 add_arguments-requires c =
-    (c.loop-next.invariant.each_pending c.in-Some.next (subst (IsMember c.in-Some.next) (sym c.in-Some.ensures.removal) (member_last c.in-Some.next c.pop_last.new.self.keys))).0
+    (c.loop-next.invariant.each_pending c.in-Some.next (subst (IsMember c.in-Some.next) (sym c.in-Some.ensures.removal) (IsMember-last c.in-Some.next c.pop_last.new.self.keys))).0
 
 -- the search, with the number that is taken
 taken : (c : goal.In_ok-push) → IsSearch (type_at c.args.self.now.types) IsSubtype (length c.args.self.now.types) (IsInsideSome (type_at c.args.self.now.types) IsSubtype c.args.pending.keys) c.loop-next.found.items (c.pop_last.new.self.keys ++ c.in-Some.next ∷ [])

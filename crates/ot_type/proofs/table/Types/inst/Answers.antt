@@ -1,8 +1,9 @@
 use Rattle.std.proofs.Common.{Err, ap, sym, ◌∙◌, subst, arith}
 use Rattle.ot_plain.specs.Table.{IsInjective}
 use Rattle.ot_plain.proofs.TableLemmas.{Extends-refl}
-use Rattle.ot_type.proofs.InstLemmas.{nothing_put, ground_put, instance_var, walk_memo, next_within, next_args, next_nesting, walk_step, walk_end, walk_result, same_error}
+use Rattle.ot_type.proofs.InstLemmas.{nothing_put, ground_put, instance_var, walk_memo, next_within, next_args, next_nesting, walk_step, walk_end, walk_result}
 use Rattle.ot_type.proofs.table.Types.inst.Goals as goal
+use Rattle.ot_plain.proofs.Results.{same_Err}
 
 pub returns-then-is_empty-clause-ok : goal.returns-then-is_empty-clause-ok
 returns-then-is_empty-clause-ok c = nothing_put c.args.self.now c.args.s.now c.args.id (c.is_empty.ensures.0 c.if-is_empty.true) c.requires.id
@@ -34,7 +35,7 @@ instance_of-requires-clause-args c = next_args _ _ _ _ _ _ _ _ c.requires.pairs 
 pub returns-in_err-instance-clause-nesting : goal.returns-in_err-instance-clause-nesting
 returns-in_err-instance-clause-nesting c p =
     next_nesting _ _ _ _ _ _ _ _ c.requires.pairs (subst IsInjective c.self.view_is c.self.invariant.table.injective) c.in-Some.ensures.items c.loop-part.invariant
-    (c.in_err-instance.ensures.nesting (ap Err (same_error c.from_residual-in_err-instance.result _ _ c.from_residual-in_err-instance.ensures.1 p)))
+    (c.in_err-instance.ensures.nesting (ap Err (same_Err c.from_residual-in_err-instance.result _ _ c.from_residual-in_err-instance.ensures.1 p)))
 
 pub loop-part-preserved : goal.loop-part-preserved
 loop-part-preserved c =

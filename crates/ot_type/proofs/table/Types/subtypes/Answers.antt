@@ -1,15 +1,16 @@
 use Rattle.std.proofs.Common.{arith, ap, subst, sym, ◌++◌, ◌∷◌, []}
 use Rattle.ot_plain.specs.Lists.{IsMember}
 use Rattle.ot_type.specs.TypeTable.{type_at}
-use Rattle.ot_type.proofs.SubtypeLemmas.{IsSearch, search_start, search_step, all_below, above, above-le, above-last, member_last}
+use Rattle.ot_type.proofs.SubtypeLemmas.{IsSearch, search_start, search_step, all_below, above, above-le, above-last}
 use Rattle.ot_type.proofs.table.Types.subtypes.Goals as goal
+use Rattle.ot_plain.proofs.Members.{IsMember-last}
 
 pub loop-next-init : goal.loop-next-init
 loop-next-init c = rw (c.new-found.ensures.items, c.in_ok-insert.ensures.keys, c.new-pending.ensures.empty) (search_start _ _ c.requires)
 
 pub add_parts-requires : goal.add_parts-requires
 add_parts-requires c =
-    (c.loop-next.invariant.each_pending c.in-Some.next (subst (IsMember c.in-Some.next) (sym c.in-Some.ensures.removal) (member_last c.in-Some.next c.pop_last.new.self.keys))).0
+    (c.loop-next.invariant.each_pending c.in-Some.next (subst (IsMember c.in-Some.next) (sym c.in-Some.ensures.removal) (IsMember-last c.in-Some.next c.pop_last.new.self.keys))).0
 
 -- the search, with the number that is taken
 taken : (c : goal.In_ok-push) → IsSearch c.args.self.now (type_at c.args.self.now c.args.id) c.loop-next.found.items (c.pop_last.new.self.keys ++ c.in-Some.next ∷ [])
