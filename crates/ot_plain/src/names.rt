@@ -11,7 +11,7 @@ use std::marker::Model;
 
 /// The number of a name in its table.
 #[derive(Clone, Copy, Debug, PartialEq, Eq, PartialOrd, Ord, Hash)]
-pub struct NameId(usize);
+pub struct NameId(u32);
 
 impl Model for NameId {
     ghost use Rattle.std.specs.Prelude.{ℕ};
@@ -95,8 +95,11 @@ impl Names {
     {
         // A name has a component.
         let _components = &name.components;
+        if self.entries.len() > u32::MAX as usize {
+            return Err(Memory);
+        }
         let (index, _) = self.entries.insert_full(name)?;
-        Ok(NameId(index))
+        Ok(NameId(index as u32))
     }
 
     /// The number of a name that the table did not have. Which name it is, is open. After want of memory the table may
@@ -111,7 +114,7 @@ impl Names {
         for number in count..usize::MAX {
             let text = format!(in alloc; "x{number}")?;
             let id = self.intern(Name::of_text(alloc, text.as_bytes())?)?;
-            if id.0 >= count {
+            if id.0 as usize >= count {
                 return Ok(id);
             }
         }
@@ -132,6 +135,6 @@ impl Names {
         ensures name { slice_get self.now id ≡ Some result.now }
         ensures table { IsNameTable self.now }
     {
-        &self.entries[id.0]
+        &self.entries[id.0 as usize]
     }
 }

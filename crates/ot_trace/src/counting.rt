@@ -26,7 +26,7 @@ pub fn uses(
     let mut counts = vec![in alloc; 0; trace.count()]?;
     tally_all(&mut counts, roots);
     for index in 0..marks.len() {
-        tally_where(&mut counts, marks[index], trace.step(StepId(index)));
+        tally_where(&mut counts, marks[index], trace.step_at(index));
     }
     Ok(counts)
 }
@@ -60,7 +60,7 @@ fn tally(counts: &mut Vec<u8>, id: StepId)
     ensures length { length counts.new.items ≡ length counts.old.items }
     ensures tally { (is : List ℕ) → IsTallied is counts.old.items → IsTallied (is ++ id ∷ []) counts.new.items }
 {
-    if counts[id.0] < 2 {
-        counts[id.0] += 1;
+    if counts[id.0 as usize] < 2 {
+        counts[id.0 as usize] += 1;
     }
 }

@@ -137,9 +137,9 @@ impl Walk {
         ensures { OnOk result (Visits (λ i. i ≡ id) self.old.marks.items self.old.pending.items self.new.marks.items
             self.new.pending.items) }
     {
-        if !self.marks[id.0] {
+        if !self.marks[id.0 as usize] {
             self.pending.push(id)?;
-            self.marks[id.0] = true;
+            self.marks[id.0 as usize] = true;
         }
         Ok(())
     }

@@ -12,7 +12,7 @@ use std::marker::Model;
 
 /// The number of a step in its trace.
 #[derive(Clone, Copy, Default, PartialEq, Eq, PartialOrd, Ord, Hash)]
-pub struct StepId(pub(crate) usize);
+pub struct StepId(pub(crate) u32);
 
 impl Model for StepId {
     ghost use Rattle.std.specs.Prelude.{ℕ};
@@ -29,7 +29,7 @@ impl StepId {
     pub fn index(self) -> usize
         ensures { result ≡ self }
     {
-        self.0
+        self.0 as usize
     }
 }
 
@@ -57,7 +57,10 @@ impl Model for Trace {
 
     ghost view = { λ t. origins t.steps.entries };
 
-    ghost invariant = { λ t. IsTrace t.steps.entries (origins t.steps.entries) };
+    ghost use Rattle.std.specs.Prelude.{length, ◌≤◌, ◌^◌};
+
+    ghost invariant = { λ t. IsTrace t.steps.entries (origins t.steps.entries)
+        × (length t.steps.entries ≤ 2 ^ 32) };
 }
 
 impl Trace {
@@ -84,8 +87,11 @@ impl Trace {
         ensures err { OnErr result (self.new ≡ self.old) }
         ensures once { IsInjective self.new }
     {
+        if self.steps.len() > u32::MAX as usize {
+            return Err(Memory);
+        }
         let (index, _) = self.steps.insert_full(step, ())?;
-        Ok(StepId(index))
+        Ok(StepId(index as u32))
     }
 
     /// The step of a number. The numbers in it are lower.
@@ -96,7 +102,18 @@ impl Trace {
         ensures symbols { HasSymbols self.now result.now }
         ensures once { IsInjective self.now }
     {
-        match self.steps.get_index(id.0) {
+        self.step_at(id.index())
+    }
+
+    // The step at a place.
+    pub(crate) fn step_at(&self, place: usize) -> &Step
+        requires { place < length self.now }
+        ensures origin { slice_get self.now place ≡ Some (origin_of self.now result.now) }
+        ensures below { IsBelow place result.now }
+        ensures symbols { HasSymbols self.now result.now }
+        ensures once { IsInjective self.now }
+    {
+        match self.steps.get_index(place) {
             Some((step, _)) => step,
             None => unreachable!(),
         }
@@ -112,7 +129,7 @@ impl Trace {
         ensures none { IfNone result ((i : ℕ) → slice_get self.now i ≢ Some (origin_of self.now step.now)) }
     {
         match self.steps.get_index_of(step) {
-            Some(index) => Some(StepId(index)),
+            Some(index) => Some(StepId(index as u32)),
             None => None,
         }
     }

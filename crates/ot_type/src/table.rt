@@ -20,7 +20,7 @@ use std::marker::Model;
 
 /// The number of a type in its table.
 #[derive(Clone, Copy, Default, PartialEq, Eq, PartialOrd, Ord, Hash)]
-pub struct TypeId(usize);
+pub struct TypeId(u32);
 
 impl Model for TypeId {
     ghost use Rattle.std.specs.Prelude.{ℕ};
@@ -162,7 +162,7 @@ impl Types {
         ensures args { ArgsBelow id result.now }
         ensures table { IsTypeTable self.now }
     {
-        match self.nodes.get_index(id.0) {
+        match self.nodes.get_index(id.0 as usize) {
             Some((node, _)) => node,
             None => unreachable!(),
         }
@@ -248,7 +248,7 @@ impl Types {
         requires { id < length self.now }
         ensures { Describes (type_at self.now id) result.now }
     {
-        match self.nodes.get_index(id.0) {
+        match self.nodes.get_index(id.0 as usize) {
             Some((_, beside)) => beside,
             None => unreachable!(),
         }

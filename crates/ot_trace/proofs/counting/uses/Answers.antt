@@ -15,13 +15,13 @@ loop-index-init c =
 pub tally_where-requires : goal.tally_where-requires
 tally_where-requires c =
     let low : c.loop-index.index ≤ length c.loop-index.counts.items = omega (arith, c.loop-index-test.true, c.requires.marks, c.loop-index.invariant.length_is) in
-    operands-below (length c.loop-index.counts.items) c.step.result.now (IsBelow-mono c.loop-index.index (length c.loop-index.counts.items) low c.step.result.now c.step.ensures.below)
+    operands-below (length c.loop-index.counts.items) c.step_at.result.now (IsBelow-mono c.loop-index.index (length c.loop-index.counts.items) low c.step_at.result.now c.step_at.ensures.below)
 
 pub loop-index-preserved : goal.loop-index-preserved
 loop-index-preserved c =
     let low : c.loop-index.index ≤ length c.args.trace.now = omega (arith, c.loop-index-test.true, c.requires.marks) in
-    tallies-more c.args.trace.now c.args.roots.now c.args.marks.now c.loop-index.index c.step.result.now c.loop-index.counts.items c.tally_where.new.counts.items c.loop-index-test.true c.step.ensures.origin
-    (IsBelow-mono c.loop-index.index (length c.args.trace.now) low c.step.result.now c.step.ensures.below) c.tally_where.ensures.length c.tally_where.ensures.tally c.loop-index.invariant
+    tallies-more c.args.trace.now c.args.roots.now c.args.marks.now c.loop-index.index c.step_at.result.now c.loop-index.counts.items c.tally_where.new.counts.items c.loop-index-test.true c.step_at.ensures.origin
+    (IsBelow-mono c.loop-index.index (length c.args.trace.now) low c.step_at.result.now c.step_at.ensures.below) c.tally_where.ensures.length c.tally_where.ensures.tally c.loop-index.invariant
 
 pub returns : goal.returns
 returns c =
