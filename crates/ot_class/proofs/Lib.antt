@@ -2,5 +2,6 @@
 pub mod ClassLemmas
 pub mod ClosingLemmas
 pub mod Distinct
+pub mod Entering
 pub mod GatheringLemmas
 pub mod Spelling

@@ -180,14 +180,8 @@ impl Classes {
         ensures extends { Extends self.old self.new }
         ensures once { IsInjective self.new }
     {
-        match self.nodes.get_index_of(&node) {
-            Some(index) => Ok(ClassId(index)),
-            None => {
-                let beside = self.beside_new(&node);
-                let index = self.nodes.len();
-                self.nodes.insert(node, beside)?;
-                Ok(ClassId(index))
-            }
-        }
+        let beside = self.beside_new(&node);
+        let (index, _) = self.nodes.insert_full(node, beside)?;
+        Ok(ClassId(index))
     }
 }

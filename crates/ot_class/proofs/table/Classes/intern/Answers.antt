@@ -1,28 +1,21 @@
-use Rattle.std.proofs.Common.{sym, subst}
-use Rattle.ot_plain.specs.Interned.{IsSound}
-use Rattle.ot_plain.proofs.InternedLemmas.{found, pushed, Pushed}
-use Rattle.ot_class.specs.Table.{tree_of, AreBelow, IsBeside}
+use Rattle.ot_class.specs.Table.{tree_of, AreBelow, Describes}
 use Rattle.ot_class.proofs.ClassLemmas.{node_eq, laws}
+use Rattle.ot_class.proofs.Entering.{entered, Entered}
 use Rattle.ot_class.proofs.table.Classes.intern.Goals as goal
 
-pub returns-in-Some-clause-ok : goal.returns-in-Some-clause-ok
-returns-in-Some-clause-ok c =
-    let sound = subst (IsSound tree_of AreBelow IsBeside c.self.inside.nodes.entries) c.self.view_is c.self.invariant in
-    found tree_of AreBelow IsBeside node_eq laws _ c.args.self.now sound c.args.node c.in-Some.index (sym c.in-Some.ensures.index)
-
 -- what the insert leaves
-grown : (c : goal.In_ok-insert-in-None) → Pushed tree_of AreBelow IsBeside node_eq laws c.self.inside.nodes.entries c.args.self.now c.args.node c.insert.new.self.entries
-grown c = pushed tree_of AreBelow IsBeside node_eq laws c.self.inside.nodes c.args.self.now c.self.view_is c.self.invariant c.args.node c.beside_new-beside.result c.requires c.beside_new-beside.ensures
-    (sym c.in-None.ensures.index) c.insert.new.self.entries c.in_ok-insert-in-None.ensures.entries
+left : (c : goal.In_ok-index) → Entered tree_of AreBelow Describes node_eq c.args.self.now c.args.node c.insert_full.new.self.entries c.in_ok-index.index
+left c = entered tree_of AreBelow Describes node_eq laws c.self.inside.nodes c.args.self.now c.self.view_is c.self.invariant c.args.node c.beside_new-beside.result c.requires c.beside_new-beside.ensures
+    c.insert_full.new.self.entries c.in_ok-index.ensures.entries c.in_ok-index.index c.in_ok-index.ensures.index
 
-pub invariant_of-self-in-None : goal.invariant_of-self-in-None
-invariant_of-self-in-None c = (grown c).sound
+pub invariant_of-self-2 : goal.invariant_of-self-2
+invariant_of-self-2 c = (left c).sound
 
-pub returns-in_ok-insert-in-None-clause-ok : goal.returns-in_ok-insert-in-None-clause-ok
-returns-in_ok-insert-in-None-clause-ok c = rw c.len-index.ensures.len (grown c).last
+pub returns-clause-ok : goal.returns-clause-ok
+returns-clause-ok c = (left c).found
 
-pub returns-in_ok-insert-in-None-clause-extends : goal.returns-in_ok-insert-in-None-clause-extends
-returns-in_ok-insert-in-None-clause-extends c = (grown c).extends
+pub returns-clause-extends : goal.returns-clause-extends
+returns-clause-extends c = (left c).extends
 
-pub returns-in_ok-insert-in-None-clause-once : goal.returns-in_ok-insert-in-None-clause-once
-returns-in_ok-insert-in-None-clause-once c = (grown c).sound.injective
+pub returns-clause-once : goal.returns-clause-once
+returns-clause-once c = (left c).sound.injective
