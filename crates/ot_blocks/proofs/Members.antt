@@ -30,10 +30,6 @@ module _ {X : Type 0} where
   member_end [] y = inl refl
   member_end (z ∷ xs) y = inr (member_end xs y)
 
-  ]
-
-  )
-
   not_nil : (xs : List X) (y : X) (ys : List X) → [] ≡ xs ++ y ∷ ys → ⊥
   not_nil [] y ys e = cc
   not_nil (x ∷ xs) y ys e = cc

@@ -270,7 +270,7 @@ module _ {g : List (List Import)} {whole : Order} {ms : List Mark} {b k : ℕ} {
 
 -- an import that was read names a block of the file
 pub inside_at : (g : List (List Import)) (b k : ℕ) (i : Import) → IsInside g → slice_get (imports_at g b) k ≡ Some i → i.block < length g
-inside_at g b k i inside e = inside b i (IsMember-at (imports_at g b) k i e) where
+inside_at g b k i inside e = inside b i (IsMember-at (imports_at g b) k i e)
 
 -- the path is a `Vec` with its end last
 pub pushed : (path path' : List Frame) (f : Frame) → path' ≡ path ++ f ∷ [] → reverse path' ≡ f ∷ reverse path

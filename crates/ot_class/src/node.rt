@@ -4,7 +4,7 @@ use std::marker::Model;
 
 /// The number of a nameless term in its table.
 #[derive(Clone, Copy, PartialEq, Eq, Hash)]
-pub struct ClassId(pub(crate) usize);
+pub struct ClassId(pub(crate) u32);
 
 impl Model for ClassId {
     ghost use Rattle.std.specs.Prelude.{ℕ};

@@ -120,7 +120,7 @@ impl Classes {
         ensures below { AreBelow id result.now }
         ensures once { IsInjective self.now }
     {
-        match self.nodes.get_index(id.0) {
+        match self.nodes.get_index(id.0 as usize) {
             Some((node, _)) => node,
             None => unreachable!(),
         }
@@ -132,7 +132,7 @@ impl Classes {
         ensures describes { Describes (class_at self.now id) result.now }
         ensures once { IsInjective self.now }
     {
-        match self.nodes.get_index(id.0) {
+        match self.nodes.get_index(id.0 as usize) {
             Some((_, beside)) => beside,
             None => unreachable!(),
         }
@@ -180,8 +180,11 @@ impl Classes {
         ensures extends { Extends self.old self.new }
         ensures once { IsInjective self.new }
     {
+        if self.nodes.len() > u32::MAX as usize {
+            return Err(Memory);
+        }
         let beside = self.beside_new(&node);
         let (index, _) = self.nodes.insert_full(node, beside)?;
-        Ok(ClassId(index))
+        Ok(ClassId(index as u32))
     }
 }

@@ -10,7 +10,6 @@ use Rattle.ot_laws.proofs.Tests.{Tells, has_type-is}
 use Rattle.ot_laws.proofs.Steps.{within_limit-ok}
 use Rattle.ot_records.specs.Tokens.{BadStep}
 use Rattle.ot_records.specs.Steps.{without, first_pairs, subst_step}
-
 use Rattle.ot_records.proofs.Firsts.{subst-first}
 
 module _ {N : Type 0} (alphabet : Alphabet N) (tells : Tells alphabet) where

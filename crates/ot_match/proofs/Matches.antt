@@ -26,8 +26,6 @@ map-self [] = refl
 map-self (x ∷ xs) = ap (λ zs. x ∷ zs) (map-self xs)
 
 module _ {N : Type 0} (alphabet : Alphabet N) (tells : Tells alphabet) where
-  ]
-
   typed-is : (m : TermMap alphabet) → Decides (list_all (λ q. has_type alphabet q.1 q.0.ty) m) (IsTyped alphabet m)
   typed-is [] = ((λ h. tt), (λ h. refl))
   typed-is (q ∷ m) = Decides-and (has_type alphabet q.1 q.0.ty) (list_all (λ r. has_type alphabet r.1 r.0.ty) m) (has_type-is alphabet tells q.1 q.0.ty) (typed-is m)

@@ -41,8 +41,6 @@ moved : {X : Type 0} (a m r : List X) → IsSameSet (a ++ (m ++ r)) ((a ++ r) ++
 moved a m r = same_set-then (same_set-append (same_set-self a) (same_set-swap r m)) (same-list (sym (append_assoc a r m)))
 
 module _ {X Y : Type 0} (f : X → List Y) where
-  ]
-
   flat-part : (xs ys : List X) → IsPart xs ys → IsPart (flat_map f xs) (flat_map f ys)
   flat-part xs ys p y m = let w = IsMember-flat_map_back y xs m in IsMember-flat_map y w.0 ys (p w.0 w.1) w.2
 

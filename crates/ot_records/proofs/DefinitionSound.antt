@@ -15,9 +15,6 @@ use Rattle.ot_records.proofs.StepSound.{well_typed-is}
 use Rattle.ot_plain.proofs.Members.{IsMember-flat_map, IsMember-flat_map_back}
 use Rattle.ot_plain.proofs.Results.{bind-ok, same_Ok, unless-ok}
 
-module _ {X Y : Type 0} (f : X → List Y) where
-  ]
-
 or_bad-ok : {A E : Type 0} (r : Result A E) (x : A) → or_bad r ≡ Ok x → r ≡ Ok x
 or_bad-ok (Ok y) x h = ap Ok (same_Ok y x h)
 or_bad-ok (Err e) x h = cc

@@ -191,10 +191,13 @@ impl Types {
         ensures err { OnErr result (self.new ≡ self.old) }
         ensures table { IsTypeTable self.new }
     {
+        if self.nodes.len() > u32::MAX as usize {
+            return Err(Memory);
+        }
         match self.nodes.get_index_of(&node) {
-            Some(index) => Ok(TypeId(index)),
+            Some(index) => Ok(TypeId(index as u32)),
             None => {
-                let index = self.nodes.len();
+                let index = self.nodes.len() as u32;
                 self.nodes.insert(node, beside)?;
                 Ok(TypeId(index))
             }
