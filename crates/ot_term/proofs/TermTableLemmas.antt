@@ -1,5 +1,5 @@
 -- Lemmas on the table of terms.
-use Rattle.std.proofs.Common.{◌≡◌, ℕ, suc, ◌<◌, ◌≤◌, Bool, true, false, ◌&&◌, nat_eq, eqb-true, eq-eqb, true≢false, position, None, List, [], ◌∷◌, ◌++◌, length, slice_get, get_or, Some, refl, sym, ap, subst, ◌∙◌, arith}
+use Rattle.std.proofs.Common.{◌≡◌, ℕ, suc, ◌<◌, ◌≤◌, Bool, true, false, ◌&&◌, nat_eq, eqb-true, eq-eqb, true≢false, position, Option, None, is_some, List, [], ◌∷◌, ◌++◌, length, slice_get, get_or, Some, refl, sym, ap, subst, ◌∙◌, arith}
 use Rattle.std.proofs.lemmas.List.{length-map}
 use Rattle.std.proofs.lemmas.Option.{get_or_from_slice_get, slice_get-get_or, same_Some}
 use Rattle.std.specs.Cmp.Derive.{both_true}
@@ -9,13 +9,14 @@ use Rattle.ot_plain.specs.Table.{Extends, IsInjective}
 use Rattle.ot_plain.specs.Interned.{NodeLaws, grow}
 use Rattle.ot_plain.proofs.TableLemmas.{Extends-refl, get_or-Extends, get_or-IsInjective}
 use Rattle.ot_plain.proofs.InternedLemmas.{entry_at, found, pushed}
-use Rattle.indexmap.specs.IndexMap.{IndexMap, keys, insert_entry}
+use Rattle.indexmap.specs.IndexMap.{IndexMap, keys, get, insert_entry, insert_index, ContainsKey}
+use Rattle.indexmap.proofs.MapLemmas.{Found-position, some_index, index-absent, or_len-absent, absent_from_lookup}
 use Rattle.ot_type.specs.TypeTable.{type_at, IsTypeTable}
 use Rattle.ot_type.proofs.TypeTableLemmas.{type_at-Extends}
 use Rattle.ot_term.specs.Term.{TermTable}
 use Rattle.ot_term.proofs.Limit.{limit_parts}
 use Rattle.ot_term.proofs.Classing.{class-types, class-grown, class_at-entry, are_alike, class_new, classes-push}
-use Rattle.ot_term.specs.Classing.{form_of, PartsBelow}
+use Rattle.ot_term.specs.Classing.{form_of, form_with, IsFormBelow, PartsBelow}
 use Rattle.ot_term.specs.TermTable.{variable_of, term_at, term_of, terms_of, AreBelow, classes_of, Suits, IsClassOf, IsBeside, AreTermNodes, IsTermTable, IsTermSound, Grows}
 use Rattle.ot_term.specs.declared.table.Beside.{Beside}
 use Rattle.ot_term.specs.declared.term.VarKey.{VarKey}
@@ -292,3 +293,35 @@ module _ {S : Type 0} (tys : List (Ty ℕ)) (cs : List (Tm ℕ)) (m : IndexMap T
         last = p.last;
         grows = record { types = Extends-refl tys; terms = p.extends; classes = classes-push node_eq m n b absent new inserted };
       })
+
+-- ---- a node that is looked up, and put in where it is new
+form_below : (k m : ℕ) (ks : List ℕ) → ((i : ℕ) → i < m → get_or ks i 0 < k) → (n : TermNode) → PartsBelow m n → IsFormBelow k (form_with ks n)
+form_below k m ks within (Var v) h = tt
+form_below k m ks within (Const n t) h = tt
+form_below k m ks within (App f x) h = (within f h.0, within x h.1)
+form_below k m ks within (Abs v b) h = within b h
+
+module _ {S : Type 0} (tys : List (Ty ℕ)) (cs : List (Tm ℕ)) (m : IndexMap TermNode Beside S) (sound : IsTermSound tys cs m.entries (terms_of tys m.entries)) (t : TermTable) (view : table_of tys m.entries ≡ t) (n : TermNode) where
+  pub classes_below : AreBelow (length t.types) (length t.terms) n → IsFormBelow (length cs) (form_with (classes_of m.entries) n)
+  classes_below below = form_below (length cs) (length m.entries) (classes_of m.entries) (classes_within tys cs m.entries sound) n (parts_below tys cs m.entries sound t view n below)
+
+  pub looked_up : ContainsKey node_eq m n → (i : ℕ) → i ≡ insert_index node_eq m n → slice_get t.terms i ≡ Some (term_of t.types t.terms n)
+  looked_up there i at = by (position (node_eq n) (keys m)) refl
+    where
+      by : (r : Option ℕ) → position (node_eq n) (keys m) ≡ r → slice_get t.terms i ≡ Some (term_of t.types t.terms n)
+      by (Some j) p =
+          let place : j ≡ i = sym (at ∙ (Found-position (node_eq n) m.entries j p).or_len) in
+          subst (λ k. slice_get t.terms k ≡ Some (term_of t.types t.terms n)) place (found_term tys cs m sound n t view j p)
+      by None p = absurd (true≢false (sym there ∙ sym (some_index (node_eq n) m.entries) ∙ ap is_some p))
+
+  -- the class was added to the nameless terms before
+  pub put_in : (ds : List (Tm ℕ)) → Extends cs ds → IsInjective ds → (b : Beside) → AreBelow (length t.types) (length t.terms) n → Suits t.types (term_of t.types t.terms n) b.ty b.depth
+      → slice_get ds b.class ≡ Some (form_of cs (classes_of m.entries) n) → get node_eq m n ≡ None → (new : List (TermNode × Beside)) → new ≡ insert_entry node_eq m.entries n b → PushedTerm tys ds m.entries t n new
+  put_in ds more one b below suits form none new inserted =
+      let class = class_added tys cs m.entries sound t view ds n b.class below form in
+      let absent = index-absent (node_eq n) m.entries (absent_from_lookup (node_eq n) m.entries none) in
+      pushed_term tys ds m (sound-classes tys cs ds m.entries (terms_of tys m.entries) more one sound) n b new absent inserted class t view below suits
+
+-- a new node goes last
+pub number_new : {S : Type 0} (m : IndexMap TermNode Beside S) (n : TermNode) → get node_eq m n ≡ None → (i : ℕ) → i ≡ insert_index node_eq m n → i ≡ length m.entries
+number_new m n none i at = at ∙ or_len-absent (node_eq n) m.entries (absent_from_lookup (node_eq n) m.entries none)

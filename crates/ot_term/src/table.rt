@@ -8,7 +8,7 @@ ghost use Rattle.ot_plain.specs.Naming.{numbers};
 ghost use Rattle.ot_plain.specs.Bounds.{bound_named, names_in_terms};
 ghost use Rattle.ot_type.specs.TypeTable.{type_at};
 ghost use Rattle.ot_term.specs.TermTable.{classes_of};
-ghost use Rattle.ot_term.specs.Classing.{form_of, PartsBelow};
+ghost use Rattle.ot_term.specs.Classing.{form_with, nameless_form, IsFormBelow, PartsBelow};
 
 mod build;
 mod equation;
@@ -19,8 +19,9 @@ mod walk;
 
 use crate::term::{TermId, TermNode, VarKey};
 use indexmap::IndexMap;
+use indexmap::map::Entry;
 use ot_class::{ClassId, Classes};
-use ot_plain::Memory;
+use ot_plain::{Memory, NameId};
 use ot_type::{TypeId, Types};
 use std::alloc::Global;
 use std::marker::Model;
@@ -31,6 +32,15 @@ struct Beside {
     ty: TypeId,
     depth: u32,
     class: ClassId,
+}
+
+// A node, with the classes of its parts in their place.
+#[derive(Clone, Copy)]
+enum Form {
+    Var(VarKey),
+    Const(NameId, TypeId),
+    App(ClassId, ClassId),
+    Abs(VarKey, ClassId),
 }
 
 /// Terms over types, each with a number that it keeps. A table owns its types and lends none of them for writing.
@@ -164,37 +174,44 @@ impl Terms {
         ensures err { OnErr result (self.new ≡ self.old) }
         ensures table { IsTermTable self.new }
     {
-        match self.nodes.get_index_of(&node) {
-            Some(index) => Ok(TermId(index)),
-            None => {
-                let class = class_of(&mut self.classes, &self.nodes, &node)?;
-                let index = self.nodes.len();
-                self.nodes.insert(node, Beside { ty, depth, class })?;
+        let form = with_classes(&self.nodes, &node);
+        match self.nodes.entry(node)? {
+            Entry::Occupied(entry) => Ok(TermId(entry.index())),
+            Entry::Vacant(entry) => {
+                let class = class_of(&mut self.classes, form)?;
+                let index = entry.index();
+                entry.insert(Beside { ty, depth, class });
                 Ok(TermId(index))
             }
         }
     }
 }
 
-// The class of a node, by those of its parts.
-fn class_of(
-    classes: &mut Classes,
-    nodes: &IndexMap<TermNode, Beside>,
-    node: &TermNode,
-) -> Result<ClassId, Memory>
+// A node with the classes that stand beside its parts.
+fn with_classes(nodes: &IndexMap<TermNode, Beside>, node: &TermNode) -> Form
     requires parts { PartsBelow (length nodes.now.entries) node.now }
-    requires classes { (i : ℕ) → i < length nodes.now.entries → slice_index_or (classes_of nodes.now.entries) i 0
-        < length classes.old }
-    ensures ok { IfOk result
-        (λ c. slice_get classes.new c ≡ Some (form_of classes.old (classes_of nodes.now.entries) node.now)) }
+    ensures { result ≡ form_with (classes_of nodes.now.entries) node.now }
+{
+    match *node {
+        TermNode::Var(v) => Form::Var(v),
+        TermNode::Const(name, ty) => Form::Const(name, ty),
+        TermNode::App(f, x) => Form::App(class_beside(nodes, f), class_beside(nodes, x)),
+        TermNode::Abs(v, body) => Form::Abs(v, class_beside(nodes, body)),
+    }
+}
+
+// The class of a form.
+fn class_of(classes: &mut Classes, form: Form) -> Result<ClassId, Memory>
+    requires { IsFormBelow (length classes.old) form }
+    ensures ok { IfOk result (λ c. slice_get classes.new c ≡ Some (nameless_form classes.old form)) }
     ensures extends { Extends classes.old classes.new }
     ensures once { IsInjective classes.new }
 {
-    match *node {
-        TermNode::Var(v) => classes.free(v.name, v.ty),
-        TermNode::Const(name, ty) => classes.constant(name, ty),
-        TermNode::App(f, x) => classes.app(class_beside(nodes, f), class_beside(nodes, x)),
-        TermNode::Abs(v, body) => classes.abs(v.name, v.ty, class_beside(nodes, body)),
+    match form {
+        Form::Var(v) => classes.free(v.name, v.ty),
+        Form::Const(name, ty) => classes.constant(name, ty),
+        Form::App(f, x) => classes.app(f, x),
+        Form::Abs(v, body) => classes.abs(v.name, v.ty, body),
     }
 }
 

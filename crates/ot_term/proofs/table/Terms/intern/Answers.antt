@@ -1,44 +1,43 @@
-use Rattle.std.proofs.Common.{sym, subst}
+use Rattle.std.proofs.Common.{◌≡◌, ℕ, List, rules, sym, ap, subst}
+use Rattle.ot_plain.specs.Trees.{Ty, Tm}
 use Rattle.ot_term.specs.TermTable.{terms_of, IsTermSound}
+use Rattle.ot_term.specs.Classing.{IsFormBelow}
+use Rattle.ot_term.specs.declared.table.Beside.{Beside}
+use Rattle.ot_term.specs.declared.term.TermNode.{TermNode}
 use Rattle.ot_term.proofs.NamesIn.{names_in_terms-push}
-use Rattle.ot_term.proofs.TermTableLemmas.{found_term, pushed_term, sound-classes, classes_within, parts_below, class_added, PushedTerm}
+use Rattle.ot_term.proofs.TermTableLemmas.{sound-classes, classes_below, looked_up, put_in, number_new}
 use Rattle.ot_term.proofs.table.Terms.intern.Goals as goal
 
-pub returns-in-Some-clause-ok : goal.returns-in-Some-clause-ok
-returns-in-Some-clause-ok c = found_term _ _ c.self.inside.nodes c.self.invariant c.args.node c.args.self.now c.self.view_is c.in-Some.index (sym c.in-Some.ensures.index)
+sound_still : (tys : List (Ty ℕ)) (cs : List (Tm ℕ)) (es new : List (TermNode × Beside)) → es ≡ new → IsTermSound tys cs es (terms_of tys es) → IsTermSound tys cs new (terms_of tys new)
+sound_still tys cs es new same = subst (λ es. IsTermSound tys cs es (terms_of tys es)) same
 
-pub class_of-requires-clause-parts : goal.class_of-requires-clause-parts
-class_of-requires-clause-parts c = parts_below _ _ _ c.self.invariant c.args.self.now c.self.view_is c.args.node c.requires.below
+pub class_of-requires : goal.class_of-requires
+class_of-requires c = subst (IsFormBelow _) (sym c.with_classes-form.ensures) (classes_below _ _ c.self.inside.nodes c.self.invariant c.args.self.now c.self.view_is c.args.node c.requires.below)
 
-pub class_of-requires-clause-classes : goal.class_of-requires-clause-classes
-class_of-requires-clause-classes c = classes_within _ _ _ c.self.invariant
+pub invariant_of-self-in_err-class-in-Vacant : goal.invariant_of-self-in_err-class-in-Vacant
+invariant_of-self-in_err-class-in-Vacant c =
+    sound_still _ _ c.self.inside.nodes.entries _ (search rules) (sound-classes _ _ _ _ _ c.class_of.ensures.extends c.class_of.ensures.once c.self.invariant)
 
-pub invariant_of-self : goal.invariant_of-self
-invariant_of-self c = sound-classes _ _ _ _ _ c.class_of.ensures.extends c.class_of.ensures.once c.self.invariant
+pub returns-in-Occupied-clause-ok : goal.returns-in-Occupied-clause-ok
+returns-in-Occupied-clause-ok c =
+    let found = looked_up _ _ c.self.inside.nodes c.self.invariant c.args.self.now c.self.view_is c.args.node (search rules) c.index.result (search rules) in
+    search (rules, found)
 
-pub invariant_of-self-in_err-insert-in-None : goal.invariant_of-self-in_err-insert-in-None
-invariant_of-self-in_err-insert-in-None c =
-    subst (λ es. IsTermSound c.self.inside.types c.class_of.new.classes es (terms_of c.self.inside.types es)) (sym c.in_err-insert-in-None.ensures.err)
-    (sound-classes _ _ _ _ _ c.class_of.ensures.extends c.class_of.ensures.once c.self.invariant)
+pub invariant_of-self-in-Vacant : goal.invariant_of-self-in-Vacant
+invariant_of-self-in-Vacant c =
+    (put_in _ _ c.self.inside.nodes c.self.invariant c.args.self.now c.self.view_is c.args.node c.class_of.new.classes c.class_of.ensures.extends c.class_of.ensures.once
+    (record { ty = c.args.ty; depth = c.args.depth; class = c.in_ok-class-in-Vacant.class }) c.requires.below c.requires.suits (search rules) (search rules) _ (search rules)).sound
 
--- what the insert leaves
-grown : (c : goal.In_ok-insert-in-None) → PushedTerm c.self.inside.types c.class_of.new.classes c.self.inside.nodes.entries c.args.self.now c.args.node c.insert.new.self.entries
-grown c =
-    let sound = sound-classes _ _ c.class_of.new.classes _ _ c.class_of.ensures.extends c.class_of.ensures.once c.self.invariant in
-    let class = class_added _ _ _ c.self.invariant c.args.self.now c.self.view_is c.class_of.new.classes c.args.node c.in_ok-class-in-None.class c.requires.below c.in_ok-class-in-None.ensures.ok in
-    pushed_term _ _ c.self.inside.nodes sound c.args.node (record { ty = c.args.ty; depth = c.args.depth; class = c.in_ok-class-in-None.class }) _ (sym c.in-None.ensures.index) c.in_ok-insert-in-None.ensures.entries class c.args.self.now c.self.view_is c.requires.below c.requires.suits
-
-pub invariant_of-self-in-None : goal.invariant_of-self-in-None
-invariant_of-self-in-None c = (grown c).sound
-
-pub returns-in_ok-insert-in-None-clause-ok : goal.returns-in_ok-insert-in-None-clause-ok
-returns-in_ok-insert-in-None-clause-ok c = rw c.len-index.ensures.len (grown c).last
-
-pub returns-in_ok-insert-in-None-clause-grows : goal.returns-in_ok-insert-in-None-clause-grows
-returns-in_ok-insert-in-None-clause-grows c = (grown c).grows
-
-pub returns-in_ok-insert-in-None-clause-table : goal.returns-in_ok-insert-in-None-clause-table
-returns-in_ok-insert-in-None-clause-table c = (grown c).sound.table
-
-pub returns-in_ok-insert-in-None-clause-names : goal.returns-in_ok-insert-in-None-clause-names
-returns-in_ok-insert-in-None-clause-names c = rw (grown c).trees (names_in_terms-push _ _)
+pub returns-in_ok-class-in-Vacant : goal.returns-in_ok-class-in-Vacant
+returns-in_ok-class-in-Vacant c =
+    let last = number_new c.self.inside.nodes c.args.node (search rules) c.index-index.result (search rules) in
+    let put = put_in _ _ c.self.inside.nodes c.self.invariant c.args.self.now c.self.view_is c.args.node c.class_of.new.classes c.class_of.ensures.extends c.class_of.ensures.once
+    (record { ty = c.args.ty; depth = c.args.depth; class = c.in_ok-class-in-Vacant.class }) c.requires.below c.requires.suits (search rules) (search rules) _ (search rules) in
+    record {
+      grows = put.grows;
+      ok = rw last put.last;
+      types = ap (λ t. t.types) c.self.view_is;
+      names = rw put.trees (names_in_terms-push _ _);
+      err = tt;
+      table = put.sound.table;
+    }
