@@ -14,7 +14,7 @@ use std::marker::Model;
 pub(crate) struct Placed {
     pairs: Vec<(TermId, TermId)>,
     // By the numbers of terms; where a term has no pair any number may stand.
-    places: Vec<usize>,
+    places: Vec<u32>,
 }
 
 impl Model for Placed {
@@ -53,7 +53,7 @@ impl Placed {
         if index >= self.places.len() {
             return None;
         }
-        let place = self.places[index];
+        let place = self.places[index] as usize;
         if place >= self.pairs.len() {
             return None;
         }
@@ -68,15 +68,18 @@ impl Placed {
     {
         let index = id.index();
         let place = self.pairs.len();
+        if place > u32::MAX as usize {
+            return Err(Memory);
+        }
         reach(&mut self.places, index)?;
         self.pairs.push((id, image))?;
-        self.places[index] = place;
+        self.places[index] = place as u32;
         Ok(())
     }
 }
 
 // Makes the table longer where the index is past its end. The places in it stay.
-fn reach(places: &mut Vec<usize>, index: usize) -> Result<(), Memory>
+fn reach(places: &mut Vec<u32>, index: usize) -> Result<(), Memory>
     ensures within { OnOk result (index < length places.new.items) }
     ensures extends { Extends places.old.items places.new.items }
 {

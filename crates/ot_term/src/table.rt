@@ -95,7 +95,7 @@ impl Terms {
         ensures below { AreBelow (length self.now.types) id result.now }
         ensures table { IsTermTable self.now }
     {
-        match self.nodes.get_index(id.0) {
+        match self.nodes.get_index(id.0 as usize) {
             Some((node, _)) => node,
             None => unreachable!(),
         }
@@ -117,7 +117,7 @@ impl Terms {
         ensures typed { named_type numbers (term_at self.now.terms id) ≡ Some (type_at self.now.types result) }
         ensures table { IsTermTable self.now }
     {
-        match self.nodes.get_index(id.0) {
+        match self.nodes.get_index(id.0 as usize) {
             Some((_, beside)) => beside.ty,
             None => unreachable!(),
         }
@@ -130,7 +130,7 @@ impl Terms {
         ensures class { slice_get self.now.classes id ≡ Some result }
         ensures table { IsTermTable self.now }
     {
-        match self.nodes.get_index(id.0) {
+        match self.nodes.get_index(id.0 as usize) {
             Some((_, beside)) => beside.class,
             None => unreachable!(),
         }
@@ -143,7 +143,7 @@ impl Terms {
         ensures limit { result ≤ depth_limit }
         ensures table { IsTermTable self.now }
     {
-        match self.nodes.get_index(id.0) {
+        match self.nodes.get_index(id.0 as usize) {
             Some((_, beside)) => beside.depth,
             None => unreachable!(),
         }
@@ -155,9 +155,10 @@ impl Terms {
             ≡ Some (term_of self.now.types self.now.terms node.now)) }
         ensures table { IsTermTable self.now }
     {
-        match self.nodes.get_index_of(node) {
-            Some(index) => Some(TermId(index)),
-            None => None,
+        let index = self.nodes.get_index_of(node)?;
+        match u32::try_from(index) {
+            Ok(number) => Some(TermId(number)),
+            Err(_) => None,
         }
     }
 
@@ -174,12 +175,15 @@ impl Terms {
         ensures err { OnErr result (self.new ≡ self.old) }
         ensures table { IsTermTable self.new }
     {
+        if self.nodes.len() > u32::MAX as usize {
+            return Err(Memory);
+        }
         let form = with_classes(&self.nodes, &node);
         match self.nodes.entry(node)? {
-            Entry::Occupied(entry) => Ok(TermId(entry.index())),
+            Entry::Occupied(entry) => Ok(TermId(entry.index() as u32)),
             Entry::Vacant(entry) => {
                 let class = class_of(&mut self.classes, form)?;
-                let index = entry.index();
+                let index = entry.index() as u32;
                 entry.insert(Beside { ty, depth, class });
                 Ok(TermId(index))
             }
@@ -220,7 +224,7 @@ fn class_beside(nodes: &IndexMap<TermNode, Beside>, id: TermId) -> ClassId
     requires { id < length nodes.now.entries }
     ensures { result ≡ slice_index_or (classes_of nodes.now.entries) id 0 }
 {
-    match nodes.get_index(id.0) {
+    match nodes.get_index(id.0 as usize) {
         Some((_, beside)) => beside.class,
         None => unreachable!(),
     }

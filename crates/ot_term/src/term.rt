@@ -7,7 +7,7 @@ use std::marker::Model;
 
 /// The number of a term in its table.
 #[derive(Clone, Copy, PartialEq, Eq, PartialOrd, Ord, Hash)]
-pub struct TermId(pub(crate) usize);
+pub struct TermId(pub(crate) u32);
 
 impl Model for TermId {
     ghost use Rattle.std.specs.Prelude.{ℕ};
@@ -24,7 +24,7 @@ impl TermId {
     pub fn index(self) -> usize
         ensures { result ≡ self }
     {
-        self.0
+        self.0 as usize
     }
 }
 

@@ -1,4 +1,4 @@
-use Rattle.std.proofs.Common.{◌≡◌, ℕ, List, rules, sym, ap, subst}
+use Rattle.std.proofs.Common.{◌≡◌, ℕ, List, rules, arith, sym, ap, subst}
 use Rattle.ot_plain.specs.Trees.{Ty, Tm}
 use Rattle.ot_term.specs.TermTable.{terms_of, IsTermSound}
 use Rattle.ot_term.specs.Classing.{IsFormBelow}
@@ -22,6 +22,11 @@ pub returns-in-Occupied-clause-ok : goal.returns-in-Occupied-clause-ok
 returns-in-Occupied-clause-ok c =
     let found = looked_up _ _ c.self.inside.nodes c.self.invariant c.args.self.now c.self.view_is c.args.node (search rules) c.index.result (search rules) in
     search (rules, found)
+
+pub overflow_cast-index : goal.overflow_cast-index
+overflow_cast-index c =
+    let last = number_new c.self.inside.nodes c.args.node (search rules) c.index-index.result (search rules) in
+    omega (arith, last, c.if-len.false, c.len.ensures.len)
 
 pub invariant_of-self-in-Vacant : goal.invariant_of-self-in-Vacant
 invariant_of-self-in-Vacant c =
