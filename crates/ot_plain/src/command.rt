@@ -1,6 +1,7 @@
-ghost use Rattle.std.specs.Prelude.{◌≡◌, find};
+ghost use Rattle.std.specs.Prelude.{◌≡◌, ◌==◌, [], ◌∷◌, length, find};
+ghost use Rattle.std.specs.List.{filter};
 ghost use Rattle.std.specs.Str.{bytes_eq};
-ghost use Rattle.ot_plain.specs.Commands.{spelling, command_of};
+ghost use Rattle.ot_plain.specs.Commands.{spelling, commands, command_of};
 
 /// A command word of an article.
 #[derive(Clone, Copy, PartialEq, Eq, Hash)]
@@ -40,44 +41,6 @@ pub enum Cmd {
     DefineConstList,
     DefineTypeOp,
 }
-
-// A command is looked for from the front among those of its length, so those that recorded proofs use most come first.
-const COMMANDS: [Cmd; 34] = [
-    Cmd::Ref,
-    Cmd::Cons,
-    Cmd::Def,
-    Cmd::AppTerm,
-    Cmd::EqMp,
-    Cmd::Subst,
-    Cmd::AppThm,
-    Cmd::ProveHyp,
-    Cmd::Trans,
-    Cmd::Refl,
-    Cmd::AbsTerm,
-    Cmd::Assume,
-    Cmd::AbsThm,
-    Cmd::BetaConv,
-    Cmd::DeductAntisym,
-    Cmd::Sym,
-    Cmd::Var,
-    Cmd::VarTerm,
-    Cmd::OpType,
-    Cmd::ConstTerm,
-    Cmd::Thm,
-    Cmd::Pop,
-    Cmd::VarType,
-    Cmd::Const,
-    Cmd::DefineConst,
-    Cmd::TypeOp,
-    Cmd::DefineTypeOp,
-    Cmd::Axiom,
-    Cmd::Version,
-    Cmd::Nil,
-    Cmd::HdTl,
-    Cmd::Remove,
-    Cmd::Pragma,
-    Cmd::DefineConstList,
-];
 
 impl Cmd {
     /// How the command is written.
@@ -129,57 +92,121 @@ impl Cmd {
         ensures { result ≡ command_of text.now }
     {
         match text.len() {
-            3 => among(
-                &[
-                    Cmd::Ref,
-                    Cmd::Def,
-                    Cmd::Sym,
-                    Cmd::Var,
-                    Cmd::Thm,
-                    Cmd::Pop,
-                    Cmd::Nil,
-                ],
-                text,
-            ),
-            4 => among(&[Cmd::Cons, Cmd::EqMp, Cmd::Refl, Cmd::HdTl], text),
-            5 => among(&[Cmd::Subst, Cmd::Trans, Cmd::Const, Cmd::Axiom], text),
-            6 => among(
-                &[
-                    Cmd::AppThm,
-                    Cmd::Assume,
-                    Cmd::AbsThm,
-                    Cmd::OpType,
-                    Cmd::TypeOp,
-                    Cmd::Remove,
-                    Cmd::Pragma,
-                ],
-                text,
-            ),
-            7 => among(
-                &[
-                    Cmd::AppTerm,
-                    Cmd::AbsTerm,
-                    Cmd::VarTerm,
-                    Cmd::VarType,
-                    Cmd::Version,
-                ],
-                text,
-            ),
-            8 => among(&[Cmd::ProveHyp, Cmd::BetaConv], text),
-            9 => among(&[Cmd::ConstTerm], text),
-            11 => among(&[Cmd::DefineConst], text),
-            12 => among(&[Cmd::DefineTypeOp], text),
-            13 => among(&[Cmd::DeductAntisym], text),
-            15 => among(&[Cmd::DefineConstList], text),
-            _ => among(&COMMANDS, text),
+            3 => of_three(text),
+            4 => of_four(text),
+            5 => of_five(text),
+            6 => of_six(text),
+            7 => of_seven(text),
+            8 => of_eight(text),
+            9 => only(Cmd::ConstTerm, text),
+            11 => only(Cmd::DefineConst, text),
+            12 => only(Cmd::DefineTypeOp, text),
+            13 => only(Cmd::DeductAntisym, text),
+            15 => only(Cmd::DefineConstList, text),
+            _ => None,
         }
     }
 }
 
-/// The first of these commands that is written so.
+// One match a length, which compiles to tests of single bytes. What recorded proofs use most comes first.
+
+/// The command of three letters that is written so.
 #[inline(always)]
-fn among(commands: &[Cmd], text: &[u8]) -> Option<Cmd>
-    ensures { result ≡ find (λ c. bytes_eq (spelling c) text.now) commands.now }
+fn of_three(text: &[u8]) -> Option<Cmd>
+    ensures { result ≡ find (λ c. bytes_eq (spelling c) text.now) (filter (λ c. length (spelling c) == 3) commands) }
 {
-    commands.iter().copied().find(|c| c.text() == text)
+    match text {
+        b"ref" => Some(Cmd::Ref),
+        b"def" => Some(Cmd::Def),
+        b"sym" => Some(Cmd::Sym),
+        b"var" => Some(Cmd::Var),
+        b"thm" => Some(Cmd::Thm),
+        b"pop" => Some(Cmd::Pop),
+        b"nil" => Some(Cmd::Nil),
+        _ => None,
+    }
+}
+
+/// The command of four letters that is written so.
+#[inline(always)]
+fn of_four(text: &[u8]) -> Option<Cmd>
+    ensures { result ≡ find (λ c. bytes_eq (spelling c) text.now) (filter (λ c. length (spelling c) == 4) commands) }
+{
+    match text {
+        b"cons" => Some(Cmd::Cons),
+        b"eqMp" => Some(Cmd::EqMp),
+        b"refl" => Some(Cmd::Refl),
+        b"hdTl" => Some(Cmd::HdTl),
+        _ => None,
+    }
+}
+
+/// The command of five letters that is written so.
+#[inline(always)]
+fn of_five(text: &[u8]) -> Option<Cmd>
+    ensures { result ≡ find (λ c. bytes_eq (spelling c) text.now) (filter (λ c. length (spelling c) == 5) commands) }
+{
+    match text {
+        b"subst" => Some(Cmd::Subst),
+        b"trans" => Some(Cmd::Trans),
+        b"const" => Some(Cmd::Const),
+        b"axiom" => Some(Cmd::Axiom),
+        _ => None,
+    }
+}
+
+/// The command of six letters that is written so.
+#[inline(always)]
+fn of_six(text: &[u8]) -> Option<Cmd>
+    ensures { result ≡ find (λ c. bytes_eq (spelling c) text.now) (filter (λ c. length (spelling c) == 6) commands) }
+{
+    match text {
+        b"appThm" => Some(Cmd::AppThm),
+        b"assume" => Some(Cmd::Assume),
+        b"absThm" => Some(Cmd::AbsThm),
+        b"opType" => Some(Cmd::OpType),
+        b"typeOp" => Some(Cmd::TypeOp),
+        b"remove" => Some(Cmd::Remove),
+        b"pragma" => Some(Cmd::Pragma),
+        _ => None,
+    }
+}
+
+/// The command of seven letters that is written so.
+#[inline(always)]
+fn of_seven(text: &[u8]) -> Option<Cmd>
+    ensures { result ≡ find (λ c. bytes_eq (spelling c) text.now) (filter (λ c. length (spelling c) == 7) commands) }
+{
+    match text {
+        b"appTerm" => Some(Cmd::AppTerm),
+        b"absTerm" => Some(Cmd::AbsTerm),
+        b"varTerm" => Some(Cmd::VarTerm),
+        b"varType" => Some(Cmd::VarType),
+        b"version" => Some(Cmd::Version),
+        _ => None,
+    }
+}
+
+/// The command of eight letters that is written so.
+#[inline(always)]
+fn of_eight(text: &[u8]) -> Option<Cmd>
+    ensures { result ≡ find (λ c. bytes_eq (spelling c) text.now) (filter (λ c. length (spelling c) == 8) commands) }
+{
+    match text {
+        b"proveHyp" => Some(Cmd::ProveHyp),
+        b"betaConv" => Some(Cmd::BetaConv),
+        _ => None,
+    }
+}
+
+/// The command, if it is the one that is written so.
+#[inline(always)]
+fn only(command: Cmd, text: &[u8]) -> Option<Cmd>
+    ensures { result ≡ find (λ c. bytes_eq (spelling c) text.now) (command ∷ []) }
+{
+    if command.text() == text {
+        Some(command)
+    } else {
+        None
+    }
 }
