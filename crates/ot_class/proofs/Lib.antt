@@ -2,6 +2,5 @@
 pub mod ClassLemmas
 pub mod ClosingLemmas
 pub mod Distinct
-pub mod Entering
 pub mod GatheringLemmas
 pub mod Spelling

@@ -1,4 +1,5 @@
 -- Lemmas on the table of types.
+pub mod Entering
 pub mod TypeTableLemmas
 pub mod NamesIn
 pub mod InstLemmas

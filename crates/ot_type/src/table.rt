@@ -194,14 +194,8 @@ impl Types {
         if self.nodes.len() > u32::MAX as usize {
             return Err(Memory);
         }
-        match self.nodes.get_index_of(&node) {
-            Some(index) => Ok(TypeId(index as u32)),
-            None => {
-                let index = self.nodes.len() as u32;
-                self.nodes.insert(node, beside)?;
-                Ok(TypeId(index))
-            }
-        }
+        let (index, _) = self.nodes.insert_full(node, beside)?;
+        Ok(TypeId(index as u32))
     }
 
     // The greatest depth of the types, or 0.

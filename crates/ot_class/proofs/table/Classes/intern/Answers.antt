@@ -1,6 +1,6 @@
 use Rattle.ot_class.specs.Table.{tree_of, AreBelow, Describes}
 use Rattle.ot_class.proofs.ClassLemmas.{node_eq, laws}
-use Rattle.ot_class.proofs.Entering.{entered, Entered}
+use Rattle.ot_type.proofs.Entering.{entered, Entered}
 use Rattle.ot_class.proofs.table.Classes.intern.Goals as goal
 
 -- what the insert leaves

@@ -1,32 +1,29 @@
-use Rattle.std.proofs.Common.{sym, subst}
-use Rattle.ot_plain.specs.Interned.{IsSound}
-use Rattle.ot_plain.proofs.InternedLemmas.{found, pushed, Pushed}
-use Rattle.ot_type.specs.TypeTable.{tree_of, ArgsBelow, IsBeside}
+use Rattle.std.proofs.Common.{inl, inr, arith}
+use Rattle.ot_type.specs.TypeTable.{tree_of, ArgsBelow, Describes}
+use Rattle.ot_type.proofs.Entering.{entered, Entered}
 use Rattle.ot_type.proofs.NamesIn.{names_in-push}
 use Rattle.ot_type.proofs.TypeTableLemmas.{node_eq, laws, type_sound}
 use Rattle.ot_type.proofs.table.Types.intern.Goals as goal
 
-pub returns-in-Some-clause-ok : goal.returns-in-Some-clause-ok
-returns-in-Some-clause-ok c =
-    let sound = subst (IsSound tree_of ArgsBelow IsBeside c.self.inside.nodes.entries) c.self.view_is c.self.invariant.nodes in
-    found tree_of ArgsBelow IsBeside node_eq laws _ c.args.self.now sound c.args.node c.in-Some.index (sym c.in-Some.ensures.index)
-
 -- what the insert leaves
-grown : (c : goal.In_ok-insert-in-None) → Pushed tree_of ArgsBelow IsBeside node_eq laws c.self.inside.nodes.entries c.args.self.now c.args.node c.insert.new.self.entries
-grown c = pushed tree_of ArgsBelow IsBeside node_eq laws c.self.inside.nodes c.args.self.now c.self.view_is c.self.invariant.nodes c.args.node c.args.beside c.requires.args c.requires.beside
-    (sym c.in-None.ensures.index) c.insert.new.self.entries c.in_ok-insert-in-None.ensures.entries
+left : (c : goal.In_ok-index) → Entered tree_of ArgsBelow Describes node_eq c.args.self.now c.args.node c.insert_full.new.self.entries c.in_ok-index.index
+left c = entered tree_of ArgsBelow Describes node_eq laws c.self.inside.nodes c.args.self.now c.self.view_is c.self.invariant.nodes c.args.node c.args.beside c.requires.args c.requires.beside
+    c.insert_full.new.self.entries c.in_ok-index.ensures.entries c.in_ok-index.index c.in_ok-index.ensures.index
 
-pub invariant_of-self-in-None : goal.invariant_of-self-in-None
-invariant_of-self-in-None c = type_sound _ _ (grown c).sound
+pub invariant_of-self-2 : goal.invariant_of-self-2
+invariant_of-self-2 c = type_sound _ _ (left c).sound
 
-pub returns-in_ok-insert-in-None-clause-ok : goal.returns-in_ok-insert-in-None-clause-ok
-returns-in_ok-insert-in-None-clause-ok c = rw c.len-index.ensures.len (grown c).last
+pub returns-clause-ok : goal.returns-clause-ok
+returns-clause-ok c = (left c).found
 
-pub returns-in_ok-insert-in-None-clause-extends : goal.returns-in_ok-insert-in-None-clause-extends
-returns-in_ok-insert-in-None-clause-extends c = (grown c).extends
+pub returns-clause-extends : goal.returns-clause-extends
+returns-clause-extends c = (left c).extends
 
-pub returns-in_ok-insert-in-None-clause-table : goal.returns-in_ok-insert-in-None-clause-table
-returns-in_ok-insert-in-None-clause-table c = (type_sound _ _ (grown c).sound).table
+pub returns-clause-table : goal.returns-clause-table
+returns-clause-table c = (type_sound _ _ (left c).sound).table
 
-pub returns-in_ok-insert-in-None-clause-names : goal.returns-in_ok-insert-in-None-clause-names
-returns-in_ok-insert-in-None-clause-names c = rw (grown c).trees (names_in-push _ _)
+pub returns-clause-names : goal.returns-clause-names
+returns-clause-names c = elim (left c).grown [
+  | inl same ↦ rw same (omega arith)
+  | inr more ↦ rw more (names_in-push _ _)
+]
