@@ -1,4 +1,5 @@
--- The grammar of the command's words: a command's word, then its options in any order and each at most once, then its operands.
+-- The grammar of the command's words: a command's word, then its options in any order and each at most once, then its
+-- operands.
 --
 --   check [--packages DIR] INPUT
 --   info [--assumptions] [--definitions] [--theorems] [--packages DIR] INPUT
@@ -12,12 +13,14 @@
 --   verify LOG
 --   find [--packages DIR] PATTERN INPUT
 --
--- The operands begin at the first word that names no option. DIR isn't empty; without it the folder is `packages`. Where `info`
--- names no section, it asks for all three; `--uses` and `--readable` stand beside no section, nor beside each other. INPUT and LOG
--- are `-`, or a name that doesn't begin with `-` and isn't empty; an INPUT that ends in `.thy` is a theory file's name, and FILE is
--- such an INPUT. TEXT and PATTERN don't begin with `-` and aren't empty. N is a number from 1 to 1,000 in decimal, without sign or
--- leading zero.
-use Rattle.std.specs.Prelude.{◌≡◌, ◌≤◌, ◌↔◌, ℕ, zero, suc, Bool, true, false, not, ◌&&◌, ◌||◌, List, [], ◌∷◌, ◌++◌, map, codes, decimal, nat_eq, String, Option, None, Some, unwrap_or, Result, Ok, Err, if◌then◌else◌}
+-- The operands begin at the first word that names no option. DIR isn't empty; without it the folder is `packages`.
+-- Where `info` names no section, it asks for all three; `--uses` and `--readable` stand beside no section, nor beside
+-- each other. INPUT and LOG are `-`, or a name that doesn't begin with `-` and isn't empty; an INPUT that ends in
+-- `.thy` is a theory file's name, and FILE is such an INPUT. TEXT and PATTERN don't begin with `-` and aren't empty.
+-- N is a number from 1 to 1,000 in decimal, without sign or leading zero.
+use Rattle.std.specs.Prelude.{◌≡◌, ◌≤◌, ◌↔◌, ℕ, zero, suc, Bool, true, false, not, ◌&&◌}
+use Rattle.std.specs.Prelude.{◌||◌, List, [], ◌∷◌, ◌++◌, map, codes, decimal, nat_eq, String}
+use Rattle.std.specs.Prelude.{Option, None, Some, unwrap_or, Result, Ok, Err, if◌then◌else◌}
 use Rattle.std.specs.Global.{Global}
 use Rattle.std.specs.Option.{option_map, option_and_then}
 use Rattle.std.specs.List.{list_all, list_any, starts_with, ends_with}
@@ -30,8 +33,8 @@ use Rattle.ot_args.specs.declared.sections.Sections.{Sections}
 use Rattle.ot_args.specs.declared.verb.Verb.{Verb}
 use Rattle.ot_args.specs.declared.verb.Verb.TheVariants as verb
 
--- an option, with its value where it has one: the folder of the packages, a section of the summary, what theorems rest on,
--- readable text, or the sample's article
+-- an option, with its value where it has one: the folder of the packages, a section of the summary, what theorems
+-- rest on, readable text, or the sample's article
 pub data OptionValue : Type 0 where
   Packages : List ℕ → OptionValue
   Assumptions : OptionValue
@@ -46,8 +49,8 @@ pub record Arguments : Type 0 where
   pub options : List OptionValue
   pub operands : List (List ℕ)
 
--- what options ask for: a folder where they name one, sections of the summary, whether it is what theorems rest on, or readable
--- text, and whether it is the sample's article
+-- what options ask for: a folder where they name one, sections of the summary, whether it is what theorems rest on,
+-- or readable text, and whether it is the sample's article
 pub record SettingsValue : Type 0 where
   pub folder : Option (List ℕ)
   pub sections : Sections
@@ -55,8 +58,9 @@ pub record SettingsValue : Type 0 where
   pub readable : Bool
   pub article : Bool
 
--- a command: Check, Info, Uses, Readable, Link, Minimise and Prove have the folder of the packages and the input, Info has the
--- sections too; Read has the text behind them, and Find the pattern between them; a sample has its number, and Verify the log
+-- a command: Check, Info, Uses, Readable, Link, Minimise and Prove have the folder of the packages and the input,
+-- Info has the sections too; Read has the text behind them, and Find the pattern between them; a sample has its
+-- number, and Verify the log
 pub data CommandValue : Type 0 where
   Check : List ℕ → List ℕ → CommandValue
   Info : List ℕ → List ℕ → Sections → CommandValue
@@ -118,7 +122,8 @@ option_name Article = codes "--article"
 abbrev pub options_of : Verb → List (List ℕ)
 options_of verb.Check = packages_name ∷ []
 options_of verb.Info =
-    packages_name ∷ codes "--assumptions" ∷ codes "--definitions" ∷ codes "--theorems" ∷ codes "--uses" ∷ codes "--readable" ∷ []
+    packages_name ∷ codes "--assumptions" ∷ codes "--definitions" ∷ codes "--theorems" ∷ codes "--uses"
+    ∷ codes "--readable" ∷ []
 options_of verb.Link = packages_name ∷ []
 options_of verb.Minimise = packages_name ∷ []
 options_of verb.Sample = codes "--article" ∷ []
@@ -268,8 +273,10 @@ command_on verb.Find s operand = None
 
 -- and its two operands
 abbrev pub command_on_two : Verb → SettingsValue → List ℕ → List ℕ → Option CommandValue
-command_on_two verb.Read s input text = if is_input input && is_plain text then Some (Read (packages_of s) input text) else None
-command_on_two verb.Find s pattern input = if is_plain pattern && is_input input then Some (Find (packages_of s) pattern input) else None
+command_on_two verb.Read s input text = if is_input input && is_plain text then Some (Read (packages_of s) input text)
+    else None
+command_on_two verb.Find s pattern input =
+    if is_plain pattern && is_input input then Some (Find (packages_of s) pattern input) else None
 command_on_two _ s first second = None
 
 -- the command of what its options ask for, and its operands
@@ -347,9 +354,12 @@ FitsOperands (Find _ pattern input) = (is_plain pattern ≡ true) × (is_input i
 -- the command has what its options ask for
 abbrev pub FitsSettings : SettingsValue → CommandValue → Type 0
 FitsSettings s (Check packages _) = packages_of s ≡ packages
-FitsSettings s (Info packages _ sections) = (packages_of s ≡ packages) × (shown s.sections ≡ sections) × (s.uses ≡ false) × (s.readable ≡ false)
-FitsSettings s (Uses packages _) = (packages_of s ≡ packages) × (s.uses ≡ true) × (s.readable ≡ false) × (names_any s.sections ≡ false)
-FitsSettings s (Readable packages _) = (packages_of s ≡ packages) × (s.uses ≡ false) × (s.readable ≡ true) × (names_any s.sections ≡ false)
+FitsSettings s (Info packages _ sections) = (packages_of s ≡ packages) × (shown s.sections ≡ sections)
+    × (s.uses ≡ false) × (s.readable ≡ false)
+FitsSettings s (Uses packages _) = (packages_of s ≡ packages) × (s.uses ≡ true) × (s.readable ≡ false)
+    × (names_any s.sections ≡ false)
+FitsSettings s (Readable packages _) = (packages_of s ≡ packages) × (s.uses ≡ false) × (s.readable ≡ true)
+    × (names_any s.sections ≡ false)
 FitsSettings s (Link packages _) = packages_of s ≡ packages
 FitsSettings s (Minimise packages _) = packages_of s ≡ packages
 FitsSettings s (Sample _) = s.article ≡ false

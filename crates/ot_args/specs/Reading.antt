@@ -1,7 +1,9 @@
 -- What the code reads behind a command's word. Only contracts of private functions speak of it.
-use Rattle.std.specs.Prelude.{ℕ, Bool, true, false, not, ◌&&◌, is_some, List, [], ◌∷◌, Option, None, Some, Result, Ok, Err, if◌then◌else◌}
+use Rattle.std.specs.Prelude.{ℕ, Bool, true, false, not, ◌&&◌, is_some, List, [], ◌∷◌}
+use Rattle.std.specs.Prelude.{Option, None, Some, Result, Ok, Err, if◌then◌else◌}
 use Rattle.std.specs.Option.{option_map, option_and_then, option_copied}
-use Rattle.ot_args.specs.Grammar.{OptionValue, Packages, Assumptions, Definitions, Theorems, UsesFlag, ReadableFlag, Article, Arguments, SettingsValue, is_option, arguments, texts_of}
+use Rattle.ot_args.specs.Grammar.{OptionValue, Packages, Assumptions, Definitions, Theorems, UsesFlag}
+use Rattle.ot_args.specs.Grammar.{ReadableFlag, Article, Arguments, SettingsValue, is_option, arguments, texts_of}
 use Rattle.ot_args.specs.declared.arguments.Given.{Given}
 use Rattle.ot_args.specs.declared.command.Usage.{Usage}
 use Rattle.ot_args.specs.declared.settings.CommandOption.{CommandOption}
@@ -11,7 +13,14 @@ use Rattle.ot_args.specs.declared.verb.Verb.{Verb}
 
 -- before any option
 abbrev pub no_settings : SettingsValue
-no_settings = record { folder = None; sections = record { assumptions = false; definitions = false; theorems = false }; uses = false; readable = false; article = false }
+no_settings =
+    record {
+      folder = None;
+      sections = record { assumptions = false; definitions = false; theorems = false };
+      uses = false;
+      readable = false;
+      article = false;
+    }
 
 -- ---- options behind others
 
@@ -77,7 +86,14 @@ option_value code.Article = Article
 
 -- settings without where their folder lies in memory
 abbrev pub settings_value : Settings → SettingsValue
-settings_value s = record { folder = option_copied s.packages; sections = s.sections; uses = s.uses; readable = s.readable; article = s.article }
+settings_value s =
+    record {
+      folder = option_copied s.packages;
+      sections = s.sections;
+      uses = s.uses;
+      readable = s.readable;
+      article = s.article;
+    }
 
 -- what was given without where it lies in memory
 abbrev pub given_value : Given → GivenValue

@@ -1,9 +1,8 @@
 ghost use Rattle.std.specs.Prelude.{◌≡◌, ℕ, List, IfOk};
 ghost use Rattle.std.specs.Option.{option_map, option_and_then};
 ghost use Rattle.ot_args.specs.Grammar.{CommandValue, FitsOperands, IsRead, answer, arguments, command, command_of};
-ghost use Rattle.ot_args.specs.Grammar.{command_on};
-ghost use Rattle.ot_args.specs.Grammar.{command_on_two, command_value, command_with, count_of, info, is_input};
-ghost use Rattle.ot_args.specs.Grammar.{is_plain, is_theory, packages_of, sample, texts_of};
+ghost use Rattle.ot_args.specs.Grammar.{command_on, command_on_two, command_value, command_with, count_of, info};
+ghost use Rattle.ot_args.specs.Grammar.{is_input, is_plain, is_theory, packages_of, sample, texts_of};
 ghost use Rattle.ot_args.specs.Reading.{settings_value};
 
 use crate::arguments::Given;

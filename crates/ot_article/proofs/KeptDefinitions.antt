@@ -15,11 +15,17 @@ module _ (same : Origin Name → Origin Name → Bool) (same-is : (a b : Origin 
   -- the origins of the first ones are the first origins
   firsts-origins : (ms : List Made) → origins_made (firsts_by same (λ m. m.origin) ms) ≡ firsts same (origins_made ms)
   firsts-origins [] = refl
-  firsts-origins (m ∷ ms) = ap (λ l. m.origin ∷ l) (sym (filter-map (λ (z : Made). z.origin) (λ e. not (same m.origin e)) (λ z. not (same m.origin z.origin)) (λ z. refl) (firsts_by same (λ z. z.origin) ms)) ∙ ap (filter (λ e. not (same m.origin e))) (firsts-origins ms))
+  firsts-origins (m ∷ ms) =
+      ap (λ l. m.origin ∷ l)
+      (sym (filter-map (λ (z : Made). z.origin) (λ e. not (same m.origin e)) (λ z. not (same m.origin z.origin))
+      (λ z. refl) (firsts_by same (λ z. z.origin) ms)) ∙ ap (filter (λ e. not (same m.origin e))) (firsts-origins ms))
 
   -- their origins are the needed ones
-  pub made-origins : (roots : List (Origin Name)) (ms : List Made) → origins_made (needed_made same roots ms) ≡ needed_definitions same roots (origins_made ms)
+  pub made-origins : (roots : List (Origin Name)) (ms : List Made) → origins_made (needed_made same roots ms)
+      ≡ needed_definitions same roots (origins_made ms)
   made-origins roots ms =
       let found : List (Origin Name) = needed_definitions same roots (origins_made ms) in
-      sym (filter-map (λ (z : Made). z.origin) (λ d. is_among same d found) (λ z. is_among same z.origin found) (λ z. refl) (firsts_by same (λ z. z.origin) ms))
-      ∙ ap (filter (λ d. is_among same d found)) (firsts-origins ms) ∙ sym (needed-among same same-is roots (origins_made ms))
+      sym (filter-map (λ (z : Made). z.origin) (λ d. is_among same d found) (λ z. is_among same z.origin found)
+      (λ z. refl) (firsts_by same (λ z. z.origin) ms))
+      ∙ ap (filter (λ d. is_among same d found)) (firsts-origins ms)
+      ∙ sym (needed-among same same-is roots (origins_made ms))

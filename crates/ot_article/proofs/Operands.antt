@@ -54,7 +54,8 @@ given_by words.DefineTypeOp ds vs = type_given ds vs
 given_by _ ds vs = Err StackEmpty
 
 -- a list of another length gives nothing
-refused : {A : Type 0} (b : Bool) (next : Result A (Fault Name)) (x : A) → b ≡ false → (unless StackEmpty b >>= λ _. next) ≡ Ok x → ⊥
+refused : {A : Type 0} (b : Bool) (next : Result A (Fault Name)) (x : A) → b ≡ false
+    → (unless StackEmpty b >>= λ _. next) ≡ Ok x → ⊥
 refused false next x e p = cc
 refused true next x e p = cc
 
@@ -63,37 +64,49 @@ made-of (of_none o) [] v p = p
 made-of (of_none o) (x ∷ vs) v p = absurd (refused (length (x ∷ vs) == 0) (Ok o) v (grind (arith, nat_tests)) p)
 made-of (of_top f) [] v p = absurd (cc)
 made-of (of_top f) (x ∷ []) v p = p
-made-of (of_top f) (x ∷ y ∷ vs) v p = absurd (refused (length (x ∷ y ∷ vs) == 1) (f (value_at 0 (x ∷ y ∷ vs))) v (grind (arith, nat_tests)) p)
+made-of (of_top f) (x ∷ y ∷ vs) v p =
+    absurd (refused (length (x ∷ y ∷ vs) == 1) (f (value_at 0 (x ∷ y ∷ vs))) v (grind (arith, nat_tests)) p)
 made-of (of_two f) [] v p = absurd (cc)
 made-of (of_two f) (x ∷ []) v p = absurd (cc)
 made-of (of_two f) (x ∷ y ∷ []) v p = p
-made-of (of_two f) (x ∷ y ∷ z ∷ vs) v p = absurd (refused (length (x ∷ y ∷ z ∷ vs) == 2) (f (value_at 0 (x ∷ y ∷ z ∷ vs)) (value_at 1 (x ∷ y ∷ z ∷ vs))) v (grind (arith, nat_tests)) p)
+made-of (of_two f) (x ∷ y ∷ z ∷ vs) v p =
+    absurd (refused (length (x ∷ y ∷ z ∷ vs) == 2) (f (value_at 0 (x ∷ y ∷ z ∷ vs)) (value_at 1 (x ∷ y ∷ z ∷ vs))) v
+    (grind (arith, nat_tests)) p)
 made-of no_maker vs v p = absurd (none (length vs == 0) p)
   where
     none : (b : Bool) → (unless StackEmpty b >>= λ _. made_by no_maker (λ n. value_at n vs)) ≡ Ok v → ⊥
     none true e = cc
     none false e = cc
 
-const-of : (ds : List (Definition Name)) (vs : List Object) (x : Definition Name) → defines words.DefineConst ds vs ≡ Ok x → const_given ds vs ≡ Ok x
+const-of : (ds : List (Definition Name)) (vs : List Object) (x : Definition Name) → defines words.DefineConst ds vs
+    ≡ Ok x → const_given ds vs ≡ Ok x
 const-of ds [] x p = absurd (cc)
 const-of ds (a ∷ []) x p = absurd (cc)
 const-of ds (a ∷ b ∷ []) x p = p
-const-of ds (a ∷ b ∷ c ∷ vs) x p = absurd (refused (length (a ∷ b ∷ c ∷ vs) == 2) (const_defined ds (λ n. value_at n (a ∷ b ∷ c ∷ vs))) x (grind (arith, nat_tests)) p)
+const-of ds (a ∷ b ∷ c ∷ vs) x p =
+    absurd (refused (length (a ∷ b ∷ c ∷ vs) == 2) (const_defined ds (λ n. value_at n (a ∷ b ∷ c ∷ vs))) x
+    (grind (arith, nat_tests)) p)
 
-list-of : (ds : List (Definition Name)) (vs : List Object) (x : Definition Name) → defines words.DefineConstList ds vs ≡ Ok x → list_given ds vs ≡ Ok x
+list-of : (ds : List (Definition Name)) (vs : List Object) (x : Definition Name) → defines words.DefineConstList ds vs
+    ≡ Ok x → list_given ds vs ≡ Ok x
 list-of ds [] x p = absurd (cc)
 list-of ds (a ∷ []) x p = absurd (cc)
 list-of ds (a ∷ b ∷ []) x p = p
-list-of ds (a ∷ b ∷ c ∷ vs) x p = absurd (refused (length (a ∷ b ∷ c ∷ vs) == 2) (list_defined ds (λ n. value_at n (a ∷ b ∷ c ∷ vs))) x (grind (arith, nat_tests)) p)
+list-of ds (a ∷ b ∷ c ∷ vs) x p =
+    absurd (refused (length (a ∷ b ∷ c ∷ vs) == 2) (list_defined ds (λ n. value_at n (a ∷ b ∷ c ∷ vs))) x
+    (grind (arith, nat_tests)) p)
 
-type-of : (ds : List (Definition Name)) (vs : List Object) (x : Definition Name) → defines words.DefineTypeOp ds vs ≡ Ok x → type_given ds vs ≡ Ok x
+type-of : (ds : List (Definition Name)) (vs : List Object) (x : Definition Name) → defines words.DefineTypeOp ds vs
+    ≡ Ok x → type_given ds vs ≡ Ok x
 type-of ds [] x p = absurd (cc)
 type-of ds (a ∷ []) x p = absurd (cc)
 type-of ds (a ∷ b ∷ []) x p = absurd (cc)
 type-of ds (a ∷ b ∷ c ∷ []) x p = absurd (cc)
 type-of ds (a ∷ b ∷ c ∷ d ∷ []) x p = absurd (cc)
 type-of ds (a ∷ b ∷ c ∷ d ∷ e ∷ []) x p = p
-type-of ds (a ∷ b ∷ c ∷ d ∷ e ∷ f ∷ vs) x p = absurd (refused (length (a ∷ b ∷ c ∷ d ∷ e ∷ f ∷ vs) == 5) (type_defined ds (λ n. value_at n (a ∷ b ∷ c ∷ d ∷ e ∷ f ∷ vs))) x (grind (arith, nat_tests)) p)
+type-of ds (a ∷ b ∷ c ∷ d ∷ e ∷ f ∷ vs) x p =
+    absurd (refused (length (a ∷ b ∷ c ∷ d ∷ e ∷ f ∷ vs) == 5)
+    (type_defined ds (λ n. value_at n (a ∷ b ∷ c ∷ d ∷ e ∷ f ∷ vs))) x (grind (arith, nat_tests)) p)
 
 abbrev nothing : Bool → Defining names
 nothing b = unless StackEmpty b >>= λ _. Err StackEmpty
@@ -102,7 +115,8 @@ none : (b : Bool) (x : Definition Name) → nothing b ≡ Ok x → ⊥
 none true x e = cc
 none false x e = cc
 
-pub given-of : (w : Cmd) (ds : List (Definition Name)) (vs : List Object) (x : Definition Name) → defines w ds vs ≡ Ok x → given_by w ds vs ≡ Ok x
+pub given-of : (w : Cmd) (ds : List (Definition Name)) (vs : List Object) (x : Definition Name)
+    → defines w ds vs ≡ Ok x → given_by w ds vs ≡ Ok x
 given-of words.DefineConst ds vs x p = const-of ds vs x p
 given-of words.DefineConstList ds vs x p = list-of ds vs x p
 given-of words.DefineTypeOp ds vs x p = type-of ds vs x p

@@ -1,5 +1,6 @@
 -- Running a text: what each of its moves does.
-use Rattle.std.proofs.Common.{◌≡◌, ℕ, ◌-◌, ◌<◌, inl, inr, Bool, true, false, cond, List, [], ◌∷◌, ◌++◌, length, drop, slice_get, Some, Result, Ok, Err, refl, sym, ap, ◌∙◌, arith, length-append}
+use Rattle.std.proofs.Common.{◌≡◌, ℕ, ◌-◌, ◌<◌, inl, inr, Bool, true, false, cond, List, [], ◌∷◌, ◌++◌, length}
+use Rattle.std.proofs.Common.{drop, slice_get, Some, Result, Ok, Err, refl, sym, ap, ◌∙◌, arith, length-append}
 use Rattle.std.proofs.lemmas.List.{append-nil, drop_at}
 use Rattle.std.proofs.lemmas.Cmp.{int_cmp_total, eq_by_cmp_equiv}
 use Rattle.std.proofs.lemmas.Map.Lookups.{exact_signed}
@@ -70,17 +71,23 @@ pub record IsWritten (t : Text Name) (stack : List Entry) (xs : List Export) : T
 
 module _ (same : Origin Name → Origin Name → Bool) where
   -- one line more, which makes an origin or none
-  module _ (t : Text Name) (st : List Entry) (xs : List Export) (i : IsWritten t st xs) (l : Line Name) (next : State) (plain : is_version (command l) ≡ false) (row_is : row version_6 no_context (command l) (with_stack i.now st) ≡ Ok next) where
+  module _ (t : Text Name) (st : List Entry) (xs : List Export) (i : IsWritten t st xs) (l : Line Name) (next : State)
+      (plain : is_version (command l) ≡ false)
+      (row_is : row version_6 no_context (command l) (with_stack i.now st) ≡ Ok next) where
     steps : line_step l i.now ≡ Ok (moved next)
-    steps = step-is l i.now next i.versioned plain (ap (row version_6 no_context (command l)) (same-stack i.now st i.stack_is) ∙ row_is)
+    steps = step-is l i.now next i.versioned plain
+        (ap (row version_6 no_context (command l)) (same-stack i.now st i.stack_is) ∙ row_is)
 
     pub runs-on : run (t.lines ++ l ∷ []) fresh ≡ Ok (moved next)
     runs-on = run-snoc t.lines l fresh i.now (moved next) i.runs steps
 
-    pub marks-on : (ms : List (Origin Name)) → mark (command l) (moved next) ≡ ms → marks (t.lines ++ l ∷ []) fresh ≡ t.made ++ ms
-    marks-on ms h = marks-snoc t.lines l fresh i.now (moved next) i.runs steps ∙ ap (λ z. z ++ mark (command l) (moved next)) i.marks_are ∙ ap (λ z. t.made ++ z) h
+    pub marks-on : (ms : List (Origin Name)) → mark (command l) (moved next) ≡ ms → marks (t.lines ++ l ∷ []) fresh
+        ≡ t.made ++ ms
+    marks-on ms h = marks-snoc t.lines l fresh i.now (moved next) i.runs steps
+        ∙ ap (λ z. z ++ mark (command l) (moved next)) i.marks_are ∙ ap (λ z. t.made ++ z) h
 
-  pub number-written : (t : Text Name) (st : List Entry) (xs : List Export) (k : ℤ) → IsWritten t st xs → IsWritten (w.put same (Numeral k) t) (st ++ entry (number k) (Number k) ∷ []) xs
+  pub number-written : (t : Text Name) (st : List Entry) (xs : List Export) (k : ℤ) → IsWritten t st xs
+      → IsWritten (w.put same (Numeral k) t) (st ++ entry (number k) (Number k) ∷ []) xs
   number-written t st xs k i =
       let next : State = with_stack i.now (st ++ entry (number k) (Number k) ∷ []) in
       record {
@@ -95,7 +102,8 @@ module _ (same : Origin Name → Origin Name → Bool) where
         definitions = i.definitions;
       }
 
-  pub name-written : (t : Text Name) (st : List Entry) (xs : List Export) (n : Name) → IsWritten t st xs → IsWritten (w.make same (Named n) (Spelled n) t) (st ++ entry (name n) (Named n) ∷ []) xs
+  pub name-written : (t : Text Name) (st : List Entry) (xs : List Export) (n : Name) → IsWritten t st xs
+      → IsWritten (w.make same (Named n) (Spelled n) t) (st ++ entry (name n) (Named n) ∷ []) xs
   name-written t st xs n i =
       let e : Entry = entry (name n) (Named n) in
       let next : State = with_stack i.now (st ++ e ∷ []) in
@@ -107,11 +115,14 @@ module _ (same : Origin Name → Origin Name → Bool) where
         stack_is = refl;
         exports = i.exports;
         dictionary = i.dictionary;
-        assumptions = i.assumptions ∙ sym (flat_map-snoc assumed_by t.made (Named n) ∙ append-nil (flat_map assumed_by t.made));
-        definitions = i.definitions ∙ sym (flat_map-snoc defined_by t.made (Named n) ∙ append-nil (flat_map defined_by t.made));
+        assumptions = i.assumptions
+            ∙ sym (flat_map-snoc assumed_by t.made (Named n) ∙ append-nil (flat_map assumed_by t.made));
+        definitions = i.definitions
+            ∙ sym (flat_map-snoc defined_by t.made (Named n) ∙ append-nil (flat_map defined_by t.made));
       }
 
-  pub store-written : (t : Text Name) (st : List Entry) (xs : List Export) (o : Origin Name) (v : Object) → value o ≡ Ok v → IsWritten t (st ++ entry v o ∷ []) xs → IsWritten (w.store same o t) (st ++ entry v o ∷ []) xs
+  pub store-written : (t : Text Name) (st : List Entry) (xs : List Export) (o : Origin Name) (v : Object) → value o
+      ≡ Ok v → IsWritten t (st ++ entry v o ∷ []) xs → IsWritten (w.store same o t) (st ++ entry v o ∷ []) xs
   store-written t st xs o v value_is i =
       let k : ℕ = length t.stored in
       let e : Entry = entry v o in
@@ -119,8 +130,10 @@ module _ (same : Origin Name → Origin Name → Bool) where
       let j = number-written t (st ++ e ∷ []) xs (pos k) i in
       let full : List Entry = (st ++ e ∷ []) ++ entry (number (pos k)) (Number (pos k)) ∷ [] in
       let held : FinMap int_cmp Entry = dictionaries.insert j.now.article.dictionary (pos k) e in
-      let next : State = record j.now { article = record j.now.article { stack = st ++ e ∷ []; dictionary = held } } in
-      let row_is : row version_6 no_context (order words.Def) (with_stack j.now full) ≡ Ok next = def-row j.now st e (pos k) in
+      let next : State =
+      record j.now { article = record j.now.article { stack = st ++ e ∷ []; dictionary = held } } in
+      let row_is : row version_6 no_context (order words.Def) (with_stack j.now full) ≡ Ok next =
+      def-row j.now st e (pos k) in
       let got = dictionaries.get-insert int_cmp_total j.now.article.dictionary (pos k) e in
       record {
         now = moved next;
@@ -131,17 +144,32 @@ module _ (same : Origin Name → Origin Name → Bool) where
         exports = j.exports;
         dictionary = λ q p h. elim (get-push t.stored o q p h) [
           | inl a ↦ (let old = j.dictionary q p a.0 in elim (bool_cases (eq_by_cmp int_cmp (pos q) (pos k))) [
-            | inl b ↦ absurd (let f : pos q ≡ pos k = tells_apart exact_signed (pos q) (pos k) b in let g : q ≡ k = cc in let h : q < k = a.1 in omega arith)
-            | inr b ↦ record { object = old.object; value_is = old.value_is; there = got (pos q) ∙ ap (λ z. cond z (Some e) (dictionaries.get j.now.article.dictionary (pos q))) b ∙ old.there }
+            | inl b ↦ absurd (let f : pos q ≡ pos k = tells_apart exact_signed (pos q) (pos k) b in
+                let g : q ≡ k = cc in let h : q < k = a.1 in omega arith)
+            | inr b ↦ record {
+              object = old.object;
+              value_is = old.value_is;
+              there = got (pos q)
+                  ∙ ap (λ z. cond z (Some e) (dictionaries.get j.now.article.dictionary (pos q))) b ∙ old.there;
+            }
           ])
-          | inr a ↦ (let yes : eq_by_cmp int_cmp (pos q) (pos k) ≡ true = ap (λ z. eq_by_cmp int_cmp (pos z) (pos k)) a.0 ∙ (eq_by_cmp_equiv int_cmp_total).refl (pos k) in
-              record { object = v; value_is = ap value (sym a.1) ∙ value_is; there = got (pos q) ∙ ap (λ z. cond z (Some e) (dictionaries.get j.now.article.dictionary (pos q))) yes ∙ ap (λ z. Some (entry v z)) a.1 })
+          | inr a ↦ (let yes : eq_by_cmp int_cmp (pos q) (pos k) ≡ true = ap (λ z. eq_by_cmp int_cmp (pos z) (pos k))
+              a.0 ∙ (eq_by_cmp_equiv int_cmp_total).refl (pos k) in
+              record {
+                object = v;
+                value_is = ap value (sym a.1) ∙ value_is;
+                there = got (pos q)
+                    ∙ ap (λ z. cond z (Some e) (dictionaries.get j.now.article.dictionary (pos q))) yes
+                    ∙ ap (λ z. Some (entry v z)) a.1;
+              })
         ];
         assumptions = j.assumptions;
         definitions = j.definitions;
       }
 
-  pub recall-written : (t : Text Name) (st : List Entry) (xs : List Export) (o : Origin Name) (v : Object) (k : ℕ) → value o ≡ Ok v → slice_get t.stored k ≡ Some o → IsWritten t st xs → IsWritten (w.put same (Order words.Ref) (w.put same (Numeral (pos k)) t)) (st ++ entry v o ∷ []) xs
+  pub recall-written : (t : Text Name) (st : List Entry) (xs : List Export) (o : Origin Name) (v : Object) (k : ℕ)
+      → value o ≡ Ok v → slice_get t.stored k ≡ Some o → IsWritten t st xs
+      → IsWritten (w.put same (Order words.Ref) (w.put same (Numeral (pos k)) t)) (st ++ entry v o ∷ []) xs
   recall-written t st xs o v k value_is stored i =
       let e : Entry = entry v o in
       let u : Text Name = w.put same (Numeral (pos k)) t in
@@ -149,9 +177,11 @@ module _ (same : Origin Name → Origin Name → Bool) where
       let full : List Entry = st ++ entry (number (pos k)) (Number (pos k)) ∷ [] in
       let held = j.dictionary k o stored in
       let one : held.object ≡ v = let a : Ok held.object ≡ Ok v = sym held.value_is ∙ value_is in cc in
-      let there : dictionaries.get j.now.article.dictionary (pos k) ≡ Some e = held.there ∙ ap (λ z. Some (entry z o)) one in
+      let there : dictionaries.get j.now.article.dictionary (pos k) ≡ Some e = held.there
+      ∙ ap (λ z. Some (entry z o)) one in
       let next : State = with_stack j.now (st ++ e ∷ []) in
-      let row_is : row version_6 no_context (order words.Ref) (with_stack j.now full) ≡ Ok next = ref-row j.now st e (pos k) there in
+      let row_is : row version_6 no_context (order words.Ref) (with_stack j.now full) ≡ Ok next =
+      ref-row j.now st e (pos k) there in
       record {
         now = moved next;
         runs = runs-on u full xs j (Order words.Ref) next refl row_is;
@@ -164,11 +194,13 @@ module _ (same : Origin Name → Origin Name → Bool) where
         definitions = j.definitions;
       }
 
-  pub pop-written : (t : Text Name) (st : List Entry) (xs : List Export) (e : Entry) → IsWritten t (st ++ e ∷ []) xs → IsWritten (w.put same (Order words.Pop) t) st xs
+  pub pop-written : (t : Text Name) (st : List Entry) (xs : List Export) (e : Entry) → IsWritten t (st ++ e ∷ []) xs
+      → IsWritten (w.put same (Order words.Pop) t) st xs
   pop-written t st xs e i =
       let full : List Entry = st ++ e ∷ [] in
       let next : State = with_stack i.now st in
-      let row_is : row version_6 no_context (order words.Pop) (with_stack i.now full) ≡ Ok next = pop-row i.now st e in
+      let row_is : row version_6 no_context (order words.Pop) (with_stack i.now full) ≡ Ok next =
+      pop-row i.now st e in
       record {
         now = moved next;
         runs = runs-on t full xs i (Order words.Pop) next refl row_is;

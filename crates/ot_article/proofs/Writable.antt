@@ -21,7 +21,8 @@ use Rattle.ot_article.proofs.LineRun.{run, marks}
 
 -- no two axioms among these origins are one sequent
 abbrev pub AxiomsApart : List (Origin Name) → Type 0
-AxiomsApart ms = (a b : Origin Name) (p q : Sequent Name) → IsMember a ms → IsMember b ms → IsAxiom a → IsAxiom b → value a ≡ Ok (theorem p) → value b ≡ Ok (theorem q) → same_sequent names p q ≡ true → a ≡ b
+AxiomsApart ms = (a b : Origin Name) (p q : Sequent Name) → IsMember a ms → IsMember b ms → IsAxiom a → IsAxiom b
+    → value a ≡ Ok (theorem p) → value b ≡ Ok (theorem q) → same_sequent names p q ≡ true → a ≡ b
 
 -- ---- definitions and exports that can be written
 
@@ -40,7 +41,8 @@ module _ (used : Origin Name → Bool) where
 
   -- the roots of an export have values: its sequent, and a list and a term that match it
   pub record IsWritableExport (ds : List (Origin Name)) (e : Export) : Type 0 where
-    pub settled : EachOutcome (IsTheoremOf used ds) e.roots.theorem × EachOutcome (IsTheoremOf used ds) e.roots.list × EachOutcome (IsTheoremOf used ds) e.roots.term
+    pub settled : EachOutcome (IsTheoremOf used ds) e.roots.theorem × EachOutcome (IsTheoremOf used ds) e.roots.list
+        × EachOutcome (IsTheoremOf used ds) e.roots.term
     pub objects : Objects
     pub hyps : List (Tm Name)
     pub concl : Tm Name
@@ -53,7 +55,8 @@ module _ (used : Origin Name → Bool) where
   -- none is the sequent of an earlier one
   abbrev pub AreExports : List (Origin Name) → List Export → List Export → Type 0
   AreExports ds earlier [] = Unit {0}
-  AreExports ds earlier (e ∷ es) = IsWritableExport ds e × (is_exported e.sequent earlier ≡ false) × AreExports ds (earlier ++ e ∷ []) es
+  AreExports ds earlier (e ∷ es) = IsWritableExport ds e × (is_exported e.sequent earlier ≡ false)
+      × AreExports ds (earlier ++ e ∷ []) es
 
 abbrev pub roots_in : List Export → List (Roots Name)
 roots_in = map (λ e. e.roots)
@@ -72,10 +75,14 @@ pub record IsArticleOf (ms : List Made) (es : List Export) (t : Text Name) : Typ
   pub exports : now.article.exports ≡ es
   -- the definitions are these in their order; the assumptions those of the needed axioms, each once
   pub definitions : now.run.definitions ≡ ms
-  pub assumed : (g : Given) → IsMember g now.run.assumptions → IsNeeded (origins_made ms) (roots_of (roots_in es)) g.origin × IsAxiom g.origin × (value g.origin ≡ Ok (theorem g.sequent))
-  pub assumes : (o : Origin Name) (q : Sequent Name) → IsNeeded (origins_made ms) (roots_of (roots_in es)) o → IsAxiom o → value o ≡ Ok (theorem q) → IsMember (record { sequent = q; origin = o }) now.run.assumptions
+  pub assumed : (g : Given) → IsMember g now.run.assumptions → IsNeeded (origins_made ms) (roots_of (roots_in es))
+      g.origin × IsAxiom g.origin × (value g.origin ≡ Ok (theorem g.sequent))
+  pub assumes : (o : Origin Name) (q : Sequent Name) → IsNeeded (origins_made ms) (roots_of (roots_in es)) o
+      → IsAxiom o → value o ≡ Ok (theorem q) → IsMember (record { sequent = q; origin = o }) now.run.assumptions
   pub once : AreDistinct now.run.assumptions
-  pub one : (g h : Given) → IsMember g now.run.assumptions → IsMember h now.run.assumptions → same_sequent names g.sequent h.sequent ≡ true → g ≡ h
+  pub one : (g h : Given) → IsMember g now.run.assumptions → IsMember h now.run.assumptions
+      → same_sequent names g.sequent h.sequent ≡ true → g ≡ h
   -- it is lean: no two lines have one mark, and each mark is needed
   pub distinct : AreDistinct (marks t.lines fresh)
-  pub needed : (o : Origin Name) → IsMember o (marks t.lines fresh) → IsNeeded (origins_made ms) (roots_of (roots_in es)) o
+  pub needed : (o : Origin Name) → IsMember o (marks t.lines fresh)
+      → IsNeeded (origins_made ms) (roots_of (roots_in es)) o

@@ -30,7 +30,8 @@ export_roots es = roots_of (map (λ e. e.roots) es)
 module _ (same : Origin Name → Origin Name → Bool) where
   -- the definitions whose origins the roots need, of several with one origin the first
   abbrev pub needed_made : List (Origin Name) → List Made → List Made
-  needed_made roots ms = filter (λ m. is_among same m.origin (needed_definitions same roots (origins_made ms))) (firsts_by same (λ m. m.origin) ms)
+  needed_made roots ms = filter (λ m. is_among same m.origin (needed_definitions same roots (origins_made ms)))
+      (firsts_by same (λ m. m.origin) ms)
 
   -- the bytes are an article of these exports, among these definitions
   pub record IsArticleOf (max : ℕ) (ms : List Made) (es : List Export) (bytes : List ℕ) : Type 0 where
@@ -41,7 +42,9 @@ module _ (same : Origin Name → Origin Name → Bool) where
     -- the definitions are the needed ones in their old order
     pub definitions : now.run.definitions ≡ needed_made (export_roots es) ms
     -- the assumptions are those of the needed axioms, each once
-    pub assumed : (g : Given) → IsMember g now.run.assumptions ↔ (IsReached (export_roots es) (origins_made ms) g.origin × IsAxiom g.origin × (value g.origin ≡ Ok (theorem g.sequent)))
+    pub assumed : (g : Given) → IsMember g now.run.assumptions
+        ↔ (IsReached (export_roots es) (origins_made ms) g.origin × IsAxiom g.origin
+        × (value g.origin ≡ Ok (theorem g.sequent)))
     pub once : AreDistinct now.run.assumptions
     pub apart : AreApart (λ g. g.sequent) now.run.assumptions
     -- no two commands have one mark, and each mark is needed
@@ -53,13 +56,19 @@ module _ (same : Origin Name → Origin Name → Bool) where
 
 -- of lawful exports of a lawful run, in whatever way origins are stored, as long as each that is shared is
 abbrev pub WrittenArticleLaw : Type 0
-WrittenArticleLaw = (same : Origin Name → Origin Name → Bool) → Tells same → (r : RunState) (es : List Export) (keep : Origin Name → Bool) (max : ℕ)
-    → IsLawfulRun IsWritable r → All (IsLawfulExport (run_basis IsWritable r)) es → All StatesSequent es → AreApart (λ (e : Export). e.sequent) es
-    → IsEnough same (export_roots es) (origins_made r.definitions) keep → length (written_bytes same keep r.definitions es) ≤ max → max < 2 ^ 63
+WrittenArticleLaw = (same : Origin Name → Origin Name → Bool) → Tells same
+    → (r : RunState) (es : List Export) (keep : Origin Name → Bool) (max : ℕ)
+    → IsLawfulRun IsWritable r → All (IsLawfulExport (run_basis IsWritable r)) es → All StatesSequent es
+    → AreApart (λ (e : Export). e.sequent) es
+    → IsEnough same (export_roots es) (origins_made r.definitions) keep
+    → length (written_bytes same keep r.definitions es) ≤ max → max < 2 ^ 63
     → IsArticleOf same max r.definitions es (written_bytes same keep r.definitions es)
 
 -- of the exports of an article that was run alone, up to any of its lines, whatever its source tells
 abbrev pub MinimisedLaw : Type 0
-MinimisedLaw = (same : Origin Name → Origin Name → Bool) → Tells same → (s : State) (keep : Origin Name → Bool) (max : ℕ) → LeadsTo no_context fresh s
-    → IsEnough same (export_roots s.article.exports) (origins_made s.run.definitions) keep → length (written_bytes same keep s.run.definitions s.article.exports) ≤ max → max < 2 ^ 63
-    → IsArticleOf same max s.run.definitions s.article.exports (written_bytes same keep s.run.definitions s.article.exports)
+MinimisedLaw = (same : Origin Name → Origin Name → Bool) → Tells same
+    → (s : State) (keep : Origin Name → Bool) (max : ℕ) → LeadsTo no_context fresh s
+    → IsEnough same (export_roots s.article.exports) (origins_made s.run.definitions) keep
+    → length (written_bytes same keep s.run.definitions s.article.exports) ≤ max → max < 2 ^ 63
+    → IsArticleOf same max s.run.definitions s.article.exports
+    (written_bytes same keep s.run.definitions s.article.exports)

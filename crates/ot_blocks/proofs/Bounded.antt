@@ -1,10 +1,12 @@
 -- The walk's bound is enough: the blocks of a path are distinct, so no path is longer than there are blocks.
-use Rattle.std.proofs.Common.{◌≡◌, ◌≢◌, ◌<◌, ◌≤◌, ◌+◌, ℕ, zero, suc, List, [], ◌∷◌, ◌++◌, length, true, false, inl, inr, sym, refl, arith, eqb}
+use Rattle.std.proofs.Common.{◌≡◌, ◌≢◌, ◌<◌, ◌≤◌, ◌+◌, ℕ, zero, suc, List, [], ◌∷◌, ◌++◌}
+use Rattle.std.proofs.Common.{length, true, false, inl, inr, sym, refl, arith, eqb}
 use Rattle.std.specs.List.{IsDistinct, AllByRecursion, list_any}
 use Rattle.std.proofs.lemmas.Bool.{cases_Bool, or_parts, or_cases, eqb-true, eqb-false, ne_eqb}
 use Rattle.std.proofs.lemmas.Map.Steps.{length-le_from_distinct_below}
 use Rattle.ot_plain.specs.Lists.{IsMember}
-use Rattle.ot_blocks.specs.Order.{Order, Ordered, LeadsBack, TooDeep, ◌>>=◌, walk_imports, walk_block, imports_at, is_in}
+use Rattle.ot_blocks.specs.Order.{Order, Ordered, LeadsBack, TooDeep, ◌>>=◌}
+use Rattle.ot_blocks.specs.Order.{walk_imports, walk_block, imports_at, is_in}
 use Rattle.ot_blocks.specs.Ordering.{IsInside, EndsAlways}
 use Rattle.ot_blocks.specs.declared.walk.Import.{Import}
 
@@ -44,7 +46,8 @@ path_length n path p = length-le_from_distinct_below path n p.once (below path p
 abbrev VisitEnds : ℕ → (List ℕ → ℕ → Order) → List ℕ → Type 0
 VisitEnds n visit path = (done : List ℕ) (b : ℕ) → is_in path b ≡ false → b < n → visit done b ≢ TooDeep
 
-imports_end : (n : ℕ) (visit : List ℕ → ℕ → Order) (path : List ℕ) → VisitEnds n visit path → (is : List Import) (done : List ℕ)
+imports_end : (n : ℕ) (visit : List ℕ → ℕ → Order) (path : List ℕ) → VisitEnds n visit path
+    → (is : List Import) (done : List ℕ)
     → ((i : Import) → IsMember i is → i.block < n) → walk_imports visit path is done ≢ TooDeep
 imports_end n visit path ends [] done inside = λ e. cc
 imports_end n visit path ends (i ∷ is) done inside = elim (cases_Bool (is_in done i.block)) [
@@ -57,13 +60,16 @@ imports_end n visit path ends (i ∷ is) done inside = elim (cases_Bool (is_in d
   ]
 ]
 
-block_ends : (g : List (List Import)) → IsInside g → (n : ℕ) (path : List ℕ) → IsPath (length g) path → length g ≤ n + length path
+block_ends : (g : List (List Import)) → IsInside g → (n : ℕ) (path : List ℕ) → IsPath (length g) path
+    → length g ≤ n + length path
     → VisitEnds (length g) (walk_block n g path) path
 block_ends g inside zero path p bound done b new lt =
-    let most : length (b ∷ path) ≤ length g = path_length (length g) (b ∷ path) (one_more (length g) path b p new lt) in
+    let most : length (b ∷ path) ≤ length g =
+    path_length (length g) (b ∷ path) (one_more (length g) path b p new lt) in
     absurd (omega (arith, most, bound))
 block_ends g inside (suc n) path p bound done b new lt =
-    bind_ends (walk_imports (walk_block n g (b ∷ path)) (b ∷ path) (imports_at g b) done) (λ more. Ordered (more ++ b ∷ []))
+    bind_ends (walk_imports (walk_block n g (b ∷ path)) (b ∷ path) (imports_at g b) done)
+    (λ more. Ordered (more ++ b ∷ []))
     (imports_end (length g) (walk_block n g (b ∷ path)) (b ∷ path)
     (block_ends g inside n (b ∷ path) (one_more (length g) path b p new lt) (omega (arith, bound)))
     (imports_at g b) done (inside b))

@@ -3,7 +3,8 @@ use Rattle.std.proofs.Common.{◌≡◌, ℕ, zero, suc, List, [], ◌∷◌, �
 use Rattle.std.proofs.lemmas.Bool.{cases_Bool}
 use Rattle.std.proofs.lemmas.Bool.Decides.{Decides-eqb}
 use Rattle.ot_plain.specs.Lists.{IsMember, IsPart, AreDistinct}
-use Rattle.ot_blocks.specs.Order.{Order, Ordered, LeadsBack, TooDeep, ◌>>=◌, walk_imports, walk_block, order_of, imports_at, is_in}
+use Rattle.ot_blocks.specs.Order.{Order, Ordered, LeadsBack, TooDeep, ◌>>=◌}
+use Rattle.ot_blocks.specs.Order.{walk_imports, walk_block, order_of, imports_at, is_in}
 use Rattle.ot_blocks.specs.Ordering.{Reaches, Here, Along, HasCycleAt, GivesOrder, GivesCycle}
 use Rattle.ot_blocks.specs.declared.walk.Import.{Import}
 use Rattle.ot_blocks.proofs.Members.{member_from_test, apart_from_test, member_end, cut_push}
@@ -23,7 +24,8 @@ gives_bind P R Q (Ordered bs) f own next = next bs own
 gives_bind P R Q (LeadsBack line) f own next = own
 gives_bind P R Q TooDeep f own next = tt
 
-gives_more : (P R : List ℕ → Type 0) (Q : ℕ → Type 0) (o : Order) → ((bs : List ℕ) → P bs → R bs) → Gives P Q o → Gives R Q o
+gives_more : (P R : List ℕ → Type 0) (Q : ℕ → Type 0) (o : Order) → ((bs : List ℕ) → P bs → R bs) → Gives P Q o
+    → Gives R Q o
 gives_more P R Q (Ordered bs) more own = more bs own
 gives_more P R Q (LeadsBack line) more own = own
 gives_more P R Q TooDeep more own = tt
@@ -33,25 +35,32 @@ module _ (g : List (List Import)) (main : ℕ) where
 
   reaches_import : (a b : ℕ) → Reaches g a b → (i : Import) → IsMember i (imports_at g b) → Reaches g a i.block
   reaches_import _ _ (Here b) i m = Along b i.block i m (Here i.block)
-  reaches_import _ _ (Along a b j is_import rest) i m = Along a i.block j is_import (reaches_import j.block b rest i m)
+  reaches_import _ _ (Along a b j is_import rest) i m =
+      Along a i.block j is_import (reaches_import j.block b rest i m)
 
   -- ---- blocks that are done
 
   record IsSound (bs : List ℕ) : Type 0 where
     once : AreDistinct bs
-    imports_first : (front back : List ℕ) (b : ℕ) → bs ≡ front ++ b ∷ back → (i : Import) → IsMember i (imports_at g b) → IsMember i.block front
+    imports_first : (front back : List ℕ) (b : ℕ) → bs ≡ front ++ b ∷ back → (i : Import)
+        → IsMember i (imports_at g b) → IsMember i.block front
     reached : (b : ℕ) → IsMember b bs → Reaches g main b
 
   abbrev HasImports : List Import → List ℕ → Type 0
   HasImports is bs = (i : Import) → IsMember i is → IsMember i.block bs
 
   no_blocks : IsSound []
-  no_blocks = record { once = tt; imports_first = λ front back b e. absurd (nothing front back b e); reached = λ b m. absurd m } where
+  no_blocks = record {
+    once = tt;
+    imports_first = λ front back b e. absurd (nothing front back b e);
+    reached = λ b m. absurd m;
+  } where
     nothing : (front back : List ℕ) (b : ℕ) → [] ≡ front ++ b ∷ back → ⊥
     nothing [] back b e = cc
     nothing (f ∷ fs) back b e = cc
 
-  one_more : (bs : List ℕ) (b : ℕ) → IsSound bs → ¬ (IsMember b bs) → Reaches g main b → HasImports (imports_at g b) bs → IsSound (bs ++ b ∷ [])
+  one_more : (bs : List ℕ) (b : ℕ) → IsSound bs → ¬ (IsMember b bs) → Reaches g main b
+      → HasImports (imports_at g b) bs → IsSound (bs ++ b ∷ [])
   one_more bs b s new reached imports = record {
     once = AreDistinct-push bs b s.once new;
     imports_first = λ front back c e i m. elim (cut_push bs b front c back e) [
@@ -83,7 +92,8 @@ module _ (g : List (List Import)) (main : ℕ) where
   AllReach path b = (a : ℕ) → IsMember a path → Reaches g a b
 
   abbrev Visits : (List ℕ → ℕ → Order) → List ℕ → Type 0
-  Visits visit path = (done : List ℕ) (b : ℕ) → IsSound done → is_in done b ≡ false → is_in path b ≡ false → Reaches g main b → AllReach path b
+  Visits visit path = (done : List ℕ) (b : ℕ) → IsSound done → is_in done b ≡ false → is_in path b ≡ false
+      → Reaches g main b → AllReach path b
       → Gives (AddsLast path done b) (HasCycleAt g main) (visit done b)
 
   has_last : (b : ℕ) (new : List ℕ) → (front : List ℕ) × (new ≡ front ++ b ∷ []) → IsMember b new
@@ -96,7 +106,8 @@ module _ (g : List (List Import)) (main : ℕ) where
     apart = λ b p m. first.apart b p (second.apart b p m);
   }
 
-  imports_give : (visit : List ℕ → ℕ → Order) (path : List ℕ) (b : ℕ) → Visits visit path → Reaches g main b → AllReach path b
+  imports_give : (visit : List ℕ → ℕ → Order) (path : List ℕ) (b : ℕ) → Visits visit path → Reaches g main b
+      → AllReach path b
       → (is : List Import) (done : List ℕ) → IsPart is (imports_at g b) → IsSound done
       → Gives (AddsImports path done is) (HasCycleAt g main) (walk_imports visit path is done)
   imports_give visit path b visits reached path_reach [] done part s =
@@ -106,8 +117,13 @@ module _ (g : List (List Import)) (main : ℕ) where
       let others : IsPart is (imports_at g b) = λ j m. part j (inr m) in
       elim (cases_Bool (is_in done i.block)) [
         | inl known ↦ rw known
-            (gives_more (AddsImports path done is) (AddsImports path done (i ∷ is)) (HasCycleAt g main) (walk_imports visit path is done)
-            (λ new a. (a.0, with_first done is new i (a.0.keeps i.block (member_from_test eqb Decides-eqb done i.block known)) a.1))
+            (gives_more (AddsImports path done is) (AddsImports path done (i ∷ is)) (HasCycleAt g main)
+            (walk_imports visit path is done)
+            (λ new a. (
+              a.0,
+              with_first done is new i
+                  (a.0.keeps i.block (member_from_test eqb Decides-eqb done i.block known)) a.1,
+            ))
             (imports_give visit path b visits reached path_reach is done others s))
         | inr fresh ↦ elim (cases_Bool (is_in path i.block)) [
           | inl back ↦ rw (fresh, back) record {
@@ -119,16 +135,25 @@ module _ (g : List (List Import)) (main : ℕ) where
             returns = path_reach i.block (member_from_test eqb Decides-eqb path i.block back);
           }
           | inr new_block ↦ rw (fresh, new_block)
-              (gives_bind (AddsLast path done i.block) (AddsImports path done (i ∷ is)) (HasCycleAt g main) (visit done i.block) (walk_imports visit path is)
-              (visits done i.block s fresh new_block (reaches_import main b reached i own) (λ a m. reaches_import a b (path_reach a m) i own))
-              (λ mid h. gives_more (AddsImports path mid is) (AddsImports path done (i ∷ is)) (HasCycleAt g main) (walk_imports visit path is mid)
-              (λ new a. (then path done mid new h.0 a.0, with_first mid is new i (a.0.keeps i.block (has_last i.block mid h.1)) a.1))
+              (gives_bind (AddsLast path done i.block) (AddsImports path done (i ∷ is)) (HasCycleAt g main)
+              (visit done i.block) (walk_imports visit path is)
+              (visits done i.block s fresh new_block (reaches_import main b reached i own)
+              (λ a m. reaches_import a b (path_reach a m) i own))
+              (λ mid h. gives_more (AddsImports path mid is) (AddsImports path done (i ∷ is)) (HasCycleAt g main)
+              (walk_imports visit path is mid)
+              (λ new a. (
+                then path done mid new h.0 a.0,
+                with_first mid is new i
+                    (a.0.keeps i.block (has_last i.block mid h.1)) a.1,
+              ))
               (imports_give visit path b visits reached path_reach is mid others h.0.sound)))
         ]
       ]
     where
-      with_first : (done : List ℕ) (is : List Import) (new : List ℕ) (i : Import) → IsMember i.block new → HasImports is new → HasImports (i ∷ is) new
-      with_first done is new i first rest j m = elim m [ inl e ↦ subst (λ k. IsMember k.block new) e first | inr h ↦ rest j h ]
+      with_first : (done : List ℕ) (is : List Import) (new : List ℕ) (i : Import) → IsMember i.block new
+          → HasImports is new → HasImports (i ∷ is) new
+      with_first done is new i first rest j m =
+          elim m [ inl e ↦ subst (λ k. IsMember k.block new) e first | inr h ↦ rest j h ]
 
   block_gives : (n : ℕ) (path : List ℕ) → Visits (walk_block n g path) path
   block_gives zero path done b s fresh new reached path_reach = tt
@@ -140,9 +165,11 @@ module _ (g : List (List Import)) (main : ℕ) where
       (imports_at g b) done (λ i m. m) s)
       (λ more a. (with_last more a, (more, refl)))
     where
-      with_last : (more : List ℕ) → AddsImports (b ∷ path) done (imports_at g b) more → Adds path done (more ++ b ∷ [])
+      with_last : (more : List ℕ) → AddsImports (b ∷ path) done (imports_at g b) more
+          → Adds path done (more ++ b ∷ [])
       with_last more a = record {
-        sound = one_more more b a.0.sound (λ m. apart_from_test eqb Decides-eqb done b fresh (a.0.apart b (inl refl) m)) reached a.1;
+        sound = one_more more b a.0.sound
+            (λ m. apart_from_test eqb Decides-eqb done b fresh (a.0.apart b (inl refl) m)) reached a.1;
         keeps = λ c m. IsMember-left c more (b ∷ []) (a.0.keeps c m);
         apart = λ c p m. elim (IsMember-push c more b m) [
           | inl h ↦ a.0.apart c (inr p) h
@@ -156,7 +183,12 @@ module _ (g : List (List Import)) (main : ℕ) where
 pub gives_order : GivesOrder
 gives_order g main order e =
     let a = subst (Gives (AddsLast g main [] [] main) (HasCycleAt g main)) e (order_gives g main) in
-    record { once = a.0.sound.once; main_last = a.1; imports_first = a.0.sound.imports_first; reached = a.0.sound.reached }
+    record {
+      once = a.0.sound.once;
+      main_last = a.1;
+      imports_first = a.0.sound.imports_first;
+      reached = a.0.sound.reached;
+    }
 
 pub gives_cycle : GivesCycle
 gives_cycle g main line e = subst (Gives (AddsLast g main [] [] main) (HasCycleAt g main)) e (order_gives g main)

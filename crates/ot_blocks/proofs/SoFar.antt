@@ -16,7 +16,8 @@ blocks_of fs = map (λ f. f.block) fs
 abbrev pub rest_of : List (List Import) → List Frame → ℕ → List ℕ → Order
 rest_of g [] bound done = Ordered done
 rest_of g (f ∷ fs) bound done =
-    walk_imports (walk_block bound g (f.block ∷ blocks_of fs)) (f.block ∷ blocks_of fs) (drop f.next (imports_at g f.block)) done
+    walk_imports (walk_block bound g (f.block ∷ blocks_of fs)) (f.block ∷ blocks_of fs)
+    (drop f.next (imports_at g f.block)) done
     >>= λ more. rest_of g fs (suc bound) (more ++ f.block ∷ [])
 
 abbrev pub AllInside : ℕ → List Frame → Type 0
@@ -42,7 +43,8 @@ new_count (Done ∷ ms) = new_count ms
 -- ---- the walk as a whole
 
 -- what is left of the walk gives the whole order; a block that is new pays for one level of the bound
-pub record SoFar (g : List (List Import)) (whole : Order) (marks : List Mark) (fs : List Frame) (done : List ℕ) : Type 0 where
+pub record SoFar (g : List (List Import)) (whole : Order) (marks : List Mark) (fs : List Frame) (done : List ℕ) : Type
+    0 where
   pub bound : ℕ
   pub enough : new_count marks ≤ bound
   pub inside : AllInside (length g) fs

@@ -11,7 +11,8 @@ imports_at g b = slice_index_or g b []
 abbrev pub is_in : List ℕ → ℕ → Bool
 is_in bs b = list_any (λ x. x == b) bs
 
--- the blocks that are done, in their order; the line of the import that leads back; or the bound ran out, which never happens
+-- the blocks that are done, in their order; the line of the import that leads back; or the bound ran out, which never
+-- happens
 pub data Order : Type 0 where
   Ordered : List ℕ → Order
   LeadsBack : ℕ → Order

@@ -17,7 +17,8 @@ pub data Reaches (g : List (List Import)) : ℕ → ℕ → Type 0 where
 pub record IsOrder (g : List (List Import)) (main : ℕ) (order : List ℕ) : Type 0 where
   pub once : AreDistinct order
   pub main_last : (front : List ℕ) × (order ≡ front ++ main ∷ [])
-  pub imports_first : (front back : List ℕ) (b : ℕ) → order ≡ front ++ b ∷ back → (i : Import) → IsMember i (imports_at g b) → IsMember i.block front
+  pub imports_first : (front back : List ℕ) (b : ℕ) → order ≡ front ++ b ∷ back → (i : Import)
+      → IsMember i (imports_at g b) → IsMember i.block front
   pub reached : (b : ℕ) → IsMember b order → Reaches g main b
 
 -- `main` reaches a block whose import in this line leads back to that block
@@ -35,7 +36,8 @@ EndsAlways = (g : List (List Import)) (main : ℕ) → IsInside g → main < len
 
 -- a law: what the order is
 abbrev pub GivesOrder : Type 0
-GivesOrder = (g : List (List Import)) (main : ℕ) (order : List ℕ) → order_of g main ≡ Ordered order → IsOrder g main order
+GivesOrder = (g : List (List Import)) (main : ℕ) (order : List ℕ) → order_of g main ≡ Ordered order
+    → IsOrder g main order
 
 -- a law: where there is no order, there is a cycle
 abbrev pub GivesCycle : Type 0

@@ -1,5 +1,7 @@
--- The structure of the blocks of a theory file: its faults, each block's imports and source, and the plan of their run.
-use Rattle.std.specs.Prelude.{◌≡◌, ◌≢◌, ◌<◌, ℕ, List, [], ◌∷◌, true, Option, Some, None, Result, Ok, Err, map, length, codes, find, filter_map, flat_map, position, is_some, slice_index_or, if◌then◌else◌}
+-- The structure of the blocks of a theory file: its faults, each block's imports and source, and the plan of their
+-- run.
+use Rattle.std.specs.Prelude.{◌≡◌, ◌≢◌, ◌<◌, ℕ, List, [], ◌∷◌, true, Option, Some, None, Result, Ok, Err, map, length}
+use Rattle.std.specs.Prelude.{codes, find, filter_map, flat_map, position, is_some, slice_index_or, if◌then◌else◌}
 use Rattle.std.specs.Option.{option_map}
 use Rattle.std.specs.Str.{bytes_eq}
 use Rattle.ot_plain.specs.Answers.{◌>>=◌}
@@ -49,7 +51,8 @@ fault_of places t = option_map (λ fault. (t.line, fault)) (statement_fault plac
 
 -- the import that it is
 abbrev pub import_of : Places → TagText → Option Import
-import_of places t = option_map (λ block. record { line = t.line; block = block }) (imported places (key_of t.key) t.value)
+import_of places t =
+    option_map (λ block. record { line = t.line; block = block }) (imported places (key_of t.key) t.value)
 
 -- ---- blocks
 
@@ -134,4 +137,5 @@ pub record IsPlan (blocks : List BlockText) (p : PlanText) : Type 0 where
 
 -- a law: what the plan is
 abbrev pub GivesPlan : Type 0
-GivesPlan = (blocks : List BlockText) (p : PlanText) → has_block blocks (codes "main") ≡ true → plan blocks ≡ Ok p → IsPlan blocks p
+GivesPlan = (blocks : List BlockText) (p : PlanText) → has_block blocks (codes "main") ≡ true → plan blocks ≡ Ok p
+    → IsPlan blocks p

@@ -4,8 +4,8 @@ ghost use Rattle.std.specs.List.{list_all, suffix_len};
 ghost use Rattle.std.specs.Str.{IsUtf8};
 ghost use Rattle.std.specs.String.{string_bytes};
 ghost use Rattle.ot_theory.specs.Values.{IsPath};
-ghost use Rattle.ot_blocks.specs.Paths.{name_part, version_part, is_name_byte, is_name, is_digits, is_version};
-ghost use Rattle.ot_blocks.specs.Paths.{is_package, package_path, article_path, folder_of};
+ghost use Rattle.ot_blocks.specs.Paths.{name_part, version_part, is_name_byte, is_name, is_digits};
+ghost use Rattle.ot_blocks.specs.Paths.{is_version, is_package, package_path, article_path, folder_of};
 
 use ot_plain::Memory;
 use std::alloc::Global;

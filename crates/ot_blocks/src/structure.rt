@@ -1,8 +1,8 @@
 ghost use Rattle.std.specs.Prelude.{◌≡◌, ℕ, List, Some, None, true, IfOk, is_some, codes, map, filter_map};
 ghost use Rattle.ot_theory.specs.Theory.{has_block};
 ghost use Rattle.ot_theory.specs.Answers.{tag_of, tags_of, blocks_of};
-ghost use Rattle.ot_blocks.specs.Structure.{place_of, fault_of, import_of, faults_of, graph_of, imported_blocks};
-ghost use Rattle.ot_blocks.specs.Structure.{plan, IsPlan};
+ghost use Rattle.ot_blocks.specs.Structure.{place_of, fault_of, import_of, faults_of};
+ghost use Rattle.ot_blocks.specs.Structure.{graph_of, imported_blocks, plan, IsPlan};
 ghost use Rattle.ot_blocks.specs.Answers.{lists_of, plan_of, Plans, places_in, Reads, Collects};
 
 use crate::fault::{PlanFault, StructureFault};

@@ -1,5 +1,7 @@
 -- Lemmas on the table of nameless terms.
-use Rattle.std.proofs.Common.{◌≡◌, ℕ, ◌<◌, ◌≤◌, cond, ◌⊎◌, inl, inr, Ordering, Less, Equal, Greater, nat_cmp, is_lt, Bool, true, false, ◌&&◌, Decides, nat_eq, eqb-true, eq-eqb, true≢false, List, length, slice_get, Some, refl, sym, ap, subst, ◌∙◌, arith}
+use Rattle.std.proofs.Common.{◌≡◌, ℕ, ◌<◌, ◌≤◌, cond, ◌⊎◌, inl, inr, Ordering, Less, Equal, Greater}
+use Rattle.std.proofs.Common.{nat_cmp, is_lt, Bool, true, false, ◌&&◌, Decides, nat_eq, eqb-true, eq-eqb}
+use Rattle.std.proofs.Common.{true≢false, List, length, slice_get, Some, refl, sym, ap, subst, ◌∙◌, arith}
 use Rattle.std.proofs.lemmas.Option.{get_or_from_slice_get}
 use Rattle.std.proofs.lemmas.Map.Keys.{ge_from_not_lt}
 use Rattle.std.proofs.Math.Bool.{and-false}
@@ -43,7 +45,8 @@ more_below j k le (node.Bound i) h = h
 more_below j k le (node.App f x) h = (omega (arith, h.0), omega (arith, h.1))
 more_below j k le (node.Abs t b) h = omega (arith, h)
 
-tree_stays : (cs ds : List (Tm ℕ)) → Extends cs ds → (n : ClassNode) → AreBelow (length cs) n → tree_of ds n ≡ tree_of cs n
+tree_stays : (cs ds : List (Tm ℕ)) → Extends cs ds → (n : ClassNode) → AreBelow (length cs) n
+    → tree_of ds n ≡ tree_of cs n
 tree_stays cs ds e (node.Free v) h = refl
 tree_stays cs ds e (node.Const n t) h = refl
 tree_stays cs ds e (node.Bound i) h = refl
@@ -96,7 +99,8 @@ tree_same cs (node.Abs t b) (node.Const m u) p = absurd (true≢false (sym p))
 tree_same cs (node.Abs t b) (node.Bound k) p = absurd (true≢false (sym p))
 tree_same cs (node.Abs t b) (node.App g y) p = absurd (true≢false (sym p))
 
-same_tree : (cs : List (Tm ℕ)) → IsInjective cs → (m n : ClassNode) → AreBelow (length cs) m → AreBelow (length cs) n → tree_of cs m ≡ tree_of cs n → node_eq m n ≡ true
+same_tree : (cs : List (Tm ℕ)) → IsInjective cs → (m n : ClassNode) → AreBelow (length cs) m → AreBelow (length cs) n
+    → tree_of cs m ≡ tree_of cs n → node_eq m n ≡ true
 same_tree cs one (node.Free v) (node.Free w) a b p =
     let same : variable_by v.name v.ty ≡ variable_by w.name w.ty = cc in
     let name : v.name ≡ w.name = ap (λ x. x.name) same in
@@ -113,7 +117,8 @@ same_tree cs one (node.Bound i) (node.Bound k) a b p =
 same_tree cs one (node.App f x) (node.App g y) a b p =
     let left : class_at cs f ≡ class_at cs g = cc in
     let right : class_at cs x ≡ class_at cs y = cc in
-    both_true (eq-eqb f g (get_or-IsInjective cs one f g (Bound 0) a.0 b.0 left)) (eq-eqb x y (get_or-IsInjective cs one x y (Bound 0) a.1 b.1 right))
+    both_true (eq-eqb f g (get_or-IsInjective cs one f g (Bound 0) a.0 b.0 left))
+    (eq-eqb x y (get_or-IsInjective cs one x y (Bound 0) a.1 b.1 right))
 same_tree cs one (node.Abs t x) (node.Abs u y) a b p =
     let ty : t ≡ u = cc in
     let body : class_at cs x ≡ class_at cs y = cc in
@@ -157,12 +162,14 @@ laws = record {
 }
 
 -- what stands beside a number is of the tree at it
-pub described_at : (es : List (ClassNode × Beside)) (cs : List (Tm ℕ)) → AreClassNodes es cs → (i : ℕ) (n : ClassNode) (b : Beside) → slice_get es i ≡ Some (n, b) → Describes (class_at cs i) b
+pub described_at : (es : List (ClassNode × Beside)) (cs : List (Tm ℕ)) → AreClassNodes es cs
+    → (i : ℕ) (n : ClassNode) (b : Beside) → slice_get es i ≡ Some (n, b) → Describes (class_at cs i) b
 described_at es cs nodes i n b p =
     let e = nodes.entries i n b p in
     subst (λ t. Describes t b) (sym (get_or_from_slice_get cs i _ (Bound 0) e.tree)) e.fits
 
-pub described-variable : (v : Key) (b : Beside) → b.newest ≡ v.name → b.closed ≡ false → Describes (Free (variable_of v)) b
+pub described-variable : (v : Key) (b : Beside) → b.newest ≡ v.name → b.closed ≡ false
+    → Describes (Free (variable_of v)) b
 described-variable v b newest closed = record {
   most = λ w e. let same : v.name ≡ w.name = ap (λ (x : Variable ℕ). x.name) e in omega (arith, same, newest);
   closed = λ w e. closed;
@@ -174,7 +181,8 @@ one_open true x p = inr p
 one_open false x p = inl refl
 
 -- what stands beside an application and an abstraction, by their parts
-pub described-application : (f x : Tm ℕ) (b c d : Beside) → d.newest ≡ ord_max nat_cmp b.newest c.newest → d.closed ≡ (b.closed && c.closed) → Describes f b → Describes x c → Describes (App f x) d
+pub described-application : (f x : Tm ℕ) (b c d : Beside) → d.newest ≡ ord_max nat_cmp b.newest c.newest
+    → d.closed ≡ (b.closed && c.closed) → Describes f b → Describes x c → Describes (App f x) d
 described-application f x b c d e s g h = record { most = most; closed = closed; unclosed = unclosed }
   where
     bounds : (b.newest ≤ d.newest) × (c.newest ≤ d.newest)
@@ -194,7 +202,8 @@ described-application f x b c d e s g h = record { most = most; closed = closed;
       | inr q ↦ let (w, i) = h.unclosed q in (w, inr i)
     ]
 
-pub described-abstraction : (t : Ty ℕ) (f : Tm ℕ) (b d : Beside) → d.newest ≡ b.newest → d.closed ≡ b.closed → Describes f b → Describes (Abs t f) d
+pub described-abstraction : (t : Ty ℕ) (f : Tm ℕ) (b d : Beside) → d.newest ≡ b.newest → d.closed ≡ b.closed
+    → Describes f b → Describes (Abs t f) d
 described-abstraction t f b d e s g = record {
   most = λ w i. let le = g.most w i in omega (arith, le, e);
   closed = λ w i. s ∙ g.closed w i;
@@ -202,6 +211,8 @@ described-abstraction t f b d e s g = record {
 }
 
 -- the test of a tree that is described
-pub closed_tells : (t : Tm ℕ) (b : Beside) (closed : Bool) → b.closed ≡ closed → Describes t b → Decides closed (IsClosed alphabet t)
+pub closed_tells : (t : Tm ℕ) (b : Beside) (closed : Bool) → b.closed ≡ closed → Describes t b
+    → Decides closed (IsClosed alphabet t)
 closed_tells t b true p h = (λ e w i. true≢false (sym p ∙ h.closed w i), λ none. refl)
-closed_tells t b false p h = (λ e. absurd (true≢false (sym e)), λ none. let (w, i) = h.unclosed p in absurd (none w i))
+closed_tells t b false p h =
+    (λ e. absurd (true≢false (sym e)), λ none. let (w, i) = h.unclosed p in absurd (none w i))

@@ -2,7 +2,8 @@
 use Rattle.std.specs.Prelude.{◌||◌}
 use Rattle.std.specs.Bool.{Decides}
 use Rattle.std.specs.List.{list_any}
-use Rattle.std.proofs.Common.{◌≡◌, inl, inr, Bool, true, false, List, [], ◌∷◌, ◌++◌, fold, if◌then◌else◌, refl, sym, ap, subst, ◌∙◌, append_assoc}
+use Rattle.std.proofs.Common.{◌≡◌, inl, inr, Bool, true, false, List, [], ◌∷◌, ◌++◌, fold}
+use Rattle.std.proofs.Common.{if◌then◌else◌, refl, sym, ap, subst, ◌∙◌, append_assoc}
 use Rattle.std.proofs.lemmas.Bool.{or_cases, true≢false}
 use Rattle.std.proofs.lemmas.List.{append-nil}
 use Rattle.indexmap.specs.IndexSet.{insert_key}
@@ -13,7 +14,8 @@ use Rattle.ot_plain.proofs.Members.{IsMember-cases, IsMember-left}
 module _ {X : Type 0} (eq : X → X → Bool) (is : (x y : X) → Decides (eq x y) (x ≡ y)) where
   pub any_to : (k : X) (ks : List X) → list_any (eq k) ks ≡ true → IsMember k ks
   any_to k [] h = absurd (true≢false (sym h))
-  any_to k (x ∷ ks) h = elim (or_cases (eq k x) (list_any (eq k) ks) h) [ inl a ↦ inl (sym ((is k x).0 a)) | inr b ↦ inr (any_to k ks b) ]
+  any_to k (x ∷ ks) h = elim (or_cases (eq k x) (list_any (eq k) ks) h)
+      [ inl a ↦ inl (sym ((is k x).0 a)) | inr b ↦ inr (any_to k ks b) ]
 
   any_from : (k : X) (ks : List X) → IsMember k ks → list_any (eq k) ks ≡ true
   any_from k [] h = absurd h
@@ -31,7 +33,11 @@ module _ {X : Type 0} (eq : X → X → Bool) (is : (x y : X) → Decides (eq x 
       by : (b : Bool) → list_any (eq k) ks ≡ b → IsSameSet (if b then ks else ks ++ k ∷ []) (ks ++ k ∷ [])
       by true e = record {
         to = λ x h. IsMember-left x ks (k ∷ []) h;
-        back = λ x h. elim (IsMember-cases x ks (k ∷ []) h) [ inl a ↦ a | inr b ↦ elim b [ inl same ↦ subst (λ x. IsMember x ks) same (any_to k ks e) | inr never ↦ absurd never ] ];
+        back = λ x h. elim (IsMember-cases x ks (k ∷ []) h) [
+          | inl a ↦ a
+          | inr b ↦
+              elim b [ inl same ↦ subst (λ x. IsMember x ks) same (any_to k ks e) | inr never ↦ absurd never ]
+        ];
       }
       by false e = same_set-self (ks ++ k ∷ [])
 
@@ -41,14 +47,20 @@ module _ {X : Type 0} (eq : X → X → Bool) (is : (x y : X) → Decides (eq x 
       by : (b : Bool) → list_any (eq k) ks ≡ b → AreDistinct (if b then ks else ks ++ k ∷ [])
       by true e = d
       by false e =
-          distinct-append ks (k ∷ []) d (λ never. never, tt) (λ x m n. elim n [ inl same ↦ true≢false (sym (any_from k ks (subst (λ x. IsMember x ks) (sym same) m)) ∙ e) | inr never ↦ never ])
+          distinct-append ks (k ∷ []) d (λ never. never, tt)
+          (λ x m n. elim n [
+            | inl same ↦ true≢false (sym (any_from k ks (subst (λ x. IsMember x ks) (sym same) m)) ∙ e)
+            | inr
+                never ↦ never
+          ])
 
   -- all of a list
   pub distinct_members : (ks xs : List X) → IsSameSet (fold (insert_key eq) ks xs) (ks ++ xs)
   distinct_members ks [] = subst (IsSameSet ks) (sym (append-nil ks)) (same_set-self ks)
   distinct_members ks (x ∷ xs) =
       same_set-then (distinct_members (insert_key eq ks x) xs)
-      (subst (IsSameSet (insert_key eq ks x ++ xs)) (append_assoc ks (x ∷ []) xs) (same_set-append (insert_members ks x) (same_set-self xs)))
+      (subst (IsSameSet (insert_key eq ks x ++ xs)) (append_assoc ks (x ∷ []) xs)
+      (same_set-append (insert_members ks x) (same_set-self xs)))
 
   pub distinct_once : (ks xs : List X) → AreDistinct ks → AreDistinct (fold (insert_key eq) ks xs)
   distinct_once ks [] d = d

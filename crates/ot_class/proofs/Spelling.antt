@@ -53,19 +53,23 @@ module _ (tys us : List (Ty ℕ)) (e : Extends tys us) where
 
 -- ---- each type has one number
 module _ (tys : List (Ty ℕ)) (one : IsInjective tys) where
-  one-ty : (s t : Ty ℕ) → IsNumber (length tys) s → IsNumber (length tys) t → spelled_ty tys s ≡ spelled_ty tys t → s ≡ t
+  one-ty : (s t : Ty ℕ) → IsNumber (length tys) s → IsNumber (length tys) t → spelled_ty tys s ≡ spelled_ty tys t
+      → s ≡ t
   one-ty s t g h p =
-      let trees : type_at tys g.number ≡ type_at tys h.number = ap (spelled_ty tys) (sym g.is) ∙ p ∙ ap (spelled_ty tys) h.is in
+      let trees : type_at tys g.number ≡ type_at tys h.number = ap (spelled_ty tys) (sym g.is) ∙ p
+      ∙ ap (spelled_ty tys) h.is in
       g.is ∙ ap numbered (get_or-IsInjective tys one g.number h.number (TyVar 0) g.below h.below trees) ∙ sym h.is
 
-  one-var : (v w : Variable ℕ) → IsNumber (length tys) v.ty → IsNumber (length tys) w.ty → spelled_var tys v ≡ spelled_var tys w → v ≡ w
+  one-var : (v w : Variable ℕ) → IsNumber (length tys) v.ty → IsNumber (length tys) w.ty
+      → spelled_var tys v ≡ spelled_var tys w → v ≡ w
   one-var v w g h p =
       let ty = one-ty v.ty w.ty g h (ap (λ x. x.ty) p) in
       let name : v.name ≡ w.name = ap (λ x. x.name) p in
       λ i. record { name = name i; ty = ty i }
 
   -- so two terms that stand for one are one
-  pub spelled-one : (f g : Tm ℕ) → IsOver (length tys) f → IsOver (length tys) g → spelled tys f ≡ spelled tys g → f ≡ g
+  pub spelled-one : (f g : Tm ℕ) → IsOver (length tys) f → IsOver (length tys) g → spelled tys f ≡ spelled tys g
+      → f ≡ g
   spelled-one (Free v) (Free w) a b p =
       let same : spelled_var tys v ≡ spelled_var tys w = cc in
       ap Free (one-var v w a b same)
@@ -90,14 +94,18 @@ module _ (tys : List (Ty ℕ)) (one : IsInjective tys) where
   spelled-one _ _ a b p = cc
 
   -- and a variable is closed before or after its types are put in
-  pub spelled-close : (k : ℕ) (v : Variable ℕ) → IsNumber (length tys) v.ty → (f : Tm ℕ) → IsOver (length tys) f → spelled tys (close_at numbers k v f) ≡ close_at numbers k (spelled_var tys v) (spelled tys f)
-  spelled-close k v h (Free w) a = ap (λ b. spelled tys (cond b (Bound k) (Free w))) test ∙ by (same_var numbers (spelled_var tys w) (spelled_var tys v))
+  pub spelled-close : (k : ℕ) (v : Variable ℕ) → IsNumber (length tys) v.ty → (f : Tm ℕ) → IsOver (length tys) f
+      → spelled tys (close_at numbers k v f) ≡ close_at numbers k (spelled_var tys v) (spelled tys f)
+  spelled-close k v h (Free w) a = ap (λ b. spelled tys (cond b (Bound k) (Free w))) test
+      ∙ by (same_var numbers (spelled_var tys w) (spelled_var tys v))
     where
-      tree : Decides (same_var numbers (spelled_var tys w) (spelled_var tys v)) (spelled_var tys w ≡ spelled_var tys v)
+      tree : Decides (same_var numbers (spelled_var tys w) (spelled_var tys v))
+          (spelled_var tys w ≡ spelled_var tys v)
       tree = same_var-is numbers tells_numbers (spelled_var tys w) (spelled_var tys v)
 
       test : same_var numbers w v ≡ same_var numbers (spelled_var tys w) (spelled_var tys v)
-      test = same_from_decides (same_var numbers w v) (same_var numbers (spelled_var tys w) (spelled_var tys v)) (same_var-is numbers tells_numbers w v)
+      test = same_from_decides (same_var numbers w v) (same_var numbers (spelled_var tys w) (spelled_var tys v))
+          (same_var-is numbers tells_numbers w v)
           (λ p. one-var w v a h (tree.0 p), λ e. tree.1 (ap (spelled_var tys) e))
 
       by : (b : Bool) → spelled tys (cond b (Bound k) (Free w)) ≡ cond b (Bound k) (Free (spelled_var tys w))

@@ -14,4 +14,5 @@ same_place p q = nat_eq p.depth q.depth && nat_eq p.id q.id
 
 -- each number that is kept is that of its place's tree with the variable closed
 pub record IsClosing (cs : List (Tm ℕ)) (v : Key) (es : List (Place × ℕ)) : Type 0 where
-  pub known : (p : Place) (r : ℕ) → lookup (same_place p) es ≡ Some r → (p.id < length cs) × (slice_get cs r ≡ Some (close_at numbers p.depth (variable_of v) (class_at cs p.id)))
+  pub known : (p : Place) (r : ℕ) → lookup (same_place p) es ≡ Some r
+      → (p.id < length cs) × (slice_get cs r ≡ Some (close_at numbers p.depth (variable_of v) (class_at cs p.id)))

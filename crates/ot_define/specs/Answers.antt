@@ -5,7 +5,8 @@ use Rattle.std.specs.List.{list_all}
 use Rattle.ot_plain.specs.Answers.{◌>>=◌, unless}
 use Rattle.ot_plain.specs.Hol.{nameless}
 use Rattle.ot_plain.specs.Naming.{numbers}
-use Rattle.ot_plain.specs.Faults.{Fault, Primitive, AlreadyDefined, SymbolInUse, NotClosed, TypeVarEscapes, BadDefinitionList, HypothesesPresent, NotApplication, BadTypeVars}
+use Rattle.ot_plain.specs.Faults.{Fault, Primitive, AlreadyDefined, SymbolInUse, NotClosed, TypeVarEscapes}
+use Rattle.ot_plain.specs.Faults.{BadDefinitionList, HypothesesPresent, NotApplication, BadTypeVars}
 use Rattle.ot_term.specs.TermTable.{term_at}
 use Rattle.ot_term.specs.Symbols.{symbol_of}
 use Rattle.ot_laws.specs.Conditions.{is_closed, is_closed_but, keeps_type_vars}

@@ -11,7 +11,9 @@ pub record Symbols : Type 0 where
   pub used : List (Symbol ℕ)
 
 abbrev pub coded_symbols : Coded Symbols
-coded_symbols = code_by (List (Symbol ℕ) × List (Symbol ℕ)) (coded× (coded_list coded_symbol) (coded_list coded_symbol)) (λ s. (s.defined, s.used)) (λ p. record { defined = p.0; used = p.1 }) (λ _. refl)
+coded_symbols =
+    code_by (List (Symbol ℕ) × List (Symbol ℕ)) (coded× (coded_list coded_symbol) (coded_list coded_symbol))
+    (λ s. (s.defined, s.used)) (λ p. record { defined = p.0; used = p.1 }) (λ _. refl)
 
 -- the list with these at its end, each where it isn't there yet
 abbrev pub with_symbols : List (Symbol ℕ) → List (Symbol ℕ) → List (Symbol ℕ)

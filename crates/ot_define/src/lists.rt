@@ -9,8 +9,8 @@ ghost use Rattle.ot_plain.specs.Naming.{numbers};
 ghost use Rattle.ot_plain.specs.Answers.{unless};
 ghost use Rattle.ot_term.specs.TermTable.{variable_of};
 ghost use Rattle.ot_term.specs.declared.term.SymbolKind.TheVariants.{Con};
-ghost use Rattle.ot_laws.specs.Conditions.{are_distinct, checked_list, checked_symbols, given, given_by, is_closed};
-ghost use Rattle.ot_laws.specs.Conditions.{is_closed_but, keeps_type_vars, only, terms_given};
+ghost use Rattle.ot_laws.specs.Conditions.{are_distinct, checked_list, checked_symbols, given, given_by};
+ghost use Rattle.ot_laws.specs.Conditions.{is_closed, is_closed_but, keeps_type_vars, only, terms_given};
 ghost use Rattle.ot_define.specs.Answers.{Checks, checked_given, tm_at, sequent_at, listed};
 
 use crate::constants::constant_symbol;

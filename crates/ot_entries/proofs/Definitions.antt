@@ -2,7 +2,8 @@
 use Rattle.std.specs.Prelude.{slice_get}
 use Rattle.std.specs.List.{flat_map, list_all}
 use Rattle.std.specs.Option.{option_and_then}
-use Rattle.std.proofs.Common.{◌≡◌, ℕ, ◌+◌, true, List, [], ◌∷◌, ◌++◌, map, length, Some, Result, Ok, refl, ap, ◌∙◌, length-append}
+use Rattle.std.proofs.Common.{◌≡◌, ℕ, ◌+◌, true, List, [], ◌∷◌, ◌++◌, map, length}
+use Rattle.std.proofs.Common.{Some, Result, Ok, refl, ap, ◌∙◌, length-append}
 use Rattle.ot_plain.specs.Names.{Name}
 use Rattle.ot_plain.specs.Naming.{names}
 use Rattle.ot_plain.specs.Trees.{Variable, Tm, Sequent, Definition}
@@ -57,7 +58,8 @@ definition-stands x st e step d stand w f k v =
         reads = t.reads;
         types = before.types;
         terms = before.terms;
-        sequents = length-append mid.sequents (theorems names d) ∙ ap (λ z. z + length (theorems names d)) before.sequents;
+        sequents = length-append mid.sequents (theorems names d)
+            ∙ ap (λ z. z + length (theorems names d)) before.sequents;
       };
       sequents = ap (λ z. z ++ theorems names d) same.sequents;
       definitions = ap (λ z. z ++ d ∷ []) same.definitions;
@@ -67,7 +69,8 @@ definition-stands x st e step d stand w f k v =
 
 -- ---- what each record asks for
 
-here : (st mid : LogState Name) (i : ℕ) (q : Sequent Name) → mid.sequents ≡ st.sequents → slice_get st.sequents i ≡ Some q
+here : (st mid : LogState Name) (i : ℕ) (q : Sequent Name) → mid.sequents ≡ st.sequents → slice_get st.sequents i
+    ≡ Some q
     → slice_get mid.sequents i ≡ Some q
 here st mid i q e h = ap (λ z. slice_get z i) e ∙ h
 
@@ -92,11 +95,17 @@ feed-names st (n ∷ ns) os next = feed-names st ns os (λ us. next (n ∷ us))
 
 pub constants-feeds : (st : LogState Name) (ps : List (Name × Variable Name)) (i : ℕ) (q : Sequent Name)
     → slice_get st.sequents i ≡ Some q
-    → Feeds st (record { word = words.Constants; operands = Count (length ps) ∷ (flat_map pair_operands ps ++ ASequent i ∷ []) })
+    → Feeds st
+    (record {
+      word = words.Constants;
+      operands = Count (length ps)
+          ∷ (flat_map pair_operands ps ++ ASequent i ∷ []);
+    })
     (makes_definition names (λ dl. constants_step names dl ps q))
 constants-feeds st ps i q h = λ mid e.
     feed-pairs mid ps (ASequent i ∷ []) _
-    ∙ ap (λ o. option_and_then (λ a. Some (makes_definition names (λ dl. constants_step names dl ps a))) o) (here st mid i q e h)
+    ∙ ap (λ o. option_and_then (λ a. Some (makes_definition names (λ dl. constants_step names dl ps a))) o)
+    (here st mid i q e h)
 
 pub type_operator-feeds : (st : LogState Name) (n abs rep : Name) (vars : List Name) (i : ℕ) (q : Sequent Name)
     → slice_get st.sequents i ≡ Some q
@@ -106,5 +115,6 @@ pub type_operator-feeds : (st : LogState Name) (n abs rep : Name) (vars : List N
     }) (makes_definition names (λ dl. type_operator_step names dl n abs rep vars q))
 type_operator-feeds st n abs rep vars i q h = λ mid e.
     feed-names mid vars (ASequent i ∷ []) _
-    ∙ ap (λ o. option_and_then (λ a. Some (makes_definition names (λ dl. type_operator_step names dl n abs rep vars a))) o)
+    ∙ ap (λ o. option_and_then
+    (λ a. Some (makes_definition names (λ dl. type_operator_step names dl n abs rep vars a))) o)
     (here st mid i q e h)

@@ -16,10 +16,12 @@ use Rattle.ot_entries.proofs.Standing.{Stands, entry-takes}
 
 -- the header stands for nothing
 pub header-stands : Stands header nothing_made
-header-stands = record { body = []; tokens = refl; reads = λ line rest. refl; types = refl; terms = refl; sequents = refl }
+header-stands =
+    record { body = []; tokens = refl; reads = λ line rest. refl; types = refl; terms = refl; sequents = refl }
 
 -- the check of a log's tokens, one on a line, ends with what it stands for
-pub stands-ends : (x : Log) (st : LogState Name) → Stands x st → check_log names (lined names 0 x.tokens NoMore) ≡ Ends st
+pub stands-ends : (x : Log) (st : LogState Name) → Stands x st → check_log names (lined names 0 x.tokens NoMore)
+    ≡ Ends st
 stands-ends x st s = ap (λ ts. check_log names (lined names 0 ts NoMore)) s.tokens ∙ s.reads 2 NoMore
 
 -- the record of a result
@@ -34,7 +36,8 @@ pub record MakesResult (x : Log) (st : LogState Name) (i : ℕ) (q : Sequent Nam
   pub assumptions : now.assumptions ≡ st.assumptions
   pub definitions : now.definitions ≡ st.definitions
 
-pub result-stands : (x : Log) (st : LogState Name) (i : ℕ) (q : Sequent Name) → Stands x st → slice_get st.sequents i ≡ Some q
+pub result-stands : (x : Log) (st : LogState Name) (i : ℕ) (q : Sequent Name) → Stands x st → slice_get st.sequents i
+    ≡ Some q
     → MakesResult x st i q
 result-stands x st i q s h =
     let now : LogState Name = record st { results = kept_once names st.results q } in

@@ -3,7 +3,8 @@ use Rattle.std.specs.Prelude.{is_some}
 use Rattle.std.proofs.Common.{◌≡◌, true, List, [], ◌∷◌, Ok, refl, ap, ◌∙◌, inl, inr}
 use Rattle.ot_plain.specs.Lists.{IsSameSet}
 use Rattle.ot_plain.specs.Trees.{Alphabet, Ty, Tm, App, Sequent}
-use Rattle.ot_plain.specs.Hol.{same_ty, fun_ty, bool_ty, as_fun_ty, type_of, HasType, same_tm, equation, as_equation, minus, union, sequent_of}
+use Rattle.ot_plain.specs.Hol.{same_ty, fun_ty, bool_ty, as_fun_ty, type_of, HasType}
+use Rattle.ot_plain.specs.Hol.{same_tm, equation, as_equation, minus, union, sequent_of}
 use Rattle.ot_plain.specs.Answers.{◌>>=◌, unless, some_or}
 use Rattle.ot_laws.proofs.Tests.{Tells, same_ty-is, same_tm-is}
 use Rattle.ot_laws.proofs.Typing.{type_of-is, as_fun_ty-fun, app-typed}
@@ -15,9 +16,11 @@ use Rattle.ot_entries.specs.Making.{Expansion, equals_at, sym_records, chain_rec
 
 module _ {N : Type 0} (alphabet : Alphabet N) (tells : Tells alphabet) where
   -- ---- steps on equations
-  sides-are : (q : Sequent N) (ty : Ty N) (a b : Tm N) → q.concl ≡ equation alphabet ty a b → sides_of alphabet q ≡ Ok (ty, a, b)
+  sides-are : (q : Sequent N) (ty : Ty N) (a b : Tm N) → q.concl ≡ equation alphabet ty a b
+      → sides_of alphabet q ≡ Ok (ty, a, b)
   sides-are q ty a b e =
-      ap (λ z. some_or BadStep (as_equation alphabet z)) e ∙ ap (some_or BadStep) (as_equation-equation alphabet tells ty a b)
+      ap (λ z. some_or BadStep (as_equation alphabet z)) e
+      ∙ ap (some_or BadStep) (as_equation-equation alphabet tells ty a b)
 
   same_ty-self : (t : Ty N) → same_ty alphabet t t ≡ true
   same_ty-self t = (same_ty-is alphabet tells t t).1 refl
@@ -42,19 +45,25 @@ module _ {N : Type 0} (alphabet : Alphabet N) (tells : Tells alphabet) where
       ap (λ r. r >>= go) (sides-are a ty p q e)
       ∙ ap (λ z. unless BadStep z >>= λ _. Ok (record { hyps = union alphabet a.hyps b.hyps; concl = q })) same
 
-  pub app_thm-gives : (a b : Sequent N) (x y : Ty N) (f g u v : Tm N) → a.concl ≡ equation alphabet (fun_ty alphabet x y) f g
+  pub app_thm-gives : (a b : Sequent N) (x y : Ty N) (f g u v : Tm N)
+      → a.concl ≡ equation alphabet (fun_ty alphabet x y) f g
       → b.concl ≡ equation alphabet x u v
       → app_thm_step alphabet a b
       ≡ Ok (record { hyps = union alphabet a.hyps b.hyps; concl = equation alphabet y (App f u) (App g v) })
   app_thm-gives a b x y f g u v d e =
       let made : Ty N → Step alphabet =
       λ z. Ok (record { hyps = union alphabet a.hyps b.hyps; concl = equation alphabet z (App f u) (App g v) }) in
-      let last : (Ty N × Ty N) → Step alphabet = λ parts. unless BadStep (same_ty alphabet parts.0 x) >>= λ _. made parts.1 in
+      let last : (Ty N × Ty N) → Step alphabet = λ parts. unless BadStep (same_ty alphabet parts.0 x)
+      >>= λ _. made parts.1 in
       let second : (Ty N × Tm N × Tm N) → (Ty N × Tm N × Tm N) → Step alphabet =
       λ s t. some_or BadStep (as_fun_ty alphabet s.0)
       >>= λ parts. unless BadStep (same_ty alphabet parts.0 t.0)
       >>= λ _. Ok
-      (record { hyps = union alphabet a.hyps b.hyps; concl = equation alphabet parts.1 (App s.1 t.1) (App s.2 t.2) }) in
+      (record {
+        hyps = union alphabet a.hyps b.hyps;
+        concl = equation alphabet parts.1 (App s.1 t.1)
+            (App s.2 t.2);
+      }) in
       ap (λ r. r >>= λ s. sides_of alphabet b >>= second s) (sides-are a (fun_ty alphabet x y) f g d)
       ∙ ap (λ r. r >>= second (fun_ty alphabet x y, f, g)) (sides-are b x u v e)
       ∙ ap (λ o. some_or BadStep o >>= last) (as_fun_ty-fun alphabet tells x y)
@@ -66,7 +75,8 @@ module _ {N : Type 0} (alphabet : Alphabet N) (tells : Tells alphabet) where
 
   -- ---- the words
   -- |- u = t from G |- t = u
-  pub sym-makes : (a : Sequent N) (ty : Ty N) (t u : Tm N) → a.concl ≡ equation alphabet ty t u → HasType alphabet t ty
+  pub sym-makes : (a : Sequent N) (ty : Ty N) (t u : Tm N) → a.concl ≡ equation alphabet ty t u
+      → HasType alphabet t ty
       → sym_records alphabet a ≡ Ok (
       sequent_of alphabet (equation alphabet (fun_ty alphabet ty (fun_ty alphabet ty (bool_ty alphabet)))
       (equals_at alphabet ty) (equals_at alphabet ty))
@@ -81,7 +91,10 @@ module _ {N : Type 0} (alphabet : Alphabet N) (tells : Tells alphabet) where
         hyps = union alphabet (union alphabet [] a.hyps) [];
         concl = equation alphabet (bool_ty alphabet) (equation alphabet ty t t) (equation alphabet ty u t);
       }
-      ∷ record { hyps = union alphabet (union alphabet (union alphabet [] a.hyps) []) []; concl = equation alphabet ty u t }
+      ∷ record {
+        hyps = union alphabet (union alphabet (union alphabet [] a.hyps) []) [];
+        concl = equation alphabet ty u t;
+      }
       ∷ [])
   sym-makes a ty t u e w =
       let eq = equals_at alphabet ty in
@@ -117,7 +130,8 @@ module _ {N : Type 0} (alphabet : Alphabet N) (tells : Tells alphabet) where
       → second.concl ≡ equation alphabet ty b d → HasType alphabet a ty
       → chain_records alphabet first second ≡ Ok (
       sequent_of alphabet
-      (equation alphabet (fun_ty alphabet ty (bool_ty alphabet)) (App (equals_at alphabet ty) a) (App (equals_at alphabet ty) a))
+      (equation alphabet (fun_ty alphabet ty (bool_ty alphabet)) (App (equals_at alphabet ty) a)
+      (App (equals_at alphabet ty) a))
       ∷ record {
         hyps = union alphabet [] second.hyps;
         concl = equation alphabet (bool_ty alphabet) (equation alphabet ty a b) (equation alphabet ty a d);
@@ -128,7 +142,8 @@ module _ {N : Type 0} (alphabet : Alphabet N) (tells : Tells alphabet) where
       let eq = equals_at alphabet ty in
       let typed : HasType alphabet (App eq a) (fun_ty alphabet ty (bool_ty alphabet)) =
       app-typed alphabet tells [] eq a ty (fun_ty alphabet ty (bool_ty alphabet)) refl w in
-      let r : Sequent N = sequent_of alphabet (equation alphabet (fun_ty alphabet ty (bool_ty alphabet)) (App eq a) (App eq a)) in
+      let r : Sequent N =
+      sequent_of alphabet (equation alphabet (fun_ty alphabet ty (bool_ty alphabet)) (App eq a) (App eq a)) in
       let m : Sequent N =
       record {
         hyps = union alphabet [] second.hyps;
@@ -136,7 +151,8 @@ module _ {N : Type 0} (alphabet : Alphabet N) (tells : Tells alphabet) where
       } in
       let one = refl-gives (App eq a) (fun_ty alphabet ty (bool_ty alphabet)) typed in
       let two = app_thm-gives r second ty (bool_ty alphabet) (App eq a) (App eq a) b d refl f in
-      let three = eq_mp-gives m first (bool_ty alphabet) (equation alphabet ty a b) (equation alphabet ty a d) refl e in
+      let three = eq_mp-gives m first (bool_ty alphabet) (equation alphabet ty a b) (equation alphabet ty a d) refl
+      e in
       rw (sides-are first ty a b e, one, two, three) refl
 
   -- the lemma L |- a and another theorem M |- b
@@ -149,7 +165,8 @@ module _ {N : Type 0} (alphabet : Alphabet N) (tells : Tells alphabet) where
       ∷ record {
         hyps =
             union alphabet
-            (union alphabet (minus alphabet other.concl lemma.hyps) (minus alphabet lemma.concl other.hyps)) lemma.hyps;
+            (union alphabet (minus alphabet other.concl lemma.hyps) (minus alphabet lemma.concl other.hyps))
+            lemma.hyps;
         concl = other.concl;
       }
       ∷ [])
@@ -174,19 +191,22 @@ module _ {N : Type 0} (alphabet : Alphabet N) (tells : Tells alphabet) where
     ];
     back =
         λ x m. (IsMember-union alphabet tells x (union alphabet (union alphabet [] g) []) []).1
-        (inl ((IsMember-union alphabet tells x (union alphabet [] g) []).1 (inl ((IsMember-union alphabet tells x [] g).1 (inr m)))));
+        (inl ((IsMember-union alphabet tells x (union alphabet [] g) []).1
+        (inl ((IsMember-union alphabet tells x [] g).1 (inr m)))));
   }
 
   pub chain-hyps : (g h : List (Tm N)) → IsSameSet (union alphabet (union alphabet [] h) g) (union alphabet g h)
   chain-hyps g h = record {
     to =
-        λ x i. (IsMember-union alphabet tells x g h).1 (elim ((IsMember-union alphabet tells x (union alphabet [] h) g).0 i) [
+        λ x i. (IsMember-union alphabet tells x g h).1
+        (elim ((IsMember-union alphabet tells x (union alphabet [] h) g).0 i) [
           | inl j ↦ elim ((IsMember-union alphabet tells x [] h).0 j) [ inl n ↦ absurd n | inr m ↦ inr m ]
           | inr j ↦ inl j
         ]);
     back =
         λ x i. (IsMember-union alphabet tells x (union alphabet [] h) g).1
-        (elim ((IsMember-union alphabet tells x g h).0 i) [ inl j ↦ inr j | inr j ↦ inl ((IsMember-union alphabet tells x [] h).1 (inr j)) ]);
+        (elim ((IsMember-union alphabet tells x g h).0 i)
+        [ inl j ↦ inr j | inr j ↦ inl ((IsMember-union alphabet tells x [] h).1 (inr j)) ]);
   }
 
   -- lemma's hypotheses L, the other's M: the word gives L and M minus a
@@ -196,15 +216,17 @@ module _ {N : Type 0} (alphabet : Alphabet N) (tells : Tells alphabet) where
   discharge-hyps l m a b =
       let inner = union alphabet (minus alphabet b l) (minus alphabet a m) in
       record {
-        to = λ x i. (IsMember-union alphabet tells x l (minus alphabet a m)).1 (elim ((IsMember-union alphabet tells x inner l).0 i) [
-          | inl j ↦ elim ((IsMember-union alphabet tells x (minus alphabet b l) (minus alphabet a m)).0 j) [
-            | inl k ↦ inl (IsMember-minus alphabet tells x b l k).0
-            | inr k ↦ inr k
-          ]
-          | inr j ↦ inl j
-        ]);
+        to = λ x i. (IsMember-union alphabet tells x l (minus alphabet a m)).1
+            (elim ((IsMember-union alphabet tells x inner l).0 i) [
+              | inl j ↦ elim ((IsMember-union alphabet tells x (minus alphabet b l) (minus alphabet a m)).0 j) [
+                | inl k ↦ inl (IsMember-minus alphabet tells x b l k).0
+                | inr k ↦ inr k
+              ]
+              | inr j ↦ inl j
+            ]);
         back =
-            λ x i. (IsMember-union alphabet tells x inner l).1 (elim ((IsMember-union alphabet tells x l (minus alphabet a m)).0 i) [
+            λ x i. (IsMember-union alphabet tells x inner l).1
+            (elim ((IsMember-union alphabet tells x l (minus alphabet a m)).0 i) [
               | inl j ↦ inr j
               | inr j ↦ inl ((IsMember-union alphabet tells x (minus alphabet b l) (minus alphabet a m)).1 (inr j))
             ]);

@@ -2,7 +2,8 @@
 use Rattle.std.specs.Prelude.{slice_get, not}
 use Rattle.std.specs.List.{list_any, position_or_len}
 use Rattle.std.specs.Option.{option_and_then}
-use Rattle.std.proofs.Common.{◌≡◌, ℕ, suc, ◌+◌, Bool, true, false, ◌||◌, cond, List, [], ◌∷◌, map, Option, Some, None, Result, Ok, refl, sym, ap, ◌∙◌, arith}
+use Rattle.std.proofs.Common.{◌≡◌, ℕ, suc, ◌+◌, Bool, true, false, ◌||◌, cond, List, [], ◌∷◌}
+use Rattle.std.proofs.Common.{map, Option, Some, None, Result, Ok, refl, sym, ap, ◌∙◌, arith}
 use Rattle.ot_plain.specs.Names.{Name}
 use Rattle.ot_plain.specs.Naming.{names}
 use Rattle.ot_plain.specs.Trees.{Ty, Tm, Sequent}
@@ -75,9 +76,11 @@ abbrev pub tokens_for : LogState Name → List Operand → List (Token Name)
 tokens_for st = map (token_among st.types st.terms)
 
 -- what is left to read, and what it comes to
-abbrev Rest : LogState Name → List Operand → ℕ → ℕ → Tokens Name → Result (RecordForm names) (ℕ × LogFault) → Outcome Name
+abbrev Rest : LogState Name → List Operand → ℕ → ℕ → Tokens Name → Result (RecordForm names) (ℕ × LogFault)
+    → Outcome Name
 Rest st os first line rest r =
-    go_on names (r >>= λ g. settled names first st g) (λ p. check names line p (lined names line (tokens_for st os) rest))
+    go_on names (r >>= λ g. settled names first st g)
+    (λ p. check names line p (lined names line (tokens_for st os) rest))
 
 abbrev or : {X : Type 0} → X → Option X → X
 or x None = x
@@ -87,17 +90,22 @@ pub feed-reads : (st : LogState Name) (os : List Operand) (f : RecordForm names)
     (c : Change names) (first line : ℕ) (rest : Tokens Name)
     → AreThere st os → feed st os f ≡ Some c
     → go_on names (settled names first st f) (λ p. check names line p (lined names line (tokens_for st os) rest))
-    ≡ go_on names (settled names first st (Makes c)) (λ p. check names (line_after names line (tokens_for st os)) p rest)
+    ≡ go_on names (settled names first st (Makes c))
+    (λ p. check names (line_after names line (tokens_for st os)) p rest)
 feed-reads st [] (Makes d) c first line rest h e =
     ap (λ z. go_on names (settled names first st (Makes z)) (λ p. check names line p rest)) (ap (or d) e)
-feed-reads st (AName n ∷ os) (AskName next) c first line rest h e = feed-reads st os (next n) c first (suc line) rest h e
-feed-reads st (Count k ∷ os) (AskCount next) c first line rest h e = feed-reads st os (next k) c first (suc line) rest h e
+feed-reads st (AName n ∷ os) (AskName next) c first line rest h e =
+    feed-reads st os (next n) c first (suc line) rest h e
+feed-reads st (Count k ∷ os) (AskCount next) c first line rest h e =
+    feed-reads st os (next k) c first (suc line) rest h e
 feed-reads st (AType t ∷ os) (AskType next) c first line rest h e =
-    ap (λ o. Rest st os first (suc line) rest (at_line names (suc line) (some_or BadReference o >>= λ ty. Ok (next ty))))
+    ap (λ o. Rest st os first (suc line) rest
+    (at_line names (suc line) (some_or BadReference o >>= λ ty. Ok (next ty))))
     (type-found t st.types h.0)
     ∙ feed-reads st os (next t) c first (suc line) rest h.1 e
 feed-reads st (ATerm t ∷ os) (AskTerm next) c first line rest h e =
-    ap (λ o. Rest st os first (suc line) rest (at_line names (suc line) (some_or BadReference o >>= λ u. Ok (next u))))
+    ap (λ o. Rest st os first (suc line) rest
+    (at_line names (suc line) (some_or BadReference o >>= λ u. Ok (next u))))
     (term-found t st.terms h.0)
     ∙ feed-reads st os (next t) c first (suc line) rest h.1 e
 feed-reads st (ASequent i ∷ os) (AskSequent next) c first line rest h e =
@@ -105,15 +113,18 @@ feed-reads st (ASequent i ∷ os) (AskSequent next) c first line rest h e =
   where
     whole : Outcome Name
     whole =
-        go_on names (settled names first st (Makes c)) (λ p. check names (line_after names (suc line) (tokens_for st os)) p rest)
+        go_on names (settled names first st (Makes c))
+        (λ p. check names (line_after names (suc line) (tokens_for st os)) p rest)
 
-    by : (o : Option (Sequent Name)) → slice_get st.sequents i ≡ o → option_and_then (λ q. feed st os (next q)) o ≡ Some c
+    by : (o : Option (Sequent Name)) → slice_get st.sequents i ≡ o → option_and_then (λ q. feed st os (next q)) o
+        ≡ Some c
         → ((q : Sequent Name) → feed st os (next q) ≡ Some c → Rest st os first (suc line) rest (Ok (next q)) ≡ whole)
         → Rest st os first (suc line) rest (at_line names (suc line)
         (some_or BadReference (slice_get st.sequents i) >>= λ q. Ok (next q))) ≡ whole
     by None d k more = cc
     by (Some q) d k more =
-        ap (λ o. Rest st os first (suc line) rest (at_line names (suc line) (some_or BadReference o >>= λ z. Ok (next z)))) d
+        ap (λ o. Rest st os first (suc line) rest
+        (at_line names (suc line) (some_or BadReference o >>= λ z. Ok (next z)))) d
         ∙ more q k
 feed-reads st _ _ c first line rest h e = cc
 
@@ -122,7 +133,8 @@ pub record-reads : (st now : LogState Name) (w : RecordWord) (os : List Operand)
     → feed st os (form names w) ≡ Some c → c st ≡ Ok now
     → record_of (spelling w) ≡ Some w → Reads names st (Word (spelling w) ∷ tokens_for st os) now
 record-reads st now w os c h e k s = λ line rest.
-    ap (λ o. go_on names (at_line names (suc line) (some_or UnknownRecord o) >>= λ v. settled names (suc line) st (form names v))
+    ap (λ o. go_on names
+    (at_line names (suc line) (some_or UnknownRecord o) >>= λ v. settled names (suc line) st (form names v))
     (λ p. check names (suc line) p (lined names (suc line) (tokens_for st os) rest)))
     s
     ∙ feed-reads st os (form names w) c (suc line) (suc line) rest h e

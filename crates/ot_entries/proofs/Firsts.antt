@@ -13,7 +13,8 @@ use Rattle.ot_records.specs.Steps.{without, first_pairs, subst_step}
 use Rattle.ot_records.proofs.Firsts.{subst-first}
 
 module _ {N : Type 0} (alphabet : Alphabet N) (tells : Tells alphabet) where
-  typed-without : (w : Variable N) (m : TermMap alphabet) → IsTyped alphabet m → IsTyped alphabet (without alphabet w m)
+  typed-without : (w : Variable N) (m : TermMap alphabet) → IsTyped alphabet m
+      → IsTyped alphabet (without alphabet w m)
   typed-without w [] h = tt
   typed-without w (p ∷ m) h = by (same_var alphabet w p.0) (typed-without w m h.1)
     where
@@ -33,8 +34,10 @@ module _ {N : Type 0} (alphabet : Alphabet N) (tells : Tells alphabet) where
   pub subst-ruled : (s : TypeMap alphabet) (m : TermMap alphabet) (a q : Sequent N) → IsTyped alphabet m
       → subst_rule alphabet s m a ≡ Ok q → subst_step alphabet s m a ≡ Ok q
   subst-ruled s m a q w h =
-      let made : (Tm N → Tm N) → Sequent N = λ f. record { hyps = once_each alphabet (map f a.hyps); concl = f a.concl } in
-      let same : subst_tm alphabet s (first_pairs alphabet m) ≡ subst_tm alphabet s m = λ i t. subst-first alphabet tells s m t i in
+      let made : (Tm N → Tm N) → Sequent N =
+      λ f. record { hyps = once_each alphabet (map f a.hyps); concl = f a.concl } in
+      let same : subst_tm alphabet s (first_pairs alphabet m) ≡ subst_tm alphabet s m =
+      λ i t. subst-first alphabet tells s m t i in
       ap (λ b. unless BadStep b >>= λ _. Ok (made (subst_tm alphabet s (first_pairs alphabet m))))
       (tested (first_pairs alphabet m) (typed-first m w))
       ∙ ap (λ f. Ok (made f)) same

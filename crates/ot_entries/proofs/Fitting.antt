@@ -1,9 +1,11 @@
 -- How deep terms nest, and what an equation adds.
 use Rattle.std.specs.Prelude.{nat_le}
-use Rattle.std.proofs.Common.{◌≡◌, ℕ, ◌+◌, ◌≤◌, true, ◌&&◌, List, [], ◌∷◌, Option, Some, None, refl, sym, subst, arith}
+use Rattle.std.proofs.Common.{◌≡◌, ℕ, ◌+◌, ◌≤◌, true, ◌&&◌, List, [], ◌∷◌}
+use Rattle.std.proofs.Common.{Option, Some, None, refl, sym, subst, arith}
 use Rattle.std.proofs.lemmas.Bool.{and_parts}
 use Rattle.ot_plain.specs.Trees.{Alphabet, Ty, Tm, Free, Con, Bound, App, Abs}
-use Rattle.ot_plain.specs.Hol.{depth_limit, depth_ty, depth_tm, fun_ty, bool_ty, type_in, HasType, equation, is_shallow_type, has_shallow_types, is_shallow}
+use Rattle.ot_plain.specs.Hol.{depth_limit, depth_ty, depth_tm, fun_ty, bool_ty, type_in}
+use Rattle.ot_plain.specs.Hol.{HasType, equation, is_shallow_type, has_shallow_types, is_shallow}
 use Rattle.ot_laws.proofs.Tests.{Tells}
 use Rattle.ot_laws.proofs.Typing.{app-typed}
 use Rattle.ot_laws.proofs.Equations.{equation-typed}
@@ -46,7 +48,8 @@ module _ {N : Type 0} (alphabet : Alphabet N) where
       let q = and_parts (has_shallow_types alphabet l f) (has_shallow_types alphabet l x) p.1 in
       (shallow-type (type_in alphabet l (App f x)) p.0, shallow-types l f q.0, shallow-types l x q.1)
   shallow-types l (Abs t b) h =
-      let p = and_parts (is_shallow_type alphabet (type_in alphabet l (Abs t b))) (has_shallow_types alphabet (t ∷ l) b) h in
+      let p = and_parts (is_shallow_type alphabet (type_in alphabet l (Abs t b)))
+      (has_shallow_types alphabet (t ∷ l) b) h in
       (shallow-type (type_in alphabet l (Abs t b)) p.0, shallow-types (t ∷ l) b p.1)
 
   pub fits-shallow : (t : Tm N) → is_shallow alphabet t ≡ true → Fits depth_limit t
@@ -59,16 +62,20 @@ module _ {N : Type 0} (alphabet : Alphabet N) where
   within-type n b None h = refl
   within-type n b (Some t) h = passes (depth_ty alphabet t) log_depth (omega arith)
 
-  within-types : (n : ℕ) → n ≤ log_depth → (l : List (Ty N)) (t : Tm N) → HasTypesTo n l t → has_types_within alphabet l t ≡ true
+  within-types : (n : ℕ) → n ≤ log_depth → (l : List (Ty N)) (t : Tm N) → HasTypesTo n l t
+      → has_types_within alphabet l t ≡ true
   within-types n b l (Free v) h = within-type n b (type_in alphabet l (Free v)) h
   within-types n b l (Con c t) h = within-type n b (type_in alphabet l (Con c t)) h
   within-types n b l (Bound k) h = within-type n b (type_in alphabet l (Bound k)) h
   within-types n b l (App f x) h =
-      λ i. within-type n b (type_in alphabet l (App f x)) h.0 i && (within-types n b l f h.1 i && within-types n b l x h.2 i)
-  within-types n b l (Abs t u) h = λ i. within-type n b (type_in alphabet l (Abs t u)) h.0 i && within-types n b (t ∷ l) u h.1 i
+      λ i. within-type n b (type_in alphabet l (App f x)) h.0 i
+      && (within-types n b l f h.1 i && within-types n b l x h.2 i)
+  within-types n b l (Abs t u) h = λ i. within-type n b (type_in alphabet l (Abs t u)) h.0 i
+      && within-types n b (t ∷ l) u h.1 i
 
   pub within-fits : (n : ℕ) → n ≤ log_depth → (t : Tm N) → Fits n t → is_within alphabet t ≡ true
-  within-fits n b t h = λ i. passes (depth_tm alphabet t) log_depth (omega (arith, h.depth)) i && within-types n b [] t h.types i
+  within-fits n b t h = λ i. passes (depth_tm alphabet t) log_depth (omega (arith, h.depth)) i
+      && within-types n b [] t h.types i
 
   -- ---- more room
   more-type : (m n : ℕ) → m ≤ n → (o : Option (Ty N)) → FitsType m o → FitsType n o
@@ -84,7 +91,8 @@ module _ {N : Type 0} (alphabet : Alphabet N) where
     more-types m n b l f h.1,
     more-types m n b l x h.2,
   )
-  more-types m n b l (Abs t u) h = (more-type m n b (type_in alphabet l (Abs t u)) h.0, more-types m n b (t ∷ l) u h.1)
+  more-types m n b l (Abs t u) h =
+      (more-type m n b (type_in alphabet l (Abs t u)) h.0, more-types m n b (t ∷ l) u h.1)
 
   pub fits-more : (m n : ℕ) → m ≤ n → (t : Tm N) → Fits m t → Fits n t
   fits-more m n b t h = record { depth = omega (arith, h.depth); types = more-types m n b [] t h.types }
@@ -102,13 +110,15 @@ module _ {N : Type 0} (alphabet : Alphabet N) (tells : Tells alphabet) where
       → HasTypesTo alphabet n [] a → HasTypesTo alphabet n [] (App (eq_at alphabet ty) a)
   applied-types n ty a w d m h = (
     at-type n (type_in alphabet [] (App (eq_at alphabet ty) a)) (fun_ty alphabet ty (bool_ty alphabet))
-        (app-typed alphabet tells [] (eq_at alphabet ty) a ty (fun_ty alphabet ty (bool_ty alphabet)) refl w) (omega arith),
+        (app-typed alphabet tells [] (eq_at alphabet ty) a ty (fun_ty alphabet ty (bool_ty alphabet)) refl w)
+        (omega arith),
     omega arith,
     h,
   )
 
   pub applied-fits : (n : ℕ) (ty : Ty N) (a : Tm N) → HasType alphabet a ty → depth_tm alphabet a + 1 ≤ n
-      → depth_ty alphabet ty + 2 ≤ n → 3 ≤ n → HasTypesTo alphabet n [] a → Fits alphabet n (App (eq_at alphabet ty) a)
+      → depth_ty alphabet ty + 2 ≤ n → 3 ≤ n → HasTypesTo alphabet n [] a
+      → Fits alphabet n (App (eq_at alphabet ty) a)
   applied-fits n ty a w k d m h = record { depth = omega arith; types = applied-types n ty a w d m h }
 
   -- an equation is as deep as its sides want
@@ -131,7 +141,8 @@ module _ {N : Type 0} (alphabet : Alphabet N) (tells : Tells alphabet) where
       → Fits alphabet (n + 2) (equation alphabet ty a b)
   equation-passes n ty a b v w d m f g =
       equation-fits (n + 2) ty a b v w (omega (arith, f.depth)) (omega (arith, g.depth)) (omega arith) (omega arith)
-      (more-types alphabet n (n + 2) (omega arith) [] a f.types) (more-types alphabet n (n + 2) (omega arith) [] b g.types)
+      (more-types alphabet n (n + 2) (omega arith) [] a f.types)
+      (more-types alphabet n (n + 2) (omega arith) [] b g.types)
 
   -- what a limit says of the sides of an equation
   pub record Sides (n : ℕ) (ty : Ty N) (a b : Tm N) : Type 0 where
@@ -156,11 +167,13 @@ module _ {N : Type 0} (alphabet : Alphabet N) (tells : Tells alphabet) where
   pub sym-fits : (n : ℕ) (ty : Ty N) (t u : Tm N) → HasType alphabet t ty → HasType alphabet u ty
       → Fits alphabet n (equation alphabet ty t u) → Fits alphabet n (equation alphabet ty u t)
       → Fits alphabet (n + 2)
-      (equation alphabet (fun_ty alphabet ty (fun_ty alphabet ty (bool_ty alphabet))) (eq_at alphabet ty) (eq_at alphabet ty))
+      (equation alphabet (fun_ty alphabet ty (fun_ty alphabet ty (bool_ty alphabet))) (eq_at alphabet ty)
+      (eq_at alphabet ty))
       × Fits alphabet (n + 2) (equation alphabet (fun_ty alphabet ty (bool_ty alphabet))
       (App (eq_at alphabet ty) t) (App (eq_at alphabet ty) u))
       × Fits alphabet (n + 2) (equation alphabet ty t t)
-      × Fits alphabet (n + 2) (equation alphabet (bool_ty alphabet) (equation alphabet ty t t) (equation alphabet ty u t))
+      × Fits alphabet (n + 2)
+      (equation alphabet (bool_ty alphabet) (equation alphabet ty t t) (equation alphabet ty u t))
   sym-fits n ty t u v w h k =
       let s = sides-fit n ty t u h in
       let m = s.least in
@@ -182,11 +195,13 @@ module _ {N : Type 0} (alphabet : Alphabet N) (tells : Tells alphabet) where
             (equation-typed alphabet tells [] ty u t w v) (omega arith) (omega arith) twice k,
       )
 
-  pub chain-fits : (n : ℕ) (ty : Ty N) (a b d : Tm N) → HasType alphabet a ty → HasType alphabet b ty → HasType alphabet d ty
+  pub chain-fits : (n : ℕ) (ty : Ty N) (a b d : Tm N) → HasType alphabet a ty → HasType alphabet b ty
+      → HasType alphabet d ty
       → Fits alphabet n (equation alphabet ty a b) → Fits alphabet n (equation alphabet ty b d)
       → Fits alphabet (n + 2) (equation alphabet (fun_ty alphabet ty (bool_ty alphabet))
       (App (eq_at alphabet ty) a) (App (eq_at alphabet ty) a))
-      × Fits alphabet (n + 2) (equation alphabet (bool_ty alphabet) (equation alphabet ty a b) (equation alphabet ty a d))
+      × Fits alphabet (n + 2)
+      (equation alphabet (bool_ty alphabet) (equation alphabet ty a b) (equation alphabet ty a d))
       × Fits alphabet n (equation alphabet ty a d)
   chain-fits n ty a b d u v w h k =
       let s = sides-fit n ty a b h in
@@ -204,6 +219,8 @@ module _ {N : Type 0} (alphabet : Alphabet N) (tells : Tells alphabet) where
         made,
       )
 
-  pub discharge-fits : (n : ℕ) (a b : Tm N) → HasType alphabet a (bool_ty alphabet) → HasType alphabet b (bool_ty alphabet)
-      → 1 ≤ n → Fits alphabet n a → Fits alphabet n b → Fits alphabet (n + 2) (equation alphabet (bool_ty alphabet) a b)
+  pub discharge-fits : (n : ℕ) (a b : Tm N) → HasType alphabet a (bool_ty alphabet)
+      → HasType alphabet b (bool_ty alphabet)
+      → 1 ≤ n → Fits alphabet n a → Fits alphabet n b
+      → Fits alphabet (n + 2) (equation alphabet (bool_ty alphabet) a b)
   discharge-fits n a b v w m f g = equation-passes n (bool_ty alphabet) a b v w (omega arith) m f g

@@ -1,7 +1,8 @@
 -- Types and terms that are written: each once, behind its parts.
 use Rattle.std.specs.Prelude.{if◌then◌else◌, max, ◌-◌}
 use Rattle.std.specs.List.{list_any}
-use Rattle.std.proofs.Common.{◌≡◌, ℕ, suc, ◌≤◌, Bool, true, false, List, [], ◌∷◌, ◌++◌, refl, sym, ap, subst, ◌∙◌, inl, inr, ◌⊎◌, arith}
+use Rattle.std.proofs.Common.{◌≡◌, ℕ, suc, ◌≤◌, Bool, true, false, List, [], ◌∷◌}
+use Rattle.std.proofs.Common.{◌++◌, refl, sym, ap, subst, ◌∙◌, inl, inr, ◌⊎◌, arith}
 use Rattle.std.proofs.lemmas.List.Folds.{list_any-append}
 use Rattle.ot_plain.specs.Lists.{IsMember}
 use Rattle.ot_plain.specs.Names.{Name}
@@ -9,7 +10,8 @@ use Rattle.ot_plain.specs.Naming.{names}
 use Rattle.ot_plain.specs.Trees.{Ty, Tys, TyVar, TyOp, NoTys, MoreTys, Tm, Free, Con, Bound, App, Abs}
 use Rattle.ot_plain.specs.Hol.{depth_ty, depth_all, depth_tm, same_ty, same_tm}
 use Rattle.ot_laws.proofs.Tests.{tells_names, same_ty-is, same_tm-is}
-use Rattle.ot_entries.specs.Entries.{Node, TypeNode, TermNode, node_entry, type_parts, types_nodes, type_nodes, term_parts, term_nodes}
+use Rattle.ot_entries.specs.Entries.{Node, TypeNode, TermNode, node_entry, type_parts}
+use Rattle.ot_entries.specs.Entries.{types_nodes, type_nodes, term_parts, term_nodes}
 use Rattle.ot_entries.specs.Logged.{Log, put, has_node, with_node, write_node, write_nodes}
 use Rattle.ot_entries.specs.Closed.{parts_of, nodes_of, HasNodes, IsClosed}
 
@@ -18,7 +20,8 @@ use Rattle.ot_entries.specs.Closed.{parts_of, nodes_of, HasNodes, IsClosed}
 any-last : {X : Type 0} (p : X → Bool) (xs : List X) (y : X) → p y ≡ true → list_any p (xs ++ y ∷ []) ≡ true
 any-last p xs y h = grind (arith, list_any-append)
 
-any-front : {X : Type 0} (p : X → Bool) (xs : List X) (y : X) → list_any p xs ≡ true → list_any p (xs ++ y ∷ []) ≡ true
+any-front : {X : Type 0} (p : X → Bool) (xs : List X) (y : X) → list_any p xs ≡ true → list_any p (xs ++ y ∷ [])
+    ≡ true
 any-front p xs y h = grind (arith, list_any-append)
 
 any-split : {X : Type 0} (p : X → Bool) (xs : List X) (y : X) → list_any p (xs ++ y ∷ []) ≡ true
@@ -85,7 +88,8 @@ kept-node m n x h = kept-if (has_node n x) m n x h
 
 only-if : (b : Bool) (m n : Node) (x : Log) → has_node m (written_if b n x) ≡ true → (has_node m x ≡ true) ⊎ (m ≡ n)
 only-if true m n x h = inl h
-only-if false m n x h = elim (only-with m n (put (node_entry n) x) h) [ inl e ↦ inl (sym (has-put m n x) ∙ e) | inr e ↦ inr e ]
+only-if false m n x h =
+    elim (only-with m n (put (node_entry n) x) h) [ inl e ↦ inl (sym (has-put m n x) ∙ e) | inr e ↦ inr e ]
 
 only-node : (m n : Node) (x : Log) → has_node m (write_node n x) ≡ true → (has_node m x ≡ true) ⊎ (m ≡ n)
 only-node m n x h = only-if (has_node n x) m n x h
@@ -124,7 +128,8 @@ pub has-append : (ns ms : List Node) (x : Log) → HasNodes ns x → HasNodes ms
 has-append [] ms x h k = k
 has-append (n ∷ ns) ms x h k = (h.0, has-append ns ms x h.1 k)
 
-only-nodes : (m : Node) (ns : List Node) (x : Log) → has_node m (write_nodes ns x) ≡ true → (has_node m x ≡ true) ⊎ IsMember m ns
+only-nodes : (m : Node) (ns : List Node) (x : Log) → has_node m (write_nodes ns x) ≡ true
+    → (has_node m x ≡ true) ⊎ IsMember m ns
 only-nodes m [] x h = inl h
 only-nodes m (n ∷ ns) x h = elim (only-nodes m ns (write_node n x) h) [
   | inl e ↦ elim (only-node m n x e) [ inl k ↦ inl k | inr k ↦ inr (inl (sym k)) ]
@@ -152,7 +157,8 @@ own-low-by t parts m i = elim (member-last (type_parts t) (TypeNode t) m i) [
 mutual
   parts-low : (t : Ty Name) (m : Node) → IsMember m (type_parts t) → IsLow (depth_ty names t) m
   parts-low (TyVar n) m i = absurd i
-  parts-low (TyOp n ts) m i = low-more (depth_all names ts) (suc (depth_all names ts)) m (omega arith) (types-low ts m i)
+  parts-low (TyOp n ts) m i = low-more (depth_all names ts) (suc (depth_all names ts)) m (omega arith)
+      (types-low ts m i)
 
   types-low : (ts : Tys Name) (m : Node) → IsMember m (types_nodes ts) → IsLow (depth_all names ts) m
   types-low NoTys m i = absurd i
@@ -160,7 +166,8 @@ mutual
     | inl j ↦
         low-more (depth_ty names t) (max (depth_ty names t) (depth_all names ts))
         m (omega arith) (own-low-by t (λ o k. parts-low t o k) m j)
-    | inr j ↦ low-more (depth_all names ts) (max (depth_ty names t) (depth_all names ts)) m (omega arith) (types-low ts m j)
+    | inr j ↦ low-more (depth_all names ts) (max (depth_ty names t) (depth_all names ts)) m (omega arith)
+        (types-low ts m j)
   ]
 
 own-low : (t : Ty Name) (m : Node) → IsMember m (type_nodes t) → IsLow (depth_ty names t) m
@@ -199,12 +206,15 @@ term-parts-low (Free v) m i = type-low (depth_ty names v.ty) (inside (Free v)) m
 term-parts-low (Con n t) m i = type-low (depth_ty names t) (inside (Con n t)) m (own-low t m i)
 term-parts-low (Bound k) m i = absurd i
 term-parts-low (App f x) m i = elim (member-append (term_nodes f) (term_nodes x) m i) [
-  | inl j ↦ term-more (depth_tm names f) (inside (App f x)) m (omega arith) (own-term-by f (λ o k. term-parts-low f o k) m j)
-  | inr j ↦ term-more (depth_tm names x) (inside (App f x)) m (omega arith) (own-term-by x (λ o k. term-parts-low x o k) m j)
+  | inl j ↦ term-more (depth_tm names f) (inside (App f x)) m (omega arith)
+      (own-term-by f (λ o k. term-parts-low f o k) m j)
+  | inr j ↦ term-more (depth_tm names x) (inside (App f x)) m (omega arith)
+      (own-term-by x (λ o k. term-parts-low x o k) m j)
 ]
 term-parts-low (Abs t b) m i = elim (member-append (type_nodes t) (term_nodes b) m i) [
   | inl j ↦ type-low (depth_ty names t) (inside (Abs t b)) m (own-low t m j)
-  | inr j ↦ term-more (depth_tm names b) (inside (Abs t b)) m (omega arith) (own-term-by b (λ o k. term-parts-low b o k) m j)
+  | inr j ↦ term-more (depth_tm names b) (inside (Abs t b)) m (omega arith)
+      (own-term-by b (λ o k. term-parts-low b o k) m j)
 ]
 
 term-apart : (t : Tm Name) → IsMember (TermNode t) (term_parts t) → ⊥
@@ -239,7 +249,8 @@ closed-own n x c =
     subst IsClosed (sym (nodes-append (parts_of n) (n ∷ []) x))
     (closed-node n (write_nodes (parts_of n) x) c (nodes-has (parts_of n) x))
 
-closed-then : (ns ms : List Node) (x : Log) → IsClosed (write_nodes ms (write_nodes ns x)) → IsClosed (write_nodes (ns ++ ms) x)
+closed-then : (ns ms : List Node) (x : Log) → IsClosed (write_nodes ms (write_nodes ns x))
+    → IsClosed (write_nodes (ns ++ ms) x)
 closed-then ns ms x c = subst IsClosed (sym (nodes-append ns ms x)) c
 
 mutual
@@ -283,11 +294,13 @@ node-absent n x h = by (has_node n (write_nodes (parts_of n) x)) refl
   where
     by : (b : Bool) → has_node n (write_nodes (parts_of n) x) ≡ b → has_node n (write_nodes (parts_of n) x) ≡ false
     by false e = e
-    by true e = elim (only-nodes n (parts_of n) x e) [ inl k ↦ absurd (differ (sym k ∙ h)) | inr i ↦ absurd (apart n i) ]
+    by true e =
+        elim (only-nodes n (parts_of n) x e) [ inl k ↦ absurd (differ (sym k ∙ h)) | inr i ↦ absurd (apart n i) ]
       where
         differ : true ≡ false → ⊥
         differ p = cc
 
 pub node-new : (n : Node) (x : Log) → has_node n x ≡ false
     → write_nodes (nodes_of n) x ≡ with_node n (put (node_entry n) (write_nodes (parts_of n) x))
-node-new n x h = nodes-append (parts_of n) (n ∷ []) x ∙ ap (λ b. written_if b n (write_nodes (parts_of n) x)) (node-absent n x h)
+node-new n x h = nodes-append (parts_of n) (n ∷ []) x ∙ ap (λ b. written_if b n (write_nodes (parts_of n) x))
+    (node-absent n x h)

@@ -50,7 +50,8 @@ module _ {N : Type 0} (alphabet : Alphabet N) where
   pub two-read : (st : LogState N) (a b line : ℕ) (q r : Sequent N)
       (step : Sequent N → Sequent N → Step alphabet) (rest : Tokens N)
       → slice_get st.sequents a ≡ Some q → slice_get st.sequents b ≡ Some r
-      → go_on alphabet (settled alphabet line st (AskSequent (λ x. AskSequent (λ y. Makes (makes_sequent alphabet (step x y))))))
+      → go_on alphabet
+      (settled alphabet line st (AskSequent (λ x. AskSequent (λ y. Makes (makes_sequent alphabet (step x y))))))
       (λ p. check alphabet line p (lined line (Number a ∷ Number b ∷ []) rest))
       ≡ go_on alphabet (settled alphabet line st (Makes (makes_sequent alphabet (step q r))))
       (λ p. check alphabet (suc (suc line)) p rest)
@@ -58,25 +59,30 @@ module _ {N : Type 0} (alphabet : Alphabet N) where
 
   made-read : (st : LogState N) (s : Sequent N) (line last : ℕ) (step : Step alphabet) (rest : Tokens N) → step ≡ Ok s
       → is_sequent_within alphabet s ≡ true
-      → go_on alphabet (settled alphabet line st (Makes (makes_sequent alphabet step))) (λ p. check alphabet last p rest)
+      → go_on alphabet (settled alphabet line st (Makes (makes_sequent alphabet step)))
+      (λ p. check alphabet last p rest)
       ≡ check alphabet last (Between (record st { sequents = st.sequents ++ s ∷ [] })) rest
   made-read st s line last step rest e w =
       let made : Result (LogState N) LogFault = Ok (record st { sequents = st.sequents ++ s ∷ [] }) in
-      ap (λ z. go_on alphabet (settled alphabet line st (Makes (makes_sequent alphabet z))) (λ p. check alphabet last p rest)) e
-      ∙ ap (λ b. go_on alphabet (at_line alphabet line (unless LogNesting b >>= λ _. made) >>= λ now. Ok (Between now))
+      ap (λ z. go_on alphabet (settled alphabet line st (Makes (makes_sequent alphabet z)))
+      (λ p. check alphabet last p rest)) e
+      ∙ ap (λ b. go_on alphabet
+      (at_line alphabet line (unless LogNesting b >>= λ _. made) >>= λ now. Ok (Between now))
       (λ p. check alphabet last p rest))
       w
 
   pub eq_mp-reads : (st : LogState N) (a b : ℕ) (q r s : Sequent N) → slice_get st.sequents a ≡ Some q
       → slice_get st.sequents b ≡ Some r → eq_mp_step alphabet q r ≡ Ok s → is_sequent_within alphabet s ≡ true
-      → Reads st (Word (spelling words.EqMp) ∷ Number a ∷ Number b ∷ []) (record st { sequents = st.sequents ++ s ∷ [] })
+      → Reads st (Word (spelling words.EqMp) ∷ Number a ∷ Number b ∷ [])
+      (record st { sequents = st.sequents ++ s ∷ [] })
   eq_mp-reads st a b q r s e f g w =
       λ line rest. two-read st a b (suc line) q r (eq_mp_step alphabet) rest e f
       ∙ made-read st s (suc line) (suc (suc (suc line))) (eq_mp_step alphabet q r) rest g w
 
   pub app_thm-reads : (st : LogState N) (a b : ℕ) (q r s : Sequent N) → slice_get st.sequents a ≡ Some q
       → slice_get st.sequents b ≡ Some r → app_thm_step alphabet q r ≡ Ok s → is_sequent_within alphabet s ≡ true
-      → Reads st (Word (spelling words.AppThm) ∷ Number a ∷ Number b ∷ []) (record st { sequents = st.sequents ++ s ∷ [] })
+      → Reads st (Word (spelling words.AppThm) ∷ Number a ∷ Number b ∷ [])
+      (record st { sequents = st.sequents ++ s ∷ [] })
   app_thm-reads st a b q r s e f g w =
       λ line rest. two-read st a b (suc line) q r (app_thm_step alphabet) rest e f
       ∙ made-read st s (suc line) (suc (suc (suc line))) (app_thm_step alphabet q r) rest g w

@@ -4,14 +4,19 @@ use Rattle.std.specs.List.{list_all}
 use Rattle.std.proofs.Common.{◌≡◌, Bool, true, List, [], ◌∷◌, Ok, refl, ap, ◌∙◌, arith}
 use Rattle.std.proofs.lemmas.Bool.{and_parts}
 use Rattle.ot_plain.specs.Trees.{Alphabet, Ty, Variable, Tm, App, Abs, Sequent}
-use Rattle.ot_plain.specs.Hol.{same_ty, fun_ty, bool_ty, as_fun_ty, type_of, IsWellTyped, close, opened, is_shallow, is_shallow_sequent, same_tm, equation, as_equation, minus, union, is_free_in_some, sequent_of}
+use Rattle.ot_plain.specs.Hol.{same_ty, fun_ty, bool_ty, as_fun_ty, type_of, IsWellTyped, close}
+use Rattle.ot_plain.specs.Hol.{opened, is_shallow, is_shallow_sequent, same_tm, equation}
+use Rattle.ot_plain.specs.Hol.{as_equation, minus, union, is_free_in_some, sequent_of}
 use Rattle.ot_plain.specs.Faults.{NotBool, NotEquation, NotAlphaEqual, VarFreeInHyps, NotFunction, ArgumentType}
 use Rattle.ot_plain.specs.Answers.{◌>>=◌, unless, some_or}
-use Rattle.ot_plain.specs.Rules.{has_type, within_limit, sides, refl_rule, assume_rule, eq_mp_rule, abs_thm_rule, app_thm_rule, deduct_antisym_rule, beta_conv_rule}
+use Rattle.ot_plain.specs.Rules.{has_type, within_limit, sides, refl_rule, assume_rule, eq_mp_rule}
+use Rattle.ot_plain.specs.Rules.{abs_thm_rule, app_thm_rule, deduct_antisym_rule, beta_conv_rule}
 use Rattle.ot_laws.proofs.Tests.{Tells}
 use Rattle.ot_laws.proofs.Steps.{within_limit-ok, limit-ok}
 use Rattle.ot_records.specs.Tokens.{BadStep}
-use Rattle.ot_records.specs.Steps.{Step, is_well_typed, is_within, is_sequent_within, sides_of, refl_step, assume_step, eq_mp_step, abs_thm_step, app_thm_step, deduct_antisym_step, beta_step}
+use Rattle.ot_records.specs.Steps.{Step, is_well_typed, is_within, is_sequent_within}
+use Rattle.ot_records.specs.Steps.{sides_of, refl_step, assume_step, eq_mp_step, abs_thm_step}
+use Rattle.ot_records.specs.Steps.{app_thm_step, deduct_antisym_step, beta_step}
 use Rattle.ot_entries.proofs.Fitting.{fits-shallow, within-fits}
 use Rattle.ot_plain.proofs.Results.{bind-ok, same_Ok, some_or-ok, unless-ok}
 
@@ -42,7 +47,8 @@ module _ {N : Type 0} (alphabet : Alphabet N) (tells : Tells alphabet) where
   well_typed-back : (t : Tm N) → IsWellTyped alphabet t → is_well_typed alphabet t ≡ true
   well_typed-back t w = ap is_some w.1
 
-  pub refl-ruled : (t : Tm N) (q : Sequent N) → IsWellTyped alphabet t → refl_rule alphabet t ≡ Ok q → refl_step alphabet t ≡ Ok q
+  pub refl-ruled : (t : Tm N) (q : Sequent N) → IsWellTyped alphabet t → refl_rule alphabet t ≡ Ok q
+      → refl_step alphabet t ≡ Ok q
   refl-ruled t q w h =
       let made : Sequent N = sequent_of alphabet (equation alphabet (type_of alphabet t) t t) in
       ap (λ b. unless BadStep b >>= λ _. Ok made) (well_typed-back t w) ∙ ruled made q h
@@ -65,7 +71,8 @@ module _ {N : Type 0} (alphabet : Alphabet N) (tells : Tells alphabet) where
       ∙ ap (λ z. unless BadStep z >>= λ _. Ok made) (unless-ok NotAlphaEqual (same_tm alphabet e.1 b.concl) u r)
       ∙ ap Ok (same_Ok made q l)
 
-  pub abs_thm-ruled : (v : Variable N) (a q : Sequent N) → abs_thm_rule alphabet v a ≡ Ok q → abs_thm_step alphabet v a ≡ Ok q
+  pub abs_thm-ruled : (v : Variable N) (a q : Sequent N) → abs_thm_rule alphabet v a ≡ Ok q
+      → abs_thm_step alphabet v a ≡ Ok q
   abs_thm-ruled v a q h =
       let (e, p, k) = bind-ok (sides alphabet a) _ q h in
       let test : Bool = not (is_free_in_some alphabet v a.hyps) in
@@ -73,7 +80,8 @@ module _ {N : Type 0} (alphabet : Alphabet N) (tells : Tells alphabet) where
       let made : (Ty N × Tm N × Tm N) → Sequent N =
       λ z. record {
         hyps = a.hyps;
-        concl = equation alphabet (fun_ty alphabet v.ty z.0) (Abs v.ty (close alphabet v z.1)) (Abs v.ty (close alphabet v z.2));
+        concl = equation alphabet (fun_ty alphabet v.ty z.0) (Abs v.ty (close alphabet v z.1))
+            (Abs v.ty (close alphabet v z.2));
       } in
       let go : (Ty N × Tm N × Tm N) → Step alphabet = λ z. unless BadStep test >>= λ _. Ok (made z) in
       ap (λ z. z >>= go) (sided a e p)
@@ -87,14 +95,22 @@ module _ {N : Type 0} (alphabet : Alphabet N) (tells : Tells alphabet) where
       let (c, i, m) = bind-ok (some_or NotFunction (as_fun_ty alphabet f.0)) _ q l in
       let (u, j, n) = bind-ok (unless ArgumentType (same_ty alphabet c.0 x.0)) _ q m in
       let made : (Ty N × Ty N) → Sequent N =
-      λ parts. record { hyps = union alphabet a.hyps b.hyps; concl = equation alphabet parts.1 (App f.1 x.1) (App f.2 x.2) } in
+      λ parts. record {
+        hyps = union alphabet a.hyps b.hyps;
+        concl = equation alphabet parts.1 (App f.1 x.1)
+            (App f.2 x.2);
+      } in
       let three : (Ty N × Ty N) → Step alphabet =
       λ parts. unless BadStep (same_ty alphabet parts.0 x.0) >>= λ _. Ok (made parts) in
       let two : (Ty N × Tm N × Tm N) → (Ty N × Tm N × Tm N) → Step alphabet =
       λ y z. some_or BadStep (as_fun_ty alphabet y.0)
       >>= λ parts. unless BadStep (same_ty alphabet parts.0 z.0)
       >>= λ _. Ok
-      (record { hyps = union alphabet a.hyps b.hyps; concl = equation alphabet parts.1 (App y.1 z.1) (App y.2 z.2) }) in
+      (record {
+        hyps = union alphabet a.hyps b.hyps;
+        concl = equation alphabet parts.1 (App y.1 z.1)
+            (App y.2 z.2);
+      }) in
       ap (λ z. z >>= λ y. sides_of alphabet b >>= two y) (sided a f p) ∙ ap (λ z. z >>= two f) (sided b x r)
       ∙ ap (λ z. some_or BadStep z >>= three) (some_or-ok NotFunction (as_fun_ty alphabet f.0) c i)
       ∙ ap (λ z. unless BadStep z >>= λ _. Ok (made c)) (unless-ok ArgumentType (same_ty alphabet c.0 x.0) u j)

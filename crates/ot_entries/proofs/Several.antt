@@ -1,6 +1,7 @@
 -- A log whose tokens are read back: the words that stand for several records.
 use Rattle.std.specs.Prelude.{slice_get}
-use Rattle.std.proofs.Common.{◌≡◌, ℕ, suc, ◌+◌, true, List, [], ◌∷◌, ◌++◌, length, Some, refl, sym, ap, ◌∙◌, arith, append-nil, append_assoc}
+use Rattle.std.proofs.Common.{◌≡◌, ℕ, suc, ◌+◌, true, List, [], ◌∷◌, ◌++◌, length, Some}
+use Rattle.std.proofs.Common.{refl, sym, ap, ◌∙◌, arith, append-nil, append_assoc}
 use Rattle.ot_plain.specs.Names.{Name}
 use Rattle.ot_plain.specs.Naming.{names}
 use Rattle.ot_plain.specs.Trees.{Ty, Tm, App, Sequent}
@@ -15,7 +16,8 @@ use Rattle.ot_entries.specs.Expansions.{of_term, of_two, equals_at, sym_entries,
 use Rattle.ot_entries.specs.Logged.{Log, write_entry, count_sequent, write_sequents}
 use Rattle.ot_entries.proofs.Expanding.{refl-gives, eq_mp-gives, app_thm-gives, equals-typed}
 use Rattle.ot_entries.proofs.Standing.{Stands, AreWithin}
-use Rattle.ot_entries.proofs.Sequents.{MakesOne, sequent-stands, refl-feeds, eq_mp-feeds, app_thm-feeds, deduct_antisym-feeds}
+use Rattle.ot_entries.proofs.Sequents.{MakesOne, sequent-stands, refl-feeds}
+use Rattle.ot_entries.proofs.Sequents.{eq_mp-feeds, app_thm-feeds, deduct_antisym-feeds}
 use Rattle.ot_plain.proofs.TableLemmas.{slice_get-append_left}
 
 -- ---- elements of lists that were put together
@@ -97,35 +99,42 @@ prove_hyp-stands x st lemma other i j s h k v w =
     let one = sequent-stands x st e1 (deduct_antisym_step names lemma other)
     d s tt (deduct_antisym-feeds st i j lemma other h k) refl v in
     let two = sequent-stands (count_sequent (write_entry e1 x)) one.now e2 (eq_mp_step names d lemma) q one.stands tt
-    (eq_mp-feeds one.now x.sequents i d lemma (newest x st e1 d one x.sequents s.sequents) (older x st e1 d one i lemma h))
+    (eq_mp-feeds one.now x.sequents i d lemma (newest x st e1 d one x.sequents s.sequents)
+    (older x st e1 d one i lemma h))
     (eq_mp-gives names tells_names d lemma (bool_ty names) lemma.concl other.concl refl refl) w in
     makes-more x st e1 (e2 ∷ []) d (q ∷ []) one
     (makes-more (count_sequent (write_entry e1 x)) one.now e2 [] q [] two (makes-none _ two.now two.stands))
 
 -- ---- trans: of the first a = b and the second b = d
 
-pub trans-stands : (x : Log) (st : LogState Name) (first second : Sequent Name) (i j : ℕ) (ty : Ty Name) (a b d : Tm Name)
+pub trans-stands : (x : Log) (st : LogState Name) (first second : Sequent Name) (i j : ℕ) (ty : Ty Name)
+    (a b d : Tm Name)
     → Stands x st → slice_get st.sequents i ≡ Some first → slice_get st.sequents j ≡ Some second
     → first.concl ≡ equation names ty a b → second.concl ≡ equation names ty b d → HasType names a ty
     → AreWithin (term_nodes (App (equals_at ty) a) ++ [])
-    → let r = sequent_of names (equation names (fun_ty names ty (bool_ty names)) (App (equals_at ty) a) (App (equals_at ty) a)) in
+    → let r =
+    sequent_of names
+    (equation names (fun_ty names ty (bool_ty names)) (App (equals_at ty) a) (App (equals_at ty) a)) in
     let m : Sequent Name =
     record {
       hyps = union names [] second.hyps;
       concl = equation names (bool_ty names) (equation names ty a b) (equation names ty a d);
     } in
-    let q : Sequent Name = record { hyps = union names (union names [] second.hyps) first.hyps; concl = equation names ty a d } in
+    let q : Sequent Name =
+    record { hyps = union names (union names [] second.hyps) first.hyps; concl = equation names ty a d } in
     is_sequent_within names r ≡ true → is_sequent_within names m ≡ true → is_sequent_within names q ≡ true
     → MakesAll x st (trans_entries x.sequents ty a i j) (r ∷ m ∷ q ∷ [])
 trans-stands x st first second i j ty a b d s h k e f w n v1 v2 v3 =
     let eq = equals_at ty in
-    let r : Sequent Name = sequent_of names (equation names (fun_ty names ty (bool_ty names)) (App eq a) (App eq a)) in
+    let r : Sequent Name =
+    sequent_of names (equation names (fun_ty names ty (bool_ty names)) (App eq a) (App eq a)) in
     let m : Sequent Name =
     record {
       hyps = union names [] second.hyps;
       concl = equation names (bool_ty names) (equation names ty a b) (equation names ty a d);
     } in
-    let q : Sequent Name = record { hyps = union names (union names [] second.hyps) first.hyps; concl = equation names ty a d } in
+    let q : Sequent Name =
+    record { hyps = union names (union names [] second.hyps) first.hyps; concl = equation names ty a d } in
     let typed = app-typed names tells_names [] eq a ty (fun_ty names ty (bool_ty names)) refl w in
     let e1 = of_term words.Refl (App eq a) in
     let e2 = of_two words.AppThm x.sequents j in
@@ -136,25 +145,32 @@ trans-stands x st first second i j ty a b d s h k e f w n v1 v2 v3 =
     (refl-gives names tells_names (App eq a) (fun_ty names ty (bool_ty names)) typed) v1 in
     let len1 = grown x st e1 r one x.sequents s.sequents in
     let two = sequent-stands x1 one.now e2 (app_thm_step names r second) m one.stands tt
-    (app_thm-feeds one.now x.sequents j r second (newest x st e1 r one x.sequents s.sequents) (older x st e1 r one j second k))
+    (app_thm-feeds one.now x.sequents j r second (newest x st e1 r one x.sequents s.sequents)
+    (older x st e1 r one j second k))
     (app_thm-gives names tells_names r second ty (bool_ty names) (App eq a) (App eq a) b d refl f) v2 in
     let three = sequent-stands x2 two.now e3 (eq_mp_step names m first) q two.stands tt
     (eq_mp-feeds two.now (x.sequents + 1) i m first (newest x1 one.now e2 m two (x.sequents + 1) len1)
     (older x1 one.now e2 m two i first (older x st e1 r one i first h)))
-    (eq_mp-gives names tells_names m first (bool_ty names) (equation names ty a b) (equation names ty a d) refl e) v3 in
+    (eq_mp-gives names tells_names m first (bool_ty names) (equation names ty a b) (equation names ty a d) refl e)
+    v3 in
     makes-more x st e1 (e2 ∷ e3 ∷ []) r (m ∷ q ∷ []) one
     (makes-more x1 one.now e2 (e3 ∷ []) m (q ∷ []) two
     (makes-more x2 two.now e3 [] q [] three (makes-none _ three.now three.stands)))
 
 -- ---- sym: of t = u
 
-pub sym-stands : (x : Log) (st : LogState Name) (a : Sequent Name) (i : ℕ) (ty : Ty Name) (t u : Tm Name) → Stands x st
+pub sym-stands : (x : Log) (st : LogState Name) (a : Sequent Name) (i : ℕ) (ty : Ty Name) (t u : Tm Name)
+    → Stands x st
     → slice_get st.sequents i ≡ Some a → a.concl ≡ equation names ty t u → HasType names t ty
     → AreWithin (term_nodes (equals_at ty) ++ []) → AreWithin (term_nodes t ++ [])
     → let to = fun_ty names ty (bool_ty names) in
     let r : Sequent Name = sequent_of names (equation names (fun_ty names ty to) (equals_at ty) (equals_at ty)) in
     let m : Sequent Name =
-    record { hyps = union names [] a.hyps; concl = equation names to (App (equals_at ty) t) (App (equals_at ty) u) } in
+    record {
+      hyps = union names [] a.hyps;
+      concl = equation names to (App (equals_at ty) t)
+          (App (equals_at ty) u);
+    } in
     let l : Sequent Name = sequent_of names (equation names ty t t) in
     let n : Sequent Name =
     record {
@@ -205,9 +221,11 @@ sym-stands x st a i ty t u s h e w n1 n2 v1 v2 v3 v4 v5 =
     let five = sequent-stands x4 four.now e5 (eq_mp_step names n l) q four.stands tt
     (eq_mp-feeds four.now (k + 3) (k + 2) n l (newest x3 three.now e4 n four (k + 3) len3)
     (older x3 three.now e4 n four (k + 2) l at_l))
-    (eq_mp-gives names tells_names n l (bool_ty names) (equation names ty t t) (equation names ty u t) refl refl) v5 in
+    (eq_mp-gives names tells_names n l (bool_ty names) (equation names ty t t) (equation names ty u t) refl refl)
+    v5 in
     makes-more x st e1 _ r _ one (makes-more x1 one.now e2 _ m _ two (makes-more x2 two.now e3 _ l _ three
-    (makes-more x3 three.now e4 _ n _ four (makes-more x4 four.now e5 [] q [] five (makes-none _ five.now five.stands)))))
+    (makes-more x3 three.now e4 _ n _ four
+    (makes-more x4 four.now e5 [] q [] five (makes-none _ five.now five.stands)))))
   where
     next : (a b : ℕ) → a + b + 1 ≡ a + (b + 1)
     next a b = omega arith

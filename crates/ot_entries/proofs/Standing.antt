@@ -1,7 +1,8 @@
 -- A log whose tokens are read back: types and terms.
 use Rattle.std.specs.Prelude.{nat_le}
 use Rattle.std.specs.List.{flat_map}
-use Rattle.std.proofs.Common.{◌≡◌, ℕ, ◌≤◌, Bool, true, false, cond, List, [], ◌∷◌, ◌++◌, map, length, Some, Ok, refl, sym, ap, subst, ◌∙◌, arith, append_assoc}
+use Rattle.std.proofs.Common.{◌≡◌, ℕ, ◌≤◌, Bool, true, false, cond, List, [], ◌∷◌, ◌++◌, map}
+use Rattle.std.proofs.Common.{length, Some, Ok, refl, sym, ap, subst, ◌∙◌, arith, append_assoc}
 use Rattle.ot_plain.specs.Names.{Name}
 use Rattle.ot_plain.specs.Naming.{names}
 use Rattle.ot_plain.specs.Trees.{Ty, Tys, TyVar, TyOp, NoTys, MoreTys, Tm, Free, Con, Bound, App, Abs}
@@ -11,8 +12,11 @@ use Rattle.ot_records.specs.Tokens.{LogNesting, Token, Word, spelling}
 use Rattle.ot_records.specs.Steps.{log_depth}
 use Rattle.ot_records.specs.State.{LogState, Change, nothing_made, makes_type, makes_term}
 use Rattle.ot_records.specs.Records.{RecordForm, Makes, AskType, ask_each, arguments, form}
-use Rattle.ot_entries.specs.Entries.{Operand, Count, AName, AType, ATerm, ASequent, Entry, Node, TypeNode, TermNode, node_entry, type_list, type_count, type_parts, types_nodes, type_nodes, term_parts, term_nodes, operand_nodes, nodes_before}
-use Rattle.ot_entries.specs.Logged.{Log, header, put, token_of, token_among, is_among, has_node, with_node, write_node, write_nodes, write_entry}
+use Rattle.ot_entries.specs.Entries.{Operand, Count, AName, AType, ATerm, ASequent, Entry, Node, TypeNode}
+use Rattle.ot_entries.specs.Entries.{TermNode, node_entry, type_list, type_count, type_parts, types_nodes}
+use Rattle.ot_entries.specs.Entries.{type_nodes, term_parts, term_nodes, operand_nodes, nodes_before}
+use Rattle.ot_entries.specs.Logged.{Log, header, put, token_of, token_among, is_among}
+use Rattle.ot_entries.specs.Logged.{has_node, with_node, write_node, write_nodes, write_entry}
 use Rattle.ot_entries.proofs.Noding.{nodes-append, nodes-has}
 use Rattle.ot_entries.specs.Closed.{parts_of, nodes_of, AreAmong}
 use Rattle.ot_entries.proofs.Reading.{Reads, reads-then}
@@ -25,7 +29,8 @@ among-split : (ns ms : List Node) (tys : List (Ty Name)) (tms : List (Tm Name)) 
 among-split [] ms tys tms h = (tt, h)
 among-split (n ∷ ns) ms tys tms h = let r = among-split ns ms tys tms h.1 in ((h.0, r.0), r.1)
 
-among-last : (n : Node) (tys : List (Ty Name)) (tms : List (Tm Name)) → AreAmong (nodes_of n) tys tms → is_among n tys tms ≡ true
+among-last : (n : Node) (tys : List (Ty Name)) (tms : List (Tm Name)) → AreAmong (nodes_of n) tys tms
+    → is_among n tys tms ≡ true
 among-last n tys tms h = (among-split (parts_of n) (n ∷ []) tys tms h).1.0
 
 types-in : (ts : Tys Name) (tys : List (Ty Name)) (tms : List (Tm Name)) → AreAmong (types_nodes ts) tys tms
@@ -68,7 +73,8 @@ abbrev makes : Node → Change names
 makes (TypeNode t) = makes_type names t
 makes (TermNode t) = makes_term names t
 
-feed-node : (st : LogState Name) (n : Node) → feed st (node_entry n).operands (form names (node_entry n).word) ≡ Some (makes n)
+feed-node : (st : LogState Name) (n : Node) → feed st (node_entry n).operands (form names (node_entry n).word)
+    ≡ Some (makes n)
 feed-node st (TypeNode (TyVar n)) = refl
 feed-node st (TypeNode (TyOp n ts)) =
     feed-types st ts (λ us. Makes (makes_type names (TyOp n (arguments us))))
@@ -136,7 +142,8 @@ put-reads e x st now c s there f k =
       reads-then names nothing_made st now s.body ts s.reads one,
     )
 
-new-stands : (n : Node) (x : Log) (st : LogState Name) → Stands x st → IsWithin n → AreAmong (parts_of n) x.types x.terms
+new-stands : (n : Node) (x : Log) (st : LogState Name) → Stands x st → IsWithin n
+    → AreAmong (parts_of n) x.types x.terms
     → Stands (with_node n (put (node_entry n) x)) (made n st)
 new-stands (TypeNode t) x st s w a =
     let n = TypeNode t in
@@ -164,11 +171,13 @@ new-stands (TermNode t) x st s w a =
     }
 
 -- a node, behind its parts
-pub node-stands : (n : Node) (x : Log) (st : LogState Name) → Stands x st → IsWithin n → AreAmong (parts_of n) x.types x.terms
+pub node-stands : (n : Node) (x : Log) (st : LogState Name) → Stands x st → IsWithin n
+    → AreAmong (parts_of n) x.types x.terms
     → (now : LogState Name) × Stands (write_node n x) now × SameMade st now
 node-stands n x st s w a = by (has_node n x)
   where
-    by : (b : Bool) → (now : LogState Name) × Stands (cond b x (with_node n (put (node_entry n) x))) now × SameMade st now
+    by : (b : Bool) → (now : LogState Name) × Stands (cond b x (with_node n (put (node_entry n) x))) now
+        × SameMade st now
     by true = (st, s, record { sequents = refl; assumptions = refl; definitions = refl; results = refl })
     by false = (made n st, new-stands n x st s w a, same-made n st)
 
@@ -200,7 +209,8 @@ goes-none x st s = (st, s, record { sequents = refl; assumptions = refl; definit
 pub goes-then : (ns ms : List Node) (x : Log) (st : LogState Name) → Goes x st ns
     → ((now : LogState Name) → Stands (write_nodes ns x) now → Goes (write_nodes ns x) now ms) → Goes x st (ns ++ ms)
 goes-then ns ms x st (mid, s, p) more =
-    let (now, t, q) = more mid s in (now, subst (λ z. Stands z now) (sym (nodes-append ns ms x)) t, same-then st mid now p q)
+    let (now, t, q) = more mid s in
+    (now, subst (λ z. Stands z now) (sym (nodes-append ns ms x)) t, same-then st mid now p q)
 
 -- a node behind its parts
 goes-own : (n : Node) (x : Log) (st : LogState Name) → IsWithin n → Goes x st (parts_of n) → Goes x st (nodes_of n)
@@ -226,11 +236,13 @@ mutual
   types-stand (MoreTys t ts) x st w s =
       let r = within-split (type_nodes t) (types_nodes ts) w in
       goes-then (type_nodes t) (types_nodes ts) x st
-      (goes-own (TypeNode t) x st (last-within (TypeNode t) r.0) (type_parts-stand t x st (front-within (TypeNode t) r.0) s))
+      (goes-own (TypeNode t) x st (last-within (TypeNode t) r.0)
+      (type_parts-stand t x st (front-within (TypeNode t) r.0) s))
       (λ now k. types-stand ts (write_nodes (type_nodes t) x) now r.1 k)
 
 -- a type with its parts
-pub type-stands : (t : Ty Name) (x : Log) (st : LogState Name) → AreWithin (type_nodes t) → Stands x st → Goes x st (type_nodes t)
+pub type-stands : (t : Ty Name) (x : Log) (st : LogState Name) → AreWithin (type_nodes t) → Stands x st
+    → Goes x st (type_nodes t)
 type-stands t x st w s =
     goes-own (TypeNode t) x st (last-within (TypeNode t) w) (type_parts-stand t x st (front-within (TypeNode t) w) s)
 
@@ -242,7 +254,8 @@ term_parts-stand (Bound k) x st w s = goes-none x st s
 term_parts-stand (App f y) x st w s =
     let r = within-split (term_nodes f) (term_nodes y) w in
     goes-then (term_nodes f) (term_nodes y) x st
-    (goes-own (TermNode f) x st (last-within (TermNode f) r.0) (term_parts-stand f x st (front-within (TermNode f) r.0) s))
+    (goes-own (TermNode f) x st (last-within (TermNode f) r.0)
+    (term_parts-stand f x st (front-within (TermNode f) r.0) s))
     (λ now k. goes-own (TermNode y) (write_nodes (term_nodes f) x) now (last-within (TermNode y) r.1)
     (term_parts-stand y (write_nodes (term_nodes f) x) now (front-within (TermNode y) r.1) k))
 term_parts-stand (Abs t b) x st w s =
@@ -252,7 +265,8 @@ term_parts-stand (Abs t b) x st w s =
     (term_parts-stand b (write_nodes (type_nodes t) x) now (front-within (TermNode b) r.1) k))
 
 -- a term with its parts
-pub term-stands : (t : Tm Name) (x : Log) (st : LogState Name) → AreWithin (term_nodes t) → Stands x st → Goes x st (term_nodes t)
+pub term-stands : (t : Tm Name) (x : Log) (st : LogState Name) → AreWithin (term_nodes t) → Stands x st
+    → Goes x st (term_nodes t)
 term-stands t x st w s =
     goes-own (TermNode t) x st (last-within (TermNode t) w) (term_parts-stand t x st (front-within (TermNode t) w) s)
 
@@ -265,7 +279,8 @@ operand-stands (ATerm t) x st w s = term-stands t x st w s
 operand-stands (ASequent i) x st w s = goes-none x st s
 
 -- all that a record names
-pub operands-stand : (os : List Operand) (x : Log) (st : LogState Name) → AreWithin (flat_map operand_nodes os) → Stands x st
+pub operands-stand : (os : List Operand) (x : Log) (st : LogState Name) → AreWithin (flat_map operand_nodes os)
+    → Stands x st
     → Goes x st (flat_map operand_nodes os)
 operands-stand [] x st w s = goes-none x st s
 operands-stand (o ∷ os) x st w s =
@@ -297,7 +312,8 @@ pub record Takes (e : Entry) (x : Log) (now : LogState Name) : Type 0 where
   pub tokens : (write_entry e x).tokens ≡ header.tokens ++ body
   pub reads : Reads names nothing_made body now
 
-pub entry-takes : (e : Entry) (x : Log) (st now : LogState Name) (c : Change names) → Stands (write_nodes (nodes_before e) x) st
+pub entry-takes : (e : Entry) (x : Log) (st now : LogState Name) (c : Change names)
+    → Stands (write_nodes (nodes_before e) x) st
     → feed st e.operands (form names e.word) ≡ Some c → c st ≡ Ok now → Takes e x now
 entry-takes e x st now c s f k =
     let before = write_nodes (nodes_before e) x in

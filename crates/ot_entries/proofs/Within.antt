@@ -10,7 +10,8 @@ use Rattle.ot_plain.specs.Hol.{depth_ty, depth_all, depth_tm, type_in, fun_ty}
 use Rattle.ot_laws.proofs.Tests.{tells_names}
 use Rattle.ot_laws.proofs.Typing.{abs-some, applied-some}
 use Rattle.ot_records.specs.Steps.{log_depth, is_within_type, has_types_within, is_within}
-use Rattle.ot_entries.specs.Entries.{Node, TypeNode, TermNode, type_parts, types_nodes, type_nodes, term_parts, term_nodes}
+use Rattle.ot_entries.specs.Entries.{Node, TypeNode, TermNode, type_parts}
+use Rattle.ot_entries.specs.Entries.{types_nodes, type_nodes, term_parts, term_nodes}
 use Rattle.ot_entries.proofs.Standing.{AreWithin}
 
 pub within-append : (ns ms : List Node) → AreWithin ns → AreWithin ms → AreWithin (ns ++ ms)
@@ -39,7 +40,8 @@ type-within t h = within-append (type_parts t) (TypeNode t ∷ []) (type_parts-w
 own : (t : Tm Name) → AreWithin (term_parts t) → depth_tm names t ≤ log_depth → AreWithin (term_nodes t)
 own t parts h = within-append (term_parts t) (TermNode t ∷ []) parts (h, tt)
 
-term_parts-within : (l : List (Ty Name)) (t : Tm Name) (ty : Ty Name) → type_in names l t ≡ Some ty → depth_tm names t ≤ log_depth
+term_parts-within : (l : List (Ty Name)) (t : Tm Name) (ty : Ty Name) → type_in names l t ≡ Some ty
+    → depth_tm names t ≤ log_depth
     → has_types_within names l t ≡ true → AreWithin (term_parts t)
 term_parts-within l (Free v) ty e d h = type-within v.ty (fits (depth_ty names v.ty) log_depth h)
 term_parts-within l (Con n t) ty e d h = type-within t (fits (depth_ty names t) log_depth h)

@@ -63,16 +63,19 @@ assumption_entry hyps p = record {
 abbrev pub equals_at : Ty Name → Tm Name
 equals_at ty = Con names.equals (fun_ty names ty (fun_ty names ty (bool_ty names)))
 
--- of t = u: refl of `=`; appThm of that with the theorem; refl of t; appThm of the two; eqMp of that with the same refl
+-- of t = u: refl of `=`; appThm of that with the theorem; refl of t; appThm of the two; eqMp of that with the same
+-- refl
 abbrev pub sym_entries : ℕ → Ty Name → Tm Name → ℕ → List Entry
 sym_entries next ty t i =
     of_term words.Refl (equals_at ty) ∷ of_two words.AppThm next i ∷ of_term words.Refl t
     ∷ of_two words.AppThm (next + 1) (next + 2) ∷ of_two words.EqMp (next + 3) (next + 2) ∷ []
 
--- of the first a = b and the second b = d: refl of `=` applied to a; appThm of that with the second; eqMp of that with the first
+-- of the first a = b and the second b = d: refl of `=` applied to a; appThm of that with the second; eqMp of that
+-- with the first
 abbrev pub trans_entries : ℕ → Ty Name → Tm Name → (first second : ℕ) → List Entry
 trans_entries next ty a first second =
-    of_term words.Refl (App (equals_at ty) a) ∷ of_two words.AppThm next second ∷ of_two words.EqMp (next + 1) first ∷ []
+    of_term words.Refl (App (equals_at ty) a) ∷ of_two words.AppThm next second ∷ of_two words.EqMp (next + 1) first
+    ∷ []
 
 -- deductAntisym of the lemma and the other; eqMp of that with the lemma
 abbrev pub prove_hyp_entries : ℕ → (lemma other : ℕ) → List Entry

@@ -1,4 +1,5 @@
--- What a reader of the contracts has to believe of the records of a proof log that is written: what they name, and their text.
+-- What a reader of the contracts has to believe of the records of a proof log that is written: what they name, and
+-- their text.
 pub mod Entries
 pub mod Expansions
 pub mod Logged

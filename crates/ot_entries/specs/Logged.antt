@@ -6,7 +6,8 @@ use Rattle.ot_plain.specs.Naming.{names}
 use Rattle.ot_plain.specs.Trees.{Ty, Tm}
 use Rattle.ot_plain.specs.Hol.{same_ty, same_tm}
 use Rattle.ot_records.specs.Tokens.{Token, Number, Named, Word, spelling}
-use Rattle.ot_entries.specs.Entries.{Operand, Count, AName, AType, ATerm, ASequent, Entry, Node, TypeNode, TermNode, node_entry, nodes_before}
+use Rattle.ot_entries.specs.Entries.{Operand, Count, AName, AType, ATerm, ASequent, Entry}
+use Rattle.ot_entries.specs.Entries.{Node, TypeNode, TermNode, node_entry, nodes_before}
 
 -- its tokens; the types and the terms in the order of their numbers; and how many sequents it has
 pub record Log : Type 0 where

@@ -16,7 +16,8 @@ module _ {N : Type 0} (alphabet : Alphabet N) where
   abbrev pub equals_at : Ty N → Tm N
   equals_at ty = Con alphabet.equals (fun_ty alphabet ty (fun_ty alphabet ty (bool_ty alphabet)))
 
-  -- of t = u: refl of `=`; appThm of that with the theorem; refl of t; appThm of the two; eqMp of that with the same refl
+  -- of t = u: refl of `=`; appThm of that with the theorem; refl of t; appThm of the two; eqMp of that with the same
+  -- refl
   abbrev pub sym_records : Sequent N → Expansion
   sym_records a = do
     e ← sides_of alphabet a
@@ -27,7 +28,8 @@ module _ {N : Type 0} (alphabet : Alphabet N) where
     q ← eq_mp_step alphabet n t
     Ok (r ∷ m ∷ t ∷ n ∷ q ∷ [])
 
-  -- of the first a = b and the second b = d: refl of `=` applied to a; appThm of that with the second; eqMp of that with the first
+  -- of the first a = b and the second b = d: refl of `=` applied to a; appThm of that with the second; eqMp of that
+  -- with the first
   abbrev pub chain_records : Sequent N → Sequent N → Expansion
   chain_records first second = do
     e ← sides_of alphabet first
@@ -53,7 +55,8 @@ module _ {N : Type 0} (alphabet : Alphabet N) where
   -- the lemma is the top theorem, but the lower one where that alone fits
   abbrev pub prove_hyp_records : Sequent N → Sequent N → Expansion
   prove_hyp_records lower top =
-      if not (is_in alphabet top.concl lower.hyps) && is_in alphabet lower.concl top.hyps then discharge_records lower top
+      if not (is_in alphabet top.concl lower.hyps) && is_in alphabet lower.concl top.hyps then discharge_records lower
+      top
       else discharge_records top lower
 
   -- two lists of one sequent, the hypotheses of each once

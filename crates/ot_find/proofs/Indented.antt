@@ -1,6 +1,7 @@
 -- The lines that say what stands for variables.
 use Rattle.std.specs.Prelude.{codes}
-use Rattle.std.proofs.Common.{◌≡◌, ℕ, suc, ◌+◌, ◌<◌, ◌≤◌, List, [], ◌∷◌, ◌++◌, map, length, refl, sym, ap, ◌∙◌, append_assoc, length-append, arith}
+use Rattle.std.proofs.Common.{◌≡◌, ℕ, suc, ◌+◌, ◌<◌, ◌≤◌, List, [], ◌∷◌, ◌++◌, map, length}
+use Rattle.std.proofs.Common.{refl, sym, ap, ◌∙◌, append_assoc, length-append, arith}
 use Rattle.ot_plain.specs.Names.{Name, IsName, spelled}
 use Rattle.ot_kernel.specs.State.{State, type_at, term_at}
 use Rattle.ot_kernel.proofs.Namings.{length-map}
@@ -49,6 +50,8 @@ variable_line_at s q = variable_line (record { name = q.0; ty = type_at s q.1 },
 pub type-lines : (s : State) (ps : List (Name × ℕ)) → map (type_line_at s) ps ≡ map type_line (types_of s ps)
 type-lines s ps = texts-through type_line (λ q. (q.0, type_at s q.1)) ps (types_of s ps) refl
 
-pub variable-lines : (s : State) (ps : List (Name × ℕ × ℕ)) → map (variable_line_at s) ps ≡ map variable_line (terms_of s ps)
+pub variable-lines : (s : State) (ps : List (Name × ℕ × ℕ)) → map (variable_line_at s) ps
+    ≡ map variable_line (terms_of s ps)
 variable-lines s ps =
-    texts-through variable_line (λ q. (record { name = q.0; ty = type_at s q.1 }, term_at s q.2)) ps (terms_of s ps) refl
+    texts-through variable_line (λ q. (record { name = q.0; ty = type_at s q.1 }, term_at s q.2)) ps (terms_of s ps)
+    refl

@@ -1,5 +1,6 @@
 -- The computed matches are those of the definition.
-use Rattle.std.proofs.Common.{◌≡◌, List, [], ◌∷◌, ◌++◌, Option, Some, None, refl, sym, ap, ◌∙◌, subst, append_assoc, append-nil, inl, inr}
+use Rattle.std.proofs.Common.{◌≡◌, List, [], ◌∷◌, ◌++◌, Option, Some, None, refl, sym}
+use Rattle.std.proofs.Common.{ap, ◌∙◌, subst, append_assoc, append-nil, inl, inr}
 use Rattle.std.specs.Prelude.{ℕ}
 use Rattle.ot_plain.specs.Names.{Name}
 use Rattle.ot_plain.specs.Naming.{names}
@@ -8,7 +9,8 @@ use Rattle.ot_plain.specs.Hol.{TypeMap, TermMap}
 use Rattle.ot_laws.proofs.Tests.{tells_names}
 use Rattle.ot_match.specs.Matching.{matched}
 use Rattle.ot_match.proofs.Matches.{matched_is_match, none_match}
-use Rattle.ot_find.specs.Matches.{Source, Found, Export, found, matches_in, matches, exports_in, exports_of, IsFound, HasNoMatch, AreMatches, MatchesAreThose, MatchesOfOneMore}
+use Rattle.ot_find.specs.Matches.{Source, Found, Export, found, matches_in, matches, exports_in, exports_of}
+use Rattle.ot_find.specs.Matches.{IsFound, HasNoMatch, AreMatches, MatchesAreThose, MatchesOfOneMore}
 
 module _ (p : Tm Name) where
   -- the matches among exports, whatever their sources
@@ -56,7 +58,8 @@ module _ (p : Tm Name) where
   are-among (e ∷ es) (f ∷ fs) (inl h) = ap (λ l. f ∷ l) (are-among es fs h.1) ∙ sym (taken e f (among es) h.0)
   are-among (e ∷ es) (f ∷ fs) (inr h) = are-among es (f ∷ fs) h.1 ∙ sym (left-out e (among es) h.0)
 
-  passed : (e : Export) (es : List Export) (fs : List Found) → HasNoMatch p e → AreMatches p es fs → AreMatches p (e ∷ es) fs
+  passed : (e : Export) (es : List Export) (fs : List Found) → HasNoMatch p e → AreMatches p es fs
+      → AreMatches p (e ∷ es) fs
   passed e es [] n m = (n, m)
   passed e es (f ∷ fs) n m = inr (n, m)
 
@@ -64,12 +67,17 @@ module _ (p : Tm Name) where
   among-are [] = tt
   among-are (e ∷ es) = go (matched names p e.sequent.concl) refl (among-are es)
     where
-      go : (o : Option (TypeMap names × TermMap names)) → matched names p e.sequent.concl ≡ o → AreMatches p es (among es)
+      go : (o : Option (TypeMap names × TermMap names)) → matched names p e.sequent.concl ≡ o
+          → AreMatches p es (among es)
           → AreMatches p (e ∷ es) (found e.source e.sequent o ++ among es)
       go None q m = passed e es (among es) ((none_match names tells_names p e.sequent.concl).0 q) m
       go (Some w) q m =
           inl (
-            record { source = refl; sequent = refl; match_ = (matched_is_match names tells_names p e.sequent.concl w.0 w.1).0 q },
+            record {
+              source = refl;
+              sequent = refl;
+              match_ = (matched_is_match names tells_names p e.sequent.concl w.0 w.1).0 q;
+            },
             m,
           )
 

@@ -1,6 +1,8 @@
 -- The text of the matches, one source and one theorem after another.
 use Rattle.std.specs.Prelude.{codes}
-use Rattle.std.proofs.Common.{◌≡◌, ℕ, ◌+◌, ◌-◌, ◌<◌, ◌≤◌, Bool, true, false, cond, nat_le, List, [], ◌∷◌, ◌++◌, map, length, take, get_or, Option, Some, None, refl, sym, ap, ◌∙◌, subst, append_assoc, append-nil, length-append, inl, inr, arith}
+use Rattle.std.proofs.Common.{◌≡◌, ℕ, ◌+◌, ◌-◌, ◌<◌, ◌≤◌, Bool, true, false, cond, nat_le, List, []}
+use Rattle.std.proofs.Common.{◌∷◌, ◌++◌, map, length, take, get_or, Option, Some, None, refl, sym, ap}
+use Rattle.std.proofs.Common.{◌∙◌, subst, append_assoc, append-nil, length-append, inl, inr, arith}
 use Rattle.std.specs.Prelude.{◌⊎◌, Result, Ok, IfOk}
 use Rattle.std.specs.Option.{option_map}
 use Rattle.std.proofs.lemmas.Bool.Decides.{nat_tests}
@@ -24,7 +26,8 @@ use Rattle.ot_find.specs.declared.search.Search.{Search}
 pub matches-append : (fs gs : List Found) → matches_text (fs ++ gs) ≡ matches_text fs ++ matches_text gs
 matches-append [] gs = refl
 matches-append (f ∷ fs) gs =
-    ap (λ x. found_text f ++ x) (matches-append fs gs) ∙ sym (append_assoc (found_text f) (matches_text fs) (matches_text gs))
+    ap (λ x. found_text f ++ x) (matches-append fs gs)
+    ∙ sym (append_assoc (found_text f) (matches_text fs) (matches_text gs))
 
 -- each has a byte at least
 matches-long : (fs : List Found) → length fs ≤ length (matches_text fs)
@@ -102,7 +105,8 @@ module _ (x : List ℕ) (max : ℕ) where
   held-within Full p h = cc
   held-within NoMemory p h = cc
 
-  pub copied : (s : Printed) (new : List ℕ) → IsPut x (Bytes [] max) s → IsCopied s [] new → (new ≡ x) × (is_stopped s ≡ false)
+  pub copied : (s : Printed) (new : List ℕ) → IsPut x (Bytes [] max) s → IsCopied s [] new
+      → (new ≡ x) × (is_stopped s ≡ false)
   copied (Bytes bs room) new p q = (q ∙ (held bs room p).0, refl)
   copied Full new p q = absurd q
   copied NoMemory new p q = absurd q
@@ -123,7 +127,8 @@ module _ (x : List ℕ) (max : ℕ) where
 -- further matches, whose text was put on the page and which were counted
 pub found-more : (old new : Search) (fs gs : List Found) → new.max ≡ old.max
     → IsPut (matches_text gs) (printed old.page) (printed new.page)
-    → (is_stopped (printed new.page) ≡ false → new.count ≡ old.count + length gs) → HasFound old fs → HasFound new (fs ++ gs)
+    → (is_stopped (printed new.page) ≡ false → new.count ≡ old.count + length gs) → HasFound old fs
+    → HasFound new (fs ++ gs)
 found-more old new fs gs m p n h = record { text = text; count = count }
   where
     text : IsPut (matches_text (fs ++ gs)) (Bytes [] new.max) (printed new.page)
@@ -143,7 +148,8 @@ pub found-few : (old : Search) (new : Printed) (fs gs : List Found) → HasFound
     → IsPut (matches_text gs) (printed old.page) new → is_stopped new ≡ false → old.count + length gs ≤ old.max
 found-few old new fs gs h p open_ =
     let b = h.count (still-open (matches_text gs) (printed old.page) new p open_) in
-    let w = held-within (matches_text (fs ++ gs)) old.max new (same-text (sym (matches-append fs gs)) (then h.text p)) open_ in
+    let w = held-within (matches_text (fs ++ gs)) old.max new (same-text (sym (matches-append fs gs)) (then h.text p))
+    open_ in
     let long = matches-long (fs ++ gs) in
     let l = length-append fs gs in
     omega arith
@@ -154,7 +160,8 @@ pub stopped-step : (old : Search) (fs gs : List Found) → is_stopped (printed o
 stopped-step old fs gs st h =
     found-more old old fs gs refl (stays (printed old.page) st) (λ o. let no : true ≡ false = sym st ∙ o in cc) h
 
-module _ (k : State) (p : Tm Name) (source : List ℕ) (q : Sequent Name) (t : Tm Name) {E : Type 0} (r : Result (Option Match) E)
+module _ (k : State) (p : Tm Name) (source : List ℕ) (q : Sequent Name) (t : Tm Name) {E : Type 0}
+    (r : Result (Option Match) E)
     (is : IfOk r (λ o. option_map (maps_of k) o ≡ matched names p t))
     (at : t ≡ q.concl) (old : Search) (fs : List Found) (h : HasFound old fs) where
   -- the matcher's answer
@@ -195,4 +202,5 @@ whole-text count fs body n b =
 
 -- the whole has more bytes than the matches
 pub whole-long : (fs : List Found) → length (matches_text fs) ≤ length (find_text fs)
-whole-long fs = let n = length-append (codes "matches: " ++ number_text (length fs)) (10 ∷ matches_text fs) in omega arith
+whole-long fs = let n = length-append (codes "matches: " ++ number_text (length fs)) (10 ∷ matches_text fs) in
+    omega arith

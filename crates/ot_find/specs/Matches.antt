@@ -11,7 +11,8 @@ pub record Source : Type 0 where
   pub name : List ℕ
   pub exports : List (Sequent Name)
 
--- an export that the pattern matches: what its source is called, its sequent, and what stands for the pattern's variables
+-- an export that the pattern matches: what its source is called, its sequent, and what stands for the pattern's
+-- variables
 pub record Found : Type 0 where
   pub source : List ℕ
   pub sequent : Sequent Name
@@ -70,9 +71,11 @@ AreMatches p (e ∷ es) (f ∷ fs) = (IsFound p e f × AreMatches p es fs) ⊎ (
 
 -- a law: the computed matches are those, and no other list is
 abbrev pub MatchesAreThose : Type 0
-MatchesAreThose = (p : Tm Name) (ss : List Source) (fs : List Found) → AreMatches p (exports_of ss) fs ↔ (fs ≡ matches p ss)
+MatchesAreThose = (p : Tm Name) (ss : List Source) (fs : List Found) → AreMatches p (exports_of ss) fs
+    ↔ (fs ≡ matches p ss)
 
 -- a law: the matches of one source more stand behind those of the others
 abbrev pub MatchesOfOneMore : Type 0
 MatchesOfOneMore =
-    (p : Tm Name) (ss : List Source) (s : Source) → matches p (ss ++ s ∷ []) ≡ matches p ss ++ matches_in p s.name s.exports
+    (p : Tm Name) (ss : List Source) (s : Source) → matches p (ss ++ s ∷ []) ≡ matches p ss
+    ++ matches_in p s.name s.exports

@@ -7,7 +7,8 @@ use Rattle.ot_plain.specs.Trees.{Symbol, OpSymbol, ConSymbol}
 use Rattle.ot_plain.specs.Lists.{IsMember}
 use Rattle.ot_forms.specs.Words.{is_letter, is_inner, is_part, is_sign, is_operator, same_text, dotted, base}
 use Rattle.ot_forms.specs.Words.{symbol_name, same_kind, is_hidden, IsNotation}
-use Rattle.ot_forms.specs.Reading.{NoForm, Reading, Got, Halted, next, quoted_at, bare_symbol_at, is_spelled, constant_at}
+use Rattle.ot_forms.specs.Reading.{NoForm, Reading, Got, Halted, next, quoted_at}
+use Rattle.ot_forms.specs.Reading.{bare_symbol_at, is_spelled, constant_at}
 use Rattle.ot_forms.specs.Reading.{Candidate, operators, sign_word_at}
 use Rattle.ot_forms.proofs.Readers.{Follows, Reads, Begins, told-follows, same_at, at_byte, at_end, halts_here}
 use Rattle.ot_forms.proofs.Types.{IsEnd, differs}
@@ -15,8 +16,10 @@ use Rattle.ot_forms.proofs.Terms.{SaysConstant, IsConstantEnd}
 use Rattle.ot_forms.proofs.SignWords.{SaysCandidate, AreApart, AreSigns, IsSignEnd, sign-complete, sign-follows}
 use Rattle.ot_forms.proofs.BareWords.{both_true}
 use Rattle.ot_forms.proofs.Spellings.{no_part_space}
-use Rattle.ot_forms.proofs.SymbolWords.{IsKind, SaysSymbol, Bare_symbol, Quote, is_worded, quote_at, is_quote, and_false, dot-part, inner}
-use Rattle.ot_forms.proofs.SymbolWords.{bare_symbol-reads, bare_symbol-byte, some-quote, quote-reads, quote-byte, quote-says, bare-says}
+use Rattle.ot_forms.proofs.SymbolWords.{IsKind, SaysSymbol, Bare_symbol, Quote, is_worded}
+use Rattle.ot_forms.proofs.SymbolWords.{quote_at, is_quote, and_false, dot-part, inner}
+use Rattle.ot_forms.proofs.SymbolWords.{bare_symbol-reads, bare_symbol-byte, some-quote}
+use Rattle.ot_forms.proofs.SymbolWords.{quote-reads, quote-byte, quote-says, bare-says}
 use Rattle.ot_forms.proofs.SymbolWords.{hidden-bare, shown-word}
 
 or-left : (p q : Bool) → p ≡ false → (p || q) ≡ true → q ≡ true
@@ -79,8 +82,12 @@ module _ (hidden : List (Symbol Name)) (nt : IsNotation hidden) where
     first : ◌≡◌ {A = Candidate} (base m, m) (x, n) → is_operator (base m) ≡ true → HasSigns (ConSymbol m ∷ h) x n
     first p q =
         let u : base m ≡ x = ap (λ z. z.0) p in
-        let v : m ≡ n = ap (λ z. z.1) p in
-        ((λ i. (same_name-Decides n m).1 (sym v) i || is_hidden h (ConSymbol n)), sym u ∙ ap base v, ap is_operator (sym u) ∙ q)
+        let v : m ≡ n = ap (λ z. z.1) p in (
+          (λ i. (same_name-Decides n m).1 (sym v) i || is_hidden h (ConSymbol n)),
+          sym u
+              ∙ ap base v,
+          ap is_operator (sym u) ∙ q,
+        )
 
     go : (IsMember (x, n) (operators h) → HasSigns h x n) → (t : Bool) → is_operator (base m) ≡ t
         → IsMember (x, n) (cond t ((base m, m) ∷ operators h) (operators h)) → HasSigns (ConSymbol m ∷ h) x n
@@ -124,7 +131,11 @@ module _ (hidden : List (Symbol Name)) (nt : IsNotation hidden) where
   candidate-says n x h =
       let w = operators-is hidden x n h in
       let two = inner hidden nt ConSymbol constant_symbols n w.0 in
-      record { named = omega (arith, two); text = w.1 ∙ (λ i. cond (sym w.0 i) (base n) (cond (is_worded hidden ConSymbol n) (dotted n) (spelled n))) }
+      record {
+        named = omega (arith, two);
+        text = w.1
+            ∙ (λ i. cond (sym w.0 i) (base n) (cond (is_worded hidden ConSymbol n) (dotted n) (spelled n)));
+      }
 
   -- ---- the three kinds of words
   as_constant : (n : Name) (x : List ℕ) → SaysSymbol hidden ConSymbol n x → SaysConstant hidden n x
@@ -150,10 +161,12 @@ module _ (hidden : List (Symbol Name)) (nt : IsNotation hidden) where
         let signs = or-left (is_part (base n)) (is_operator (base n)) pt (nt.short (ConSymbol n) e) in
         BySigns (subst (λ z. IsMember (z, n) (operators hidden)) (sym q) (operators-has hidden n e signs))
 
-    hides : (b : Bool) → is_hidden hidden (ConSymbol n) ≡ b → x ≡ cond b (base n) (cond (is_worded hidden ConSymbol n) (dotted n) (spelled n))
+    hides : (b : Bool) → is_hidden hidden (ConSymbol n) ≡ b
+        → x ≡ cond b (base n) (cond (is_worded hidden ConSymbol n) (dotted n) (spelled n))
         → Kind_of n x
     hides true e q = based (is_part (base n)) refl e q
-    hides false e q = elim (shown-word hidden nt ConSymbol constant_symbols n x h.named e q) [ inl w ↦ ByQuote w | inr w ↦ ByBare w ]
+    hides false e q = elim (shown-word hidden nt ConSymbol constant_symbols n x h.named e q)
+        [ inl w ↦ ByQuote w | inr w ↦ ByBare w ]
 
   -- ---- the reader, by the first byte
 
@@ -162,11 +175,13 @@ module _ (hidden : List (Symbol Name)) (nt : IsNotation hidden) where
 
   -- behind the first byte, where it is a quote
   abbrev behind_quote : Bool → ℕ → List ℕ → Reading Name
-  behind_quote p b t = let read : Reading (Unit {0}) = cond p (Got tt t) (Halted NoForm (b ∷ t)) in next read (λ _ r. quoted r)
+  behind_quote p b t = let read : Reading (Unit {0}) = cond p (Got tt t) (Halted NoForm (b ∷ t)) in
+      next read (λ _ r. quoted r)
 
   -- what is read where the first byte is a quote, or a byte of operators, or another one
   abbrev by_byte : Bool → Bool → ℕ → List ℕ → Reading Name
-  by_byte p q b t = cond p (quoted t) (cond q (sign_word_at (operators hidden) (b ∷ t)) (bare_symbol_at hidden ConSymbol (b ∷ t)))
+  by_byte p q b t =
+      cond p (quoted t) (cond q (sign_word_at (operators hidden) (b ∷ t)) (bare_symbol_at hidden ConSymbol (b ∷ t)))
 
   abbrev Followed : List ℕ → Reading Name → Type 0
   Followed s o = Follows (SaysConstant hidden) (constant_at hidden) s o
@@ -181,7 +196,8 @@ module _ (hidden : List (Symbol Name)) (nt : IsNotation hidden) where
       (at_byte b s (λ m. sign_word_at [] m ≡ Halted NoForm m) (λ t. refl))
   signs-follow (d ∷ ds) e b s =
       told-follows (SaysCandidate (d ∷ ds)) (SaysConstant hidden) IsEnd (sign_word_at (d ∷ ds))
-      (λ n x h. candidate-says n x (subst (IsMember (x, n)) (sym e) h)) (b ∷ s) (sign_word_at (d ∷ ds) (b ∷ s)) (sign-follows (b ∷ s) d ds)
+      (λ n x h. candidate-says n x (subst (IsMember (x, n)) (sym e) h)) (b ∷ s) (sign_word_at (d ∷ ds) (b ∷ s))
+      (sign-follows (b ∷ s) d ds)
 
   constant-follows : (s : List ℕ) → Followed s (constant_at hidden s)
   constant-follows [] =
@@ -190,18 +206,22 @@ module _ (hidden : List (Symbol Name)) (nt : IsNotation hidden) where
   constant-follows (b ∷ s) = quotes (b == 34) refl where
     signs_or : (t : Bool) → (b == 34) ≡ false → is_sign b ≡ t → Followed (b ∷ s) (by_byte false t b s)
     signs_or true d e =
-        same_at (SaysConstant hidden) (sign_word_at (operators hidden)) (constant_at hidden) b (λ t i. by_byte (d i) (e i) b t) s
+        same_at (SaysConstant hidden) (sign_word_at (operators hidden)) (constant_at hidden) b
+        (λ t i. by_byte (d i) (e i) b t) s
         (sign_word_at (operators hidden) (b ∷ s)) (signs-follow (operators hidden) refl b s)
     signs_or false d e =
-        same_at (SaysConstant hidden) (bare_symbol_at hidden ConSymbol) (constant_at hidden) b (λ t i. by_byte (d i) (e i) b t) s
+        same_at (SaysConstant hidden) (bare_symbol_at hidden ConSymbol) (constant_at hidden) b
+        (λ t i. by_byte (d i) (e i) b t) s
         (bare_symbol_at hidden ConSymbol (b ∷ s))
         (told-follows Bare_word (SaysConstant hidden) IsEnd (bare_symbol_at hidden ConSymbol) bare_word-says (b ∷ s)
-        (bare_symbol_at hidden ConSymbol (b ∷ s)) ((bare_symbol-reads hidden nt ConSymbol constant_symbols).follows (b ∷ s)))
+        (bare_symbol_at hidden ConSymbol (b ∷ s))
+        ((bare_symbol-reads hidden nt ConSymbol constant_symbols).follows (b ∷ s)))
 
     quotes : (t : Bool) → (b == 34) ≡ t → Followed (b ∷ s) (by_byte t (is_sign b) b s)
     quotes true e = subst (Followed (b ∷ s)) (λ i. behind_quote (e i) b s)
         (same_at (SaysConstant hidden) (quote_at hidden ConSymbol) (constant_at hidden) b
-        (λ t. (λ i. by_byte (e i) (is_sign b) b t) ∙ (λ i. behind_quote (sym e i) b t)) s (quote_at hidden ConSymbol (b ∷ s))
+        (λ t. (λ i. by_byte (e i) (is_sign b) b t) ∙ (λ i. behind_quote (sym e i) b t)) s
+        (quote_at hidden ConSymbol (b ∷ s))
         (told-follows Quote_word (SaysConstant hidden) IsEnd (quote_at hidden ConSymbol) quote_word-says (b ∷ s)
         (quote_at hidden ConSymbol (b ∷ s)) ((quote-reads hidden nt ConSymbol constant_symbols).follows (b ∷ s))))
     quotes false e = signs_or (is_sign b) e refl
@@ -220,10 +240,12 @@ module _ (hidden : List (Symbol Name)) (nt : IsNotation hidden) where
   sign-end [] e = refl
   sign-end (b ∷ r) e = (both_true (not (is_inner b || (b == 46))) (not (is_sign b)) e).1
 
-  by-byte : (b : ℕ) (t : List ℕ) (p q : Bool) → (b == 34) ≡ p → is_sign b ≡ q → constant_at hidden (b ∷ t) ≡ by_byte p q b t
+  by-byte : (b : ℕ) (t : List ℕ) (p q : Bool) → (b == 34) ≡ p → is_sign b ≡ q → constant_at hidden (b ∷ t)
+      ≡ by_byte p q b t
   by-byte b t p q d e = λ i. by_byte (d i) (e i) b t
 
-  constant-complete : (n : Name) (x r : List ℕ) → SaysConstant hidden n x → IsConstantEnd r → constant_at hidden (x ++ r) ≡ Got n r
+  constant-complete : (n : Name) (x r : List ℕ) → SaysConstant hidden n x → IsConstantEnd r
+      → constant_at hidden (x ++ r) ≡ Got n r
   constant-complete n x r h e = elim (kind-of n x h) [
     | ByQuote q ↦ quote q
     | BySigns w ↦ operator (signs x n w) (operators-is hidden x n w).2 w
@@ -235,27 +257,31 @@ module _ (hidden : List (Symbol Name)) (nt : IsNotation hidden) where
           same x (quote-byte hidden nt ConSymbol constant_symbols n x q)
           ∙ (quote-reads hidden nt ConSymbol constant_symbols).complete n x r q (word-end r e)
         where
-          same : (x : List ℕ) → Begins is_quote true x → constant_at hidden (x ++ r) ≡ quote_at hidden ConSymbol (x ++ r)
+          same : (x : List ℕ) → Begins is_quote true x → constant_at hidden (x ++ r)
+              ≡ quote_at hidden ConSymbol (x ++ r)
           same x k =
               ap (λ z. constant_at hidden (z ++ r)) k.is
               ∙ by-byte k.byte (k.rest ++ r) true (is_sign k.byte) k.tells refl
               ∙ (λ i. behind_quote (sym k.tells i) k.byte (k.rest ++ r))
               ∙ ap (λ z. quote_at hidden ConSymbol (z ++ r)) (sym k.is)
 
-      operator : list_all is_sign x ≡ true → is_operator x ≡ true → IsMember (x, n) (operators hidden) → constant_at hidden (x ++ r) ≡ Got n r
-      operator hs ho w = first_sign x hs ho ∙ sign-complete x (operators hidden) n r apart signs w (sign-end r e) where
-        first_sign : (y : List ℕ) → list_all is_sign y ≡ true → is_operator y ≡ true
-            → constant_at hidden (y ++ r) ≡ sign_word_at (operators hidden) (y ++ r)
-        first_sign [] hs ho = cc
-        first_sign (b ∷ y) hs ho =
-            let k = (both_true (is_sign b) (list_all is_sign y) hs).0 in
-            by-byte b (y ++ r) false true (differs is_sign 34 b refl k) k
+      operator : list_all is_sign x ≡ true → is_operator x ≡ true → IsMember (x, n) (operators hidden)
+          → constant_at hidden (x ++ r) ≡ Got n r
+      operator hs ho w = first_sign x hs ho
+          ∙ sign-complete x (operators hidden) n r apart signs w (sign-end r e) where
+            first_sign : (y : List ℕ) → list_all is_sign y ≡ true → is_operator y ≡ true
+                → constant_at hidden (y ++ r) ≡ sign_word_at (operators hidden) (y ++ r)
+            first_sign [] hs ho = cc
+            first_sign (b ∷ y) hs ho =
+                let k = (both_true (is_sign b) (list_all is_sign y) hs).0 in
+                by-byte b (y ++ r) false true (differs is_sign 34 b refl k) k
 
       bare : Bare_word n x → constant_at hidden (x ++ r) ≡ Got n r
       bare b =
           let k = bare_symbol-byte hidden ConSymbol n x b in
           ap (λ z. constant_at hidden (z ++ r)) k.is
-          ∙ by-byte k.byte (k.rest ++ r) false false (differs is_letter 34 k.byte refl k.tells) (letter-sign k.byte k.tells)
+          ∙ by-byte k.byte (k.rest ++ r) false false (differs is_letter 34 k.byte refl k.tells)
+          (letter-sign k.byte k.tells)
           ∙ ap (λ z. bare_symbol_at hidden ConSymbol (z ++ r)) (sym k.is)
           ∙ (bare_symbol-reads hidden nt ConSymbol constant_symbols).complete n x r b (word-end r e)
 

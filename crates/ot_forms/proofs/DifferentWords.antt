@@ -12,14 +12,19 @@ use Rattle.ot_forms.proofs.Spellings.{variable-reads}
 got-same : (n m : Name) → ◌≡◌ {A = Reading Name} (Got n []) (Got m []) → n ≡ m
 got-same n m p = cc
 
-pub words-differ : (hidden : List (Symbol Name)) → IsNotation hidden → (s t : Symbol Name) → IsName (symbol_name s) → IsName (symbol_name t) → same_kind s t ≡ true → word hidden s ≡ word hidden t → s ≡ t
+pub words-differ : (hidden : List (Symbol Name)) → IsNotation hidden → (s t : Symbol Name) → IsName (symbol_name s)
+    → IsName (symbol_name t) → same_kind s t ≡ true → word hidden s ≡ word hidden t → s ≡ t
 words-differ hidden nt (ConSymbol n) (ConSymbol m) hn hm k e =
-    let a = (constant-reads hidden nt).complete n (word hidden (ConSymbol n)) [] (record { named = hn; text = refl }) refl in
-    let b = (constant-reads hidden nt).complete m (word hidden (ConSymbol m)) [] (record { named = hm; text = refl }) refl in
+    let a = (constant-reads hidden nt).complete n (word hidden (ConSymbol n)) [] (record { named = hn; text = refl })
+    refl in
+    let b = (constant-reads hidden nt).complete m (word hidden (ConSymbol m)) [] (record { named = hm; text = refl })
+    refl in
     ap ConSymbol (got-same n m (sym a ∙ ap (λ z. constant_at hidden (z ++ [])) e ∙ b))
 words-differ hidden nt (OpSymbol n) (OpSymbol m) hn hm k e =
-    let a = (operator-reads hidden nt).complete n (word hidden (OpSymbol n)) [] (record { named = hn; text = refl }) refl in
-    let b = (operator-reads hidden nt).complete m (word hidden (OpSymbol m)) [] (record { named = hm; text = refl }) refl in
+    let a = (operator-reads hidden nt).complete n (word hidden (OpSymbol n)) [] (record { named = hn; text = refl })
+    refl in
+    let b = (operator-reads hidden nt).complete m (word hidden (OpSymbol m)) [] (record { named = hm; text = refl })
+    refl in
     ap OpSymbol (got-same n m (sym a ∙ ap (λ z. operator_at hidden (z ++ [])) e ∙ b))
 words-differ hidden nt (ConSymbol n) (OpSymbol m) hn hm k e = cc
 words-differ hidden nt (OpSymbol n) (ConSymbol m) hn hm k e = cc

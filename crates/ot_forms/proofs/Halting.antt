@@ -6,14 +6,17 @@ use Rattle.ot_forms.proofs.Readers.{Follows, IsHalted, Reads, first}
 use Rattle.ot_forms.proofs.Types.{IsEnd}
 use Rattle.ot_forms.proofs.Growing.{left, Grows}
 
-module _ {A : Type 0} (P : ℕ → A → List ℕ → Type 0) (read : ℕ → List ℕ → Reading A) (reads : (n : ℕ) → Reads (P n) IsEnd (read n)) (grows : (n : ℕ) (s : List ℕ) → Grows (read n s) (read (suc n) s)) (weaker : (n m : ℕ) (a : A) (x : List ℕ) → P n a x → P (n + m) a x) where
+module _ {A : Type 0} (P : ℕ → A → List ℕ → Type 0) (read : ℕ → List ℕ → Reading A)
+    (reads : (n : ℕ) → Reads (P n) IsEnd (read n)) (grows : (n : ℕ) (s : List ℕ) → Grows (read n s) (read (suc n) s))
+    (weaker : (n m : ℕ) (a : A) (x : List ℕ) → P n a x → P (n + m) a x) where
   -- with any room more it halts at the same byte, where no text goes on
   pub no-form : (n m : ℕ) (s r : List ℕ) → read n s ≡ Halted NoForm r → read (m + n) s ≡ Halted NoForm r
   no-form n zero s r e = ap (λ k. read k s) (zero-add n) ∙ e
   no-form n (suc m) s r e =
       let ih = no-form n m s r e in
       let k : suc m + n ≡ suc (m + n) = omega arith in
-      let g : Grows (Halted NoForm r) (read (suc (m + n)) s) = subst (λ o. Grows o (read (suc (m + n)) s)) ih (grows (m + n) s) in
+      let g : Grows (Halted NoForm r) (read (suc (m + n)) s) =
+      subst (λ o. Grows o (read (suc (m + n)) s)) ih (grows (m + n) s) in
       ap (λ j. read j s) k ∙ sym g
 
   -- ---- the law
@@ -30,7 +33,8 @@ module _ {A : Type 0} (P : ℕ → A → List ℕ → Type 0) (read : ℕ → Li
     pub start : IsStart n front
     pub stop : (b : ℕ) (t : List ℕ) → r ≡ b ∷ t → (m : ℕ) → IsStart m (front ++ b ∷ []) → ⊥
 
-  -- it halts behind the longest front that begins a text; with the next byte the front begins one with one more open, and none with so many
+  -- it halts behind the longest front that begins a text; with the next byte the front begins one with one more open,
+  -- and none with so many
   pub record OpensTooMany (n : ℕ) (s r : List ℕ) : Type 0 where
     pub front : List ℕ
     pub byte : ℕ
@@ -42,11 +46,15 @@ module _ {A : Type 0} (P : ℕ → A → List ℕ → Type 0) (read : ℕ → Li
     pub too_many : IsStart n (front ++ byte ∷ []) → ⊥
 
   -- a front that is halted before its last byte begins no text
-  no-start : (n : ℕ) (w : Reason) (x : List ℕ) (b : ℕ) → ((m : List ℕ) → first m ≡ first (b ∷ []) → read n (x ++ m) ≡ Halted w m) → IsStart n (x ++ b ∷ []) → ⊥
+  no-start : (n : ℕ) (w : Reason) (x : List ℕ) (b : ℕ)
+      → ((m : List ℕ) → first m ≡ first (b ∷ []) → read n (x ++ m) ≡ Halted w m) → IsStart n (x ++ b ∷ []) → ⊥
   no-start n w x b stays h =
-      let whole : read n (((x ++ b ∷ []) ++ h.rest) ++ []) ≡ Got h.value [] = (reads n).complete h.value ((x ++ b ∷ []) ++ h.rest) [] h.says refl in
-      let regrouped : ((x ++ b ∷ []) ++ h.rest) ++ [] ≡ x ++ b ∷ h.rest = append-nil ((x ++ b ∷ []) ++ h.rest) ∙ append_assoc x (b ∷ []) h.rest in
-      let halted : read n (((x ++ b ∷ []) ++ h.rest) ++ []) ≡ Halted w (b ∷ h.rest) = ap (read n) regrouped ∙ stays (b ∷ h.rest) refl in
+      let whole : read n (((x ++ b ∷ []) ++ h.rest) ++ []) ≡ Got h.value [] =
+      (reads n).complete h.value ((x ++ b ∷ []) ++ h.rest) [] h.says refl in
+      let regrouped : ((x ++ b ∷ []) ++ h.rest) ++ [] ≡ x ++ b ∷ h.rest = append-nil ((x ++ b ∷ []) ++ h.rest)
+      ∙ append_assoc x (b ∷ []) h.rest in
+      let halted : read n (((x ++ b ∷ []) ++ h.rest) ++ []) ≡ Halted w (b ∷ h.rest) = ap (read n) regrouped
+      ∙ stays (b ∷ h.rest) refl in
       cc
 
   halted : (n : ℕ) (s : List ℕ) (k : Reason) (r : List ℕ) → read n s ≡ Halted k r → IsHalted (P n) (read n) s k r
@@ -58,18 +66,27 @@ module _ {A : Type 0} (P : ℕ → A → List ℕ → Type 0) (read : ℕ → Li
     is = h.is;
     start = record { rest = h.rest; value = h.value; says = h.says };
     stop = λ b t q m st.
-        let more : (z : List ℕ) → first z ≡ first (b ∷ []) → read (m + n) (h.text ++ z) ≡ Halted NoForm z = λ z d. no-form n m (h.text ++ z) z (h.stays z (d ∙ ap first (sym q))) in
-        no-start (m + n) NoForm h.text b more (record { rest = st.rest; value = st.value; says = weaker m n st.value ((h.text ++ b ∷ []) ++ st.rest) st.says });
+        let more : (z : List ℕ) → first z ≡ first (b ∷ []) → read (m + n) (h.text ++ z) ≡ Halted NoForm z =
+        λ z d. no-form n m (h.text ++ z) z (h.stays z (d ∙ ap first (sym q))) in
+        no-start (m + n) NoForm h.text b more
+        (record {
+          rest = st.rest;
+          value = st.value;
+          says = weaker m n st.value ((h.text ++ b ∷ []) ++ st.rest)
+              st.says;
+        });
   }
 
   pub opens : (n : ℕ) (s r : List ℕ) → read n s ≡ Halted OneTooMany r → OpensTooMany n s r
   opens n s r e = go r e refl where
     go : (q : List ℕ) → read n s ≡ Halted OneTooMany q → r ≡ q → OpensTooMany n s r
-    go [] e d = let g : length (left (read (suc n) s)) < 0 = subst (λ o. Grows o (read (suc n) s)) e (grows n s) in absurd (omega arith)
+    go [] e d = let g : length (left (read (suc n) s)) < 0 = subst (λ o. Grows o (read (suc n) s)) e (grows n s) in
+        absurd (omega arith)
     go (b ∷ t) e d =
         let h = halted n s OneTooMany (b ∷ t) e in
         let one : read n (h.text ++ b ∷ []) ≡ Halted OneTooMany (b ∷ []) = h.stays (b ∷ []) refl in
-        let g : length (left (read (suc n) (h.text ++ b ∷ []))) < 1 = subst (λ o. Grows o (read (suc n) (h.text ++ b ∷ []))) one (grows n (h.text ++ b ∷ [])) in
+        let g : length (left (read (suc n) (h.text ++ b ∷ []))) < 1 =
+        subst (λ o. Grows o (read (suc n) (h.text ++ b ∷ []))) one (grows n (h.text ++ b ∷ [])) in
         record {
           front = h.text;
           byte = b;
@@ -85,12 +102,24 @@ module _ {A : Type 0} (P : ℕ → A → List ℕ → Type 0) (read : ℕ → Li
         empty [] h = refl
         empty (c ∷ q) h = absurd (omega arith)
 
-        passes : (x : List ℕ) (b : ℕ) (o : Reading (A)) → Follows (P (suc n)) (read (suc n)) (x ++ b ∷ []) o → length (left o) < 1 → IsStart (suc n) (x ++ b ∷ [])
-        passes x b (Got u q) h k = record { rest = []; value = u; says = subst (P (suc n) u) (ends h.text q (empty q k) h.is ∙ sym (append-nil (x ++ b ∷ []))) h.says }
+        passes : (x : List ℕ) (b : ℕ) (o : Reading (A)) → Follows (P (suc n)) (read (suc n)) (x ++ b ∷ []) o
+            → length (left o) < 1 → IsStart (suc n) (x ++ b ∷ [])
+        passes x b (Got u q) h k =
+            record {
+              rest = [];
+              value = u;
+              says = subst (P (suc n) u) (ends h.text q (empty q k) h.is ∙ sym (append-nil (x ++ b ∷ []))) h.says;
+            }
           where
             ends : (y q : List ℕ) → q ≡ [] → x ++ b ∷ [] ≡ y ++ q → y ≡ x ++ b ∷ []
             ends y q e d = sym (append-nil y) ∙ ap (λ z. y ++ z) (sym e) ∙ sym d
-        passes x b (Halted w q) h k = record { rest = h.rest; value = h.value; says = subst (λ z. P (suc n) h.value (z ++ h.rest)) (ends h.text q (empty q k) h.is) h.says }
+        passes x b (Halted w q) h k =
+            record {
+              rest = h.rest;
+              value = h.value;
+              says = subst (λ z. P (suc n) h.value (z ++ h.rest))
+                  (ends h.text q (empty q k) h.is) h.says;
+            }
           where
             ends : (y q : List ℕ) → q ≡ [] → x ++ b ∷ [] ≡ y ++ q → y ≡ x ++ b ∷ []
             ends y q e d = sym (append-nil y) ∙ ap (λ z. y ++ z) (sym e) ∙ sym d

@@ -8,8 +8,10 @@ use Rattle.ot_forms.proofs.Readers.{Follows, Reads, behind, at_byte, at_end, hal
 use Rattle.ot_forms.proofs.BareWords.{both_true, and_true}
 
 -- the longest front of bytes of one kind, where its first byte is of some kind
-module _ (starts inner : ℕ → Bool) (on at : List ℕ → Reading (List ℕ)) (on-nil : on [] ≡ Got [] []) (on-cons : (b : ℕ) (s : List ℕ) → on (b ∷ s) ≡ cond (inner b) (mapped (λ x. b ∷ x) (on s)) (Got [] (b ∷ s)))
-    (at-nil : at [] ≡ Halted NoForm []) (at-cons : (b : ℕ) (s : List ℕ) → at (b ∷ s) ≡ cond (starts b) (mapped (λ x. b ∷ x) (on s)) (Halted NoForm (b ∷ s))) (some : ℕ) (some-starts : starts some ≡ true) where
+module _ (starts inner : ℕ → Bool) (on at : List ℕ → Reading (List ℕ)) (on-nil : on [] ≡ Got [] [])
+    (on-cons : (b : ℕ) (s : List ℕ) → on (b ∷ s) ≡ cond (inner b) (mapped (λ x. b ∷ x) (on s)) (Got [] (b ∷ s)))
+    (at-nil : at [] ≡ Halted NoForm []) (at-cons : (b : ℕ) (s : List ℕ) → at (b ∷ s) ≡ cond (starts b)
+    (mapped (λ x. b ∷ x) (on s)) (Halted NoForm (b ∷ s))) (some : ℕ) (some-starts : starts some ≡ true) where
   pub record SaysRest (x y : List ℕ) : Type 0 where
     pub inner_is : list_all inner x ≡ true
     pub text : y ≡ x
@@ -35,34 +37,59 @@ module _ (starts inner : ℕ → Bool) (on at : List ℕ → Reading (List ℕ))
 
   on-complete : (x r : List ℕ) → list_all inner x ≡ true → IsRunEnd r → on (x ++ r) ≡ Got x r
   on-complete [] [] h e = on-nil
-  on-complete [] (b ∷ r) h e = on-cons b r ∙ ap (λ t. cond t (mapped (λ x. b ∷ x) (on r)) (Got [] (b ∷ r))) (flip (inner b) e)
+  on-complete [] (b ∷ r) h e = on-cons b r ∙ ap (λ t. cond t (mapped (λ x. b ∷ x) (on r)) (Got [] (b ∷ r)))
+      (flip (inner b) e)
   on-complete (b ∷ x) r h e = let w = both_true (inner b) (list_all inner x) h in
-      on-cons b (x ++ r) ∙ ap (λ t. cond t (mapped (λ x. b ∷ x) (on (x ++ r))) (Got [] (b ∷ (x ++ r)))) w.0 ∙ ap (mapped (λ x. b ∷ x)) (on-complete x r w.1 e)
+      on-cons b (x ++ r) ∙ ap (λ t. cond t (mapped (λ x. b ∷ x) (on (x ++ r))) (Got [] (b ∷ (x ++ r)))) w.0
+      ∙ ap (mapped (λ x. b ∷ x)) (on-complete x r w.1 e)
 
-  on-byte : (b : ℕ) (s : List ℕ) → Follows SaysRest on s (on s) → (t : Bool) → inner b ≡ t → Follows SaysRest on (b ∷ s) (cond t (mapped (λ x. b ∷ x) (on s)) (Got [] (b ∷ s)))
-  on-byte b s h true e = behind SaysRest SaysRest on on (λ x. b ∷ x) b (λ z. on-cons b z ∙ ap (λ t. cond t (mapped (λ x. b ∷ x) (on z)) (Got [] (b ∷ z))) e)
-      (λ x y w. record { inner_is = and_true (inner b) (list_all inner x) e w.inner_is; text = ap (λ z. b ∷ z) w.text }) s (on s) h
-  on-byte b s h false e = ends_here SaysRest on (b ∷ s) [] (record { inner_is = refl; text = refl }) (at_byte b s (λ m. on m ≡ Got [] m) (λ z. on-cons b z ∙ ap (λ t. cond t (mapped (λ x. b ∷ x) (on z)) (Got [] (b ∷ z))) e))
+  on-byte : (b : ℕ) (s : List ℕ) → Follows SaysRest on s (on s) → (t : Bool) → inner b ≡ t
+      → Follows SaysRest on (b ∷ s) (cond t (mapped (λ x. b ∷ x) (on s)) (Got [] (b ∷ s)))
+  on-byte b s h true e = behind SaysRest SaysRest on on (λ x. b ∷ x) b
+      (λ z. on-cons b z ∙ ap (λ t. cond t (mapped (λ x. b ∷ x) (on z)) (Got [] (b ∷ z))) e)
+      (λ x y w. record {
+        inner_is = and_true (inner b) (list_all inner x) e w.inner_is;
+        text = ap (λ z. b ∷ z) w.text;
+      }) s (on s) h
+  on-byte b s h false e = ends_here SaysRest on (b ∷ s) [] (record { inner_is = refl; text = refl })
+      (at_byte b s (λ m. on m ≡ Got [] m)
+      (λ z. on-cons b z ∙ ap (λ t. cond t (mapped (λ x. b ∷ x) (on z)) (Got [] (b ∷ z))) e))
 
   on-follows : (s : List ℕ) → Follows SaysRest on s (on s)
-  on-follows [] = subst (Follows SaysRest on []) (sym on-nil) (ends_here SaysRest on [] [] (record { inner_is = refl; text = refl }) (at_end (λ m. on m ≡ Got [] m) on-nil))
-  on-follows (b ∷ s) = subst (Follows SaysRest on (b ∷ s)) (sym (on-cons b s)) (on-byte b s (on-follows s) (inner b) refl)
+  on-follows [] = subst (Follows SaysRest on []) (sym on-nil)
+      (ends_here SaysRest on [] [] (record { inner_is = refl; text = refl }) (at_end (λ m. on m ≡ Got [] m) on-nil))
+  on-follows (b ∷ s) =
+      subst (Follows SaysRest on (b ∷ s)) (sym (on-cons b s)) (on-byte b s (on-follows s) (inner b) refl)
 
   some-run : SaysRun (some ∷ []) (some ∷ [])
   some-run = record { first_byte = some; rest = []; is = refl; begins = some-starts; inner_is = refl; text = refl }
 
-  at-byte : (b : ℕ) (s : List ℕ) → (t : Bool) → starts b ≡ t → Follows SaysRun at (b ∷ s) (cond t (mapped (λ x. b ∷ x) (on s)) (Halted NoForm (b ∷ s)))
-  at-byte b s true e = behind SaysRest SaysRun on at (λ x. b ∷ x) b (λ z. at-cons b z ∙ ap (λ t. cond t (mapped (λ x. b ∷ x) (on z)) (Halted NoForm (b ∷ z))) e)
-      (λ x y w. record { first_byte = b; rest = x; is = refl; begins = e; inner_is = w.inner_is; text = ap (λ z. b ∷ z) w.text }) s (on s) (on-follows s)
-  at-byte b s false e = halts_here SaysRun at (b ∷ s) NoForm (some ∷ []) (some ∷ []) some-run (at_byte b s (λ m. at m ≡ Halted NoForm m) (λ z. at-cons b z ∙ ap (λ t. cond t (mapped (λ x. b ∷ x) (on z)) (Halted NoForm (b ∷ z))) e))
+  at-byte : (b : ℕ) (s : List ℕ) → (t : Bool) → starts b ≡ t
+      → Follows SaysRun at (b ∷ s) (cond t (mapped (λ x. b ∷ x) (on s)) (Halted NoForm (b ∷ s)))
+  at-byte b s true e = behind SaysRest SaysRun on at (λ x. b ∷ x) b
+      (λ z. at-cons b z ∙ ap (λ t. cond t (mapped (λ x. b ∷ x) (on z)) (Halted NoForm (b ∷ z))) e)
+      (λ x y w. record {
+        first_byte = b;
+        rest = x;
+        is = refl;
+        begins = e;
+        inner_is = w.inner_is;
+        text = ap (λ z. b ∷ z) w.text;
+      }) s (on s) (on-follows s)
+  at-byte b s false e = halts_here SaysRun at (b ∷ s) NoForm (some ∷ []) (some ∷ []) some-run
+      (at_byte b s (λ m. at m ≡ Halted NoForm m)
+      (λ z. at-cons b z ∙ ap (λ t. cond t (mapped (λ x. b ∷ x) (on z)) (Halted NoForm (b ∷ z))) e))
 
   at-follows : (s : List ℕ) → Follows SaysRun at s (at s)
-  at-follows [] = subst (Follows SaysRun at []) (sym at-nil) (halts_here SaysRun at [] NoForm (some ∷ []) (some ∷ []) some-run (at_end (λ m. at m ≡ Halted NoForm m) at-nil))
+  at-follows [] = subst (Follows SaysRun at []) (sym at-nil)
+      (halts_here SaysRun at [] NoForm (some ∷ []) (some ∷ []) some-run (at_end (λ m. at m ≡ Halted NoForm m) at-nil))
   at-follows (b ∷ s) = subst (Follows SaysRun at (b ∷ s)) (sym (at-cons b s)) (at-byte b s (starts b) refl)
 
   pub run-reads : Reads SaysRun IsRunEnd at
   run-reads = record {
-    complete = λ x y r w e. ap (λ z. at (z ++ r)) (w.text ∙ w.is) ∙ at-cons w.first_byte (w.rest ++ r) ∙ ap (λ t. cond t (mapped (λ x. w.first_byte ∷ x) (on (w.rest ++ r))) (Halted NoForm (w.first_byte ∷ (w.rest ++ r)))) w.begins
+    complete = λ x y r w e. ap (λ z. at (z ++ r)) (w.text ∙ w.is) ∙ at-cons w.first_byte (w.rest ++ r)
+        ∙ ap (λ t. cond t (mapped (λ x. w.first_byte ∷ x) (on (w.rest ++ r)))
+        (Halted NoForm (w.first_byte ∷ (w.rest ++ r)))) w.begins
         ∙ ap (mapped (λ x. w.first_byte ∷ x)) (on-complete w.rest r w.inner_is e) ∙ ap (λ z. Got z r) (sym w.is);
     follows = at-follows;
   }

@@ -5,7 +5,8 @@ use Rattle.std.proofs.Common.{refl, ◌∙◌, ap, append_assoc, length-append, 
 use Rattle.std.proofs.lemmas.Bool.{and_parts}
 use Rattle.ot_plain.specs.Names.{Name, IsName, same_name, same_name-Decides}
 use Rattle.ot_plain.specs.Trees.{Symbol}
-use Rattle.ot_forms.specs.Words.{is_letter, is_inner, is_part, is_bare, dotted, base, symbol_name, same_kind, same_symbol, is_hidden}
+use Rattle.ot_forms.specs.Words.{is_letter, is_inner, is_part, is_bare, dotted, base}
+use Rattle.ot_forms.specs.Words.{symbol_name, same_kind, same_symbol, is_hidden}
 use Rattle.ot_forms.proofs.BareWords.{both_true, and_true}
 
 abbrev pub letters : ℕ → List ℕ
@@ -25,16 +26,20 @@ padded n (c ∷ d ∷ ds) = c ∷ padded n (d ∷ ds)
 inner-letters : (c : List ℕ) (n : ℕ) → list_all is_inner c ≡ true → list_all is_inner (c ++ letters n) ≡ true
 inner-letters [] zero h = refl
 inner-letters [] (suc n) h = inner-letters [] n refl
-inner-letters (b ∷ c) n h = let w = both_true (is_inner b) (list_all is_inner c) h in and_true (is_inner b) (list_all is_inner (c ++ letters n)) w.0 (inner-letters c n w.1)
+inner-letters (b ∷ c) n h = let w = both_true (is_inner b) (list_all is_inner c) h in
+    and_true (is_inner b) (list_all is_inner (c ++ letters n)) w.0 (inner-letters c n w.1)
 
 part-letters : (c : List ℕ) (n : ℕ) → is_part c ≡ true → is_part (c ++ letters n) ≡ true
 part-letters [] n h = cc
-part-letters (b ∷ c) n h = let w = both_true (is_letter b) (list_all is_inner c) h in and_true (is_letter b) (list_all is_inner (c ++ letters n)) w.0 (inner-letters c n w.1)
+part-letters (b ∷ c) n h = let w = both_true (is_letter b) (list_all is_inner c) h in
+    and_true (is_letter b) (list_all is_inner (c ++ letters n)) w.0 (inner-letters c n w.1)
 
 pub bare-padded : (n : ℕ) (m : Name) → is_bare m ≡ true → is_bare (padded n m) ≡ true
 bare-padded n [] h = refl
-bare-padded n (c ∷ []) h = let w = both_true (is_part c) true h in and_true (is_part (c ++ letters n)) true (part-letters c n w.0) refl
-bare-padded n (c ∷ d ∷ ds) h = let w = both_true (is_part c) (is_bare (d ∷ ds)) h in and_true (is_part c) (is_bare (padded n (d ∷ ds))) w.0 (bare-padded n (d ∷ ds) w.1)
+bare-padded n (c ∷ []) h = let w = both_true (is_part c) true h in
+    and_true (is_part (c ++ letters n)) true (part-letters c n w.0) refl
+bare-padded n (c ∷ d ∷ ds) h = let w = both_true (is_part c) (is_bare (d ∷ ds)) h in
+    and_true (is_part c) (is_bare (padded n (d ∷ ds))) w.0 (bare-padded n (d ∷ ds) w.1)
 
 pub named-padded : (n : ℕ) (m : Name) → IsName m → IsName (padded n m)
 named-padded n [] h = h
@@ -45,7 +50,8 @@ pub dotted-padded : (n : ℕ) (m : Name) → IsName m → dotted m ++ letters n 
 dotted-padded n [] h = absurd (omega arith)
 dotted-padded n (c ∷ []) h = refl
 dotted-padded n (c ∷ d ∷ []) h = append_assoc c (46 ∷ d) (letters n)
-dotted-padded n (c ∷ d ∷ e ∷ es) h = append_assoc c (46 ∷ dotted (d ∷ e ∷ es)) (letters n) ∙ ap (λ z. c ++ 46 ∷ z) (dotted-padded n (d ∷ e ∷ es) (omega arith))
+dotted-padded n (c ∷ d ∷ e ∷ es) h = append_assoc c (46 ∷ dotted (d ∷ e ∷ es)) (letters n)
+    ∙ ap (λ z. c ++ 46 ∷ z) (dotted-padded n (d ∷ e ∷ es) (omega arith))
 
 base-padded : (n : ℕ) (m : Name) → IsName m → n ≤ length (base (padded n m))
 base-padded n [] h = absurd (omega arith)
@@ -58,18 +64,22 @@ abbrev pub base_bytes : List (Symbol Name) → ℕ
 base_bytes [] = 0
 base_bytes (t ∷ h) = length (base (symbol_name t)) + base_bytes h
 
-hidden-within : (h : List (Symbol Name)) (s : Symbol Name) → is_hidden h s ≡ true → length (base (symbol_name s)) ≤ base_bytes h
+hidden-within : (h : List (Symbol Name)) (s : Symbol Name) → is_hidden h s ≡ true → length (base (symbol_name s))
+    ≤ base_bytes h
 hidden-within [] s e = cc
 hidden-within (t ∷ h) s e = go (hidden-within h s) (same_symbol s t) refl e where
-  go : (is_hidden h s ≡ true → length (base (symbol_name s)) ≤ base_bytes h) → (b : Bool) → same_symbol s t ≡ b → (b || is_hidden h s) ≡ true → length (base (symbol_name s)) ≤ base_bytes (t ∷ h)
+  go : (is_hidden h s ≡ true → length (base (symbol_name s)) ≤ base_bytes h) → (b : Bool) → same_symbol s t ≡ b
+      → (b || is_hidden h s) ≡ true → length (base (symbol_name s)) ≤ base_bytes (t ∷ h)
   go ih true q k =
       let w = and_parts (same_kind s t) (same_name (symbol_name s) (symbol_name t)) q in
-      let p : length (base (symbol_name s)) ≡ length (base (symbol_name t)) = ap (λ n. length (base n)) ((same_name-Decides (symbol_name s) (symbol_name t)).0 w.1) in
+      let p : length (base (symbol_name s)) ≡ length (base (symbol_name t)) =
+      ap (λ n. length (base n)) ((same_name-Decides (symbol_name s) (symbol_name t)).0 w.1) in
       omega arith
   go ih false q k = let w = ih k in omega (arith, w)
 
 -- with so many letters it isn't hidden
-pub not-hidden : (h : List (Symbol Name)) (kind : Name → Symbol Name) (m : Name) → ((n : Name) → symbol_name (kind n) ≡ n) → IsName m → is_hidden h (kind (padded (suc (base_bytes h)) m)) ≡ false
+pub not-hidden : (h : List (Symbol Name)) (kind : Name → Symbol Name) (m : Name)
+    → ((n : Name) → symbol_name (kind n) ≡ n) → IsName m → is_hidden h (kind (padded (suc (base_bytes h)) m)) ≡ false
 not-hidden h kind m of_kind hm = go (is_hidden h (kind (padded (suc (base_bytes h)) m))) refl where
   go : (b : Bool) → is_hidden h (kind (padded (suc (base_bytes h)) m)) ≡ b → b ≡ false
   go true e =

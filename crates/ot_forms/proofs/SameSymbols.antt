@@ -6,12 +6,17 @@ use Rattle.ot_plain.specs.Names.{Name, spelled}
 use Rattle.ot_plain.specs.Naming.{names}
 use Rattle.ot_plain.specs.Hol.{same_ty}
 use Rattle.ot_plain.specs.Lists.{IsMember, IsSameSet}
-use Rattle.ot_plain.specs.Trees.{Ty, Tys, TyVar, TyOp, NoTys, MoreTys, Tm, Free, Con, Bound, App, Abs, Sequent, Symbol, ConSymbol, OpSymbol}
+use Rattle.ot_plain.specs.Trees.{Ty, Tys, TyVar, TyOp, NoTys, MoreTys, Tm, Free, Con}
+use Rattle.ot_plain.specs.Trees.{Bound, App, Abs, Sequent, Symbol, ConSymbol, OpSymbol}
 use Rattle.ot_text.specs.Texts.{is_function, is_equation, ascending, hyps_text}
-use Rattle.ot_forms.specs.Words.{is_bare, dotted, is_operator, variable_word, symbol_name, same_kind, same_text, same_symbol, base, is_short, is_shown, is_alike, is_hidden_in, hidden_symbols, is_hidden, word, IsNotation}
-use Rattle.ot_forms.specs.Forms.{Written, Writtens, Place, FreeAs, ConAs, Equal, Infix, Applied, Binding, NoMore, More, type_text, types_text, term_text, terms_text}
+use Rattle.ot_forms.specs.Words.{is_bare, dotted, is_operator, variable_word, symbol_name, same_kind}
+use Rattle.ot_forms.specs.Words.{same_text, same_symbol, base, is_short, is_shown, is_alike}
+use Rattle.ot_forms.specs.Words.{is_hidden_in, hidden_symbols, is_hidden, word, IsNotation}
+use Rattle.ot_forms.specs.Forms.{Written, Writtens, Place, FreeAs, ConAs, Equal, Infix, Applied}
+use Rattle.ot_forms.specs.Forms.{Binding, NoMore, More, type_text, types_text, term_text, terms_text}
 use Rattle.ot_forms.specs.Meaning.{relation_ty}
-use Rattle.ot_forms.specs.Printing.{binder_name, is_relation, operator_of, with_argument, written, written_argument, applied_to, readable_term, readable_text}
+use Rattle.ot_forms.specs.Printing.{binder_name, is_relation, operator_of, with_argument, written}
+use Rattle.ot_forms.specs.Printing.{written_argument, applied_to, readable_term, readable_text}
 use Rattle.ot_plain.proofs.Members.{member_from_any}
 
 -- ---- tests over lists of one set
@@ -38,7 +43,8 @@ any-same p xs ys s = both _ _
 all-any : {X : Type 0} (p : X → Bool) (xs : List X) → list_all p xs ≡ not (list_any (λ x. not (p x)) xs)
 all-any p [] = refl
 all-any p (x ∷ xs) = go (p x) (all-any p xs) where
-  go : (t : Bool) → list_all p xs ≡ not (list_any (λ x. not (p x)) xs) → (t && list_all p xs) ≡ not (not t || list_any (λ x. not (p x)) xs)
+  go : (t : Bool) → list_all p xs ≡ not (list_any (λ x. not (p x)) xs)
+      → (t && list_all p xs) ≡ not (not t || list_any (λ x. not (p x)) xs)
   go true e = e
   go false e = refl
 
@@ -47,10 +53,12 @@ all-same p xs ys s = all-any p xs ∙ ap not (any-same (λ x. not (p x)) xs ys s
 
 -- ---- the hidden symbols
 
-any-filter : {X : Type 0} (test p : X → Bool) (xs : List X) → list_any test (filter p xs) ≡ list_any (λ x. p x && test x) xs
+any-filter : {X : Type 0} (test p : X → Bool) (xs : List X) → list_any test (filter p xs)
+    ≡ list_any (λ x. p x && test x) xs
 any-filter test p [] = refl
 any-filter test p (x ∷ xs) = go (p x) (any-filter test p xs) where
-  go : (t : Bool) → list_any test (filter p xs) ≡ list_any (λ x. p x && test x) xs → list_any test (cond t (x ∷ filter p xs) (filter p xs)) ≡ ((t && test x) || list_any (λ x. p x && test x) xs)
+  go : (t : Bool) → list_any test (filter p xs) ≡ list_any (λ x. p x && test x) xs
+      → list_any test (cond t (x ∷ filter p xs) (filter p xs)) ≡ ((t && test x) || list_any (λ x. p x && test x) xs)
   go true e = ap (λ b. test x || b) e
   go false e = e
 
@@ -58,9 +66,12 @@ any-filter test p (x ∷ xs) = go (p x) (any-filter test p xs) where
 abbrev pub AreAlike : List (Symbol Name) → List (Symbol Name) → Type 0
 AreAlike hs gs = (test : Symbol Name → Bool) → list_any test hs ≡ list_any test gs
 
-pub alike : (shown : List Name) (xs ys : List (Symbol Name)) → IsSameSet xs ys → AreAlike (hidden_symbols shown xs) (hidden_symbols shown ys)
+pub alike : (shown : List Name) (xs ys : List (Symbol Name)) → IsSameSet xs ys
+    → AreAlike (hidden_symbols shown xs) (hidden_symbols shown ys)
 alike shown xs ys s test =
-    let hides : (x : Symbol Name) → is_hidden_in shown xs x ≡ is_hidden_in shown ys x = λ x. ap (λ b. is_shown shown x && (is_short x && b)) (all-same (λ t. not (is_alike x t && is_shown shown t) || same_symbol x t) xs ys s) in
+    let hides : (x : Symbol Name) → is_hidden_in shown xs x ≡ is_hidden_in shown ys x =
+    λ x. ap (λ b. is_shown shown x && (is_short x && b))
+    (all-same (λ t. not (is_alike x t && is_shown shown t) || same_symbol x t) xs ys s) in
     any-filter test (is_hidden_in shown xs) xs
     ∙ (λ i. list_any (λ x. hides x i && test x) xs)
     ∙ any-same (λ x. is_hidden_in shown ys x && test x) xs ys s
@@ -93,32 +104,39 @@ module _ (hs gs : List (Symbol Name)) (same : AreAlike hs gs) where
         let one = same-type a in
         let further = same-types ts in
         let all = same-types (MoreTys a ts) in
-        λ i. cond (is_function names (TyOp n (MoreTys a ts))) (codes "(" ++ one i ++ codes " ->" ++ further i ++ codes ")") (codes "(" ++ same-word (OpSymbol n) i ++ all i ++ codes ")")
+        λ i. cond (is_function names (TyOp n (MoreTys a ts)))
+        (codes "(" ++ one i ++ codes " ->" ++ further i ++ codes ")")
+        (codes "(" ++ same-word (OpSymbol n) i ++ all i ++ codes ")")
 
     same-types : (ts : Tys Name) → types_text hs ts ≡ types_text gs ts
     same-types NoTys = refl
-    same-types (MoreTys t ts) = let one = same-type t in let further = same-types ts in λ i. codes " " ++ one i ++ further i
+    same-types (MoreTys t ts) = let one = same-type t in let further = same-types ts in
+        λ i. codes " " ++ one i ++ further i
 
   mutual
     pub same-term : (w : Written) → term_text hs w ≡ term_text gs w
     same-term (Place x) = refl
     same-term (FreeAs n t) = λ i. codes "(" ++ variable_word n ++ codes " : " ++ same-type t i ++ codes ")"
     same-term (ConAs n t) = λ i. codes "{" ++ same-word (ConSymbol n) i ++ codes " : " ++ same-type t i ++ codes "}"
-    same-term (Equal a b) = let x = same-term a in let y = same-term b in λ i. codes "(" ++ x i ++ codes " = " ++ y i ++ codes ")"
-    same-term (Infix o a b) = let x = same-term a in let y = same-term b in λ i. codes "(" ++ x i ++ codes " " ++ o ++ codes " " ++ y i ++ codes ")"
+    same-term (Equal a b) = let x = same-term a in let y = same-term b in
+        λ i. codes "(" ++ x i ++ codes " = " ++ y i ++ codes ")"
+    same-term (Infix o a b) = let x = same-term a in let y = same-term b in
+        λ i. codes "(" ++ x i ++ codes " " ++ o ++ codes " " ++ y i ++ codes ")"
     same-term (Applied f a more) =
         let x = same-term f in
         let y = same-term a in
         let z = same-terms more in
         λ i. codes "(" ++ x i ++ codes " " ++ y i ++ z i ++ codes ")"
-    same-term (Binding x t a) = let y = same-term a in λ i. codes "(\\" ++ x ++ codes " : " ++ same-type t i ++ codes " . " ++ y i ++ codes ")"
+    same-term (Binding x t a) = let y = same-term a in
+        λ i. codes "(\\" ++ x ++ codes " : " ++ same-type t i ++ codes " . " ++ y i ++ codes ")"
 
     same-terms : (ws : Writtens) → terms_text hs ws ≡ terms_text gs ws
     same-terms NoMore = refl
     same-terms (More a more) = let x = same-term a in let y = same-terms more in λ i. codes " " ++ x i ++ y i
 
   same-relation : (t : Tm Name) → is_relation hs t ≡ is_relation gs t
-  same-relation (App (Con n t) x) = λ i. same-hidden (ConSymbol n) i && (is_operator (base n) && same_ty names t relation_ty)
+  same-relation (App (Con n t) x) =
+      λ i. same-hidden (ConSymbol n) i && (is_operator (base n) && same_ty names t relation_ty)
   same-relation (App (Free v) x) = refl
   same-relation (App (Bound k) x) = refl
   same-relation (App (App f y) x) = refl
@@ -137,7 +155,8 @@ module _ (hs gs : List (Symbol Name)) (same : AreAlike hs gs) where
         let left = same-argument k f in
         let right = same-written k x in
         let front = same-applied k f in
-        λ i. cond (is_equation names (App f x)) (Equal (left i) (right i)) (cond (same-relation f i) (Infix (operator_of f) (left i) (right i)) (front (right i) i))
+        λ i. cond (is_equation names (App f x)) (Equal (left i) (right i))
+        (cond (same-relation f i) (Infix (operator_of f) (left i) (right i)) (front (right i) i))
     same-written k (Abs t b) = ap (Binding (binder_name k) t) (same-written (suc k) b)
 
     same-argument : (k : ℕ) (t : Tm Name) → written_argument hs k t ≡ written_argument gs k t
@@ -155,10 +174,12 @@ module _ (hs gs : List (Symbol Name)) (same : AreAlike hs gs) where
     same-applied k (Free v) b = refl
     same-applied k (Con n t) b = refl
     same-applied k (Bound i) b = refl
-    same-applied k (Abs t c) b = let body = same-written (suc k) c in λ i. Applied (Binding (binder_name k) t (body i)) b NoMore
+    same-applied k (Abs t c) b = let body = same-written (suc k) c in
+        λ i. Applied (Binding (binder_name k) t (body i)) b NoMore
 
   same-readable_term : (t : Tm Name) → readable_term hs t ≡ readable_term gs t
   same-readable_term t = same-term (written hs 0 t) ∙ ap (term_text gs) (same-written 0 t)
 
   pub same-readable_text : (q : Sequent Name) → readable_text hs q ≡ readable_text gs q
-  same-readable_text q = λ i. hyps_text (ascending (map (λ t. same-readable_term t i) q.hyps)) ++ same-readable_term q.concl i
+  same-readable_text q = λ i. hyps_text (ascending (map (λ t. same-readable_term t i) q.hyps))
+      ++ same-readable_term q.concl i

@@ -6,9 +6,12 @@ use Rattle.std.specs.Option.{unwrap_or}
 use Rattle.std.proofs.Common.{refl, sym, ◌∙◌, ap, subst, inl, inr, lit<, arith}
 use Rattle.ot_plain.specs.Names.{Name, IsName, spelled}
 use Rattle.ot_plain.specs.Trees.{Symbol}
-use Rattle.ot_forms.specs.Words.{is_letter, is_inner, is_part, is_bare, is_short, dotted, base, symbol_name, same_kind, is_hidden, is_taken, IsNotation}
-use Rattle.ot_forms.specs.Reading.{Reading, next, kept, literal_at, bare_at, quoted_at, with_base, settled, bare_symbol_at}
-use Rattle.ot_forms.proofs.Readers.{Reads, Joined, Image, Kept, Extends, Begins, Is, Any, join, mapped-reads, kept-reads, literal-reads, weaken}
+use Rattle.ot_forms.specs.Words.{is_letter, is_inner, is_part, is_bare, is_short, dotted, base}
+use Rattle.ot_forms.specs.Words.{symbol_name, same_kind, is_hidden, is_taken, IsNotation}
+use Rattle.ot_forms.specs.Reading.{Reading, next, kept, literal_at, bare_at}
+use Rattle.ot_forms.specs.Reading.{quoted_at, with_base, settled, bare_symbol_at}
+use Rattle.ot_forms.proofs.Readers.{Reads, Joined, Image, Kept, Extends, Begins, Is, Any}
+use Rattle.ot_forms.proofs.Readers.{join, mapped-reads, kept-reads, literal-reads, weaken}
 use Rattle.ot_forms.proofs.Types.{IsEnd}
 use Rattle.ot_forms.proofs.BareWords.{SaysBare, bare-reads, both_true}
 use Rattle.ot_forms.proofs.Spellings.{inside, with_space, no_bare_space, SaysQuoted, quoted-reads, bare-byte}
@@ -92,7 +95,8 @@ module _ (hidden : List (Symbol Name)) (nt : IsNotation hidden) (kind : Name →
       }
 
   pub bare_symbol-reads : Reads (Bare_symbol hidden kind) IsEnd (bare_symbol_at hidden kind)
-  bare_symbol-reads = mapped-reads (settled hidden kind) (Kept_bare hidden kind) IsEnd (λ s. kept (λ n. not (is_hidden hidden (kind n))) (bare_at s))
+  bare_symbol-reads = mapped-reads (settled hidden kind) (Kept_bare hidden kind) IsEnd
+      (λ s. kept (λ n. not (is_hidden hidden (kind n))) (bare_at s))
       (kept-reads SaysBare IsEnd bare_at (λ n. not (is_hidden hidden (kind n))) extend bare-reads)
 
   -- ---- quoted words
@@ -123,7 +127,8 @@ module _ (hidden : List (Symbol Name)) (nt : IsNotation hidden) (kind : Name →
 
   pub quote-reads : Reads Quote IsEnd (quote_at hidden kind)
   quote-reads = weaken Quote Any IsEnd (quote_at hidden kind) (λ _ _. tt)
-      (join (Is (codes "\"")) (λ _. Quoted) Any Any (literal_at (codes "\"")) (λ _ r. quoted_at (spells hidden kind) r)
+      (join (Is (codes "\"")) (λ _. Quoted) Any Any (literal_at (codes "\""))
+      (λ _ r. quoted_at (spells hidden kind) r)
       (literal-reads (codes "\"")) (λ _. quoted-reads (spells hidden kind) spaced)
       (λ _. (codes " " ∷ [], codes " \"", some-quoted)) (λ _ _ _ _ _ _. tt))
 
@@ -138,7 +143,8 @@ module _ (hidden : List (Symbol Name)) (nt : IsNotation hidden) (kind : Name →
       let nb = flip (is_worded hidden kind n) e.1 in
       record {
         named = w.named;
-        text = q.is ∙ ap (λ z. z ++ q.back) q.says ∙ w.text ∙ (λ i. cond (sym nh i) (base n) (cond (sym nb i) (dotted n) (spelled n)));
+        text = q.is ∙ ap (λ z. z ++ q.back) q.says ∙ w.text
+            ∙ (λ i. cond (sym nh i) (base n) (cond (sym nb i) (dotted n) (spelled n)));
       }
 
   -- ---- what a bare word says
@@ -147,7 +153,8 @@ module _ (hidden : List (Symbol Name)) (nt : IsNotation hidden) (kind : Name →
   pub inner : (n : Name) → is_hidden hidden (kind n) ≡ true → 1 < length n
   inner n h = subst (λ z. 1 < length z) (k.named n) (nt.inner (kind n) h)
 
-  settled-says : (m : Name) (x : List ℕ) → Kept_bare hidden kind m x → SaysSymbol hidden kind (settled hidden kind m) x
+  settled-says : (m : Name) (x : List ℕ) → Kept_bare hidden kind m x
+      → SaysSymbol hidden kind (settled hidden kind m) x
   settled-says [] x h = absurd (let w = h.says.named in omega (arith, w))
   settled-says (c ∷ []) x h = go (with_base hidden (kind (c ∷ [])) c) refl where
     go : (o : Option Name) → with_base hidden (kind (c ∷ [])) c ≡ o → SaysSymbol hidden kind (unwrap_or o (c ∷ [])) x
@@ -158,14 +165,16 @@ module _ (hidden : List (Symbol Name)) (nt : IsNotation hidden) (kind : Name →
         let two = inner n hid in
         record {
           named = omega (arith, two);
-          text = h.says.text ∙ f.base_is ∙ (λ i. cond (sym hid i) (base n) (cond (is_worded hidden kind n) (dotted n) (spelled n)));
+          text = h.says.text ∙ f.base_is
+              ∙ (λ i. cond (sym hid i) (base n) (cond (is_worded hidden kind n) (dotted n) (spelled n)));
         }
     go None e =
         let nh = flip (is_hidden hidden (kind (c ∷ []))) h.fine in
         let free = with_base-none hidden (kind (c ∷ [])) c e in
         record {
           named = lit< tt;
-          text = h.says.text ∙ (λ i. cond (sym nh i) c (cond (sym h.says.bare i && not (sym free i)) c (spelled (c ∷ []))));
+          text = h.says.text
+              ∙ (λ i. cond (sym nh i) c (cond (sym h.says.bare i && not (sym free i)) c (spelled (c ∷ []))));
         }
   settled-says (c ∷ d ∷ ds) x h =
       let n = c ∷ d ∷ ds in
@@ -173,14 +182,16 @@ module _ (hidden : List (Symbol Name)) (nt : IsNotation hidden) (kind : Name →
       let free = not_taken (is_taken hidden (kind n) (dotted n)) refl in
       record {
         named = omega arith;
-        text = h.says.text ∙ (λ i. cond (sym nh i) (base n) (cond (sym h.says.bare i && not (sym free i)) (dotted n) (spelled n)));
+        text = h.says.text
+            ∙ (λ i. cond (sym nh i) (base n) (cond (sym h.says.bare i && not (sym free i)) (dotted n) (spelled n)));
       }
     where
       not_taken : (b : Bool) → is_taken hidden (kind (c ∷ d ∷ ds)) (dotted (c ∷ d ∷ ds)) ≡ b → b ≡ false
       not_taken true e =
           let t = taken-base hidden (kind (c ∷ d ∷ ds)) (dotted (c ∷ d ∷ ds)) e in
           let n = symbol_name t.symbol in
-          let short : is_short (kind n) ≡ true = subst (λ s. is_short s ≡ true) (k.only (c ∷ d ∷ ds) t.symbol t.kind) (nt.short t.symbol t.hides) in
+          let short : is_short (kind n) ≡ true = subst (λ s. is_short s ≡ true) (k.only (c ∷ d ∷ ds) t.symbol t.kind)
+          (nt.short t.symbol t.hides) in
           let long = k.undotted n c (dotted (d ∷ ds)) (sym t.base_is) in
           cc
       not_taken false e = refl
@@ -202,7 +213,8 @@ module _ (hidden : List (Symbol Name)) (nt : IsNotation hidden) (kind : Name →
     found : (m : Name) → IsFound hidden (kind (base n ∷ [])) (base n) m → m ≡ n
     found m f =
         let is = k.only (base n ∷ []) f.symbol f.kind in
-        let alike : same_kind f.symbol (kind n) ≡ true = subst (λ s. same_kind s (kind n) ≡ true) (sym is) (k.alike (symbol_name f.symbol) n) in
+        let alike : same_kind f.symbol (kind n) ≡ true =
+        subst (λ s. same_kind s (kind n) ≡ true) (sym is) (k.alike (symbol_name f.symbol) n) in
         let bases = ap base f.name ∙ sym f.base_is ∙ ap base (sym (k.named n)) in
         sym f.name ∙ nt.alone f.symbol (kind n) f.hides h alike bases ∙ k.named n
 
@@ -212,14 +224,18 @@ module _ (hidden : List (Symbol Name)) (nt : IsNotation hidden) (kind : Name →
         let free = with_base-none hidden (kind (base n ∷ [])) (base n) e in
         let s = kind (base n ∷ []) in
         let own = hidden-taken hidden (kind n) s (k.alike (base n ∷ []) n) h in
-        let taken : is_taken hidden s (base n) ≡ true = subst (λ m. is_taken hidden s (base m) ≡ true) (k.named n) own in
+        let taken : is_taken hidden s (base n) ≡ true =
+        subst (λ m. is_taken hidden s (base m) ≡ true) (k.named n) own in
         cc
 
   pub hidden-bare : (n : Name) (x : List ℕ) → is_hidden hidden (kind n) ≡ true → is_part (base n) ≡ true → x ≡ base n
       → Bare_symbol hidden kind n x
   hidden-bare n x e part q = record {
     from = base n ∷ [];
-    says = record { says = record { bare = λ i. part i && true; named = lit< tt; text = q }; fine = ap not (single (base n)) };
+    says = record {
+      says = record { bare = λ i. part i && true; named = lit< tt; text = q };
+      fine = ap not (single (base n));
+    };
     is = ap (λ o. unwrap_or o (base n ∷ [])) (sym (finds n e));
   }
 
@@ -232,7 +248,8 @@ module _ (hidden : List (Symbol Name)) (nt : IsNotation hidden) (kind : Name →
   pub shown-word : (n : Name) (x : List ℕ) → IsName n → is_hidden hidden (kind n) ≡ false
       → x ≡ cond (is_worded hidden kind n) (dotted n) (spelled n) → Quote n x ⊎ Bare_symbol hidden kind n x
   shown-word n x named nh q = go (is_worded hidden kind n) refl q where
-    go : (b : Bool) → is_worded hidden kind n ≡ b → x ≡ cond b (dotted n) (spelled n) → Quote n x ⊎ Bare_symbol hidden kind n x
+    go : (b : Bool) → is_worded hidden kind n ≡ b → x ≡ cond b (dotted n) (spelled n)
+        → Quote n x ⊎ Bare_symbol hidden kind n x
     go true e q =
         let w = both_true (is_bare n) (not (is_taken hidden (kind n) (dotted n))) e in
         inr (record {

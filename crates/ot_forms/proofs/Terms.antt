@@ -1,16 +1,27 @@
 -- Terms behind an opening parenthesis or brace: their readers read each such text, and halt where none goes on.
-use Rattle.std.specs.Prelude.{◌≡◌, ◌≤◌, ℕ, zero, suc, ◌+◌, ◌-◌, ◌==◌, ◌||◌, ◌&&◌, not, Bool, true, false, cond, List, [], ◌∷◌, ◌++◌, length, codes}
+use Rattle.std.specs.Prelude.{◌≡◌, ◌≤◌, ℕ, zero, suc, ◌+◌, ◌-◌, ◌==◌, ◌||◌, ◌&&◌, not}
+use Rattle.std.specs.Prelude.{Bool, true, false, cond, List, [], ◌∷◌, ◌++◌, length, codes}
 use Rattle.std.specs.List.{list_all}
 use Rattle.std.proofs.Common.{refl, sym, ◌∙◌, ap, subst, append_assoc, length-append, inl, inr, arith, lit<}
 use Rattle.std.proofs.lemmas.Bool.{eqb-true}
 use Rattle.std.proofs.lemmas.Slice.Eq.{bytes_eq-Decides}
 use Rattle.ot_plain.specs.Names.{Name, IsName, spelled}
 use Rattle.ot_plain.specs.Trees.{Ty, TyVar, Symbol, ConSymbol}
-use Rattle.ot_forms.specs.Words.{is_inner, is_letter, is_part, is_sign, is_operator, is_bare, dotted, same_text, variable_word, word}
-use Rattle.ot_forms.specs.Forms.{type_text, HasNames, most_open_type, Written, Writtens, Place, FreeAs, ConAs, Equal, Infix, Applied, Binding, NoMore, More, term_text, terms_text, IsWritten, AreWritten, most_open, most_open_all}
-use Rattle.ot_forms.specs.Reading.{Reading, Got, Halted, next, mapped, literal_at, bare_at, part_at, signs_at, variable_at, is_single, first_part, joined_by, free_at, further_terms_at, application_at, operation_at, behind_term_at, behind_bare_at, spaced_at, named_at, quoted_variable_at, headed_at, binding_at, plain_inside_at, unquoted_inside_at, inside_term_at, closed_term_at, braced_at}
-use Rattle.ot_forms.proofs.Readers.{Follows, Reads, Joined, Image, Begins, HasByte, Is, Any, Either, picked, join, told, mapped-reads, mapped-follows, pick, literal-reads, behind, at_byte, at_end, ends_here, unchanged, second-read, first-halted, same-reads, weaken}
-use Rattle.ot_forms.proofs.Types.{ends_word, IsEnd, IsLast, ends_arguments, SaysVariable, SaysType, differs, other_byte}
+use Rattle.ot_forms.specs.Words.{is_inner, is_letter, is_part, is_sign, is_operator}
+use Rattle.ot_forms.specs.Words.{is_bare, dotted, same_text, variable_word, word}
+use Rattle.ot_forms.specs.Forms.{type_text, HasNames, most_open_type, Written, Writtens, Place, FreeAs}
+use Rattle.ot_forms.specs.Forms.{ConAs, Equal, Infix, Applied, Binding, NoMore, More, term_text}
+use Rattle.ot_forms.specs.Forms.{terms_text, IsWritten, AreWritten, most_open, most_open_all}
+use Rattle.ot_forms.specs.Reading.{Reading, Got, Halted, next, mapped, literal_at, bare_at, part_at, signs_at}
+use Rattle.ot_forms.specs.Reading.{variable_at, is_single, first_part, joined_by, free_at, further_terms_at}
+use Rattle.ot_forms.specs.Reading.{application_at, operation_at, behind_term_at, behind_bare_at, spaced_at}
+use Rattle.ot_forms.specs.Reading.{named_at, quoted_variable_at, headed_at, binding_at, plain_inside_at}
+use Rattle.ot_forms.specs.Reading.{unquoted_inside_at, inside_term_at, closed_term_at, braced_at}
+use Rattle.ot_forms.proofs.Readers.{Follows, Reads, Joined, Image, Begins, HasByte, Is, Any, Either, picked, join}
+use Rattle.ot_forms.proofs.Readers.{told, mapped-reads, mapped-follows, pick, literal-reads, behind, at_byte}
+use Rattle.ot_forms.proofs.Readers.{at_end, ends_here, unchanged, second-read, first-halted, same-reads, weaken}
+use Rattle.ot_forms.proofs.Types.{ends_word, IsEnd, IsLast, ends_arguments}
+use Rattle.ot_forms.proofs.Types.{SaysVariable, SaysType, differs, other_byte}
 use Rattle.ot_forms.proofs.BareWords.{SaysBare, bare-reads, both_true, and_true}
 use Rattle.ot_forms.proofs.Spellings.{variable-reads, bare-byte}
 use Rattle.ot_forms.proofs.Marks.{SaysPart, IsPartEnd, part-reads, SaysSigns, IsSignsEnd, signs-reads}
@@ -58,9 +69,11 @@ module _ (hidden : List (Symbol Name)) where
     go false q h = refl
 
   -- the first byte of a term's text
-  pub starts_of : (w : Written) → IsWritten w → Begins (λ b. is_letter b || ((b == 40) || (b == 123))) true (term_text hidden w)
+  pub starts_of : (w : Written) → IsWritten w → Begins (λ b. is_letter b || ((b == 40) || (b == 123))) true
+      (term_text hidden w)
   starts_of (Place []) h = cc
-  starts_of (Place (b ∷ x)) h = let k = both_true (is_letter b) (list_all is_inner x) h in record { byte = b; rest = x; is = refl; tells = ap (λ t. t || ((b == 40) || (b == 123))) k.0 }
+  starts_of (Place (b ∷ x)) h = let k = both_true (is_letter b) (list_all is_inner x) h in
+      record { byte = b; rest = x; is = refl; tells = ap (λ t. t || ((b == 40) || (b == 123))) k.0 }
   starts_of (FreeAs n t) h = record { byte = 40; rest = _; is = refl; tells = refl }
   starts_of (ConAs n t) h = record { byte = 123; rest = _; is = refl; tells = refl }
   starts_of (Equal a b) h = record { byte = 40; rest = _; is = refl; tells = refl }
@@ -68,21 +81,28 @@ module _ (hidden : List (Symbol Name)) where
   starts_of (Applied f a more) h = record { byte = 40; rest = _; is = refl; tells = refl }
   starts_of (Binding x t a) h = record { byte = 40; rest = _; is = refl; tells = refl }
 
-  module _ (m : ℕ) (constant_at : List ℕ → Reading Name) (type : List ℕ → Reading (Ty Name)) (term : List ℕ → Reading Written) (hc : Reads SaysConstant IsConstantEnd constant_at) (hy : Reads (SaysType hidden m) IsEnd type) (ht : Reads (SaysTerm m) IsEnd term) where
+  module _ (m : ℕ) (constant_at : List ℕ → Reading Name) (type : List ℕ → Reading (Ty Name))
+      (term : List ℕ → Reading Written) (hc : Reads SaysConstant IsConstantEnd constant_at)
+      (hy : Reads (SaysType hidden m) IsEnd type) (ht : Reads (SaysTerm m) IsEnd term) where
     -- ---- what goes on behind a literal
     abbrev After : {A : Type 0} → List ℕ → (A → List ℕ → Type 0) → A → List ℕ → Type 0
     After l Q = Joined (Is l) (λ _. Q)
 
-    after-reads : {A : Type 0} (l : List ℕ) (E : List ℕ → Type 0) (Q : A → List ℕ → Type 0) (g : List ℕ → Reading A) → Reads Q E g → (a : A) (y : List ℕ) → Q a y → Reads (After l Q) E (λ r. next (literal_at l r) (λ _ q. g q))
-    after-reads l E Q g h a y q = join (Is l) (λ _. Q) Any E (literal_at l) (λ _. g) (literal-reads l) (λ _. h) (λ _. (a, y, q)) (λ _ _ _ _ _ _. tt)
+    after-reads : {A : Type 0} (l : List ℕ) (E : List ℕ → Type 0) (Q : A → List ℕ → Type 0) (g : List ℕ → Reading A)
+        → Reads Q E g → (a : A) (y : List ℕ) → Q a y → Reads (After l Q) E (λ r. next (literal_at l r) (λ _ q. g q))
+    after-reads l E Q g h a y q = join (Is l) (λ _. Q) Any E (literal_at l) (λ _. g) (literal-reads l) (λ _. h)
+        (λ _. (a, y, q)) (λ _ _ _ _ _ _. tt)
 
-    after-some : {A : Type 0} (l : List ℕ) (Q : A → List ℕ → Type 0) (a : A) (y : List ℕ) → Q a y → After l Q a (l ++ y)
+    after-some : {A : Type 0} (l : List ℕ) (Q : A → List ℕ → Type 0) (a : A) (y : List ℕ) → Q a y
+        → After l Q a (l ++ y)
     after-some l Q a y q = record { one = tt; front = l; back = y; says = refl; then = q; is = refl }
 
-    after-text : {A : Type 0} (l : List ℕ) (Q : A → List ℕ → Type 0) (a : A) (y : List ℕ) → (h : After l Q a y) → y ≡ l ++ h.back
+    after-text : {A : Type 0} (l : List ℕ) (Q : A → List ℕ → Type 0) (a : A) (y : List ℕ) → (h : After l Q a y)
+        → y ≡ l ++ h.back
     after-text l Q a y h = h.is ∙ ap (λ z. z ++ h.back) h.says
 
-    space-end : {A : Type 0} (Q : A → List ℕ → Type 0) (a : A) (y r : List ℕ) → After (codes " ") Q a y → IsEnd (y ++ r)
+    space-end : {A : Type 0} (Q : A → List ℕ → Type 0) (a : A) (y r : List ℕ) → After (codes " ") Q a y
+        → IsEnd (y ++ r)
     space-end Q a y r h = ap (λ z. ends_word (z ++ r)) (after-text (codes " ") Q a y h)
 
     -- ---- a free variable's type
@@ -90,10 +110,13 @@ module _ (hidden : List (Symbol Name)) where
     Free n = After (codes ": ") (Image (FreeAs n) (SaysType hidden m))
 
     free-reads : (n : Name) → Reads (Free n) IsEnd (free_at constant_at type term n)
-    free-reads n = after-reads (codes ": ") IsEnd (Image (FreeAs n) (SaysType hidden m)) (λ r. mapped (FreeAs n) (type r)) (mapped-reads (FreeAs n) (SaysType hidden m) IsEnd type hy) (FreeAs n some_type) (codes "'a") (record { from = some_type; says = some-type-says m; is = refl })
+    free-reads n = after-reads (codes ": ") IsEnd (Image (FreeAs n) (SaysType hidden m))
+        (λ r. mapped (FreeAs n) (type r)) (mapped-reads (FreeAs n) (SaysType hidden m) IsEnd type hy)
+        (FreeAs n some_type) (codes "'a") (record { from = some_type; says = some-type-says m; is = refl })
 
     free-some : (n : Name) → Free n (FreeAs n some_type) (codes ": 'a")
-    free-some n = after-some (codes ": ") (Image (FreeAs n) (SaysType hidden m)) (FreeAs n some_type) (codes "'a") (record { from = some_type; says = some-type-says m; is = refl })
+    free-some n = after-some (codes ": ") (Image (FreeAs n) (SaysType hidden m)) (FreeAs n some_type) (codes "'a")
+        (record { from = some_type; says = some-type-says m; is = refl })
 
     -- ---- further terms
     pub record SaysTerms (ws : Writtens) (y : List ℕ) : Type 0 where
@@ -111,16 +134,23 @@ module _ (hidden : List (Symbol Name)) where
     skip [] r = refl
     skip (b ∷ x) r = skip x r
 
-    skip_read : (s x r : List ℕ) → s ≡ x ++ r → further_terms_at constant_at type term (length s - length r) s ≡ more_at r
+    skip_read : (s x r : List ℕ) → s ≡ x ++ r → further_terms_at constant_at type term (length s - length r) s
+        ≡ more_at r
     skip_read s x r e =
-        let k : length s - length r ≡ length x = let q : length s ≡ length x + length r = ap length e ∙ length-append x r in omega arith in
+        let k : length s - length r ≡ length x = let q : length s ≡ length x + length r = ap length e
+        ∙ length-append x r in omega arith in
         (λ i. further_terms_at constant_at type term (k i) (e i)) ∙ skip x r
 
     pub more-step : (b : ℕ) (z : List ℕ) → (b == 32) ≡ true → more_at (b ∷ z) ≡ argument_at z
-    more-step b z e = ap (λ t. cond t (next (term z) (λ t r. mapped (More t) (further_terms_at constant_at type term (length z - length r) z))) (Got NoMore (b ∷ z))) e ∙ go (term z) (ht.follows z) where
-      go : (o : Reading Written) → Follows (SaysTerm m) term z o → next o (λ t r. mapped (More t) (further_terms_at constant_at type term (length z - length r) z)) ≡ next o (λ t r. mapped (More t) (more_at r))
-      go (Got t r) h = ap (mapped (More t)) (skip_read z h.text r h.is)
-      go (Halted k r) h = refl
+    more-step b z e =
+        ap (λ t. cond t
+        (next (term z) (λ t r. mapped (More t) (further_terms_at constant_at type term (length z - length r) z)))
+        (Got NoMore (b ∷ z))) e ∙ go (term z) (ht.follows z) where
+          go : (o : Reading Written) → Follows (SaysTerm m) term z o
+              → next o (λ t r. mapped (More t) (further_terms_at constant_at type term (length z - length r) z))
+              ≡ next o (λ t r. mapped (More t) (more_at r))
+          go (Got t r) h = ap (mapped (More t)) (skip_read z h.text r h.is)
+          go (Halted k r) h = refl
 
     terms-end : (ts : Writtens) (r : List ℕ) → IsLast r → IsEnd (terms_text hidden ts ++ r)
     terms-end NoMore r e = last-end r e
@@ -129,7 +159,10 @@ module _ (hidden : List (Symbol Name)) where
     last-stops : (r : List ℕ) → IsLast r → more_at r ≡ Got NoMore r
     last-stops [] e = refl
     last-stops (b ∷ r) e = go (b == 32) (both_true (not (is_inner b || (b == 46))) (not (b == 32)) e).1 where
-      go : (t : Bool) → not t ≡ true → cond t (next (term r) (λ t q. mapped (More t) (further_terms_at constant_at type term (length r - length q) r))) (Got NoMore (b ∷ r)) ≡ Got NoMore (b ∷ r)
+      go : (t : Bool) → not t ≡ true
+          → cond t (next (term r)
+          (λ t q. mapped (More t) (further_terms_at constant_at type term (length r - length q) r)))
+          (Got NoMore (b ∷ r)) ≡ Got NoMore (b ∷ r)
       go true h = cc
       go false h = refl
 
@@ -139,8 +172,10 @@ module _ (hidden : List (Symbol Name)) where
       go NoMore h k = last-stops r e
       go (More t ts) h k =
           let one : SaysTerm m t (term_text hidden t) = record { text = refl; fine = h.0; within = omega arith } in
-          ap more_at (ap (λ z. 32 ∷ z) (append_assoc (term_text hidden t) (terms_text hidden ts) r)) ∙ more-step 32 (term_text hidden t ++ (terms_text hidden ts ++ r)) refl
-          ∙ ap (λ o. next o (λ t r. mapped (More t) (more_at r))) (ht.complete t (term_text hidden t) (terms_text hidden ts ++ r) one (terms-end ts r e))
+          ap more_at (ap (λ z. 32 ∷ z) (append_assoc (term_text hidden t) (terms_text hidden ts) r))
+          ∙ more-step 32 (term_text hidden t ++ (terms_text hidden ts ++ r)) refl
+          ∙ ap (λ o. next o (λ t r. mapped (More t) (more_at r)))
+          (ht.complete t (term_text hidden t) (terms_text hidden ts ++ r) one (terms-end ts r e))
           ∙ ap (mapped (More t)) (go ts h.1 (omega arith))
 
     abbrev Arguments : Writtens → List ℕ → Type 0
@@ -149,13 +184,19 @@ module _ (hidden : List (Symbol Name)) where
     none : SaysTerms NoMore []
     none = record { text = refl; fine = tt; within = omega arith }
 
-    argument-follows : (s : List ℕ) → ((r : List ℕ) → length r ≤ length s → Follows SaysTerms more_at r (more_at r)) → Follows Arguments argument_at s (argument_at s)
+    argument-follows : (s : List ℕ) → ((r : List ℕ) → length r ≤ length s → Follows SaysTerms more_at r (more_at r))
+        → Follows Arguments argument_at s (argument_at s)
     argument-follows s ih = go (term s) (ht.follows s) where
-      go : (o : Reading Written) → Follows (SaysTerm m) term s o → Follows Arguments argument_at s (next o (λ t r. mapped (More t) (more_at r)))
-      go (Got t r) h = second-read (SaysTerm m) (λ t. Image (More t) SaysTerms) IsEnd IsLast term (λ t r. mapped (More t) (more_at r)) s t r h (mapped (More t) (more_at r))
-          (mapped-follows SaysTerms (Image (More t) SaysTerms) more_at (More t) (λ a x p. record { from = a; says = p; is = refl }) r (more_at r)
-          (ih r (let q : length s ≡ length h.text + length r = ap length h.is ∙ length-append h.text r in omega arith)))
-      go (Halted k r) h = first-halted (SaysTerm m) (λ t. Image (More t) SaysTerms) IsEnd IsLast term (λ t r. mapped (More t) (more_at r))
+      go : (o : Reading Written) → Follows (SaysTerm m) term s o
+          → Follows Arguments argument_at s (next o (λ t r. mapped (More t) (more_at r)))
+      go (Got t r) h = second-read (SaysTerm m) (λ t. Image (More t) SaysTerms) IsEnd IsLast term
+          (λ t r. mapped (More t) (more_at r)) s t r h (mapped (More t) (more_at r))
+          (mapped-follows SaysTerms (Image (More t) SaysTerms) more_at (More t)
+          (λ a x p. record { from = a; says = p; is = refl }) r (more_at r)
+          (ih r (let q : length s ≡ length h.text + length r = ap length h.is ∙ length-append h.text r in
+          omega arith)))
+      go (Halted k r) h = first-halted (SaysTerm m) (λ t. Image (More t) SaysTerms) IsEnd IsLast term
+          (λ t r. mapped (More t) (more_at r))
           (λ t. (More t NoMore, [], record { from = NoMore; says = none; is = refl })) s k r h
 
     spaced-terms : (b : ℕ) (ts : Writtens) (y : List ℕ) → b ≡ 32 → Arguments ts y → SaysTerms ts (b ∷ y)
@@ -169,17 +210,25 @@ module _ (hidden : List (Symbol Name)) where
     more-follows fuel [] h = ends_here SaysTerms more_at [] NoMore none (at_end (λ z. more_at z ≡ Got NoMore z) refl)
     more-follows zero (b ∷ s) h = absurd (omega arith)
     more-follows (suc fuel) (b ∷ s) h = go (λ r k. more-follows fuel r (omega arith)) (b == 32) refl where
-      no_change : (o : Reading Writtens) → Follows SaysTerms more_at (b ∷ s) (mapped (λ u. u) o) → Follows SaysTerms more_at (b ∷ s) o
+      no_change : (o : Reading Writtens) → Follows SaysTerms more_at (b ∷ s) (mapped (λ u. u) o)
+          → Follows SaysTerms more_at (b ∷ s) o
       no_change (Got a r) h = h
       no_change (Halted k r) h = h
 
-      go : ((r : List ℕ) → length r ≤ length s → Follows SaysTerms more_at r (more_at r)) → (t : Bool) → (b == 32) ≡ t → Follows SaysTerms more_at (b ∷ s) (more_at (b ∷ s))
+      go : ((r : List ℕ) → length r ≤ length s → Follows SaysTerms more_at r (more_at r)) → (t : Bool) → (b == 32) ≡ t
+          → Follows SaysTerms more_at (b ∷ s) (more_at (b ∷ s))
       go ih true e = subst (Follows SaysTerms more_at (b ∷ s)) (sym (more-step b s e)) (no_change (argument_at s)
-          (behind Arguments SaysTerms argument_at more_at (λ u. u) b (λ z. more-step b z e ∙ sym (unchanged (argument_at z))) (λ ts y w. spaced-terms b ts y (eqb-true b 32 e) w) s (argument_at s) (argument-follows s ih)))
-      go ih false e = subst (Follows SaysTerms more_at (b ∷ s)) (sym (stop s)) (ends_here SaysTerms more_at (b ∷ s) NoMore none (at_byte b s (λ z. more_at z ≡ Got NoMore z) stop))
+          (behind Arguments SaysTerms argument_at more_at (λ u. u) b
+          (λ z. more-step b z e ∙ sym (unchanged (argument_at z)))
+          (λ ts y w. spaced-terms b ts y (eqb-true b 32 e) w) s (argument_at s) (argument-follows s ih)))
+      go ih false e = subst (Follows SaysTerms more_at (b ∷ s)) (sym (stop s))
+          (ends_here SaysTerms more_at (b ∷ s) NoMore none (at_byte b s (λ z. more_at z ≡ Got NoMore z) stop))
         where
           stop : (t : List ℕ) → more_at (b ∷ t) ≡ Got NoMore (b ∷ t)
-          stop t = ap (λ c. cond c (next (term t) (λ u r. mapped (More u) (further_terms_at constant_at type term (length t - length r) t))) (Got NoMore (b ∷ t))) e
+          stop t = ap
+              (λ c. cond c (next (term t)
+              (λ u r. mapped (More u) (further_terms_at constant_at type term (length t - length r) t)))
+              (Got NoMore (b ∷ t))) e
 
     more-reads : Reads SaysTerms IsLast more_at
     more-reads = record { complete = more-complete; follows = λ s. more-follows (length s) s (omega arith) }
@@ -189,22 +238,31 @@ module _ (hidden : List (Symbol Name)) where
     Application a = Joined (SaysTerm m) (λ x. Image (Applied a x) SaysTerms)
 
     application-reads : (a : Written) → Reads (Application a) IsLast (application_at constant_at type term a)
-    application-reads a = join (SaysTerm m) (λ x. Image (Applied a x) SaysTerms) IsEnd IsLast term (λ x r. mapped (Applied a x) (more_at r)) ht
-        (λ x. mapped-reads (Applied a x) SaysTerms IsLast more_at more-reads) (λ x. (Applied a x NoMore, [], record { from = NoMore; says = none; is = refl }))
+    application-reads a = join (SaysTerm m) (λ x. Image (Applied a x) SaysTerms) IsEnd IsLast term
+        (λ x r. mapped (Applied a x) (more_at r)) ht
+        (λ x. mapped-reads (Applied a x) SaysTerms IsLast more_at more-reads)
+        (λ x. (Applied a x NoMore, [], record { from = NoMore; says = none; is = refl }))
         (λ x w y r h e. subst (λ z. IsEnd (z ++ r)) (sym h.says.text) (terms-end h.from r e))
 
     abbrev Operation : Written → Written → List ℕ → Type 0
     Operation a = Joined SaysSigns (λ o. After (codes " ") (Image (joined_by a o) (SaysTerm m)))
 
-    operation-some : (a : Written) (o : List ℕ) → After (codes " ") (Image (joined_by a o) (SaysTerm m)) (joined_by a o some_term) (codes " a")
-    operation-some a o = after-some (codes " ") (Image (joined_by a o) (SaysTerm m)) (joined_by a o some_term) (codes "a") (record { from = some_term; says = some-says m; is = refl })
+    operation-some : (a : Written) (o : List ℕ) → After (codes " ") (Image (joined_by a o) (SaysTerm m))
+        (joined_by a o some_term) (codes " a")
+    operation-some a o = after-some (codes " ") (Image (joined_by a o) (SaysTerm m)) (joined_by a o some_term)
+        (codes "a") (record { from = some_term; says = some-says m; is = refl })
 
     operation-reads : (a : Written) → Reads (Operation a) IsLast (operation_at constant_at type term a)
-    operation-reads a = join SaysSigns (λ o. After (codes " ") (Image (joined_by a o) (SaysTerm m))) IsSignsEnd IsLast signs_at (λ o r. next (literal_at (codes " ") r) (λ _ q. mapped (joined_by a o) (term q))) signs-reads
-        (λ o. after-reads (codes " ") IsLast (Image (joined_by a o) (SaysTerm m)) (λ q. mapped (joined_by a o) (term q)) (weaken (Image (joined_by a o) (SaysTerm m)) IsEnd IsLast (λ q. mapped (joined_by a o) (term q)) last-end (mapped-reads (joined_by a o) (SaysTerm m) IsEnd term ht))
+    operation-reads a = join SaysSigns (λ o. After (codes " ") (Image (joined_by a o) (SaysTerm m))) IsSignsEnd IsLast
+        signs_at (λ o r. next (literal_at (codes " ") r) (λ _ q. mapped (joined_by a o) (term q))) signs-reads
+        (λ o. after-reads (codes " ") IsLast (Image (joined_by a o) (SaysTerm m))
+        (λ q. mapped (joined_by a o) (term q))
+        (weaken (Image (joined_by a o) (SaysTerm m)) IsEnd IsLast (λ q. mapped (joined_by a o) (term q)) last-end
+        (mapped-reads (joined_by a o) (SaysTerm m) IsEnd term ht))
         (joined_by a o some_term) (codes "a") (record { from = some_term; says = some-says m; is = refl }))
         (λ o. (joined_by a o some_term, codes " a", operation-some a o))
-        (λ o w y r h e. subst (λ z. IsSignsEnd (z ++ r)) (sym (after-text (codes " ") (Image (joined_by a o) (SaysTerm m)) w y h)) refl)
+        (λ o w y r h e. subst (λ z. IsSignsEnd (z ++ r))
+        (sym (after-text (codes " ") (Image (joined_by a o) (SaysTerm m)) w y h)) refl)
 
     -- ---- first bytes
     abbrev opens_term : ℕ → Bool
@@ -215,7 +273,8 @@ module _ (hidden : List (Symbol Name)) where
     starts_term b = is_letter b || ((b == 40) || (b == 123))
 
     begins-more : (test : ℕ → Bool) (t : Bool) (x z y : List ℕ) → Begins test t x → y ≡ x ++ z → Begins test t y
-    begins-more test t x z y w e = record { byte = w.byte; rest = w.rest ++ z; is = e ∙ ap (λ q. q ++ z) w.is; tells = w.tells }
+    begins-more test t x z y w e =
+        record { byte = w.byte; rest = w.rest ++ z; is = e ∙ ap (λ q. q ++ z) w.is; tells = w.tells }
 
     has_byte : (test : ℕ → Bool) (t : Bool) (x : List ℕ) → Begins test t x → HasByte x
     has_byte test t x w = record { byte = w.byte; rest = w.rest; is = w.is }
@@ -224,27 +283,61 @@ module _ (hidden : List (Symbol Name)) where
     starts = starts_of
 
     no_sign : (b : ℕ) → starts_term b ≡ true → is_sign b ≡ false
-    no_sign b e = λ i. differs starts_term 47 b refl e i || (differs starts_term 92 b refl e i || (differs starts_term 61 b refl e i || (differs starts_term 60 b refl e i || (differs starts_term 62 b refl e i || (differs starts_term 126 b refl e i || (differs starts_term 38 b refl e i || differs starts_term 124 b refl e i))))))
+    no_sign b e = λ i. differs starts_term 47 b refl e i
+        || (differs starts_term 92 b refl e i
+        || (differs starts_term 61 b refl e i
+        || (differs starts_term 60 b refl e i
+        || (differs starts_term 62 b refl e i
+        || (differs starts_term 126 b refl e i
+        || (differs starts_term 38 b refl e i || differs starts_term 124 b refl e i))))))
 
     application-byte : (a w : Written) (y : List ℕ) → Application a w y → Begins is_sign false y
-    application-byte a w y h = let k = starts h.one h.says.fine in record { byte = k.byte; rest = k.rest ++ h.back; is = h.is ∙ ap (λ q. q ++ h.back) (h.says.text ∙ k.is); tells = no_sign k.byte k.tells }
+    application-byte a w y h = let k = starts h.one h.says.fine in
+        record {
+          byte = k.byte;
+          rest = k.rest ++ h.back;
+          is = h.is ∙ ap (λ q. q ++ h.back) (h.says.text ∙ k.is);
+          tells = no_sign k.byte k.tells;
+        }
 
     operation-byte : (a w : Written) (y : List ℕ) → Operation a w y → Begins is_sign true y
-    operation-byte a w y h = let k = h.says in record { byte = k.first_byte; rest = k.rest ++ h.back; is = h.is ∙ ap (λ q. q ++ h.back) (k.text ∙ k.is); tells = k.begins }
+    operation-byte a w y h = let k = h.says in
+        record {
+          byte = k.first_byte;
+          rest = k.rest ++ h.back;
+          is = h.is ∙ ap (λ q. q ++ h.back) (k.text ∙ k.is);
+          tells = k.begins;
+        }
 
     abbrev Behind : Written → Written → List ℕ → Type 0
-    Behind a = Either (Operation a) (Application a) IsLast (operation_at constant_at type term a) (application_at constant_at type term a) is_sign
+    Behind a = Either (Operation a) (Application a) IsLast (operation_at constant_at type term a)
+        (application_at constant_at type term a) is_sign
 
     behind-some : (a : Written) → Behind a (Applied a some_term NoMore) (codes "a")
-    behind-some a = let h : Application a (Applied a some_term NoMore) (codes "a") = record { one = some_term; front = codes "a"; back = []; says = some-says m; then = record { from = NoMore; says = none; is = refl }; is = refl } in
+    behind-some a = let h : Application a (Applied a some_term NoMore) (codes "a") =
+        record {
+          one = some_term;
+          front = codes "a";
+          back = [];
+          says = some-says m;
+          then = record { from = NoMore; says = none; is = refl };
+          is = refl;
+        } in
         inr (h, application-byte a _ _ h)
 
     behind-reads : (a : Written) → Reads (Behind a) IsLast (behind_term_at constant_at type term a)
-    behind-reads a = same-reads (Behind a) IsLast (picked (Operation a) (Application a) IsLast (operation_at constant_at type term a) (application_at constant_at type term a) is_sign) (behind_term_at constant_at type term a) same
-        (pick (Operation a) (Application a) IsLast (operation_at constant_at type term a) (application_at constant_at type term a) is_sign (Applied a some_term NoMore) (codes "a") (behind-some a) (operation-reads a) (application-reads a)
-        (λ w y h. has_byte is_sign true y (operation-byte a w y h)) (λ w y h. has_byte is_sign false y (application-byte a w y h)))
+    behind-reads a =
+        same-reads (Behind a) IsLast
+        (picked (Operation a) (Application a) IsLast (operation_at constant_at type term a)
+        (application_at constant_at type term a) is_sign) (behind_term_at constant_at type term a) same
+        (pick (Operation a) (Application a) IsLast (operation_at constant_at type term a)
+        (application_at constant_at type term a) is_sign (Applied a some_term NoMore) (codes "a") (behind-some a)
+        (operation-reads a) (application-reads a)
+        (λ w y h. has_byte is_sign true y (operation-byte a w y h))
+        (λ w y h. has_byte is_sign false y (application-byte a w y h)))
       where
-        same : (s : List ℕ) → behind_term_at constant_at type term a s ≡ picked (Operation a) (Application a) IsLast (operation_at constant_at type term a) (application_at constant_at type term a) is_sign s
+        same : (s : List ℕ) → behind_term_at constant_at type term a s ≡ picked (Operation a) (Application a) IsLast
+            (operation_at constant_at type term a) (application_at constant_at type term a) is_sign s
         same [] = refl
         same (b ∷ s) = refl
 
@@ -253,10 +346,18 @@ module _ (hidden : List (Symbol Name)) where
     is_colon n b = (b == 58) || not (is_single n)
 
     abbrev BehindBare : Name → Written → List ℕ → Type 0
-    BehindBare n = Either (Free n) (Behind (Place (first_part n))) IsLast (free_at constant_at type term n) (behind_term_at constant_at type term (Place (first_part n))) (is_colon n)
+    BehindBare n = Either (Free n) (Behind (Place (first_part n))) IsLast (free_at constant_at type term n)
+        (behind_term_at constant_at type term (Place (first_part n))) (is_colon n)
 
     free-byte : (n : Name) (w : Written) (y : List ℕ) → Free n w y → Begins (is_colon n) true y
-    free-byte n w y h = record { byte = 58; rest = 32 ∷ h.back; is = after-text (codes ": ") (Image (FreeAs n) (SaysType hidden m)) w y h; tells = refl }
+    free-byte n w y h =
+        record {
+          byte = 58;
+          rest = 32 ∷ h.back;
+          is = after-text (codes ": ") (Image (FreeAs n) (SaysType hidden m)) w
+              y h;
+          tells = refl;
+        }
 
     behind-byte : (a w : Written) (y : List ℕ) → Behind a w y → HasByte y
     behind-byte a w y h = elim h [ inl p ↦ has_byte is_sign true y p.1 | inr q ↦ has_byte is_sign false y q.1 ]
@@ -265,12 +366,21 @@ module _ (hidden : List (Symbol Name)) where
     behind_bare-some n = inl (free-some n, free-byte n _ _ (free-some n))
 
     behind_bare-reads : (n : Name) → Reads (BehindBare n) IsLast (behind_bare_at constant_at type term n)
-    behind_bare-reads n = same-reads (BehindBare n) IsLast (picked (Free n) (Behind (Place (first_part n))) IsLast (free_at constant_at type term n) (behind_term_at constant_at type term (Place (first_part n))) (is_colon n)) (behind_bare_at constant_at type term n) same
-        (pick (Free n) (Behind (Place (first_part n))) IsLast (free_at constant_at type term n) (behind_term_at constant_at type term (Place (first_part n))) (is_colon n) (FreeAs n some_type) (codes ": 'a") (behind_bare-some n)
-        (weaken (Free n) IsEnd IsLast (free_at constant_at type term n) last-end (free-reads n)) (behind-reads (Place (first_part n)))
+    behind_bare-reads n =
+        same-reads (BehindBare n) IsLast
+        (picked (Free n) (Behind (Place (first_part n))) IsLast (free_at constant_at type term n)
+        (behind_term_at constant_at type term (Place (first_part n))) (is_colon n))
+        (behind_bare_at constant_at type term n) same
+        (pick (Free n) (Behind (Place (first_part n))) IsLast (free_at constant_at type term n)
+        (behind_term_at constant_at type term (Place (first_part n))) (is_colon n) (FreeAs n some_type)
+        (codes ": 'a") (behind_bare-some n)
+        (weaken (Free n) IsEnd IsLast (free_at constant_at type term n) last-end (free-reads n))
+        (behind-reads (Place (first_part n)))
         (λ w y h. has_byte (is_colon n) true y (free-byte n w y h)) (behind-byte (Place (first_part n))))
       where
-        same : (s : List ℕ) → behind_bare_at constant_at type term n s ≡ picked (Free n) (Behind (Place (first_part n))) IsLast (free_at constant_at type term n) (behind_term_at constant_at type term (Place (first_part n))) (is_colon n) s
+        same : (s : List ℕ) → behind_bare_at constant_at type term n s
+            ≡ picked (Free n) (Behind (Place (first_part n))) IsLast (free_at constant_at type term n)
+            (behind_term_at constant_at type term (Place (first_part n))) (is_colon n) s
         same [] = refl
         same (b ∷ s) = refl
 
@@ -282,25 +392,35 @@ module _ (hidden : List (Symbol Name)) where
     Named = Joined SaysBare (λ n. Spaced (BehindBare n))
 
     named-reads : Reads Named IsLast (named_at constant_at type term)
-    named-reads = join SaysBare (λ n. Spaced (BehindBare n)) IsEnd IsLast bare_at (λ n r. spaced_at constant_at type term (behind_bare_at constant_at type term n) r) bare-reads
-        (λ n. after-reads (codes " ") IsLast (BehindBare n) (behind_bare_at constant_at type term n) (behind_bare-reads n) (FreeAs n some_type) (codes ": 'a") (behind_bare-some n))
-        (λ n. (FreeAs n some_type, codes " : 'a", after-some (codes " ") (BehindBare n) _ _ (behind_bare-some n))) (λ n w y r h e. space-end (BehindBare n) w y r h)
+    named-reads = join SaysBare (λ n. Spaced (BehindBare n)) IsEnd IsLast bare_at
+        (λ n r. spaced_at constant_at type term (behind_bare_at constant_at type term n) r) bare-reads
+        (λ n. after-reads (codes " ") IsLast (BehindBare n) (behind_bare_at constant_at type term n)
+        (behind_bare-reads n) (FreeAs n some_type) (codes ": 'a") (behind_bare-some n))
+        (λ n. (FreeAs n some_type, codes " : 'a", after-some (codes " ") (BehindBare n) _ _ (behind_bare-some n)))
+        (λ n w y r h e. space-end (BehindBare n) w y r h)
 
     abbrev Quoted : Written → List ℕ → Type 0
     Quoted = Joined SaysVariable (λ n. Spaced (Free n))
 
     quoted-reads : Reads Quoted IsLast (quoted_variable_at constant_at type term)
-    quoted-reads = join SaysVariable (λ n. Spaced (Free n)) IsEnd IsLast variable_at (λ n r. spaced_at constant_at type term (free_at constant_at type term n) r) variable-reads
-        (λ n. after-reads (codes " ") IsLast (Free n) (free_at constant_at type term n) (weaken (Free n) IsEnd IsLast (free_at constant_at type term n) last-end (free-reads n)) (FreeAs n some_type) (codes ": 'a") (free-some n))
-        (λ n. (FreeAs n some_type, codes " : 'a", after-some (codes " ") (Free n) _ _ (free-some n))) (λ n w y r h e. space-end (Free n) w y r h)
+    quoted-reads = join SaysVariable (λ n. Spaced (Free n)) IsEnd IsLast variable_at
+        (λ n r. spaced_at constant_at type term (free_at constant_at type term n) r) variable-reads
+        (λ n. after-reads (codes " ") IsLast (Free n) (free_at constant_at type term n)
+        (weaken (Free n) IsEnd IsLast (free_at constant_at type term n) last-end (free-reads n))
+        (FreeAs n some_type) (codes ": 'a") (free-some n))
+        (λ n. (FreeAs n some_type, codes " : 'a", after-some (codes " ") (Free n) _ _ (free-some n)))
+        (λ n w y r h e. space-end (Free n) w y r h)
 
     abbrev Headed : Written → List ℕ → Type 0
     Headed = Joined (SaysTerm m) (λ a. Spaced (Behind a))
 
     headed-reads : Reads Headed IsLast (headed_at constant_at type term)
-    headed-reads = join (SaysTerm m) (λ a. Spaced (Behind a)) IsEnd IsLast term (λ a r. spaced_at constant_at type term (behind_term_at constant_at type term a) r) ht
-        (λ a. after-reads (codes " ") IsLast (Behind a) (behind_term_at constant_at type term a) (behind-reads a) (Applied a some_term NoMore) (codes "a") (behind-some a))
-        (λ a. (Applied a some_term NoMore, codes " a", after-some (codes " ") (Behind a) _ _ (behind-some a))) (λ a w y r h e. space-end (Behind a) w y r h)
+    headed-reads = join (SaysTerm m) (λ a. Spaced (Behind a)) IsEnd IsLast term
+        (λ a r. spaced_at constant_at type term (behind_term_at constant_at type term a) r) ht
+        (λ a. after-reads (codes " ") IsLast (Behind a) (behind_term_at constant_at type term a) (behind-reads a)
+        (Applied a some_term NoMore) (codes "a") (behind-some a))
+        (λ a. (Applied a some_term NoMore, codes " a", after-some (codes " ") (Behind a) _ _ (behind-some a)))
+        (λ a w y r h e. space-end (Behind a) w y r h)
 
     abbrev Body : List ℕ → Ty Name → Written → List ℕ → Type 0
     Body x t = After (codes " . ") (Image (Binding x t) (SaysTerm m))
@@ -312,26 +432,43 @@ module _ (hidden : List (Symbol Name)) where
     Bound_by = After (codes "\\") (Joined SaysPart (λ x. Typed x))
 
     body-some : (x : List ℕ) (t : Ty Name) → Body x t (Binding x t some_term) (codes " . a")
-    body-some x t = after-some (codes " . ") (Image (Binding x t) (SaysTerm m)) _ (codes "a") (record { from = some_term; says = some-says m; is = refl })
+    body-some x t = after-some (codes " . ") (Image (Binding x t) (SaysTerm m)) _ (codes "a")
+        (record { from = some_term; says = some-says m; is = refl })
 
-    body-reads : (x : List ℕ) (t : Ty Name) → Reads (Body x t) IsEnd (λ u. next (literal_at (codes " . ") u) (λ _ v. mapped (Binding x t) (term v)))
-    body-reads x t = after-reads (codes " . ") IsEnd (Image (Binding x t) (SaysTerm m)) (λ v. mapped (Binding x t) (term v)) (mapped-reads (Binding x t) (SaysTerm m) IsEnd term ht) (Binding x t some_term) (codes "a") (record { from = some_term; says = some-says m; is = refl })
+    body-reads : (x : List ℕ) (t : Ty Name)
+        → Reads (Body x t) IsEnd (λ u. next (literal_at (codes " . ") u) (λ _ v. mapped (Binding x t) (term v)))
+    body-reads x t = after-reads (codes " . ") IsEnd (Image (Binding x t) (SaysTerm m))
+        (λ v. mapped (Binding x t) (term v)) (mapped-reads (Binding x t) (SaysTerm m) IsEnd term ht)
+        (Binding x t some_term) (codes "a") (record { from = some_term; says = some-says m; is = refl })
 
     abbrev binder_type_at : List ℕ → List ℕ → Reading Written
-    binder_type_at x q = next (type q) (λ t u. next (literal_at (codes " . ") u) (λ _ v. mapped (Binding x t) (term v)))
+    binder_type_at x q =
+        next (type q) (λ t u. next (literal_at (codes " . ") u) (λ _ v. mapped (Binding x t) (term v)))
 
     abbrev Type_body : List ℕ → Written → List ℕ → Type 0
     Type_body x = Joined (SaysType hidden m) (λ t. Body x t)
 
     type_body-some : (x : List ℕ) → Type_body x (Binding x some_type some_term) (codes "'a . a")
-    type_body-some x = record { one = some_type; front = codes "'a"; back = codes " . a"; says = some-type-says m; then = body-some x some_type; is = refl }
+    type_body-some x = record {
+      one = some_type;
+      front = codes "'a";
+      back = codes " . a";
+      says = some-type-says m;
+      then = body-some x some_type;
+      is = refl;
+    }
 
     type_body-reads : (x : List ℕ) → Reads (Type_body x) IsEnd (binder_type_at x)
-    type_body-reads x = join (SaysType hidden m) (λ t. Body x t) IsEnd IsEnd type (λ t u. next (literal_at (codes " . ") u) (λ _ v. mapped (Binding x t) (term v))) hy (body-reads x)
-        (λ t. (Binding x t some_term, codes " . a", body-some x t)) (λ t w y r h e. ap (λ z. ends_word (z ++ r)) (after-text (codes " . ") (Image (Binding x t) (SaysTerm m)) w y h))
+    type_body-reads x = join (SaysType hidden m) (λ t. Body x t) IsEnd IsEnd type
+        (λ t u. next (literal_at (codes " . ") u) (λ _ v. mapped (Binding x t) (term v))) hy (body-reads x)
+        (λ t. (Binding x t some_term, codes " . a", body-some x t))
+        (λ t w y r h e. ap (λ z. ends_word (z ++ r))
+        (after-text (codes " . ") (Image (Binding x t) (SaysTerm m)) w y h))
 
-    typed-reads : (x : List ℕ) → Reads (Typed x) IsEnd (λ r. next (literal_at (codes " : ") r) (λ _ q. binder_type_at x q))
-    typed-reads x = after-reads (codes " : ") IsEnd (Type_body x) (binder_type_at x) (type_body-reads x) (Binding x some_type some_term) (codes "'a . a") (type_body-some x)
+    typed-reads : (x : List ℕ)
+        → Reads (Typed x) IsEnd (λ r. next (literal_at (codes " : ") r) (λ _ q. binder_type_at x q))
+    typed-reads x = after-reads (codes " : ") IsEnd (Type_body x) (binder_type_at x) (type_body-reads x)
+        (Binding x some_type some_term) (codes "'a . a") (type_body-some x)
 
     typed-some : (x : List ℕ) → Typed x (Binding x some_type some_term) (codes " : 'a . a")
     typed-some x = after-some (codes " : ") (Type_body x) _ _ (type_body-some x)
@@ -343,39 +480,53 @@ module _ (hidden : List (Symbol Name)) where
     part_typed_at p = next (part_at p) (λ x r. next (literal_at (codes " : ") r) (λ _ q. binder_type_at x q))
 
     part_typed-reads : Reads Part_typed IsEnd part_typed_at
-    part_typed-reads = join SaysPart (λ x. Typed x) IsPartEnd IsEnd part_at (λ x r. next (literal_at (codes " : ") r) (λ _ q. binder_type_at x q)) part-reads typed-reads
-        (λ x. (Binding x some_type some_term, codes " : 'a . a", typed-some x)) (λ x w y r h e. subst (λ z. IsPartEnd (z ++ r)) (sym (after-text (codes " : ") (Type_body x) w y h)) refl)
+    part_typed-reads = join SaysPart (λ x. Typed x) IsPartEnd IsEnd part_at
+        (λ x r. next (literal_at (codes " : ") r) (λ _ q. binder_type_at x q)) part-reads typed-reads
+        (λ x. (Binding x some_type some_term, codes " : 'a . a", typed-some x))
+        (λ x w y r h e. subst (λ z. IsPartEnd (z ++ r)) (sym (after-text (codes " : ") (Type_body x) w y h)) refl)
 
     some-part : SaysPart (codes "a") (codes "a")
     some-part = record { first_byte = 97; rest = []; is = refl; begins = refl; inner_is = refl; text = refl }
 
     part_typed-some : Part_typed (Binding (codes "a") some_type some_term) (codes "a : 'a . a")
-    part_typed-some = record { one = codes "a"; front = codes "a"; back = codes " : 'a . a"; says = some-part; then = typed-some (codes "a"); is = refl }
+    part_typed-some = record {
+      one = codes "a";
+      front = codes "a";
+      back = codes " : 'a . a";
+      says = some-part;
+      then = typed-some (codes "a");
+      is = refl;
+    }
 
     binding-some : Bound_by (Binding (codes "a") some_type some_term) (codes "\\a : 'a . a")
     binding-some = after-some (codes "\\") Part_typed _ _ part_typed-some
 
     binding-reads : Reads Bound_by IsLast (binding_at constant_at type term)
-    binding-reads = weaken Bound_by IsEnd IsLast (binding_at constant_at type term) last-end (after-reads (codes "\\") IsEnd Part_typed part_typed_at part_typed-reads (Binding (codes "a") some_type some_term) (codes "a : 'a . a") part_typed-some)
+    binding-reads = weaken Bound_by IsEnd IsLast (binding_at constant_at type term) last-end
+        (after-reads (codes "\\") IsEnd Part_typed part_typed_at part_typed-reads
+        (Binding (codes "a") some_type some_term) (codes "a : 'a . a") part_typed-some)
 
     -- ---- the three choices by the first byte
     abbrev opens_term_byte : ℕ → Bool
     opens_term_byte b = (b == 40) || (b == 123)
 
     abbrev Plain : Written → List ℕ → Type 0
-    Plain = Either Headed Named IsLast (headed_at constant_at type term) (named_at constant_at type term) opens_term_byte
+    Plain = Either Headed Named IsLast (headed_at constant_at type term) (named_at constant_at type term)
+        opens_term_byte
 
     abbrev quote_byte : ℕ → Bool
     quote_byte b = b == 34
 
     abbrev Unquoted : Written → List ℕ → Type 0
-    Unquoted = Either Quoted Plain IsLast (quoted_variable_at constant_at type term) (plain_inside_at constant_at type term) quote_byte
+    Unquoted = Either Quoted Plain IsLast (quoted_variable_at constant_at type term)
+        (plain_inside_at constant_at type term) quote_byte
 
     abbrev lambda_byte : ℕ → Bool
     lambda_byte b = b == 92
 
     abbrev Inside : Written → List ℕ → Type 0
-    Inside = Either Bound_by Unquoted IsLast (binding_at constant_at type term) (unquoted_inside_at constant_at type term) lambda_byte
+    Inside = Either Bound_by Unquoted IsLast (binding_at constant_at type term)
+        (unquoted_inside_at constant_at type term) lambda_byte
 
     bare-has : (n : Name) (x : List ℕ) → SaysBare n x → HasByte x
     bare-has n x h = has_byte is_letter true x (bare-byte n x h)
@@ -384,7 +535,8 @@ module _ (hidden : List (Symbol Name)) where
     named-byte w y h = begins-more is_letter true h.front h.back y (bare-byte h.one h.front h.says) h.is
 
     headed-byte : (w : Written) (y : List ℕ) → Headed w y → HasByte y
-    headed-byte w y h = let k = starts h.one h.says.fine in record { byte = k.byte; rest = k.rest ++ h.back; is = h.is ∙ ap (λ q. q ++ h.back) (h.says.text ∙ k.is) }
+    headed-byte w y h = let k = starts h.one h.says.fine in
+        record { byte = k.byte; rest = k.rest ++ h.back; is = h.is ∙ ap (λ q. q ++ h.back) (h.says.text ∙ k.is) }
 
     variable-has : (n : Name) (x : List ℕ) → SaysVariable n x → HasByte x
     variable-has n x h = go (is_bare n) refl h.text where
@@ -393,36 +545,74 @@ module _ (hidden : List (Symbol Name)) where
       go false e q = record { byte = 34; rest = _; is = q }
 
     quoted-byte : (w : Written) (y : List ℕ) → Quoted w y → HasByte y
-    quoted-byte w y h = let k = variable-has h.one h.front h.says in record { byte = k.byte; rest = k.rest ++ h.back; is = h.is ∙ ap (λ q. q ++ h.back) k.is }
+    quoted-byte w y h = let k = variable-has h.one h.front h.says in
+        record { byte = k.byte; rest = k.rest ++ h.back; is = h.is ∙ ap (λ q. q ++ h.back) k.is }
 
     as_plain : (w : Written) (y : List ℕ) → Named w y → Plain w y
-    as_plain w y h = let k = named-byte w y h in inr (h, record { byte = k.byte; rest = k.rest; is = k.is; tells = λ i. differs is_letter 40 k.byte refl k.tells i || differs is_letter 123 k.byte refl k.tells i })
+    as_plain w y h = let k = named-byte w y h in
+        inr (
+          h,
+          record {
+            byte = k.byte;
+            rest = k.rest;
+            is = k.is;
+            tells = λ i. differs is_letter 40 k.byte refl k.tells i || differs is_letter 123 k.byte refl k.tells i;
+          },
+        )
 
     some-named : Named (FreeAs (codes "a" ∷ []) some_type) (codes "a : 'a")
-    some-named = record { one = codes "a" ∷ []; front = codes "a"; back = codes " : 'a"; says = record { bare = refl; named = lit< tt; text = refl }; then = after-some (codes " ") (BehindBare (codes "a" ∷ [])) _ _ (behind_bare-some (codes "a" ∷ [])); is = refl }
+    some-named =
+        record {
+          one = codes "a" ∷ [];
+          front = codes "a";
+          back = codes " : 'a";
+          says = record { bare = refl; named = lit< tt; text = refl };
+          then =
+              after-some (codes " ") (BehindBare (codes "a" ∷ [])) _ _ (behind_bare-some (codes "a" ∷ []));
+          is = refl;
+        }
 
     plain-reads : Reads Plain IsLast (plain_inside_at constant_at type term)
-    plain-reads = same-reads Plain IsLast (picked Headed Named IsLast (headed_at constant_at type term) (named_at constant_at type term) opens_term_byte) (plain_inside_at constant_at type term) same
-        (pick Headed Named IsLast (headed_at constant_at type term) (named_at constant_at type term) opens_term_byte (FreeAs (codes "a" ∷ []) some_type) (codes "a : 'a") (as_plain _ _ some-named) headed-reads named-reads headed-byte (λ w y h. has_byte is_letter true y (named-byte w y h)))
+    plain-reads =
+        same-reads Plain IsLast (picked Headed Named IsLast (headed_at constant_at type term)
+        (named_at constant_at type term) opens_term_byte) (plain_inside_at constant_at type term) same
+        (pick Headed Named IsLast (headed_at constant_at type term) (named_at constant_at type term) opens_term_byte
+        (FreeAs (codes "a" ∷ []) some_type) (codes "a : 'a") (as_plain _ _ some-named) headed-reads named-reads
+        headed-byte (λ w y h. has_byte is_letter true y (named-byte w y h)))
       where
-        same : (s : List ℕ) → plain_inside_at constant_at type term s ≡ picked Headed Named IsLast (headed_at constant_at type term) (named_at constant_at type term) opens_term_byte s
+        same : (s : List ℕ) → plain_inside_at constant_at type term s ≡ picked Headed Named IsLast
+            (headed_at constant_at type term) (named_at constant_at type term) opens_term_byte s
         same [] = refl
         same (b ∷ s) = refl
 
     plain-has : (w : Written) (y : List ℕ) → Plain w y → HasByte y
-    plain-has w y h = elim h [ inl p ↦ has_byte opens_term_byte true y p.1 | inr q ↦ has_byte opens_term_byte false y q.1 ]
+    plain-has w y h =
+        elim h [ inl p ↦ has_byte opens_term_byte true y p.1 | inr q ↦ has_byte opens_term_byte false y q.1 ]
 
     named-unquoted : (w : Written) (y : List ℕ) → Named w y → Unquoted w y
-    named-unquoted w y h = let k = named-byte w y h in inr (as_plain w y h, record { byte = k.byte; rest = k.rest; is = k.is; tells = differs is_letter 34 k.byte refl k.tells })
+    named-unquoted w y h = let k = named-byte w y h in
+        inr (
+          as_plain w y h,
+          record { byte = k.byte; rest = k.rest; is = k.is; tells = differs is_letter 34 k.byte refl k.tells },
+        )
 
     named-inside : (w : Written) (y : List ℕ) → Named w y → Inside w y
-    named-inside w y h = let k = named-byte w y h in inr (named-unquoted w y h, record { byte = k.byte; rest = k.rest; is = k.is; tells = differs is_letter 92 k.byte refl k.tells })
+    named-inside w y h = let k = named-byte w y h in
+        inr (
+          named-unquoted w y h,
+          record { byte = k.byte; rest = k.rest; is = k.is; tells = differs is_letter 92 k.byte refl k.tells },
+        )
 
     unquoted-reads : Reads Unquoted IsLast (unquoted_inside_at constant_at type term)
-    unquoted-reads = same-reads Unquoted IsLast (picked Quoted Plain IsLast (quoted_variable_at constant_at type term) (plain_inside_at constant_at type term) quote_byte) (unquoted_inside_at constant_at type term) same
-        (pick Quoted Plain IsLast (quoted_variable_at constant_at type term) (plain_inside_at constant_at type term) quote_byte (FreeAs (codes "a" ∷ []) some_type) (codes "a : 'a") (named-unquoted _ _ some-named) quoted-reads plain-reads quoted-byte plain-has)
+    unquoted-reads =
+        same-reads Unquoted IsLast (picked Quoted Plain IsLast (quoted_variable_at constant_at type term)
+        (plain_inside_at constant_at type term) quote_byte) (unquoted_inside_at constant_at type term) same
+        (pick Quoted Plain IsLast (quoted_variable_at constant_at type term) (plain_inside_at constant_at type term)
+        quote_byte (FreeAs (codes "a" ∷ []) some_type) (codes "a : 'a") (named-unquoted _ _ some-named)
+        quoted-reads plain-reads quoted-byte plain-has)
       where
-        same : (s : List ℕ) → unquoted_inside_at constant_at type term s ≡ picked Quoted Plain IsLast (quoted_variable_at constant_at type term) (plain_inside_at constant_at type term) quote_byte s
+        same : (s : List ℕ) → unquoted_inside_at constant_at type term s ≡ picked Quoted Plain IsLast
+            (quoted_variable_at constant_at type term) (plain_inside_at constant_at type term) quote_byte s
         same [] = refl
         same (b ∷ s) = refl
 
@@ -433,10 +623,15 @@ module _ (hidden : List (Symbol Name)) where
     binding-byte w y h = record { byte = 92; rest = h.back; is = after-text (codes "\\") Part_typed w y h }
 
     inside-reads : Reads Inside IsLast (inside_term_at constant_at type term)
-    inside-reads = same-reads Inside IsLast (picked Bound_by Unquoted IsLast (binding_at constant_at type term) (unquoted_inside_at constant_at type term) lambda_byte) (inside_term_at constant_at type term) same
-        (pick Bound_by Unquoted IsLast (binding_at constant_at type term) (unquoted_inside_at constant_at type term) lambda_byte (FreeAs (codes "a" ∷ []) some_type) (codes "a : 'a") (named-inside _ _ some-named) binding-reads unquoted-reads binding-byte unquoted-has)
+    inside-reads =
+        same-reads Inside IsLast (picked Bound_by Unquoted IsLast (binding_at constant_at type term)
+        (unquoted_inside_at constant_at type term) lambda_byte) (inside_term_at constant_at type term) same
+        (pick Bound_by Unquoted IsLast (binding_at constant_at type term) (unquoted_inside_at constant_at type term)
+        lambda_byte (FreeAs (codes "a" ∷ []) some_type) (codes "a : 'a") (named-inside _ _ some-named)
+        binding-reads unquoted-reads binding-byte unquoted-has)
       where
-        same : (s : List ℕ) → inside_term_at constant_at type term s ≡ picked Bound_by Unquoted IsLast (binding_at constant_at type term) (unquoted_inside_at constant_at type term) lambda_byte s
+        same : (s : List ℕ) → inside_term_at constant_at type term s ≡ picked Bound_by Unquoted IsLast
+            (binding_at constant_at type term) (unquoted_inside_at constant_at type term) lambda_byte s
         same [] = refl
         same (b ∷ s) = refl
 
@@ -444,9 +639,11 @@ module _ (hidden : List (Symbol Name)) where
     Closed = Joined Inside (λ a. Image (λ _. a) (Is (codes ")")))
 
     closed-reads : Reads Closed Any (closed_term_at constant_at type term)
-    closed-reads = join Inside (λ a. Image (λ _. a) (Is (codes ")"))) IsLast Any (inside_term_at constant_at type term) (λ a r. mapped (λ _. a) (literal_at (codes ")") r)) inside-reads
+    closed-reads = join Inside (λ a. Image (λ _. a) (Is (codes ")"))) IsLast Any
+        (inside_term_at constant_at type term) (λ a r. mapped (λ _. a) (literal_at (codes ")") r)) inside-reads
         (λ a. mapped-reads (λ _. a) (Is (codes ")")) Any (literal_at (codes ")")) (literal-reads (codes ")")))
-        (λ a. (a, codes ")", record { from = tt; says = refl; is = refl })) (λ a b y r h e. ap (λ z. ends_arguments (z ++ r)) h.says)
+        (λ a. (a, codes ")", record { from = tt; says = refl; is = refl }))
+        (λ a b y r h e. ap (λ z. ends_arguments (z ++ r)) h.says)
 
     -- ---- behind a brace
     abbrev Constant_type : Name → Written → List ℕ → Type 0
@@ -459,20 +656,37 @@ module _ (hidden : List (Symbol Name)) where
     Braced = Joined SaysConstant (λ n. Constant_typed n)
 
     constant_type-some : (n : Name) → Constant_type n (ConAs n some_type) (codes "'a}")
-    constant_type-some n = record { one = some_type; front = codes "'a"; back = codes "}"; says = some-type-says m; then = record { from = tt; says = refl; is = refl }; is = refl }
+    constant_type-some n = record {
+      one = some_type;
+      front = codes "'a";
+      back = codes "}";
+      says =
+          some-type-says m;
+      then = record { from = tt; says = refl; is = refl };
+      is = refl;
+    }
 
     abbrev constant_type_at : Name → List ℕ → Reading Written
     constant_type_at n q = next (type q) (λ t u. mapped (λ _. ConAs n t) (literal_at (codes "}") u))
 
     constant_type-reads : (n : Name) → Reads (Constant_type n) Any (constant_type_at n)
-    constant_type-reads n = join (SaysType hidden m) (λ t. Image (λ _. ConAs n t) (Is (codes "}"))) IsEnd Any type (λ t u. mapped (λ _. ConAs n t) (literal_at (codes "}") u)) hy
+    constant_type-reads n = join (SaysType hidden m) (λ t. Image (λ _. ConAs n t) (Is (codes "}"))) IsEnd Any type
+        (λ t u. mapped (λ _. ConAs n t) (literal_at (codes "}") u)) hy
         (λ t. mapped-reads (λ _. ConAs n t) (Is (codes "}")) Any (literal_at (codes "}")) (literal-reads (codes "}")))
-        (λ t. (ConAs n t, codes "}", record { from = tt; says = refl; is = refl })) (λ t w y r h e. ap (λ z. ends_word (z ++ r)) h.says)
+        (λ t. (ConAs n t, codes "}", record { from = tt; says = refl; is = refl }))
+        (λ t w y r h e. ap (λ z. ends_word (z ++ r)) h.says)
 
     braced-reads : Reads Braced Any (braced_at constant_at type term)
-    braced-reads = join SaysConstant (λ n. Constant_typed n) IsConstantEnd Any constant_at (λ n r. next (literal_at (codes " : ") r) (λ _ q. constant_type_at n q)) hc
-        (λ n. after-reads (codes " : ") Any (Constant_type n) (constant_type_at n) (constant_type-reads n) (ConAs n some_type) (codes "'a}") (constant_type-some n))
-        (λ n. (ConAs n some_type, codes " : 'a}", after-some (codes " : ") (Constant_type n) _ _ (constant_type-some n)))
+    braced-reads = join SaysConstant (λ n. Constant_typed n) IsConstantEnd Any constant_at
+        (λ n r. next (literal_at (codes " : ") r) (λ _ q. constant_type_at n q)) hc
+        (λ n. after-reads (codes " : ") Any (Constant_type n) (constant_type_at n) (constant_type-reads n)
+        (ConAs n some_type) (codes "'a}") (constant_type-some n))
+        (λ n. (
+          ConAs n some_type,
+          codes " : 'a}",
+          after-some (codes " : ") (Constant_type n) _ _
+              (constant_type-some n),
+        ))
         (λ n w y r h e. ap (λ z. ends_constant (z ++ r)) (after-text (codes " : ") (Constant_type n) w y h))
 
     -- ---- the texts, regrouped
@@ -492,49 +706,73 @@ module _ (hidden : List (Symbol Name)) where
     abbrev Whole : Written → List ℕ → Type 0
     Whole w x = SaysTerm (suc m) w (40 ∷ (x ++ codes ")"))
 
-    free-whole : (n : Name) (v y : List ℕ) (w : Written) → IsName n → v ≡ variable_word n → Free n w y → Whole w (v ++ 32 ∷ y)
+    free-whole : (n : Name) (v y : List ℕ) (w : Written) → IsName n → v ≡ variable_word n → Free n w y
+        → Whole w (v ++ 32 ∷ y)
     free-whole n v y w hn e h = let t = h.then in
         subst (λ z. Whole z (v ++ 32 ∷ y)) (sym t.is) (record {
-          text = ap (λ z. 40 ∷ (z ++ 41 ∷ [])) ((λ i. e i ++ 32 ∷ (after-text (codes ": ") (Image (FreeAs n) (SaysType hidden m)) w y h ∙ ap (λ z. codes ": " ++ z) t.says.text) i) ∙ sym (three (variable_word n) (32 ∷ 58 ∷ 32 ∷ []) (type_text hidden t.from)));
+          text = ap (λ z. 40 ∷ (z ++ 41 ∷ []))
+              ((λ i. e i ++ 32
+              ∷ (after-text (codes ": ") (Image (FreeAs n) (SaysType hidden m)) w y h ∙ ap (λ z. codes ": " ++ z)
+              t.says.text) i) ∙ sym (three (variable_word n) (32 ∷ 58 ∷ 32 ∷ []) (type_text hidden t.from)));
           fine = (hn, t.says.named);
           within = let k = t.says.within in omega (arith, k);
         })
 
     operator-is : (o : List ℕ) → SaysSigns o o → same_text o (61 ∷ []) ≡ false → is_operator o ≡ true
-    operator-is o h e = subst (λ z. same_text z (61 ∷ []) ≡ false → is_operator z ≡ true) (sym h.is) (λ e. λ i. (h.begins i && h.inner_is i) && not (e i)) e
+    operator-is o h e = subst (λ z. same_text z (61 ∷ []) ≡ false → is_operator z ≡ true) (sym h.is)
+        (λ e. λ i. (h.begins i && h.inner_is i) && not (e i)) e
 
-    infix-whole : (a b : Written) (o : List ℕ) → IsWritten a → IsWritten b → most_open a ≤ m → most_open b ≤ m → SaysSigns o o → Whole (joined_by a o b) (term_text hidden a ++ 32 ∷ (o ++ 32 ∷ term_text hidden b))
+    infix-whole : (a b : Written) (o : List ℕ) → IsWritten a → IsWritten b → most_open a ≤ m → most_open b ≤ m
+        → SaysSigns o o → Whole (joined_by a o b) (term_text hidden a ++ 32 ∷ (o ++ 32 ∷ term_text hidden b))
     infix-whole a b o fa fb ka kb h = go (same_text o (61 ∷ [])) refl where
-      go : (t : Bool) → same_text o (61 ∷ []) ≡ t → Whole (cond t (Equal a b) (Infix o a b)) (term_text hidden a ++ 32 ∷ (o ++ 32 ∷ term_text hidden b))
+      go : (t : Bool) → same_text o (61 ∷ []) ≡ t
+          → Whole (cond t (Equal a b) (Infix o a b)) (term_text hidden a ++ 32 ∷ (o ++ 32 ∷ term_text hidden b))
       go true e = let q : o ≡ 61 ∷ [] = (bytes_eq-Decides o (61 ∷ [])).0 e in record {
-        text = ap (λ z. 40 ∷ (z ++ 41 ∷ [])) (ap (λ z. term_text hidden a ++ 32 ∷ (z ++ 32 ∷ term_text hidden b)) q ∙ sym (three (term_text hidden a) (32 ∷ 61 ∷ 32 ∷ []) (term_text hidden b)));
+        text = ap (λ z. 40 ∷ (z ++ 41 ∷ [])) (ap (λ z. term_text hidden a ++ 32 ∷ (z ++ 32 ∷ term_text hidden b)) q
+            ∙ sym (three (term_text hidden a) (32 ∷ 61 ∷ 32 ∷ []) (term_text hidden b)));
         fine = (fa, fb);
         within = omega arith;
       }
       go false e = record {
-        text = ap (λ z. 40 ∷ (z ++ 41 ∷ [])) (sym (five (term_text hidden a) (32 ∷ []) o (32 ∷ []) (term_text hidden b)));
+        text = ap (λ z. 40 ∷ (z ++ 41 ∷ []))
+            (sym (five (term_text hidden a) (32 ∷ []) o (32 ∷ []) (term_text hidden b)));
         fine = (operator-is o h e, fa, fb);
         within = omega arith;
       }
 
     run-itself : (o y : List ℕ) → SaysSigns o y → SaysSigns o o
-    run-itself o y h = record { first_byte = h.first_byte; rest = h.rest; is = h.is; begins = h.begins; inner_is = h.inner_is; text = refl }
+    run-itself o y h =
+        record {
+          first_byte = h.first_byte;
+          rest = h.rest;
+          is = h.is;
+          begins = h.begins;
+          inner_is = h.inner_is;
+          text = refl;
+        }
 
-    behind-whole : (a w : Written) (y : List ℕ) → IsWritten a → most_open a ≤ m → Behind a w y → Whole w (term_text hidden a ++ 32 ∷ y)
+    behind-whole : (a w : Written) (y : List ℕ) → IsWritten a → most_open a ≤ m → Behind a w y
+        → Whole w (term_text hidden a ++ 32 ∷ y)
     behind-whole a w y fa ka h = elim h [ inl p ↦ operation p.0 | inr q ↦ application q.0 ] where
       operation : Operation a w y → Whole w (term_text hidden a ++ 32 ∷ y)
       operation p =
           let q = p.then.then in
-          let text : y ≡ p.one ++ 32 ∷ term_text hidden q.from = p.is ∙ (λ i. p.says.text i ++ (after-text (codes " ") (Image (joined_by a p.one) (SaysTerm m)) w p.back p.then ∙ ap (λ z. 32 ∷ z) q.says.text) i) in
+          let text : y ≡ p.one ++ 32 ∷ term_text hidden q.from =
+          p.is ∙ (λ i. p.says.text i
+          ++ (after-text (codes " ") (Image (joined_by a p.one) (SaysTerm m)) w p.back p.then
+          ∙ ap (λ z. 32 ∷ z) q.says.text) i) in
           let s = infix-whole a q.from p.one fa q.says.fine ka q.says.within (run-itself p.one p.front p.says) in
-          subst (λ z. Whole z (term_text hidden a ++ 32 ∷ y)) (sym q.is) (subst (λ z. Whole (joined_by a p.one q.from) (term_text hidden a ++ 32 ∷ z)) (sym text) s)
+          subst (λ z. Whole z (term_text hidden a ++ 32 ∷ y)) (sym q.is)
+          (subst (λ z. Whole (joined_by a p.one q.from) (term_text hidden a ++ 32 ∷ z)) (sym text) s)
 
       application : Application a w y → Whole w (term_text hidden a ++ 32 ∷ y)
       application p =
           let q = p.then in
-          let text : y ≡ term_text hidden p.one ++ terms_text hidden q.from = p.is ∙ (λ i. p.says.text i ++ q.says.text i) in
+          let text : y ≡ term_text hidden p.one ++ terms_text hidden q.from =
+          p.is ∙ (λ i. p.says.text i ++ q.says.text i) in
           subst (λ z. Whole z (term_text hidden a ++ 32 ∷ y)) (sym q.is) (record {
-            text = ap (λ z. 40 ∷ (z ++ 41 ∷ [])) (ap (λ z. term_text hidden a ++ 32 ∷ z) text ∙ sym (four (term_text hidden a) (32 ∷ []) (term_text hidden p.one) (terms_text hidden q.from)));
+            text = ap (λ z. 40 ∷ (z ++ 41 ∷ [])) (ap (λ z. term_text hidden a ++ 32 ∷ z) text
+                ∙ sym (four (term_text hidden a) (32 ∷ []) (term_text hidden p.one) (terms_text hidden q.from)));
             fine = (fa, p.says.fine, q.says.fine);
             within = let k1 = p.says.within in let k2 = q.says.within in omega (arith, ka, k1, k2);
           })
@@ -546,9 +784,19 @@ module _ (hidden : List (Symbol Name)) where
     binding-whole w y h =
         let p = h.then in let ty = p.then.then in let b = ty.then.then in
         let text : y ≡ 92 ∷ (p.one ++ 32 ∷ 58 ∷ 32 ∷ (type_text hidden ty.one ++ 32 ∷ 46 ∷ 32 ∷ term_text hidden b.from)) =
-        after-text (codes "\\") Part_typed w y h ∙ ap (λ z. 92 ∷ z) (p.is ∙ (λ i. p.says.text i ++ (after-text (codes " : ") (Type_body p.one) w p.back p.then ∙ ap (λ z. 32 ∷ 58 ∷ 32 ∷ z) (ty.is ∙ (λ j. ty.says.text j ++ (after-text (codes " . ") (Image (Binding p.one ty.one) (SaysTerm m)) w ty.back ty.then ∙ ap (λ z. 32 ∷ 46 ∷ 32 ∷ z) b.says.text) j))) i)) in
+        after-text (codes "\\") Part_typed w y h
+        ∙ ap (λ z. 92 ∷ z)
+        (p.is ∙ (λ i. p.says.text i
+        ++ (after-text (codes " : ") (Type_body p.one) w p.back p.then
+        ∙ ap (λ z. 32 ∷ 58 ∷ 32 ∷ z)
+        (ty.is ∙ (λ j. ty.says.text j
+        ++ (after-text (codes " . ") (Image (Binding p.one ty.one) (SaysTerm m)) w ty.back ty.then
+        ∙ ap (λ z. 32 ∷ 46 ∷ 32 ∷ z) b.says.text) j))) i)) in
         subst (λ z. Whole z y) (sym b.is) (record {
-          text = ap (λ z. 40 ∷ (z ++ 41 ∷ [])) (text ∙ ap (λ z. 92 ∷ z) (sym (five p.one (32 ∷ 58 ∷ 32 ∷ []) (type_text hidden ty.one) (32 ∷ 46 ∷ 32 ∷ []) (term_text hidden b.from))));
+          text = ap (λ z. 40 ∷ (z ++ 41 ∷ []))
+              (text ∙ ap (λ z. 92 ∷ z)
+              (sym (five p.one (32 ∷ 58 ∷ 32 ∷ []) (type_text hidden ty.one) (32 ∷ 46 ∷ 32 ∷ [])
+              (term_text hidden b.from))));
           fine = (part-is p.one p.front p.says, ty.says.named, b.says.fine);
           within = let k1 = ty.says.within in let k2 = b.says.within in omega (arith, k1, k2);
         })
@@ -559,11 +807,15 @@ module _ (hidden : List (Symbol Name)) where
       text = h.is ∙ ap (λ z. h.front ++ z) (after-text (codes " ") (BehindBare h.one) w h.back h.then)
 
       free : Free h.one w h.then.back → Whole w y
-      free p = subst (Whole w) (sym text) (free-whole h.one h.front h.then.back w h.says.named (h.says.text ∙ (λ i. cond (sym h.says.bare i) (dotted h.one) (spelled h.one))) p)
+      free p = subst (Whole w) (sym text)
+          (free-whole h.one h.front h.then.back w h.says.named
+          (h.says.text ∙ (λ i. cond (sym h.says.bare i) (dotted h.one) (spelled h.one))) p)
 
-      place : (n : Name) → SaysBare n h.front → Behind (Place (first_part n)) w h.then.back → Begins (is_colon n) false h.then.back → n ≡ n → Whole w y
+      place : (n : Name) → SaysBare n h.front → Behind (Place (first_part n)) w h.then.back
+          → Begins (is_colon n) false h.then.back → n ≡ n → Whole w y
       place [] s q k r = absurd (let z = s.named in omega (arith, z))
-      place (x ∷ []) s q k r = subst (Whole w) (sym (text ∙ ap (λ z. z ++ 32 ∷ h.then.back) s.text)) (behind-whole (Place x) w h.then.back (both_true (is_part x) true s.bare).0 (omega arith) q)
+      place (x ∷ []) s q k r = subst (Whole w) (sym (text ∙ ap (λ z. z ++ 32 ∷ h.then.back) s.text))
+          (behind-whole (Place x) w h.then.back (both_true (is_part x) true s.bare).0 (omega arith) q)
       place (x ∷ d ∷ ds) s q k r = absurd (never (k.byte == 58) k.tells)
         where
           never : (t : Bool) → (t || true) ≡ false → ⊥
@@ -574,9 +826,15 @@ module _ (hidden : List (Symbol Name)) where
     inside-whole w y h = elim h [ inl b ↦ binding-whole w y b.0 | inr u ↦ unquoted u.0 ] where
       unquoted : Unquoted w y → Whole w y
       unquoted u = elim u [
-        | inl p ↦ let q = p.0 in subst (Whole w) (sym (q.is ∙ ap (λ z. q.front ++ z) (after-text (codes " ") (Free q.one) w q.back q.then))) (free-whole q.one q.front q.then.back w q.says.named q.says.text q.then.then)
+        | inl p ↦ let q = p.0 in
+            subst (Whole w)
+            (sym (q.is ∙ ap (λ z. q.front ++ z) (after-text (codes " ") (Free q.one) w q.back q.then)))
+            (free-whole q.one q.front q.then.back w q.says.named q.says.text q.then.then)
         | inr p ↦ elim p.0 [
-          | inl d ↦ let q = d.0 in subst (Whole w) (sym (q.is ∙ (λ i. q.says.text i ++ after-text (codes " ") (Behind q.one) w q.back q.then i))) (behind-whole q.one w q.then.back q.says.fine q.says.within q.then.then)
+          | inl d ↦ let q = d.0 in
+              subst (Whole w)
+              (sym (q.is ∙ (λ i. q.says.text i ++ after-text (codes " ") (Behind q.one) w q.back q.then i)))
+              (behind-whole q.one w q.then.back q.says.fine q.says.within q.then.then)
           | inr d ↦ named-whole w y d.0
         ]
       ]
@@ -593,32 +851,72 @@ module _ (hidden : List (Symbol Name)) where
 
     -- ---- each written term's text between parentheses is read
     closed-of : (w : Written) (x : List ℕ) → Inside w x → Closed w (x ++ codes ")")
-    closed-of w x h = record { one = w; front = x; back = codes ")"; says = h; then = record { from = tt; says = refl; is = refl }; is = refl }
+    closed-of w x h = record {
+      one = w;
+      front = x;
+      back = codes ")";
+      says = h;
+      then =
+          record { from = tt; says = refl; is = refl };
+      is = refl;
+    }
 
-    not_lambda : (w : Written) (y : List ℕ) (b : ℕ) (z : List ℕ) → y ≡ b ∷ z → (b == 92) ≡ false → Unquoted w y → Inside w y
+    not_lambda : (w : Written) (y : List ℕ) (b : ℕ) (z : List ℕ) → y ≡ b ∷ z → (b == 92) ≡ false → Unquoted w y
+        → Inside w y
     not_lambda w y b z e d h = inr (h, record { byte = b; rest = z; is = e; tells = d })
 
     -- a term that begins with a parenthesis or a brace, and what goes on behind it
-    headed-inside : (a w : Written) (y : List ℕ) (b : ℕ) (z : List ℕ) → term_text hidden a ≡ b ∷ z → opens_term_byte b ≡ true → IsWritten a → most_open a ≤ m → Behind a w y → Inside w (term_text hidden a ++ 32 ∷ y)
+    headed-inside : (a w : Written) (y : List ℕ) (b : ℕ) (z : List ℕ) → term_text hidden a ≡ b ∷ z → opens_term_byte b
+        ≡ true → IsWritten a → most_open a ≤ m → Behind a w y → Inside w (term_text hidden a ++ 32 ∷ y)
     headed-inside a w y b z e d fa ka h =
-        let x : Headed w (term_text hidden a ++ 32 ∷ y) = record { one = a; front = term_text hidden a; back = 32 ∷ y; says = says-of a fa ka; then = after-some (codes " ") (Behind a) w y h; is = refl } in
+        let x : Headed w (term_text hidden a ++ 32 ∷ y) =
+        record {
+          one = a;
+          front = term_text hidden a;
+          back = 32 ∷ y;
+          says = says-of a fa ka;
+          then = after-some (codes " ") (Behind a) w y h;
+          is = refl;
+        } in
         let is : term_text hidden a ++ 32 ∷ y ≡ b ∷ (z ++ 32 ∷ y) = ap (λ q. q ++ 32 ∷ y) e in
-        let p : Plain w (term_text hidden a ++ 32 ∷ y) = inl (x, record { byte = b; rest = z ++ 32 ∷ y; is = is; tells = d }) in
-        not_lambda w _ b (z ++ 32 ∷ y) is (differs opens_term_byte 92 b refl d) (inr (p, record { byte = b; rest = z ++ 32 ∷ y; is = is; tells = differs opens_term_byte 34 b refl d }))
+        let p : Plain w (term_text hidden a ++ 32 ∷ y) =
+        inl (x, record { byte = b; rest = z ++ 32 ∷ y; is = is; tells = d }) in
+        not_lambda w _ b (z ++ 32 ∷ y) is (differs opens_term_byte 92 b refl d)
+        (inr (p, record { byte = b; rest = z ++ 32 ∷ y; is = is; tells = differs opens_term_byte 34 b refl d }))
 
     no_colon : (a w : Written) (y : List ℕ) → Behind a w y → Begins (λ b. b == 58) false y
     no_colon a w y h = elim h [
-      | inl p ↦ record { byte = p.1.byte; rest = p.1.rest; is = p.1.is; tells = differs is_sign 58 p.1.byte refl p.1.tells }
-      | inr q ↦ let k = starts q.0.one q.0.says.fine in record { byte = k.byte; rest = k.rest ++ q.0.back; is = q.0.is ∙ ap (λ z. z ++ q.0.back) (q.0.says.text ∙ k.is); tells = differs starts_term 58 k.byte refl k.tells }
+      | inl p ↦
+          record { byte = p.1.byte; rest = p.1.rest; is = p.1.is; tells = differs is_sign 58 p.1.byte refl p.1.tells }
+      | inr q ↦ let k = starts q.0.one q.0.says.fine in
+          record {
+            byte = k.byte;
+            rest = k.rest ++ q.0.back;
+            is = q.0.is
+                ∙ ap (λ z. z ++ q.0.back) (q.0.says.text ∙ k.is);
+            tells = differs starts_term 58 k.byte refl k.tells;
+          }
     ]
 
-    place-inside : (x : List ℕ) (w : Written) (y : List ℕ) → is_part x ≡ true → Behind (Place x) w y → Inside w (x ++ 32 ∷ y)
+    place-inside : (x : List ℕ) (w : Written) (y : List ℕ) → is_part x ≡ true → Behind (Place x) w y
+        → Inside w (x ++ 32 ∷ y)
     place-inside x w y fx h =
         let k = no_colon (Place x) w y h in
-        let b : BehindBare (x ∷ []) w y = inr (h, record { byte = k.byte; rest = k.rest; is = k.is; tells = ap (λ t. t || false) k.tells }) in
-        named-inside w (x ++ 32 ∷ y) (record { one = x ∷ []; front = x; back = 32 ∷ y; says = record { bare = and_true (is_part x) true fx refl; named = lit< tt; text = refl }; then = after-some (codes " ") (BehindBare (x ∷ [])) w y b; is = refl })
+        let b : BehindBare (x ∷ []) w y =
+        inr (h, record { byte = k.byte; rest = k.rest; is = k.is; tells = ap (λ t. t || false) k.tells }) in
+        named-inside w (x ++ 32 ∷ y)
+        (record {
+          one = x ∷ [];
+          front = x;
+          back = 32 ∷ y;
+          says = record { bare = and_true (is_part x) true fx refl; named = lit< tt; text = refl };
+          then =
+              after-some (codes " ") (BehindBare (x ∷ [])) w y b;
+          is = refl;
+        })
 
-    head-inside : (a w : Written) (y : List ℕ) → IsWritten a → most_open a ≤ m → Behind a w y → Inside w (term_text hidden a ++ 32 ∷ y)
+    head-inside : (a w : Written) (y : List ℕ) → IsWritten a → most_open a ≤ m → Behind a w y
+        → Inside w (term_text hidden a ++ 32 ∷ y)
     head-inside (Place x) w y fa ka h = place-inside x w y fa h
     head-inside (FreeAs n t) w y fa ka h = headed-inside (FreeAs n t) w y 40 _ refl refl fa ka h
     head-inside (ConAs n t) w y fa ka h = headed-inside (ConAs n t) w y 123 _ refl refl fa ka h
@@ -627,28 +925,53 @@ module _ (hidden : List (Symbol Name)) where
     head-inside (Applied f a more) w y fa ka h = headed-inside (Applied f a more) w y 40 _ refl refl fa ka h
     head-inside (Binding x t a) w y fa ka h = headed-inside (Binding x t a) w y 40 _ refl refl fa ka h
 
-    operation-behind : (a b : Written) (o : List ℕ) → SaysSigns o o → IsWritten b → most_open b ≤ m → Behind a (joined_by a o b) (o ++ 32 ∷ term_text hidden b)
+    operation-behind : (a b : Written) (o : List ℕ) → SaysSigns o o → IsWritten b → most_open b ≤ m
+        → Behind a (joined_by a o b) (o ++ 32 ∷ term_text hidden b)
     operation-behind a b o ho fb kb =
-        let h : Operation a (joined_by a o b) (o ++ 32 ∷ term_text hidden b) = record { one = o; front = o; back = 32 ∷ term_text hidden b; says = ho; then = after-some (codes " ") (Image (joined_by a o) (SaysTerm m)) _ (term_text hidden b) (record { from = b; says = says-of b fb kb; is = refl }); is = refl } in
+        let h : Operation a (joined_by a o b) (o ++ 32 ∷ term_text hidden b) =
+        record {
+          one = o;
+          front = o;
+          back = 32 ∷ term_text hidden b;
+          says = ho;
+          then = after-some (codes " ") (Image (joined_by a o) (SaysTerm m)) _ (term_text hidden b)
+              (record { from = b; says = says-of b fb kb; is = refl });
+          is = refl;
+        } in
         inl (h, operation-byte a _ _ h)
 
-    application-behind : (a b : Written) (more : Writtens) → IsWritten b → AreWritten more → most_open b ≤ m → most_open_all more ≤ m → Behind a (Applied a b more) (term_text hidden b ++ terms_text hidden more)
+    application-behind : (a b : Written) (more : Writtens) → IsWritten b → AreWritten more → most_open b ≤ m
+        → most_open_all more ≤ m → Behind a (Applied a b more) (term_text hidden b ++ terms_text hidden more)
     application-behind a b more fb fm kb km =
-        let h : Application a (Applied a b more) (term_text hidden b ++ terms_text hidden more) = record { one = b; front = term_text hidden b; back = terms_text hidden more; says = says-of b fb kb; then = record { from = more; says = record { text = refl; fine = fm; within = km }; is = refl }; is = refl } in
+        let h : Application a (Applied a b more) (term_text hidden b ++ terms_text hidden more) =
+        record {
+          one = b;
+          front = term_text hidden b;
+          back = terms_text hidden more;
+          says = says-of b fb kb;
+          then = record { from = more; says = record { text = refl; fine = fm; within = km }; is = refl };
+          is =
+              refl;
+        } in
         inr (h, application-byte a _ _ h)
 
-    free-says : (n : Name) (t : Ty Name) → HasNames t → most_open_type t ≤ m → Free n (FreeAs n t) (58 ∷ 32 ∷ type_text hidden t)
-    free-says n t ht kt = after-some (codes ": ") (Image (FreeAs n) (SaysType hidden m)) (FreeAs n t) (type_text hidden t) (record { from = t; says = record { text = refl; named = ht; within = kt }; is = refl })
+    free-says : (n : Name) (t : Ty Name) → HasNames t → most_open_type t ≤ m
+        → Free n (FreeAs n t) (58 ∷ 32 ∷ type_text hidden t)
+    free-says n t ht kt = after-some (codes ": ") (Image (FreeAs n) (SaysType hidden m)) (FreeAs n t)
+        (type_text hidden t) (record { from = t; says = record { text = refl; named = ht; within = kt }; is = refl })
 
-    free-inside : (n : Name) (t : Ty Name) → IsName n → HasNames t → most_open_type t ≤ m → Inside (FreeAs n t) (variable_word n ++ 32 ∷ 58 ∷ 32 ∷ type_text hidden t)
+    free-inside : (n : Name) (t : Ty Name) → IsName n → HasNames t → most_open_type t ≤ m
+        → Inside (FreeAs n t) (variable_word n ++ 32 ∷ 58 ∷ 32 ∷ type_text hidden t)
     free-inside n t hn ht kt = go (is_bare n) refl where
-      go : (b : Bool) → is_bare n ≡ b → Inside (FreeAs n t) (cond b (dotted n) (spelled n) ++ 32 ∷ 58 ∷ 32 ∷ type_text hidden t)
+      go : (b : Bool) → is_bare n ≡ b
+          → Inside (FreeAs n t) (cond b (dotted n) (spelled n) ++ 32 ∷ 58 ∷ 32 ∷ type_text hidden t)
       go true e = named-inside _ _ (record {
         one = n;
         front = dotted n;
         back = 32 ∷ 58 ∷ 32 ∷ type_text hidden t;
         says = record { bare = e; named = hn; text = refl };
-        then = after-some (codes " ") (BehindBare n) _ _ (inl (free-says n t ht kt, free-byte n _ _ (free-says n t ht kt)));
+        then = after-some (codes " ") (BehindBare n) _ _
+            (inl (free-says n t ht kt, free-byte n _ _ (free-says n t ht kt)));
         is = refl;
       })
       go false e =
@@ -664,16 +987,30 @@ module _ (hidden : List (Symbol Name)) where
 
     part-says : (x : List ℕ) → is_part x ≡ true → SaysPart x x
     part-says [] h = cc
-    part-says (b ∷ x) h = let k = both_true (is_letter b) (list_all is_inner x) h in record { first_byte = b; rest = x; is = refl; begins = k.0; inner_is = k.1; text = refl }
+    part-says (b ∷ x) h = let k = both_true (is_letter b) (list_all is_inner x) h in
+        record { first_byte = b; rest = x; is = refl; begins = k.0; inner_is = k.1; text = refl }
 
     signs-says : (o : List ℕ) → is_operator o ≡ true → SaysSigns o o
     signs-says [] h = cc
-    signs-says (b ∷ o) h = let k = both_true (list_all is_sign (b ∷ o)) (not (same_text (b ∷ o) (61 ∷ []))) h in let l = both_true (is_sign b) (list_all is_sign o) k.0 in record { first_byte = b; rest = o; is = refl; begins = l.0; inner_is = l.1; text = refl }
+    signs-says (b ∷ o) h = let k = both_true (list_all is_sign (b ∷ o)) (not (same_text (b ∷ o) (61 ∷ []))) h in
+        let l = both_true (is_sign b) (list_all is_sign o) k.0 in
+        record { first_byte = b; rest = o; is = refl; begins = l.0; inner_is = l.1; text = refl }
 
-    binding-inside : (x : List ℕ) (t : Ty Name) (a : Written) → is_part x ≡ true → HasNames t → IsWritten a → most_open_type t ≤ m → most_open a ≤ m → Inside (Binding x t a) (92 ∷ (x ++ 32 ∷ 58 ∷ 32 ∷ (type_text hidden t ++ 32 ∷ 46 ∷ 32 ∷ term_text hidden a)))
+    binding-inside : (x : List ℕ) (t : Ty Name) (a : Written) → is_part x ≡ true → HasNames t → IsWritten a
+        → most_open_type t ≤ m → most_open a ≤ m → Inside (Binding x t a)
+        (92 ∷ (x ++ 32 ∷ 58 ∷ 32 ∷ (type_text hidden t ++ 32 ∷ 46 ∷ 32 ∷ term_text hidden a)))
     binding-inside x t a fx ht fa kt ka =
-        let body = after-some (codes " . ") (Image (Binding x t) (SaysTerm m)) (Binding x t a) (term_text hidden a) (record { from = a; says = says-of a fa ka; is = refl }) in
-        let ty : Type_body x (Binding x t a) (type_text hidden t ++ 32 ∷ 46 ∷ 32 ∷ term_text hidden a) = record { one = t; front = type_text hidden t; back = 32 ∷ 46 ∷ 32 ∷ term_text hidden a; says = record { text = refl; named = ht; within = kt }; then = body; is = refl } in
+        let body = after-some (codes " . ") (Image (Binding x t) (SaysTerm m)) (Binding x t a) (term_text hidden a)
+        (record { from = a; says = says-of a fa ka; is = refl }) in
+        let ty : Type_body x (Binding x t a) (type_text hidden t ++ 32 ∷ 46 ∷ 32 ∷ term_text hidden a) =
+        record {
+          one = t;
+          front = type_text hidden t;
+          back = 32 ∷ 46 ∷ 32 ∷ term_text hidden a;
+          says = record { text = refl; named = ht; within = kt };
+          then = body;
+          is = refl;
+        } in
         let p : Part_typed (Binding x t a) (x ++ 32 ∷ 58 ∷ 32 ∷ (type_text hidden t ++ 32 ∷ 46 ∷ 32 ∷ term_text hidden a)) = record { one = x; front = x; back = 32 ∷ 58 ∷ 32 ∷ (type_text hidden t ++ 32 ∷ 46 ∷ 32 ∷ term_text hidden a); says = part-says x fx; then = after-some (codes " : ") (Type_body x) _ _ ty; is = refl } in
         let h : Bound_by (Binding x t a) (92 ∷ (x ++ 32 ∷ 58 ∷ 32 ∷ (type_text hidden t ++ 32 ∷ 46 ∷ 32 ∷ term_text hidden a))) = after-some (codes "\\") Part_typed (Binding x t a) (x ++ 32 ∷ 58 ∷ 32 ∷ (type_text hidden t ++ 32 ∷ 46 ∷ 32 ∷ term_text hidden a)) p in
         inl (h, record { byte = 92; rest = _; is = refl; tells = refl })
@@ -690,25 +1027,41 @@ module _ (hidden : List (Symbol Name)) where
     says-closed (Place (b ∷ z)) x h =
         let k = both_true (is_letter b) (list_all is_inner z) h.fine in
         absurd (other_byte b 40 z x (differs is_letter 40 b refl k.0) (sym h.text))
-    says-closed (FreeAs n t) x h = closed-at (FreeAs n t) x _ (h.text ∙ ap (λ z. 40 ∷ (z ++ codes ")")) (three (variable_word n) (32 ∷ 58 ∷ 32 ∷ []) (type_text hidden t))) (free-inside n t h.fine.0 h.fine.1 (let k = h.within in omega (arith, k)))
+    says-closed (FreeAs n t) x h = closed-at (FreeAs n t) x _ (h.text ∙ ap (λ z. 40 ∷ (z ++ codes ")"))
+        (three (variable_word n) (32 ∷ 58 ∷ 32 ∷ []) (type_text hidden t)))
+        (free-inside n t h.fine.0 h.fine.1 (let k = h.within in omega (arith, k)))
     says-closed (ConAs n t) x h = absurd (other_byte 40 123 x _ refl h.text)
-    says-closed (Equal a b) x h = closed-at (Equal a b) x _ (h.text ∙ ap (λ z. 40 ∷ (z ++ codes ")")) (three (term_text hidden a) (32 ∷ 61 ∷ 32 ∷ []) (term_text hidden b)))
-        (head-inside a (Equal a b) (61 ∷ 32 ∷ term_text hidden b) h.fine.0 (let k = h.within in omega (arith, k)) (operation-behind a b (61 ∷ []) (record { first_byte = 61; rest = []; is = refl; begins = refl; inner_is = refl; text = refl }) h.fine.1 (let k = h.within in omega (arith, k))))
-    says-closed (Infix o a b) x h = closed-at (Infix o a b) x _ (h.text ∙ ap (λ z. 40 ∷ (z ++ codes ")")) (five (term_text hidden a) (32 ∷ []) o (32 ∷ []) (term_text hidden b)))
+    says-closed (Equal a b) x h = closed-at (Equal a b) x _ (h.text ∙ ap (λ z. 40 ∷ (z ++ codes ")"))
+        (three (term_text hidden a) (32 ∷ 61 ∷ 32 ∷ []) (term_text hidden b)))
+        (head-inside a (Equal a b) (61 ∷ 32 ∷ term_text hidden b) h.fine.0 (let k = h.within in omega (arith, k))
+        (operation-behind a b (61 ∷ [])
+        (record { first_byte = 61; rest = []; is = refl; begins = refl; inner_is = refl; text = refl }) h.fine.1
+        (let k = h.within in omega (arith, k))))
+    says-closed (Infix o a b) x h = closed-at (Infix o a b) x _ (h.text ∙ ap (λ z. 40 ∷ (z ++ codes ")"))
+        (five (term_text hidden a) (32 ∷ []) o (32 ∷ []) (term_text hidden b)))
         (subst (λ w. Inside w (term_text hidden a ++ 32 ∷ (o ++ 32 ∷ term_text hidden b))) (no_equals o h.fine.0)
-        (head-inside a (joined_by a o b) (o ++ 32 ∷ term_text hidden b) h.fine.1 (let k = h.within in omega (arith, k)) (operation-behind a b o (signs-says o h.fine.0) h.fine.2 (let k = h.within in omega (arith, k)))))
+        (head-inside a (joined_by a o b) (o ++ 32 ∷ term_text hidden b) h.fine.1
+        (let k = h.within in omega (arith, k))
+        (operation-behind a b o (signs-says o h.fine.0) h.fine.2 (let k = h.within in omega (arith, k)))))
       where
         no_equals : (o : List ℕ) → is_operator o ≡ true → joined_by a o b ≡ Infix o a b
         no_equals [] e = cc
-        no_equals (c ∷ o) e = let k = both_true (list_all is_sign (c ∷ o)) (not (same_text (c ∷ o) (61 ∷ []))) e in go (same_text (c ∷ o) (61 ∷ [])) k.1
+        no_equals (c ∷ o) e = let k = both_true (list_all is_sign (c ∷ o)) (not (same_text (c ∷ o) (61 ∷ []))) e in
+            go (same_text (c ∷ o) (61 ∷ [])) k.1
           where
             go : (t : Bool) → not t ≡ true → cond t (Equal a b) (Infix (c ∷ o) a b) ≡ Infix (c ∷ o) a b
             go true q = cc
             go false q = refl
-    says-closed (Applied f a more) x h = closed-at (Applied f a more) x _ (h.text ∙ ap (λ z. 40 ∷ (z ++ codes ")")) (four (term_text hidden f) (32 ∷ []) (term_text hidden a) (terms_text hidden more)))
-        (head-inside f (Applied f a more) (term_text hidden a ++ terms_text hidden more) h.fine.0 (let k = h.within in omega (arith, k)) (application-behind f a more h.fine.1 h.fine.2 (let k = h.within in omega (arith, k)) (let k = h.within in omega (arith, k))))
-    says-closed (Binding x0 t a) x h = closed-at (Binding x0 t a) x _ (h.text ∙ ap (λ z. 40 ∷ 92 ∷ (z ++ codes ")")) (five x0 (32 ∷ 58 ∷ 32 ∷ []) (type_text hidden t) (32 ∷ 46 ∷ 32 ∷ []) (term_text hidden a)))
-        (binding-inside x0 t a h.fine.0 h.fine.1 h.fine.2 (let k = h.within in omega (arith, k)) (let k = h.within in omega (arith, k)))
+    says-closed (Applied f a more) x h = closed-at (Applied f a more) x _ (h.text ∙ ap (λ z. 40 ∷ (z ++ codes ")"))
+        (four (term_text hidden f) (32 ∷ []) (term_text hidden a) (terms_text hidden more)))
+        (head-inside f (Applied f a more) (term_text hidden a ++ terms_text hidden more) h.fine.0
+        (let k = h.within in omega (arith, k))
+        (application-behind f a more h.fine.1 h.fine.2 (let k = h.within in omega (arith, k))
+        (let k = h.within in omega (arith, k))))
+    says-closed (Binding x0 t a) x h = closed-at (Binding x0 t a) x _ (h.text ∙ ap (λ z. 40 ∷ 92 ∷ (z ++ codes ")"))
+        (five x0 (32 ∷ 58 ∷ 32 ∷ []) (type_text hidden t) (32 ∷ 46 ∷ 32 ∷ []) (term_text hidden a)))
+        (binding-inside x0 t a h.fine.0 h.fine.1 h.fine.2 (let k = h.within in omega (arith, k))
+        (let k = h.within in omega (arith, k)))
 
     pub opened-reads : Reads Opened Any (closed_term_at constant_at type term)
     opened-reads = told Closed Opened Any (closed_term_at constant_at type term) closed-reads closed-says says-closed
@@ -721,9 +1074,11 @@ module _ (hidden : List (Symbol Name)) where
     brace-says w x h =
         let p = h.then.then in let q = p.then in
         let text : x ≡ word hidden (ConSymbol h.one) ++ 32 ∷ 58 ∷ 32 ∷ (type_text hidden p.one ++ 125 ∷ []) =
-        h.is ∙ (λ i. h.says.text i ++ (after-text (codes " : ") (Constant_type h.one) w h.back h.then ∙ ap (λ z. 32 ∷ 58 ∷ 32 ∷ z) (p.is ∙ (λ j. p.says.text j ++ q.says j))) i) in
+        h.is ∙ (λ i. h.says.text i ++ (after-text (codes " : ") (Constant_type h.one) w h.back h.then
+        ∙ ap (λ z. 32 ∷ 58 ∷ 32 ∷ z) (p.is ∙ (λ j. p.says.text j ++ q.says j))) i) in
         subst (λ z. Brace z x) (sym q.is) (record {
-          text = ap (λ z. 123 ∷ z) (text ∙ sym (four (word hidden (ConSymbol h.one)) (32 ∷ 58 ∷ 32 ∷ []) (type_text hidden p.one) (125 ∷ [])));
+          text = ap (λ z. 123 ∷ z) (text
+              ∙ sym (four (word hidden (ConSymbol h.one)) (32 ∷ 58 ∷ 32 ∷ []) (type_text hidden p.one) (125 ∷ [])));
           fine = (h.says.named, p.says.named);
           within = let k = p.says.within in omega (arith, k);
         })
@@ -733,12 +1088,31 @@ module _ (hidden : List (Symbol Name)) where
 
     says-brace : (w : Written) (x : List ℕ) → Brace w x → Braced w x
     says-brace (Place []) x h = let f = h.fine in cc
-    says-brace (Place (b ∷ z)) x h = let k = both_true (is_letter b) (list_all is_inner z) h.fine in absurd (other_byte b 123 z x (differs is_letter 123 b refl k.0) (sym h.text))
+    says-brace (Place (b ∷ z)) x h = let k = both_true (is_letter b) (list_all is_inner z) h.fine in
+        absurd (other_byte b 123 z x (differs is_letter 123 b refl k.0) (sym h.text))
     says-brace (FreeAs n t) x h = absurd (other_byte 123 40 x _ refl h.text)
     says-brace (ConAs n t) x h =
-        let text : x ≡ word hidden (ConSymbol n) ++ 32 ∷ 58 ∷ 32 ∷ (type_text hidden t ++ 125 ∷ []) = behind_brace (h.text ∙ ap (λ z. 123 ∷ z) (four (word hidden (ConSymbol n)) (32 ∷ 58 ∷ 32 ∷ []) (type_text hidden t) (125 ∷ []))) in
-        let ty : Constant_type n (ConAs n t) (type_text hidden t ++ 125 ∷ []) = record { one = t; front = type_text hidden t; back = 125 ∷ []; says = record { text = refl; named = h.fine.1; within = let k = h.within in omega (arith, k) }; then = record { from = tt; says = refl; is = refl }; is = refl } in
-        record { one = n; front = word hidden (ConSymbol n); back = 32 ∷ 58 ∷ 32 ∷ (type_text hidden t ++ 125 ∷ []); says = record { named = h.fine.0; text = refl }; then = after-some (codes " : ") (Constant_type n) _ _ ty; is = text }
+        let text : x ≡ word hidden (ConSymbol n) ++ 32 ∷ 58 ∷ 32 ∷ (type_text hidden t ++ 125 ∷ []) =
+        behind_brace (h.text ∙ ap (λ z. 123 ∷ z)
+        (four (word hidden (ConSymbol n)) (32 ∷ 58 ∷ 32 ∷ []) (type_text hidden t) (125 ∷ []))) in
+        let ty : Constant_type n (ConAs n t) (type_text hidden t ++ 125 ∷ []) =
+        record {
+          one = t;
+          front = type_text hidden t;
+          back = 125 ∷ [];
+          says = record { text = refl; named = h.fine.1; within = let k = h.within in omega (arith, k) };
+          then =
+              record { from = tt; says = refl; is = refl };
+          is = refl;
+        } in
+        record {
+          one = n;
+          front = word hidden (ConSymbol n);
+          back = 32 ∷ 58 ∷ 32 ∷ (type_text hidden t ++ 125 ∷ []);
+          says = record { named = h.fine.0; text = refl };
+          then = after-some (codes " : ") (Constant_type n) _ _ ty;
+          is = text;
+        }
     says-brace (Equal a b) x h = absurd (other_byte 123 40 x _ refl h.text)
     says-brace (Infix o a b) x h = absurd (other_byte 123 40 x _ refl h.text)
     says-brace (Applied f a more) x h = absurd (other_byte 123 40 x _ refl h.text)

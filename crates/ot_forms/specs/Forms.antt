@@ -3,7 +3,8 @@ use Rattle.std.specs.Prelude.{◌≤◌, ℕ, suc, cond, IsTrue, List, [], ◌++
 use Rattle.std.specs.List.{AllByRecursion}
 use Rattle.ot_plain.specs.Names.{Name, IsName}
 use Rattle.ot_plain.specs.Naming.{names}
-use Rattle.ot_plain.specs.Trees.{Ty, Tys, TyVar, TyOp, NoTys, MoreTys, Tm, Free, Con, Bound, App, Abs, Symbol, ConSymbol, OpSymbol}
+use Rattle.ot_plain.specs.Trees.{Ty, Tys, TyVar, TyOp, NoTys, MoreTys, Tm, Free}
+use Rattle.ot_plain.specs.Trees.{Con, Bound, App, Abs, Symbol, ConSymbol, OpSymbol}
 use Rattle.ot_text.specs.Texts as printed
 use Rattle.ot_text.specs.Texts.{is_function}
 use Rattle.ot_forms.specs.Words.{is_part, is_operator, variable_word, word}
@@ -81,11 +82,15 @@ abbrev mutual
   pub term_text : List (Symbol Name) → Written → List ℕ
   term_text hidden (Place x) = x
   term_text hidden (FreeAs n t) = codes "(" ++ variable_word n ++ codes " : " ++ type_text hidden t ++ codes ")"
-  term_text hidden (ConAs n t) = codes "{" ++ word hidden (ConSymbol n) ++ codes " : " ++ type_text hidden t ++ codes "}"
+  term_text hidden (ConAs n t) =
+      codes "{" ++ word hidden (ConSymbol n) ++ codes " : " ++ type_text hidden t ++ codes "}"
   term_text hidden (Equal a b) = codes "(" ++ term_text hidden a ++ codes " = " ++ term_text hidden b ++ codes ")"
-  term_text hidden (Infix o a b) = codes "(" ++ term_text hidden a ++ codes " " ++ o ++ codes " " ++ term_text hidden b ++ codes ")"
-  term_text hidden (Applied f a more) = codes "(" ++ term_text hidden f ++ codes " " ++ term_text hidden a ++ terms_text hidden more ++ codes ")"
-  term_text hidden (Binding x t a) = codes "(\\" ++ x ++ codes " : " ++ type_text hidden t ++ codes " . " ++ term_text hidden a ++ codes ")"
+  term_text hidden (Infix o a b) =
+      codes "(" ++ term_text hidden a ++ codes " " ++ o ++ codes " " ++ term_text hidden b ++ codes ")"
+  term_text hidden (Applied f a more) =
+      codes "(" ++ term_text hidden f ++ codes " " ++ term_text hidden a ++ terms_text hidden more ++ codes ")"
+  term_text hidden (Binding x t a) =
+      codes "(\\" ++ x ++ codes " : " ++ type_text hidden t ++ codes " . " ++ term_text hidden a ++ codes ")"
 
   -- a space before each
   pub terms_text : List (Symbol Name) → Writtens → List ℕ

@@ -26,39 +26,49 @@ pub record ArePropositions (q : Sequent Name) : Type 0 where
 
 -- the hidden symbols of a run are a notation
 abbrev pub RunsHaveNotations : Type 0
-RunsHaveNotations = (shown : List Name) (symbols : List (Symbol Name)) → ((n : Name) → IsMember n shown → IsName n) → IsNotation (hidden_symbols shown symbols)
+RunsHaveNotations = (shown : List Name) (symbols : List (Symbol Name)) → ((n : Name) → IsMember n shown → IsName n)
+    → IsNotation (hidden_symbols shown symbols)
 
 -- the readable text of a sequent stands for its hypotheses as a set and its conclusion
 abbrev pub ReadsBack : Type 0
-ReadsBack = (hidden : List (Symbol Name)) → IsNotation hidden → (q : Sequent Name) → ArePropositions q → (hs : List (Tm Name)) × IsSameSet hs q.hyps × ReadsAs hidden (readable_text hidden q) (record { hyps = hs; concl = q.concl })
+ReadsBack = (hidden : List (Symbol Name)) → IsNotation hidden → (q : Sequent Name) → ArePropositions q
+    → (hs : List (Tm Name)) × IsSameSet hs q.hyps × ReadsAs hidden (readable_text hidden q)
+    (record { hyps = hs; concl = q.concl })
 
 -- the words of two symbols of one kind are different, and so are those of two variables
 abbrev pub WordsDiffer : Type 0
-WordsDiffer = (hidden : List (Symbol Name)) → IsNotation hidden → (s t : Symbol Name) → IsName (symbol_name s) → IsName (symbol_name t) → same_kind s t ≡ true → word hidden s ≡ word hidden t → s ≡ t
+WordsDiffer = (hidden : List (Symbol Name)) → IsNotation hidden → (s t : Symbol Name) → IsName (symbol_name s)
+    → IsName (symbol_name t) → same_kind s t ≡ true → word hidden s ≡ word hidden t → s ≡ t
 
 abbrev pub VariableWordsDiffer : Type 0
 VariableWordsDiffer = (n m : Name) → IsName n → IsName m → variable_word n ≡ variable_word m → n ≡ m
 
 -- a line stands for one sequent, a text for one term
 abbrev pub OneReading : Type 0
-OneReading = (hidden : List (Symbol Name)) → IsNotation hidden → (line : List ℕ) (s t : Sequent Name) → ReadsAs hidden line s → ReadsAs hidden line t → s ≡ t
+OneReading = (hidden : List (Symbol Name)) → IsNotation hidden → (line : List ℕ) (s t : Sequent Name)
+    → ReadsAs hidden line s → ReadsAs hidden line t → s ≡ t
 
 abbrev pub OneTermReading : Type 0
-OneTermReading = (hidden : List (Symbol Name)) → IsNotation hidden → (text : List ℕ) (s t : Tm Name) → ReadsAsTerm hidden text s → ReadsAsTerm hidden text t → s ≡ t
+OneTermReading = (hidden : List (Symbol Name)) → IsNotation hidden → (text : List ℕ) (s t : Tm Name)
+    → ReadsAsTerm hidden text s → ReadsAsTerm hidden text t → s ≡ t
 
 -- then it isn't refused
 abbrev pub NotBoth : Type 0
-NotBoth = (hidden : List (Symbol Name)) → IsNotation hidden → (line : List ℕ) (s : Sequent Name) (k : ℕ) (f : TextFault) → ReadsAs hidden line s → IsRefused hidden line k f → ⊥
+NotBoth = (hidden : List (Symbol Name)) → IsNotation hidden → (line : List ℕ) (s : Sequent Name) (k : ℕ)
+    (f : TextFault) → ReadsAs hidden line s → IsRefused hidden line k f → ⊥
 
 abbrev pub NotBothTerm : Type 0
-NotBothTerm = (hidden : List (Symbol Name)) → IsNotation hidden → (text : List ℕ) (t : Tm Name) (k : ℕ) (f : TextFault) → ReadsAsTerm hidden text t → IsTermRefused hidden text k f → ⊥
+NotBothTerm = (hidden : List (Symbol Name)) → IsNotation hidden → (text : List ℕ) (t : Tm Name) (k : ℕ)
+    (f : TextFault) → ReadsAsTerm hidden text t → IsTermRefused hidden text k f → ⊥
 
 -- it is refused at one place for one fault
 abbrev pub OneRefusal : Type 0
-OneRefusal = (hidden : List (Symbol Name)) → IsNotation hidden → (line : List ℕ) (k j : ℕ) (f g : TextFault) → IsRefused hidden line k f → IsRefused hidden line j g → (k ≡ j) × (f ≡ g)
+OneRefusal = (hidden : List (Symbol Name)) → IsNotation hidden → (line : List ℕ) (k j : ℕ) (f g : TextFault)
+    → IsRefused hidden line k f → IsRefused hidden line j g → (k ≡ j) × (f ≡ g)
 
 abbrev pub OneTermRefusal : Type 0
-OneTermRefusal = (hidden : List (Symbol Name)) → IsNotation hidden → (text : List ℕ) (k j : ℕ) (f g : TextFault) → IsTermRefused hidden text k f → IsTermRefused hidden text j g → (k ≡ j) × (f ≡ g)
+OneTermRefusal = (hidden : List (Symbol Name)) → IsNotation hidden → (text : List ℕ) (k j : ℕ) (f g : TextFault)
+    → IsTermRefused hidden text k f → IsTermRefused hidden text j g → (k ≡ j) × (f ≡ g)
 
 -- the refusal is that of the first of the refused parts
 abbrev pub IsFirst : {A : Type 0} → Result A Refusal → List Part → Type 0
@@ -67,7 +77,9 @@ IsFirst (Err r) ps = (stop : ℕ) × (rest : List Part) × (ps ≡ record { star
 
 -- and these stand in the order in which they count: of a term, and of a line
 abbrev pub FirstCounts : Type 0
-FirstCounts = (hidden : List (Symbol Name)) (l : Around) (wanted : Bool) (k : ℕ) (w : Written) → IsWritten w → IsFirst (meaning hidden l wanted k w) (parts hidden l wanted k w) × AreOrdered (parts hidden l wanted k w)
+FirstCounts = (hidden : List (Symbol Name)) (l : Around) (wanted : Bool) (k : ℕ) (w : Written) → IsWritten w
+    → IsFirst (meaning hidden l wanted k w) (parts hidden l wanted k w) × AreOrdered (parts hidden l wanted k w)
 
 abbrev pub FirstOfLineCounts : Type 0
-FirstOfLineCounts = (hidden : List (Symbol Name)) (q : WrittenSequent) → AllByRecursion IsWritten q.hyps → IsWritten q.concl → IsFirst (line_meaning hidden q) (line_parts hidden q) × AreOrdered (line_parts hidden q)
+FirstOfLineCounts = (hidden : List (Symbol Name)) (q : WrittenSequent) → AllByRecursion IsWritten q.hyps
+    → IsWritten q.concl → IsFirst (line_meaning hidden q) (line_parts hidden q) × AreOrdered (line_parts hidden q)

@@ -1,15 +1,18 @@
 -- What a written term stands for: a nameless term, or the first refusal.
-use Rattle.std.specs.Prelude.{ℕ, ◌+◌, suc, Bool, true, false, cond, not, ◌&&◌, ◌||◌, nat_le, List, [], ◌∷◌, map, length, Option, Some, None, Result, Ok, Err}
+use Rattle.std.specs.Prelude.{ℕ, ◌+◌, suc, Bool, true, false, cond, not, ◌&&◌, ◌||◌, nat_le}
+use Rattle.std.specs.Prelude.{List, [], ◌∷◌, map, length, Option, Some, None, Result, Ok, Err}
 use Rattle.std.specs.Option.{option_map, unwrap_or}
 use Rattle.ot_plain.specs.Answers.{◌>>=◌, some_or}
 use Rattle.ot_plain.specs.Names.{Name}
 use Rattle.ot_plain.specs.Naming.{names}
 use Rattle.ot_plain.specs.Trees.{Ty, Tm, Free, Con, Bound, App, Abs, Sequent, Symbol, ConSymbol, OpSymbol}
-use Rattle.ot_plain.specs.Hol.{fun_ty, bool_ty, type_in, same_ty, equation, depth_tm, depth_limit, has_shallow_types, once_each}
+use Rattle.ot_plain.specs.Hol.{fun_ty, bool_ty, type_in, same_ty, equation}
+use Rattle.ot_plain.specs.Hol.{depth_tm, depth_limit, has_shallow_types, once_each}
 use Rattle.ot_forms.specs.declared.fault.TextFault.{TextFault}
 use Rattle.ot_forms.specs.declared.fault.TextFault.TheVariants.{Unbound, UnknownOperator, BadTypes, TooDeep}
 use Rattle.ot_forms.specs.Words.{same_text, base}
-use Rattle.ot_forms.specs.Forms.{Written, Writtens, Place, FreeAs, ConAs, Equal, Infix, Applied, Binding, NoMore, More, WrittenSequent, type_text, term_text, hyps_text}
+use Rattle.ot_forms.specs.Forms.{Written, Writtens, Place, FreeAs, ConAs, Equal, Infix, Applied}
+use Rattle.ot_forms.specs.Forms.{Binding, NoMore, More, WrittenSequent, type_text, term_text, hyps_text}
 
 -- the abstractions around a term, with their names and types, the innermost first
 abbrev pub Around : Type 0
@@ -68,7 +71,8 @@ abbrev pub are_alike : Around → Tm Name → Tm Name → Bool
 are_alike l a b = has_type l b (unwrap_or (type_in names (types_around l) a) (bool_ty names))
 
 abbrev mutual
-  -- the nameless term of a written one that begins at place k, or the refusal of the first part that is refused: a part comes after the parts inside it, and what stands on the left first
+  -- the nameless term of a written one that begins at place k, or the refusal of the first part that is refused: a
+  -- part comes after the parts inside it, and what stands on the left first
   pub meaning : List (Symbol Name) → Around → Bool → ℕ → Written → Result (Tm Name) Refusal
   meaning hidden l wanted k (Place x) = do
     i ← some_or (k, Unbound) (place_of l x)
@@ -94,7 +98,8 @@ abbrev mutual
     whole l wanted k (Abs t b)
 
   -- f, from place k on, applied to x and to the further arguments, the first of them at place i
-  pub meaning_applied : List (Symbol Name) → Around → Bool → ℕ → ℕ → Tm Name → Tm Name → Writtens → Result (Tm Name) Refusal
+  pub meaning_applied : List (Symbol Name) → Around → Bool → ℕ → ℕ → Tm Name → Tm Name → Writtens
+      → Result (Tm Name) Refusal
   meaning_applied hidden l wanted k i f x NoMore = do
     _ ← check k BadTypes (is_typed l (App f x))
     whole l wanted k (App f x)

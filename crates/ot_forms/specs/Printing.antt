@@ -6,7 +6,8 @@ use Rattle.ot_plain.specs.Trees.{Tm, Free, Con, Bound, App, Abs, Sequent, Symbol
 use Rattle.ot_plain.specs.Hol.{same_ty}
 use Rattle.ot_text.specs.Texts.{number_text, is_equation, ascending, hyps_text}
 use Rattle.ot_forms.specs.Words.{is_operator, is_hidden, base}
-use Rattle.ot_forms.specs.Forms.{Written, Writtens, Place, FreeAs, ConAs, Equal, Infix, Applied, Binding, NoMore, More, term_text}
+use Rattle.ot_forms.specs.Forms.{Written, Writtens, Place, FreeAs, ConAs, Equal}
+use Rattle.ot_forms.specs.Forms.{Infix, Applied, Binding, NoMore, More, term_text}
 use Rattle.ot_forms.specs.Meaning.{relation_ty}
 
 -- the name of the variable of an abstraction with k abstractions around it
@@ -15,7 +16,8 @@ binder_name k = 120 ∷ number_text k
 
 -- a hidden constant with an operator word, as a relation between propositions, applied to one term
 abbrev pub is_relation : List (Symbol Name) → Tm Name → Bool
-is_relation hidden (App (Con n t) x) = is_hidden hidden (ConSymbol n) && (is_operator (base n) && same_ty names t relation_ty)
+is_relation hidden (App (Con n t) x) =
+    is_hidden hidden (ConSymbol n) && (is_operator (base n) && same_ty names t relation_ty)
 is_relation hidden _ = false
 
 -- the operator word of such a term
@@ -38,7 +40,8 @@ abbrev mutual
   written hidden k (Free v) = FreeAs v.name v.ty
   written hidden k (Con n t) = ConAs n t
   written hidden k (Bound i) = Place (binder_name (k - suc i))
-  written hidden k (App f x) = cond (is_equation names (App f x)) (Equal (written_argument hidden k f) (written hidden k x))
+  written hidden k (App f x) =
+      cond (is_equation names (App f x)) (Equal (written_argument hidden k f) (written hidden k x))
       (cond (is_relation hidden f) (Infix (operator_of f) (written_argument hidden k f) (written hidden k x))
       (applied_to hidden k f (written hidden k x)))
   written hidden k (Abs t b) = Binding (binder_name k) t (written hidden (suc k) b)

@@ -1,13 +1,16 @@
 -- The forms read from left to right. Public contracts speak of the forms instead.
-use Rattle.std.specs.Prelude.{ℕ, zero, suc, ◌-◌, Bool, true, false, cond, ◌&&◌, ◌||◌, not, ◌==◌, List, [], ◌∷◌, length, codes, Option, Some, None}
+use Rattle.std.specs.Prelude.{ℕ, zero, suc, ◌-◌, Bool, true, false, cond, ◌&&◌, ◌||◌, not}
+use Rattle.std.specs.Prelude.{◌==◌, List, [], ◌∷◌, length, codes, Option, Some, None}
 use Rattle.std.specs.Option.{unwrap_or}
 use Rattle.ot_plain.specs.Names.{Name}
 use Rattle.ot_plain.specs.Naming.{names}
 use Rattle.ot_plain.specs.Hol.{fun_ty}
 use Rattle.ot_plain.specs.Trees.{Ty, Tys, TyVar, TyOp, NoTys, MoreTys, Symbol, ConSymbol, OpSymbol}
 use Rattle.ot_text.specs.Texts.{is_function}
-use Rattle.ot_forms.specs.Words.{is_letter, is_inner, is_sign, is_operator, same_kind, is_bare, is_hidden, is_taken, dotted, same_text, base, symbol_name}
-use Rattle.ot_forms.specs.Forms.{Written, Writtens, Place, FreeAs, ConAs, Equal, Infix, Applied, Binding, NoMore, More, WrittenSequent}
+use Rattle.ot_forms.specs.Words.{is_letter, is_inner, is_sign, is_operator, same_kind, is_bare}
+use Rattle.ot_forms.specs.Words.{is_hidden, is_taken, dotted, same_text, base, symbol_name}
+use Rattle.ot_forms.specs.Forms.{Written, Writtens, Place, FreeAs, ConAs, Equal, Infix}
+use Rattle.ot_forms.specs.Forms.{Applied, Binding, NoMore, More, WrittenSequent}
 
 -- why reading halts: no text of the forms goes on so, or one parenthesis too many is opened
 pub data Reason : Type 0 where
@@ -56,7 +59,8 @@ abbrev mutual
   -- a bare word behind a byte of a part
   pub bare_on : List ℕ → Reading Name
   bare_on [] = Got ([] ∷ []) []
-  bare_on (b ∷ s) = cond (is_inner b) (mapped (before b) (bare_on s)) (cond (b == 46) (mapped (λ n. [] ∷ n) (bare_at s)) (Got ([] ∷ []) (b ∷ s)))
+  bare_on (b ∷ s) = cond (is_inner b) (mapped (before b) (bare_on s))
+      (cond (b == 46) (mapped (λ n. [] ∷ n) (bare_at s)) (Got ([] ∷ []) (b ∷ s)))
 
 -- the further parts of a bare word, each behind a dot
 abbrev pub bare_rest : List ℕ → Reading Name
@@ -71,7 +75,10 @@ abbrev mutual
   -- the components of a spelling, up to its closing quote
   pub spelled_at : List ℕ → Reading Name
   spelled_at [] = Halted NoForm []
-  spelled_at (b ∷ s) = cond (b == 34) (Got ([] ∷ []) (b ∷ s)) (cond (b == 92) (escaped_at s) (cond (b == 46) (mapped (λ n. [] ∷ n) (spelled_at s)) (mapped (before b) (spelled_at s))))
+  spelled_at (b ∷ s) =
+      cond (b == 34) (Got ([] ∷ []) (b ∷ s))
+      (cond (b == 92) (escaped_at s)
+      (cond (b == 46) (mapped (λ n. [] ∷ n) (spelled_at s)) (mapped (before b) (spelled_at s))))
 
   -- a byte behind a backslash, and what follows
   pub escaped_at : List ℕ → Reading Name
@@ -110,7 +117,8 @@ variable_at (b ∷ s) = cond (b == 34) (quoted_at (λ n. not (is_bare n)) s) (ba
 -- the hidden symbol of this one's kind with this base name
 abbrev pub with_base : List (Symbol Name) → Symbol Name → List ℕ → Option Name
 with_base [] s x = None
-with_base (t ∷ h) s x = cond (same_kind s t && same_text x (base (symbol_name t))) (Some (symbol_name t)) (with_base h s x)
+with_base (t ∷ h) s x = cond (same_kind s t && same_text x (base (symbol_name t))) (Some (symbol_name t))
+    (with_base h s x)
 
 -- the name of the symbol whose bare word this is: a hidden one's, where there is one with this base name
 abbrev pub settled : List (Symbol Name) → (Name → Symbol Name) → Name → Name
@@ -123,12 +131,14 @@ bare_symbol_at hidden kind s = mapped (settled hidden kind) (kept (λ n. not (is
 
 -- whether the word of a symbol is its spelling
 abbrev pub is_spelled : List (Symbol Name) → Symbol Name → Bool
-is_spelled hidden s = not (is_hidden hidden s) && not (is_bare (symbol_name s) && not (is_taken hidden s (dotted (symbol_name s))))
+is_spelled hidden s =
+    not (is_hidden hidden s) && not (is_bare (symbol_name s) && not (is_taken hidden s (dotted (symbol_name s))))
 
 -- the word of a type operator
 abbrev pub operator_at : List (Symbol Name) → List ℕ → Reading Name
 operator_at hidden [] = Halted NoForm []
-operator_at hidden (b ∷ s) = cond (b == 34) (quoted_at (λ n. is_spelled hidden (OpSymbol n)) s) (bare_symbol_at hidden OpSymbol (b ∷ s))
+operator_at hidden (b ∷ s) = cond (b == 34) (quoted_at (λ n. is_spelled hidden (OpSymbol n)) s)
+    (bare_symbol_at hidden OpSymbol (b ∷ s))
 
 -- ---- the operator words of hidden constants
 
@@ -166,7 +176,8 @@ sign_word_at cs (b ∷ s) = elim (narrowed b cs) [ [] ↦ ended_at (ended cs) (b
 -- the word of a constant
 abbrev pub constant_at : List (Symbol Name) → List ℕ → Reading Name
 constant_at hidden [] = Halted NoForm []
-constant_at hidden (b ∷ s) = cond (b == 34) (quoted_at (λ n. is_spelled hidden (ConSymbol n)) s) (cond (is_sign b) (sign_word_at (operators hidden) (b ∷ s)) (bare_symbol_at hidden ConSymbol (b ∷ s)))
+constant_at hidden (b ∷ s) = cond (b == 34) (quoted_at (λ n. is_spelled hidden (ConSymbol n)) s)
+    (cond (is_sign b) (sign_word_at (operators hidden) (b ∷ s)) (bare_symbol_at hidden ConSymbol (b ∷ s)))
 
 -- ---- types
 
@@ -179,7 +190,9 @@ module _ (hidden : List (Symbol Name)) (read : List ℕ → Reading (Ty Name)) w
   abbrev pub further_at : ℕ → List ℕ → Reading (Tys Name)
   further_at k [] = Got NoTys []
   further_at (suc k) (b ∷ s) = further_at k s
-  further_at zero (b ∷ s) = cond (b == 32) (next (read s) (λ t r. mapped (MoreTys t) (further_at (length s - length r) s))) (Got NoTys (b ∷ s))
+  further_at zero (b ∷ s) =
+      cond (b == 32) (next (read s) (λ t r. mapped (MoreTys t) (further_at (length s - length r) s)))
+      (Got NoTys (b ∷ s))
 
   -- one type or more with a space between two
   abbrev pub arguments_at : List ℕ → Reading (Tys Name)
@@ -209,7 +222,8 @@ module _ (hidden : List (Symbol Name)) where
   -- a type, by what an opening parenthesis does
   abbrev pub type_by : (List ℕ → Reading (Ty Name)) → List ℕ → Reading (Ty Name)
   type_by opened [] = Halted NoForm []
-  type_by opened (b ∷ s) = cond (b == 39) (mapped TyVar (variable_at s)) (cond (b == 40) (opened s) (mapped (λ n. TyOp n NoTys) (operator_at hidden (b ∷ s))))
+  type_by opened (b ∷ s) = cond (b == 39) (mapped TyVar (variable_at s))
+      (cond (b == 40) (opened s) (mapped (λ n. TyOp n NoTys) (operator_at hidden (b ∷ s))))
 
   -- a type with room for so many open parentheses
   abbrev pub type_at : ℕ → List ℕ → Reading (Ty Name)
@@ -241,13 +255,16 @@ module _ (word : List ℕ → Reading Name) (type : List ℕ → Reading (Ty Nam
   abbrev pub further_terms_at : ℕ → List ℕ → Reading Writtens
   further_terms_at k [] = Got NoMore []
   further_terms_at (suc k) (b ∷ s) = further_terms_at k s
-  further_terms_at zero (b ∷ s) = cond (b == 32) (next (term s) (λ t r. mapped (More t) (further_terms_at (length s - length r) s))) (Got NoMore (b ∷ s))
+  further_terms_at zero (b ∷ s) =
+      cond (b == 32) (next (term s) (λ t r. mapped (More t) (further_terms_at (length s - length r) s)))
+      (Got NoMore (b ∷ s))
 
   abbrev pub application_at : Written → List ℕ → Reading Written
   application_at a s = next (term s) (λ x r. mapped (Applied a x) (further_terms_at 0 r))
 
   abbrev pub operation_at : Written → List ℕ → Reading Written
-  operation_at a s = next (signs_at s) (λ o r. next (literal_at (codes " ") r) (λ _ q. mapped (joined_by a o) (term q)))
+  operation_at a s =
+      next (signs_at s) (λ o r. next (literal_at (codes " ") r) (λ _ q. mapped (joined_by a o) (term q)))
 
   -- behind the first term and a space
   abbrev pub behind_term_at : Written → List ℕ → Reading Written
@@ -257,7 +274,8 @@ module _ (word : List ℕ → Reading Name) (type : List ℕ → Reading (Ty Nam
   -- behind a bare word and a space: it is a variable's, or one part, a bound place
   abbrev pub behind_bare_at : Name → List ℕ → Reading Written
   behind_bare_at n [] = Halted NoForm []
-  behind_bare_at n (b ∷ s) = cond ((b == 58) || not (is_single n)) (free_at n (b ∷ s)) (behind_term_at (Place (first_part n)) (b ∷ s))
+  behind_bare_at n (b ∷ s) =
+      cond ((b == 58) || not (is_single n)) (free_at n (b ∷ s)) (behind_term_at (Place (first_part n)) (b ∷ s))
 
   abbrev pub spaced_at : {A : Type 0} → (List ℕ → Reading A) → List ℕ → Reading A
   spaced_at f s = next (literal_at (codes " ") s) (λ _ r. f r)
@@ -272,7 +290,9 @@ module _ (word : List ℕ → Reading Name) (type : List ℕ → Reading (Ty Nam
   headed_at s = next (term s) (λ a r. spaced_at (behind_term_at a) r)
 
   abbrev pub binding_at : List ℕ → Reading Written
-  binding_at s = next (literal_at (codes "\\") s) (λ _ p. next (part_at p) (λ x r. next (literal_at (codes " : ") r) (λ _ q. next (type q) (λ t u. next (literal_at (codes " . ") u) (λ _ v. mapped (Binding x t) (term v))))))
+  binding_at s =
+      next (literal_at
+      (codes "\\") s) (λ _ p. next (part_at p) (λ x r. next (literal_at (codes " : ") r) (λ _ q. next (type q) (λ t u. next (literal_at (codes " . ") u) (λ _ v. mapped (Binding x t) (term v))))))
 
   -- between parentheses, by the first byte
   abbrev pub plain_inside_at : List ℕ → Reading Written
@@ -293,17 +313,22 @@ module _ (word : List ℕ → Reading Name) (type : List ℕ → Reading (Ty Nam
 
   -- behind an opening brace
   abbrev pub braced_at : List ℕ → Reading Written
-  braced_at s = next (word s) (λ n r. next (literal_at (codes " : ") r) (λ _ q. next (type q) (λ t u. mapped (λ _. ConAs n t) (literal_at (codes "}") u))))
+  braced_at s =
+      next (word s)
+      (λ n r. next (literal_at (codes " : ") r)
+      (λ _ q. next (type q) (λ t u. mapped (λ _. ConAs n t) (literal_at (codes "}") u))))
 
 -- a term, by what an opening parenthesis and an opening brace do
 abbrev pub term_by : (List ℕ → Reading Written) → (List ℕ → Reading Written) → List ℕ → Reading Written
 term_by opened braced [] = Halted NoForm []
-term_by opened braced (b ∷ s) = cond (b == 40) (opened s) (cond (b == 123) (braced s) (mapped Place (part_at (b ∷ s))))
+term_by opened braced (b ∷ s) =
+    cond (b == 40) (opened s) (cond (b == 123) (braced s) (mapped Place (part_at (b ∷ s))))
 
 -- a term with room for so many open parentheses and braces
 abbrev pub term_at : List (Symbol Name) → (List ℕ → Reading Name) → ℕ → List ℕ → Reading Written
 term_at hidden word zero = term_by (λ s. Halted OneTooMany (40 ∷ s)) (λ s. Halted OneTooMany (123 ∷ s))
-term_at hidden word (suc n) = term_by (closed_term_at word (type_at hidden n) (term_at hidden word n)) (braced_at word (type_at hidden n) (term_at hidden word n))
+term_at hidden word (suc n) = term_by (closed_term_at word (type_at hidden n) (term_at hidden word n))
+    (braced_at word (type_at hidden n) (term_at hidden word n))
 
 -- ---- lines
 module _ (term : List ℕ → Reading Written) where
@@ -312,7 +337,8 @@ module _ (term : List ℕ → Reading Written) where
   further_hyps_at k [] = Halted NoForm []
   further_hyps_at (suc k) (b ∷ s) = further_hyps_at k s
   further_hyps_at zero (b ∷ s) = cond (b == 44)
-      (next (literal_at (codes " ") s) (λ _ r. next (term r) (λ a q. mapped (λ more. a ∷ more) (further_hyps_at (length s - length q) s))))
+      (next (literal_at (codes " ") s)
+      (λ _ r. next (term r) (λ a q. mapped (λ more. a ∷ more) (further_hyps_at (length s - length q) s))))
       (mapped (λ _. []) (literal_at (codes " |- ") (b ∷ s)))
 
   -- the hypotheses and the turnstile

@@ -3,7 +3,8 @@ use Rattle.std.specs.Prelude.{◌≡◌, ◌≤◌, ◌<◌, ◌⊎◌, ℕ, suc
 use Rattle.ot_plain.specs.Names.{Name}
 use Rattle.ot_plain.specs.Trees.{Tm, Sequent, Symbol}
 use Rattle.ot_forms.specs.declared.fault.TextFault.{TextFault}
-use Rattle.ot_forms.specs.declared.fault.TextFault.TheVariants.{Syntax, TooManyOpen, Unbound, UnknownOperator, BadTypes, TooDeep}
+use Rattle.ot_forms.specs.declared.fault.TextFault.TheVariants.{Syntax, TooManyOpen, Unbound}
+use Rattle.ot_forms.specs.declared.fault.TextFault.TheVariants.{UnknownOperator, BadTypes, TooDeep}
 use Rattle.ot_forms.specs.Forms.{Written, IsWritten, most_open, term_text, WrittenSequent, IsLine, line_text}
 use Rattle.ot_forms.specs.Meaning.{Refusal, line_meaning, term_meaning}
 
@@ -37,10 +38,12 @@ module _ {A : Type 0} (Writes : ℕ → List ℕ → A → Type 0) where
     pub limit : ℕ
     pub start : IsStart limit front
 
-  -- the text isn't of the forms: up to place k it is the front of one, and it ends there or its byte there makes it none
+  -- the text isn't of the forms: up to place k it is the front of one, and it ends there or its byte there makes it
+  -- none
   pub record IsNoForm (text : List ℕ) (k : ℕ) : Type 0 where
     pub front : IsStart open_limit (take k text)
-    pub stop : ((k ≡ length text) × ((limit : ℕ) (a : A) → Writes limit text a → ⊥)) ⊎ ((k < length text) × (IsFront (take (suc k) text) → ⊥))
+    pub stop : ((k ≡ length text) × ((limit : ℕ) (a : A) → Writes limit text a → ⊥))
+        ⊎ ((k < length text) × (IsFront (take (suc k) text) → ⊥))
 
   -- the byte at place k opens one more than may be open
   pub record OpensTooMany (text : List ℕ) (k : ℕ) : Type 0 where

@@ -1,5 +1,6 @@
 -- The words of names: parts, bare words, operator words, hidden symbols.
-use Rattle.std.specs.Prelude.{◌≡◌, ◌<◌, length, ℕ, Bool, true, false, cond, not, ◌&&◌, ◌||◌, ◌==◌, nat_le, List, [], ◌∷◌, ◌++◌}
+use Rattle.std.specs.Prelude.{◌≡◌, ◌<◌, length, ℕ, Bool, true, false, cond, not}
+use Rattle.std.specs.Prelude.{◌&&◌, ◌||◌, ◌==◌, nat_le, List, [], ◌∷◌, ◌++◌}
 use Rattle.std.specs.List.{list_all, list_any, filter}
 use Rattle.std.specs.Cmp.Lexicographic.{pointwise}
 use Rattle.std.specs.Prelude.{nat_eq}
@@ -21,7 +22,8 @@ is_part (b ∷ bs) = is_letter b && list_all is_inner bs
 
 -- one of / \ = < > ~ & |
 abbrev pub is_sign : ℕ → Bool
-is_sign b = (b == 47) || ((b == 92) || ((b == 61) || ((b == 60) || ((b == 62) || ((b == 126) || ((b == 38) || (b == 124)))))))
+is_sign b =
+    (b == 47) || ((b == 92) || ((b == 61) || ((b == 60) || ((b == 62) || ((b == 126) || ((b == 38) || (b == 124)))))))
 
 -- whether two texts are one
 abbrev pub same_text : List ℕ → List ℕ → Bool
@@ -85,9 +87,11 @@ is_shown shown s = list_any (same_name (namespace (symbol_name s))) shown
 abbrev pub is_alike : Symbol Name → Symbol Name → Bool
 is_alike s t = same_kind s t && same_text (base (symbol_name s)) (base (symbol_name t))
 
--- whether a symbol among these is hidden: its namespace is shown, its base name may stand alone, and no other symbol of its kind has the same base name and a shown namespace
+-- whether a symbol among these is hidden: its namespace is shown, its base name may stand alone, and no other symbol
+-- of its kind has the same base name and a shown namespace
 abbrev pub is_hidden_in : List Name → List (Symbol Name) → Symbol Name → Bool
-is_hidden_in shown symbols s = is_shown shown s && (is_short s && list_all (λ t. not (is_alike s t && is_shown shown t) || same_symbol s t) symbols)
+is_hidden_in shown symbols s = is_shown shown s
+    && (is_short s && list_all (λ t. not (is_alike s t && is_shown shown t) || same_symbol s t) symbols)
 
 -- the hidden symbols of a run's symbols
 abbrev pub hidden_symbols : List Name → List (Symbol Name) → List (Symbol Name)
@@ -102,7 +106,8 @@ is_hidden hidden s = list_any (same_symbol s) hidden
 abbrev pub is_taken : List (Symbol Name) → Symbol Name → List ℕ → Bool
 is_taken hidden s text = list_any (λ t. same_kind s t && same_text text (base (symbol_name t))) hidden
 
--- the word of a symbol: its base name where it is hidden, else its bare word where that isn't the base name of a hidden symbol of its kind, else its spelling
+-- the word of a symbol: its base name where it is hidden, else its bare word where that isn't the base name of a
+-- hidden symbol of its kind, else its spelling
 abbrev pub word : List (Symbol Name) → Symbol Name → List ℕ
 word hidden s =
     let n = symbol_name s in
@@ -115,4 +120,5 @@ pub record IsNotation (hidden : List (Symbol Name)) : Type 0 where
   -- there is a namespace
   pub inner : (s : Symbol Name) → is_hidden hidden s ≡ true → 1 < length (symbol_name s)
   -- of one kind no two have one base name
-  pub alone : (s t : Symbol Name) → is_hidden hidden s ≡ true → is_hidden hidden t ≡ true → same_kind s t ≡ true → base (symbol_name s) ≡ base (symbol_name t) → symbol_name s ≡ symbol_name t
+  pub alone : (s t : Symbol Name) → is_hidden hidden s ≡ true → is_hidden hidden t ≡ true → same_kind s t ≡ true
+      → base (symbol_name s) ≡ base (symbol_name t) → symbol_name s ≡ symbol_name t

@@ -1,6 +1,6 @@
-ghost use Rattle.ot_forms.specs.Laws.{RunsHaveNotations, WordsDiffer, VariableWordsDiffer, ReadsBack, OneReading};
-ghost use Rattle.ot_forms.specs.Laws.{OneTermReading, OneRefusal, OneTermRefusal, NotBoth, NotBothTerm, FirstCounts};
-ghost use Rattle.ot_forms.specs.Laws.{FirstOfLineCounts};
+ghost use Rattle.ot_forms.specs.Laws.{RunsHaveNotations, WordsDiffer, VariableWordsDiffer, ReadsBack};
+ghost use Rattle.ot_forms.specs.Laws.{OneReading, OneTermReading, OneRefusal, OneTermRefusal};
+ghost use Rattle.ot_forms.specs.Laws.{NotBoth, NotBothTerm, FirstCounts, FirstOfLineCounts};
 
 /// Laws of words: what a run hides is a notation; two symbols of one kind have different words, and so have two
 /// variables.

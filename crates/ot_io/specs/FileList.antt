@@ -1,5 +1,6 @@
 -- What the files in memory hold: a list of paths and bytes, a place in it, and an offset.
-use Rattle.std.specs.Prelude.{◌≡◌, ◌≤◌, ◌<◌, length, ℕ, List, [], Option, Some, None, map, slice_get, Vec, String, string_bytes}
+use Rattle.std.specs.Prelude.{◌≡◌, ◌≤◌, ◌<◌, length, ℕ, List, [], Option, Some}
+use Rattle.std.specs.Prelude.{None, map, slice_get, Vec, String, string_bytes}
 use Rattle.std.specs.Global.{Global}
 use Rattle.std.specs.Option.{option_map, ForSome}
 use Rattle.ot_io.specs.Folder.{Folder, bytes_at}

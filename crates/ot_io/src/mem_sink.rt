@@ -2,8 +2,8 @@ ghost use Rattle.std.specs.Prelude.{◌≡◌, ◌<◌, ◌≤◌, ◌↔◌, �
 ghost use Rattle.std.specs.Io.{WritesAtMost};
 ghost use Rattle.std.specs.Io.KnownBytes.{WriteAppends};
 ghost use Rattle.ot_io.specs.Causes.{HasCause};
-ghost use Rattle.ot_io.specs.MemoryStates.{no_calls, FailsNext, after_call, after_failed_call, FindsNoRoom};
-ghost use Rattle.ot_io.specs.MemoryStates.{written_count};
+ghost use Rattle.ot_io.specs.MemoryStates.{no_calls, FailsNext, after_call};
+ghost use Rattle.ot_io.specs.MemoryStates.{after_failed_call, FindsNoRoom, written_count};
 
 use crate::calls::Calls;
 use crate::sink::Sink;

@@ -22,10 +22,15 @@ by_itself p = record { hyps = p ∷ []; concl = p }
 pub assumed : (p : Tm Name) → has_type names p (bool_ty names) ≡ true → assume_rule names p ≡ Ok (by_itself p)
 assumed p h = rw h refl
 
-pub assumed_follows : (al : List (Sequent Name)) (dl : List (Definition Name)) (p : Tm Name) → has_type names p (bool_ty names) ≡ true → IsTheorem names al dl (by_itself p)
+pub assumed_follows : (al : List (Sequent Name)) (dl : List (Definition Name)) (p : Tm Name)
+    → has_type names p (bool_ty names) ≡ true → IsTheorem names al dl (by_itself p)
 assumed_follows al dl p h = assume_rule-sound names tells_names al dl p (by_itself p) (assumed p h)
 
-pub assumed_sequent : (now mid : State) → Keeps now mid → (t : ℕ) → t < length now.terms → (th : Theorem) → th.hyps.items ≡ t ∷ [] → th.concl ≡ t → sequent_of mid.terms th ≡ by_itself (term_at now t)
+pub assumed_sequent : (now mid : State) → Keeps now mid → (t : ℕ) → t < length now.terms → (th : Theorem)
+    → th.hyps.items ≡ t ∷ [] → th.concl ≡ t → sequent_of mid.terms th ≡ by_itself (term_at now t)
 assumed_sequent now mid keeps t within th e f =
     let same = named_at-Extends now.terms mid.terms keeps.terms t within in
-    (λ j. record { hyps = map (λ i. nameless names (named_at mid.terms i)) (e j); concl = nameless names (named_at mid.terms (f j)) }) ∙ (λ j. by_itself (nameless names (same j)))
+    (λ j. record {
+      hyps = map (λ i. nameless names (named_at mid.terms i)) (e j);
+      concl = nameless names (named_at mid.terms (f j));
+    }) ∙ (λ j. by_itself (nameless names (same j)))

@@ -1,9 +1,11 @@
 -- The equation (\v. p v) v = p v as it is made over the table.
 use Rattle.std.specs.Option.{option_map}
-use Rattle.std.proofs.Common.{◌≡◌, ℕ, ◌<◌, cond, [], ◌∷◌, length, slice_get, Some, Result, Ok, refl, sym, ap, ◌∙◌, arith}
+use Rattle.std.proofs.Common.{◌≡◌, ℕ, ◌<◌, cond, [], ◌∷◌, length, slice_get}
+use Rattle.std.proofs.Common.{Some, Result, Ok, refl, sym, ap, ◌∙◌, arith}
 use Rattle.ot_plain.specs.Trees.{Ty, Variable, Tm, Free, Con, Bound, App, Abs, NVar, Sequent}
 use Rattle.ot_plain.specs.Faults.{Fault, Nesting}
-use Rattle.ot_plain.specs.Hol.{fun_ty, bool_ty, type_in, HasType, IsClosed, nameless, is_shallow, same_var, close, sequent_of}
+use Rattle.ot_plain.specs.Hol.{fun_ty, bool_ty, type_in, HasType, IsClosed}
+use Rattle.ot_plain.specs.Hol.{nameless, is_shallow, same_var, close, sequent_of}
 use Rattle.ot_plain.specs.Naming.{numbers}
 use Rattle.ot_plain.specs.Rules.{within_limit, app_rule, abs_rule}
 use Rattle.ot_laws.proofs.Steps.{limit-ok}
@@ -27,7 +29,9 @@ use Rattle.ot_kernel.proofs.Equating.{tm_at-Grows}
 use Rattle.ot_kernel.proofs.NewFunctions.{app_rule-is, left_part_refused, right_part_refused}
 use Rattle.ot_kernel.proofs.RoundTrips.{same_refusal, no_hyps_derive}
 
-module _ (t : TermTable) (key : VarKey) (p : ℕ) (below : key.ty < length t.types) (hp : p < length t.terms) (predicate : HasType numbers (tm_at t.terms p) (fun_ty numbers (type_at t.types key.ty) (bool_ty numbers))) (closed : IsClosed numbers (tm_at t.terms p)) where
+module _ (t : TermTable) (key : VarKey) (p : ℕ) (below : key.ty < length t.types) (hp : p < length t.terms)
+    (predicate : HasType numbers (tm_at t.terms p) (fun_ty numbers (type_at t.types key.ty) (bool_ty numbers)))
+    (closed : IsClosed numbers (tm_at t.terms p)) where
   abbrev var : Variable ℕ
   var = variable_of t.types key
 
@@ -61,12 +65,14 @@ module _ (t : TermTable) (key : VarKey) (p : ℕ) (below : key.ty < length t.typ
   redex_typed : HasType numbers redex bool
   redex_typed =
       app-typed numbers tells_numbers [] function (Free var) var.ty bool
-      (ap (option_map (fun_ty numbers var.ty)) (app-typed numbers tells_numbers (var.ty ∷ []) P (Bound 0) var.ty bool (type-more numbers tells_numbers [] (var.ty ∷ []) P (fun_ty numbers var.ty bool) predicate) refl)) refl
+      (ap (option_map (fun_ty numbers var.ty)) (app-typed numbers tells_numbers (var.ty ∷ []) P (Bound 0) var.ty bool
+      (type-more numbers tells_numbers [] (var.ty ∷ []) P (fun_ty numbers var.ty bool) predicate) refl)) refl
 
   function_is : Abs var.ty (close numbers var holds) ≡ function
   function_is =
       let same = close_at_fresh numbers tells_numbers 0 var P (closed var) in
-      let place : cond (same_var numbers var var) (Bound 0) (Free var) ≡ Bound 0 = ap (λ b. cond b (Bound 0) (Free var)) ((same_var-is numbers tells_numbers var var).1 refl) in
+      let place : cond (same_var numbers var var) (Bound 0) (Free var) ≡ Bound 0 =
+      ap (λ b. cond b (Bound 0) (Free var)) ((same_var-is numbers tells_numbers var var).1 refl) in
       λ i. Abs var.ty (App (same i) (place i))
 
   module _ (m : TermTable) (first : Grows t m) (x : ℕ) (is_var : slice_get m.terms x ≡ Some (NVar var)) where
@@ -79,27 +85,38 @@ module _ (t : TermTable) (key : VarKey) (p : ℕ) (below : key.ty < length t.typ
     holds_rule : app_rule numbers (tm_at m.terms p) (tm_at m.terms x) ≡ limited numbers holds
     holds_rule =
         let same = tm_at-Grows t m first p hp in
-        (λ i. app_rule numbers (same i) (var_is i)) ∙ app_rule-is numbers tells_numbers P (Free var) var.ty bool predicate refl
+        (λ i. app_rule numbers (same i) (var_is i))
+        ∙ app_rule-is numbers tells_numbers P (Free var) var.ty bool predicate refl
 
-    pub beta_holds_refused : (e : RuleFault) → RefusesRule e (app_rule numbers (tm_at m.terms p) (tm_at m.terms x)) → RefusesRule e stated
-    beta_holds_refused e r = within-refused numbers e [] whole (right_part_refused e (App equals redex) holds (same_refusal e _ _ holds_rule r))
+    pub beta_holds_refused : (e : RuleFault) → RefusesRule e (app_rule numbers (tm_at m.terms p) (tm_at m.terms x))
+        → RefusesRule e stated
+    beta_holds_refused e r = within-refused numbers e [] whole
+        (right_part_refused e (App equals redex) holds (same_refusal e _ _ holds_rule r))
 
-    module _ (n : TermTable) (second : Grows m n) (h : ℕ) (made_h : Makes (Ok h) (app_rule numbers (tm_at m.terms p) (tm_at m.terms x)) n.terms) where
+    module _ (n : TermTable) (second : Grows m n) (h : ℕ)
+        (made_h : Makes (Ok h) (app_rule numbers (tm_at m.terms p) (tm_at m.terms x)) n.terms) where
       holds_is : tm_at n.terms h ≡ holds
-      holds_is = sym (limit-ok (is_shallow numbers holds) Nesting holds (tm_at n.terms h) (sym holds_rule ∙ made_h.1)).1
+      holds_is =
+          sym (limit-ok (is_shallow numbers holds) Nesting holds (tm_at n.terms h) (sym holds_rule ∙ made_h.1)).1
 
       function_rule : abs_rule numbers (variable_of n.types key) (tm_at n.terms h) ≡ limited numbers function
       function_rule =
           let binder = variable_of-Grows t n (Grows-trans t m n first second) key below in
           (λ i. abs_rule numbers (binder i) (holds_is i)) ∙ ap (limited numbers) function_is
 
-      pub beta_function_refused : (e : RuleFault) → RefusesRule e (abs_rule numbers (variable_of n.types key) (tm_at n.terms h)) → RefusesRule e stated
+      pub beta_function_refused : (e : RuleFault)
+          → RefusesRule e (abs_rule numbers (variable_of n.types key) (tm_at n.terms h)) → RefusesRule e stated
       beta_function_refused e r =
-          within-refused numbers e [] whole (left_part_refused e (App equals redex) holds (right_part_refused e equals redex (left_part_refused e function (Free var) (same_refusal e _ _ function_rule r))))
+          within-refused numbers e [] whole
+          (left_part_refused e (App equals redex) holds
+          (right_part_refused e equals redex
+          (left_part_refused e function (Free var) (same_refusal e _ _ function_rule r))))
 
-      module _ (o : TermTable) (third : Grows n o) (f : ℕ) (made_f : Makes (Ok f) (abs_rule numbers (variable_of n.types key) (tm_at n.terms h)) o.terms) where
+      module _ (o : TermTable) (third : Grows n o) (f : ℕ)
+          (made_f : Makes (Ok f) (abs_rule numbers (variable_of n.types key) (tm_at n.terms h)) o.terms) where
         f_is : tm_at o.terms f ≡ function
-        f_is = sym (limit-ok (is_shallow numbers function) Nesting function (tm_at o.terms f) (sym function_rule ∙ made_f.1)).1
+        f_is = sym (limit-ok (is_shallow numbers function) Nesting function (tm_at o.terms f)
+            (sym function_rule ∙ made_f.1)).1
 
         x_is : tm_at o.terms x ≡ Free var
         x_is = tm_at-Grows m o (Grows-trans m n o second third) x x_below ∙ var_is
@@ -109,15 +126,25 @@ module _ (t : TermTable) (key : VarKey) (p : ℕ) (below : key.ty < length t.typ
 
         redex_rule : app_rule numbers (tm_at o.terms f) (tm_at o.terms x) ≡ limited numbers redex
         redex_rule =
-            (λ i. app_rule numbers (f_is i) (x_is i)) ∙ app_rule-is numbers tells_numbers function (Free var) var.ty bool
-            (ap (option_map (fun_ty numbers var.ty)) (app-typed numbers tells_numbers (var.ty ∷ []) P (Bound 0) var.ty bool (type-more numbers tells_numbers [] (var.ty ∷ []) P (fun_ty numbers var.ty bool) predicate) refl)) refl
+            (λ i. app_rule numbers (f_is i) (x_is i))
+            ∙ app_rule-is numbers tells_numbers function (Free var) var.ty bool
+            (ap (option_map (fun_ty numbers var.ty))
+            (app-typed numbers tells_numbers (var.ty ∷ []) P (Bound 0) var.ty bool
+            (type-more numbers tells_numbers [] (var.ty ∷ []) P (fun_ty numbers var.ty bool) predicate) refl))
+            refl
 
-        pub beta_redex_refused : (e : RuleFault) → RefusesRule e (app_rule numbers (tm_at o.terms f) (tm_at o.terms x)) → RefusesRule e stated
-        beta_redex_refused e r = within-refused numbers e [] whole (left_part_refused e (App equals redex) holds (right_part_refused e equals redex (same_refusal e _ _ redex_rule r)))
+        pub beta_redex_refused : (e : RuleFault)
+            → RefusesRule e (app_rule numbers (tm_at o.terms f) (tm_at o.terms x)) → RefusesRule e stated
+        beta_redex_refused e r =
+            within-refused numbers e [] whole
+            (left_part_refused e (App equals redex) holds
+            (right_part_refused e equals redex (same_refusal e _ _ redex_rule r)))
 
-        module _ (q : TermTable) (fourth : Grows o q) (r : ℕ) (made_r : Makes (Ok r) (app_rule numbers (tm_at o.terms f) (tm_at o.terms x)) q.terms) where
+        module _ (q : TermTable) (fourth : Grows o q) (r : ℕ)
+            (made_r : Makes (Ok r) (app_rule numbers (tm_at o.terms f) (tm_at o.terms x)) q.terms) where
           r_is : tm_at q.terms r ≡ redex
-          r_is = sym (limit-ok (is_shallow numbers redex) Nesting redex (tm_at q.terms r) (sym redex_rule ∙ made_r.1)).1
+          r_is = sym
+              (limit-ok (is_shallow numbers redex) Nesting redex (tm_at q.terms r) (sym redex_rule ∙ made_r.1)).1
 
           h_is : tm_at q.terms h ≡ holds
           h_is = tm_at-Grows n q (Grows-trans n o q third fourth) h made_h.0 ∙ holds_is
@@ -126,10 +153,15 @@ module _ (t : TermTable) (key : VarKey) (p : ℕ) (below : key.ty < length t.typ
           beta_sides = ap (type_in numbers []) r_is ∙ redex_typed ∙ sym (ap (type_in numbers []) h_is ∙ holds_typed)
 
           whole_rule : equation_rule numbers (tm_at q.terms r) (tm_at q.terms h) ≡ limited numbers whole
-          whole_rule = (λ i. equation_rule numbers (r_is i) (h_is i)) ∙ equation_rule-at numbers redex holds bool redex_typed
+          whole_rule = (λ i. equation_rule numbers (r_is i) (h_is i))
+              ∙ equation_rule-at numbers redex holds bool redex_typed
 
-          pub beta_refused : (e : RuleFault) → RefusesRule e (equation_rule numbers (tm_at q.terms r) (tm_at q.terms h)) → RefusesRule e stated
+          pub beta_refused : (e : RuleFault)
+              → RefusesRule e (equation_rule numbers (tm_at q.terms r) (tm_at q.terms h)) → RefusesRule e stated
           beta_refused e k = within-refused numbers e [] whole (same_refusal e _ _ whole_rule k)
 
-          pub beta_derived : (u : TermTable) → IsTermTable q → Grows q u → (th : Theorem) → th.hyps.items ≡ [] → Makes (Ok th.concl) (equation_rule numbers (tm_at q.terms r) (tm_at q.terms h)) u.terms → Derives (Ok th) stated u.terms
-          beta_derived u table grows th none made = no_hyps_derive q u table grows th whole none (made.0, sym whole_rule ∙ made.1)
+          pub beta_derived : (u : TermTable) → IsTermTable q → Grows q u → (th : Theorem) → th.hyps.items ≡ []
+              → Makes (Ok th.concl) (equation_rule numbers (tm_at q.terms r) (tm_at q.terms h)) u.terms
+              → Derives (Ok th) stated u.terms
+          beta_derived u table grows th none made =
+              no_hyps_derive q u table grows th whole none (made.0, sym whole_rule ∙ made.1)

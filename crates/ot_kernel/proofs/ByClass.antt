@@ -2,7 +2,8 @@
 use Rattle.std.specs.Prelude.{◌||◌, nat_eq, slice_get, Some}
 use Rattle.std.specs.List.{All, list_any}
 use Rattle.std.proofs.Common.{◌≡◌, ℕ, ◌+◌, ◌-◌, ◌<◌, ◌≤◌, Bool, true, false, cond, if◌then◌else◌}
-use Rattle.std.proofs.Common.{List, [], ◌∷◌, ◌++◌, length, get_or, take, drop, refl, sym, ap, subst, ◌∙◌, arith, eqb-true, eq-eqb, append_assoc}
+use Rattle.std.proofs.Common.{List, [], ◌∷◌, ◌++◌, length, get_or, take, drop, refl, sym}
+use Rattle.std.proofs.Common.{ap, subst, ◌∙◌, arith, eqb-true, eq-eqb, append_assoc}
 use Rattle.std.proofs.lemmas.List.{drop_all, take_rest, reverse-append}
 use Rattle.std.proofs.lemmas.List.Elements.{All-push}
 use Rattle.ot_plain.specs.Trees.{Tm}
@@ -41,16 +42,20 @@ adds-class m table t d old new at more i c p =
 
 module _ (m : TermTable) where
   -- one term more
-  pub classes-more : (t : ℕ) (us : List (Tm ℕ)) (old new : List ℕ) → AddsClass m t old new → AreClassesOf m us old → AreClassesOf m (tm_at m.terms t ∷ us) new
-  classes-more t us old new adds are i c p = adds i c p ∙ ap (λ b. same_tm numbers (tm_at m.terms t) (tm_at m.terms i) || b) (are i c p)
+  pub classes-more : (t : ℕ) (us : List (Tm ℕ)) (old new : List ℕ) → AddsClass m t old new → AreClassesOf m us old
+      → AreClassesOf m (tm_at m.terms t ∷ us) new
+  classes-more t us old new adds are i c p = adds i c p
+      ∙ ap (λ b. same_tm numbers (tm_at m.terms t) (tm_at m.terms i) || b) (are i c p)
 
   -- the classes are those of the terms but for the rest from a place on
   abbrev pub AreClassesBefore : List ℕ → ℕ → List ℕ → Type 0
   AreClassesBefore is k ks = (i c : ℕ) → slice_get m.classes i ≡ Some c
-      → (list_any (nat_eq c) ks || is_in numbers (tm_at m.terms i) (tms_at m.terms (drop k is))) ≡ is_in numbers (tm_at m.terms i) (tms_at m.terms is)
+      → (list_any (nat_eq c) ks || is_in numbers (tm_at m.terms i) (tms_at m.terms (drop k is)))
+      ≡ is_in numbers (tm_at m.terms i) (tms_at m.terms is)
 
   pub before-first : (is ks : List ℕ) → ks ≡ [] → AreClassesBefore is 0 ks
-  before-first is ks none i c p = ap (λ l. list_any (nat_eq c) l || is_in numbers (tm_at m.terms i) (tms_at m.terms is)) none
+  before-first is ks none i c p =
+      ap (λ l. list_any (nat_eq c) l || is_in numbers (tm_at m.terms i) (tms_at m.terms is)) none
 
   pub before-next : (is : List ℕ) (k t : ℕ) (old new : List ℕ) → k < length is → t ≡ get_or is k t
       → AddsClass m t old new → AreClassesBefore is k old → AreClassesBefore is (k + 1) new
@@ -59,18 +64,22 @@ module _ (m : TermTable) where
       let same = same_tm numbers (tm_at m.terms t) (tm_at m.terms i) in
       ap (λ b. b || rest) (adds i c p)
       ∙ first_last same (list_any (nat_eq c) old) rest
-      ∙ ap (λ l. list_any (nat_eq c) old || is_in numbers (tm_at m.terms i) l) (sym (map-drop (tm_at m.terms) is k t h e))
+      ∙ ap (λ l. list_any (nat_eq c) old || is_in numbers (tm_at m.terms i) l)
+      (sym (map-drop (tm_at m.terms) is k t h e))
       ∙ before i c p
 
-  pub before-last : (is : List ℕ) (k : ℕ) (ks : List ℕ) → length is ≤ k → AreClassesBefore is k ks → AreClassesOf m (tms_at m.terms is) ks
+  pub before-last : (is : List ℕ) (k : ℕ) (ks : List ℕ) → length is ≤ k → AreClassesBefore is k ks
+      → AreClassesOf m (tms_at m.terms is) ks
   before-last is k ks h before i c p =
       sym (or_false (list_any (nat_eq c) ks))
       ∙ ap (λ l. list_any (nat_eq c) ks || is_in numbers (tm_at m.terms i) (tms_at m.terms l)) (sym (drop_all k is h))
       ∙ before i c p
 
   -- from the last of the terms on
-  pub classes-none : (is : List ℕ) (k : ℕ) (ks : List ℕ) → length is ≤ k → ks ≡ [] → AreClassesOf m (tms_at m.terms (drop k is)) ks
-  classes-none is k ks h none i c p = ap (list_any (nat_eq c)) none ∙ ap (λ l. is_in numbers (tm_at m.terms i) (tms_at m.terms l)) (sym (drop_all k is h))
+  pub classes-none : (is : List ℕ) (k : ℕ) (ks : List ℕ) → length is ≤ k → ks ≡ []
+      → AreClassesOf m (tms_at m.terms (drop k is)) ks
+  classes-none is k ks h none i c p = ap (list_any (nat_eq c)) none
+      ∙ ap (λ l. is_in numbers (tm_at m.terms i) (tms_at m.terms l)) (sym (drop_all k is h))
 
   -- the terms behind the place before j are those from j on
   pub behind : (is : List ℕ) (j : ℕ) → 0 < j → take (length is - (j - 1 + 1)) (drop (j - 1 + 1) is) ≡ drop j is
@@ -83,19 +92,23 @@ module _ (m : TermTable) where
       → tm_at m.terms t ∷ tms_at m.terms (drop j is) ≡ tms_at m.terms (drop (j - 1) is)
   classes-back is j t h k e =
       let here : j - 1 + 1 ≡ j = omega arith in
-      ap (λ n. tm_at m.terms t ∷ tms_at m.terms (drop n is)) (sym here) ∙ sym (map-drop (tm_at m.terms) is (j - 1) t (omega arith) e)
+      ap (λ n. tm_at m.terms t ∷ tms_at m.terms (drop n is)) (sym here)
+      ∙ sym (map-drop (tm_at m.terms) is (j - 1) t (omega arith) e)
 
   -- each member once, from the last on: the term before j is put at the end where it isn't among those behind it
   pub once-back : (is old new : List ℕ) (j t : ℕ) → 0 < j → j ≤ length is → t ≡ get_or is (j - 1) t
-      → new ≡ (if is_in numbers (tm_at m.terms t) (tms_at m.terms (take (length is - (j - 1 + 1)) (drop (j - 1 + 1) is))) then old else old ++ t ∷ [])
+      → new ≡ (if is_in numbers (tm_at m.terms t)
+      (tms_at m.terms (take (length is - (j - 1 + 1)) (drop (j - 1 + 1) is))) then old else old ++ t ∷ [])
       → tms_at m.terms (reverse old) ≡ once_each numbers (tms_at m.terms (drop j is))
       → tms_at m.terms (reverse new) ≡ once_each numbers (tms_at m.terms (drop (j - 1) is))
   once-back is old new j t h k e put made =
-      let b = is_in numbers (tm_at m.terms t) (tms_at m.terms (take (length is - (j - 1 + 1)) (drop (j - 1 + 1) is))) in
+      let b = is_in numbers (tm_at m.terms t)
+      (tms_at m.terms (take (length is - (j - 1 + 1)) (drop (j - 1 + 1) is))) in
       let here : j - 1 + 1 ≡ j = omega arith in
       ap (λ l. tms_at m.terms (reverse l)) put
       ∙ turned b
-      ∙ ap (λ l. cond b l (tm_at m.terms t ∷ l)) (made ∙ ap (λ n. once_each numbers (tms_at m.terms (drop n is))) (sym here))
+      ∙ ap (λ l. cond b l (tm_at m.terms t ∷ l))
+      (made ∙ ap (λ n. once_each numbers (tms_at m.terms (drop n is))) (sym here))
       ∙ sym (once_next m.terms is (j - 1) t b (omega arith) e refl)
     where
       turned : (b : Bool) → tms_at m.terms (reverse (if b then old else old ++ t ∷ []))
@@ -118,10 +131,12 @@ module _ (m : TermTable) where
       turned : (b : Bool) (rest : List (Tm ℕ)) → tms_at m.terms (if b then old else old ++ t ∷ []) ++ rest
           ≡ tms_at m.terms old ++ cond b rest (tm_at m.terms t ∷ rest)
       turned true rest = refl
-      turned false rest = ap (λ l. l ++ rest) (map-push (tm_at m.terms) old t) ∙ append_assoc (tms_at m.terms old) (tm_at m.terms t ∷ []) rest
+      turned false rest = ap (λ l. l ++ rest) (map-push (tm_at m.terms) old t)
+          ∙ append_assoc (tms_at m.terms old) (tm_at m.terms t ∷ []) rest
 
 -- what may be put at the end of a list is of the table
-pub put-inside : (n : ℕ) (old new : List ℕ) (t : ℕ) (b : Bool) → new ≡ (if b then old else old ++ t ∷ []) → t < n → All (λ i. i < n) old → All (λ i. i < n) new
+pub put-inside : (n : ℕ) (old new : List ℕ) (t : ℕ) (b : Bool) → new ≡ (if b then old else old ++ t ∷ []) → t < n
+    → All (λ i. i < n) old → All (λ i. i < n) new
 put-inside n old new t b put h inside = subst (All (λ i. i < n)) (sym put) (by b)
   where
     by : (c : Bool) → All (λ i. i < n) (if c then old else old ++ t ∷ [])

@@ -17,15 +17,18 @@ use Rattle.ot_kernel.proofs.Equating.{limit_at, limits_at}
 
 -- ---- the terms of a table are within the limit
 module _ (t : TermTable) (table : IsTermTable t) where
-  pub sequent-shallow : (th : Theorem) → IsInside (length t.terms) th → is_shallow_sequent numbers (numbered_sequent t.terms th) ≡ true
+  pub sequent-shallow : (th : Theorem) → IsInside (length t.terms) th
+      → is_shallow_sequent numbers (numbered_sequent t.terms th) ≡ true
   sequent-shallow th h =
       let a = limits_at t table th.hyps.items h.hyps in
       let b = limit_at t table th.concl h.concl in
       λ j. a j && b j
 
   -- a theorem of the stated sequent
-  pub within-derives : (th : Theorem) (q : Sequent ℕ) → IsInside (length t.terms) th → numbered_sequent t.terms th ≡ q → Derives (Ok th) (within_limit numbers q) t.terms
-  within-derives th q h e = (h, ap (within_limit numbers) (sym e) ∙ within (numbered_sequent t.terms th) (sequent-shallow th h))
+  pub within-derives : (th : Theorem) (q : Sequent ℕ) → IsInside (length t.terms) th → numbered_sequent t.terms th ≡ q
+      → Derives (Ok th) (within_limit numbers q) t.terms
+  within-derives th q h e =
+      (h, ap (within_limit numbers) (sym e) ∙ within (numbered_sequent t.terms th) (sequent-shallow th h))
     where
       within : (q : Sequent ℕ) → is_shallow_sequent numbers q ≡ true → within_limit numbers q ≡ Ok q
       within q p = rw p refl
@@ -40,10 +43,13 @@ both false b p = refl
 pub deep_conclusion : (q : Sequent ℕ) → is_shallow numbers q.concl ≡ false → within_limit numbers q ≡ Err Nesting
 deep_conclusion q p = rw (both (list_all (is_shallow numbers) q.hyps) (is_shallow numbers q.concl) p) refl
 
-pub deep_hypotheses : (q : Sequent ℕ) → list_all (is_shallow numbers) q.hyps ≡ false → within_limit numbers q ≡ Err Nesting
+pub deep_hypotheses : (q : Sequent ℕ) → list_all (is_shallow numbers) q.hyps ≡ false
+    → within_limit numbers q ≡ Err Nesting
 deep_hypotheses q p = rw p refl
 
-pub deep_member : (x : Tm ℕ) (ts : List (Tm ℕ)) → IsMember x ts → is_shallow numbers x ≡ false → list_all (is_shallow numbers) ts ≡ false
+pub deep_member : (x : Tm ℕ) (ts : List (Tm ℕ)) → IsMember x ts → is_shallow numbers x ≡ false
+    → list_all (is_shallow numbers) ts ≡ false
 deep_member x [] m p = absurd m
 deep_member x (y ∷ ys) (inl e) p = ap (λ b. b && list_all (is_shallow numbers) ys) (ap (is_shallow numbers) e ∙ p)
-deep_member x (y ∷ ys) (inr m) p = both (is_shallow numbers y) (list_all (is_shallow numbers) ys) (deep_member x ys m p)
+deep_member x (y ∷ ys) (inr m) p =
+    both (is_shallow numbers y) (list_all (is_shallow numbers) ys) (deep_member x ys m p)

@@ -51,7 +51,8 @@ same_fault definitions.NotClosed = refl
 same_fault definitions.TypeVarEscapes = refl
 same_fault definitions.Memory = refl
 
-numbered : (r : Result (Unit {0}) DefineFault) (stated : Result (Unit {0}) (Fault ℕ)) → Checks r stated → ChecksBy (λ n. n) r stated
+numbered : (r : Result (Unit {0}) DefineFault) (stated : Result (Unit {0}) (Fault ℕ)) → Checks r stated
+    → ChecksBy (λ n. n) r stated
 numbered (Ok u) stated h = h
 numbered (Err e) stated h = λ f p. h f (same_fault e ∙ p)
 
@@ -61,14 +62,19 @@ name_below Con m n h = h
 name_below TyOp m n h = h
 
 -- the symbol that the refusal names is one of those that a check may name
-pub symbol_below : {A : Type 0} (n : ℕ) (e : DefineFault) (r : Result A (Fault ℕ)) → RefusesOnly (λ s. number_of s < n) r → ((g : Fault ℕ) → define_fault e ≡ Some g → r ≡ Err g) → IsSymbolIn n (of_define e)
+pub symbol_below : {A : Type 0} (n : ℕ) (e : DefineFault) (r : Result A (Fault ℕ))
+    → RefusesOnly (λ s. number_of s < n) r → ((g : Fault ℕ) → define_fault e ≡ Some g → r ≡ Err g)
+    → IsSymbolIn n (of_define e)
 symbol_below n definitions.BadDefinitionList r only h = tt
 symbol_below n definitions.HypothesesPresent r only h = tt
 symbol_below n definitions.NotApplication r only h = tt
 symbol_below n definitions.BadTypeVars r only h = tt
-symbol_below n (definitions.Primitive c) r only h = name_below c.kind c.name n (only (Primitive (symbol_of c)) (h (Primitive (symbol_of c)) refl))
-symbol_below n (definitions.AlreadyDefined c) r only h = name_below c.kind c.name n (only (AlreadyDefined (symbol_of c)) (h (AlreadyDefined (symbol_of c)) refl))
-symbol_below n (definitions.SymbolInUse c) r only h = name_below c.kind c.name n (only (SymbolInUse (symbol_of c)) (h (SymbolInUse (symbol_of c)) refl))
+symbol_below n (definitions.Primitive c) r only h =
+    name_below c.kind c.name n (only (Primitive (symbol_of c)) (h (Primitive (symbol_of c)) refl))
+symbol_below n (definitions.AlreadyDefined c) r only h =
+    name_below c.kind c.name n (only (AlreadyDefined (symbol_of c)) (h (AlreadyDefined (symbol_of c)) refl))
+symbol_below n (definitions.SymbolInUse c) r only h =
+    name_below c.kind c.name n (only (SymbolInUse (symbol_of c)) (h (SymbolInUse (symbol_of c)) refl))
 symbol_below n definitions.NotClosed r only h = tt
 symbol_below n definitions.TypeVarEscapes r only h = tt
 symbol_below n definitions.Memory r only h = tt
@@ -81,18 +87,23 @@ number_in (Err (AlreadyDefined s)) = number_of s
 number_in (Err (SymbolInUse s)) = number_of s
 number_in r = 0
 
-apart : (k : SymbolKind) (m : ℕ) → number_of (map_symbol (λ _. 0) (symbol_named k m)) ≡ number_of (map_symbol (λ _. 1) (symbol_named k m)) → ⊥
+apart : (k : SymbolKind) (m : ℕ) → number_of (map_symbol (λ _. 0) (symbol_named k m))
+    ≡ number_of (map_symbol (λ _. 1) (symbol_named k m)) → ⊥
 apart Con m h = cc
 apart TyOp m h = cc
 
-none_named : {A : Type 0} (n : ℕ) (e : DefineFault) (r : Result A (Fault ℕ)) → RefusesRule (rules.Define e) r → IsSymbolIn n (rules.Define e)
+none_named : {A : Type 0} (n : ℕ) (e : DefineFault) (r : Result A (Fault ℕ)) → RefusesRule (rules.Define e) r
+    → IsSymbolIn n (rules.Define e)
 none_named n definitions.BadDefinitionList r h = tt
 none_named n definitions.HypothesesPresent r h = tt
 none_named n definitions.NotApplication r h = tt
 none_named n definitions.BadTypeVars r h = tt
-none_named n (definitions.Primitive c) r h = absurd (apart c.kind c.name (ap number_in (sym ((h (λ _. 0)).1 _ refl) ∙ (h (λ _. 1)).1 _ refl)))
-none_named n (definitions.AlreadyDefined c) r h = absurd (apart c.kind c.name (ap number_in (sym ((h (λ _. 0)).1 _ refl) ∙ (h (λ _. 1)).1 _ refl)))
-none_named n (definitions.SymbolInUse c) r h = absurd (apart c.kind c.name (ap number_in (sym ((h (λ _. 0)).1 _ refl) ∙ (h (λ _. 1)).1 _ refl)))
+none_named n (definitions.Primitive c) r h =
+    absurd (apart c.kind c.name (ap number_in (sym ((h (λ _. 0)).1 _ refl) ∙ (h (λ _. 1)).1 _ refl)))
+none_named n (definitions.AlreadyDefined c) r h =
+    absurd (apart c.kind c.name (ap number_in (sym ((h (λ _. 0)).1 _ refl) ∙ (h (λ _. 1)).1 _ refl)))
+none_named n (definitions.SymbolInUse c) r h =
+    absurd (apart c.kind c.name (ap number_in (sym ((h (λ _. 0)).1 _ refl) ∙ (h (λ _. 1)).1 _ refl)))
 none_named n definitions.NotClosed r h = tt
 none_named n definitions.TypeVarEscapes r h = tt
 none_named n definitions.Memory r h = tt
@@ -141,15 +152,18 @@ module _ {ns : List Name} {t : TermTable} {held : Held} {now : State} (l : Later
   over_symbol (ConSymbol n) = λ i. ConSymbol (over_name (naming ns) n i)
   over_symbol (OpSymbol n) = λ i. OpSymbol (over_name (naming ns) n i)
 
-  pub over_symbols : (ss : List (Symbol ℕ)) → PathP (λ i. List (Symbol (Between l i))) ss (map (map_symbol (name_of ns)) ss)
+  pub over_symbols : (ss : List (Symbol ℕ))
+      → PathP (λ i. List (Symbol (Between l i))) ss (map (map_symbol (name_of ns)) ss)
   over_symbols ss = over_list (λ i. Symbol (Between l i)) (map_symbol (name_of ns)) over_symbol ss
 
   -- the names of symbols that the kernel has
-  symbol_real : (s : Symbol ℕ) → number_of s < length now.names → map_symbol (name_of ns) s ≡ map_symbol (name_at now) s
+  symbol_real : (s : Symbol ℕ) → number_of s < length now.names → map_symbol (name_of ns) s
+      ≡ map_symbol (name_at now) s
   symbol_real (ConSymbol n) h = ap ConSymbol (spelled_name l n h)
   symbol_real (OpSymbol n) h = ap OpSymbol (spelled_name l n h)
 
-  pub symbols_real : (ss : List (Symbol ℕ)) → All (λ x. number_of x < length now.names) ss → map (map_symbol (name_of ns)) ss ≡ map (map_symbol (name_at now)) ss
+  pub symbols_real : (ss : List (Symbol ℕ)) → All (λ x. number_of x < length now.names) ss
+      → map (map_symbol (name_of ns)) ss ≡ map (map_symbol (name_at now)) ss
   symbols_real [] h = refl
   symbols_real (s ∷ ss) h =
       let a = symbol_real s (All-head (λ (x : Symbol ℕ). number_of x < length now.names) s ss h) in
@@ -159,32 +173,45 @@ module _ {ns : List Name} {t : TermTable} {held : Held} {now : State} (l : Later
   abbrev Below : Symbol ℕ → Type 0
   Below s = number_of s < length now.names
 
-  real_fault : (e : DefineFault) → ((g : Fault ℕ) → define_fault e ≡ Some g → NamesOnly Below g) → definition_fault (name_of ns) e ≡ definition_fault (name_at now) e
+  real_fault : (e : DefineFault) → ((g : Fault ℕ) → define_fault e ≡ Some g → NamesOnly Below g)
+      → definition_fault (name_of ns) e ≡ definition_fault (name_at now) e
   real_fault definitions.BadDefinitionList h = refl
   real_fault definitions.HypothesesPresent h = refl
   real_fault definitions.NotApplication h = refl
   real_fault definitions.BadTypeVars h = refl
-  real_fault (definitions.Primitive c) h = ap (λ s. Some (Primitive s)) (symbol_real (symbol_of c) (h (Primitive (symbol_of c)) refl))
-  real_fault (definitions.AlreadyDefined c) h = ap (λ s. Some (AlreadyDefined s)) (symbol_real (symbol_of c) (h (AlreadyDefined (symbol_of c)) refl))
-  real_fault (definitions.SymbolInUse c) h = ap (λ s. Some (SymbolInUse s)) (symbol_real (symbol_of c) (h (SymbolInUse (symbol_of c)) refl))
+  real_fault (definitions.Primitive c) h =
+      ap (λ s. Some (Primitive s)) (symbol_real (symbol_of c) (h (Primitive (symbol_of c)) refl))
+  real_fault (definitions.AlreadyDefined c) h =
+      ap (λ s. Some (AlreadyDefined s)) (symbol_real (symbol_of c) (h (AlreadyDefined (symbol_of c)) refl))
+  real_fault (definitions.SymbolInUse c) h =
+      ap (λ s. Some (SymbolInUse s)) (symbol_real (symbol_of c) (h (SymbolInUse (symbol_of c)) refl))
   real_fault definitions.NotClosed h = refl
   real_fault definitions.TypeVarEscapes h = refl
   real_fault definitions.Memory h = refl
 
-  module _ (D : (L : Type 0) → Alphabet L → Type 0) (check : (L : Type 0) (c : Alphabet L) → List (Symbol L) → List (Symbol L) → D L c → Result (Unit {0}) (Fault L)) (ds us : List (Symbol ℕ)) (x : D ℕ numbers) (y : D Name names) (p : PathP (λ i. D (Between l i) (alphabet_at l i)) x y) where
+  module _ (D : (L : Type 0) → Alphabet L → Type 0) (check : (L : Type 0) (c : Alphabet L) → List (Symbol L)
+      → List (Symbol L) → D L c → Result (Unit {0}) (Fault L)) (ds us : List (Symbol ℕ)) (x : D ℕ numbers)
+      (y : D Name names) (p : PathP (λ i. D (Between l i) (alphabet_at l i)) x y) where
     abbrev stated : Result (Unit {0}) (Fault Name)
     stated = check Name names (map (map_symbol (name_of ns)) ds) (map (map_symbol (name_of ns)) us) y
 
-    carried : (r : Result (Unit {0}) DefineFault) → Checks r (check ℕ numbers ds us x) → ChecksBy (name_of ns) r stated
-    carried r h = coe 0 1 (i. ChecksBy (λ n. over_name (naming ns) n i) r (check (Between l i) (alphabet_at l i) (over_symbols ds i) (over_symbols us i) (p i))) (numbered r (check ℕ numbers ds us x) h)
+    carried : (r : Result (Unit {0}) DefineFault) → Checks r (check ℕ numbers ds us x)
+        → ChecksBy (name_of ns) r stated
+    carried r h =
+        coe 0 1 (i. ChecksBy (λ n. over_name (naming ns) n i) r
+        (check (Between l i) (alphabet_at l i) (over_symbols ds i) (over_symbols us i) (p i)))
+        (numbered r (check ℕ numbers ds us x) h)
 
     pub check-passed : (u : Unit {0}) → Checks (Ok u) (check ℕ numbers ds us x) → stated ≡ Ok tt
     check-passed u h = carried (Ok u) h
 
-    pub check-refused : {X : Type 0} (e : DefineFault) → RefusesOnly Below (check ℕ numbers ds us x) → Checks (Err e) (check ℕ numbers ds us x) → (rule : Unit {0} → Result X (Fault Name)) → RefusesBy (name_at now) (of_define e) (stated >>= rule)
+    pub check-refused : {X : Type 0} (e : DefineFault) → RefusesOnly Below (check ℕ numbers ds us x)
+        → Checks (Err e) (check ℕ numbers ds us x) → (rule : Unit {0} → Result X (Fault Name))
+        → RefusesBy (name_at now) (of_define e) (stated >>= rule)
     check-refused e only h rule = (
       never_memory e,
       λ f q.
-          let known : definition_fault (name_of ns) e ≡ Some f = real_fault e (λ g d. only g (h g d)) ∙ sym (handed (name_at now) e) ∙ q in
+          let known : definition_fault (name_of ns) e ≡ Some f = real_fault e (λ g d. only g (h g d))
+          ∙ sym (handed (name_at now) e) ∙ q in
           ap (λ (r : Result (Unit {0}) (Fault Name)). r >>= rule) (carried (Err e) h f known),
     )

@@ -1,6 +1,7 @@
 -- Tests on terms by number, one term after another.
 use Rattle.std.specs.Prelude.{◌↔◌, ◌||◌, ◌&&◌, IsTrue}
-use Rattle.std.proofs.Common.{◌≡◌, ℕ, ◌+◌, ◌-◌, ◌<◌, Bool, true, false, cond, List, ◌∷◌, length, get_or, take, drop, refl, sym, ap, ◌∙◌, arith}
+use Rattle.std.proofs.Common.{◌≡◌, ℕ, ◌+◌, ◌-◌, ◌<◌, Bool, true, false, cond, List, ◌∷◌}
+use Rattle.std.proofs.Common.{length, get_or, take, drop, refl, sym, ap, ◌∙◌, arith}
 use Rattle.std.proofs.lemmas.List.{take_all, length-drop}
 use Rattle.std.proofs.lemmas.Bool.Decides.{same_from_decides}
 use Rattle.ot_plain.specs.Trees.{Tm, Named}
@@ -15,25 +16,40 @@ pub tested : (b : Bool) (t u : Tm ℕ) → (IsTrue b ↔ (t ≡ u)) → b ≡ sa
 tested b t u d = same_from_decides b (same_tm numbers t u) d (same_tm-is numbers tells_numbers t u)
 
 module _ (ts : List (Named ℕ)) where
-  pub in_next : (t : ℕ) (is : List ℕ) (k i : ℕ) (b : Bool) → k < length is → i ≡ get_or is k i → (IsTrue b ↔ (tm_at ts i ≡ tm_at ts t)) → is_in numbers (tm_at ts t) (tms_at ts (drop k is)) ≡ (b || is_in numbers (tm_at ts t) (tms_at ts (drop (k + 1) is)))
+  pub in_next : (t : ℕ) (is : List ℕ) (k i : ℕ) (b : Bool) → k < length is → i ≡ get_or is k i
+      → (IsTrue b ↔ (tm_at ts i ≡ tm_at ts t)) → is_in numbers (tm_at ts t) (tms_at ts (drop k is))
+      ≡ (b || is_in numbers (tm_at ts t) (tms_at ts (drop (k + 1) is)))
   in_next t is k i b h e d =
-      ap (is_in numbers (tm_at ts t)) (map-drop (tm_at ts) is k i h e) ∙ ap (λ c. c || is_in numbers (tm_at ts t) (tms_at ts (drop (k + 1) is))) (sym (tested b (tm_at ts i) (tm_at ts t) d))
+      ap (is_in numbers (tm_at ts t)) (map-drop (tm_at ts) is k i h e)
+      ∙ ap (λ c. c || is_in numbers (tm_at ts t) (tms_at ts (drop (k + 1) is)))
+      (sym (tested b (tm_at ts i) (tm_at ts t) d))
 
-  pub all_next : (us : List (Tm ℕ)) (is : List ℕ) (k i : ℕ) (b : Bool) → k < length is → i ≡ get_or is k i → b ≡ is_in numbers (tm_at ts i) us → all_in numbers (tms_at ts (drop k is)) us ≡ (b && all_in numbers (tms_at ts (drop (k + 1) is)) us)
-  all_next us is k i b h e d = ap (λ l. all_in numbers l us) (map-drop (tm_at ts) is k i h e) ∙ ap (λ c. c && all_in numbers (tms_at ts (drop (k + 1) is)) us) (sym d)
+  pub all_next : (us : List (Tm ℕ)) (is : List ℕ) (k i : ℕ) (b : Bool) → k < length is → i ≡ get_or is k i
+      → b ≡ is_in numbers (tm_at ts i) us → all_in numbers (tms_at ts (drop k is)) us
+      ≡ (b && all_in numbers (tms_at ts (drop (k + 1) is)) us)
+  all_next us is k i b h e d = ap (λ l. all_in numbers l us) (map-drop (tm_at ts) is k i h e)
+      ∙ ap (λ c. c && all_in numbers (tms_at ts (drop (k + 1) is)) us) (sym d)
 
   -- what is left without a term: the next one falls away or stays
-  pub minus_next : (t : ℕ) (is : List ℕ) (k i : ℕ) (b : Bool) → k < length is → i ≡ get_or is k i → (IsTrue b ↔ (tm_at ts i ≡ tm_at ts t)) → minus numbers (tm_at ts t) (tms_at ts (drop k is)) ≡ cond b (minus numbers (tm_at ts t) (tms_at ts (drop (k + 1) is))) (tm_at ts i ∷ minus numbers (tm_at ts t) (tms_at ts (drop (k + 1) is)))
+  pub minus_next : (t : ℕ) (is : List ℕ) (k i : ℕ) (b : Bool) → k < length is → i ≡ get_or is k i
+      → (IsTrue b ↔ (tm_at ts i ≡ tm_at ts t)) → minus numbers (tm_at ts t) (tms_at ts (drop k is))
+      ≡ cond b (minus numbers (tm_at ts t) (tms_at ts (drop (k + 1) is)))
+      (tm_at ts i ∷ minus numbers (tm_at ts t) (tms_at ts (drop (k + 1) is)))
   minus_next t is k i b h e d =
       let rest = minus numbers (tm_at ts t) (tms_at ts (drop (k + 1) is)) in
-      ap (minus numbers (tm_at ts t)) (map-drop (tm_at ts) is k i h e) ∙ ap (λ c. cond c rest (tm_at ts i ∷ rest)) (sym (tested b (tm_at ts i) (tm_at ts t) d))
+      ap (minus numbers (tm_at ts t)) (map-drop (tm_at ts) is k i h e)
+      ∙ ap (λ c. cond c rest (tm_at ts i ∷ rest)) (sym (tested b (tm_at ts i) (tm_at ts t) d))
 
   -- each member once: the next one falls away where it stands again among the rest
-  pub once_next : (is : List ℕ) (k i : ℕ) (b : Bool) → k < length is → i ≡ get_or is k i → b ≡ is_in numbers (tm_at ts i) (tms_at ts (take (length is - (k + 1)) (drop (k + 1) is))) → once_each numbers (tms_at ts (drop k is)) ≡ cond b (once_each numbers (tms_at ts (drop (k + 1) is))) (tm_at ts i ∷ once_each numbers (tms_at ts (drop (k + 1) is)))
+  pub once_next : (is : List ℕ) (k i : ℕ) (b : Bool) → k < length is → i ≡ get_or is k i
+      → b ≡ is_in numbers (tm_at ts i) (tms_at ts (take (length is - (k + 1)) (drop (k + 1) is)))
+      → once_each numbers (tms_at ts (drop k is)) ≡ cond b (once_each numbers (tms_at ts (drop (k + 1) is)))
+      (tm_at ts i ∷ once_each numbers (tms_at ts (drop (k + 1) is)))
   once_next is k i b h e d =
       let rest = once_each numbers (tms_at ts (drop (k + 1) is)) in
       let whole = take_all (length is - (k + 1)) (drop (k + 1) is) (omega (arith, length-drop (k + 1) is)) in
-      ap (once_each numbers) (map-drop (tm_at ts) is k i h e) ∙ ap (λ c. cond c rest (tm_at ts i ∷ rest)) (sym (d ∙ ap (λ l. is_in numbers (tm_at ts i) (tms_at ts l)) whole))
+      ap (once_each numbers) (map-drop (tm_at ts) is k i h e) ∙ ap (λ c. cond c rest (tm_at ts i ∷ rest))
+      (sym (d ∙ ap (λ l. is_in numbers (tm_at ts i) (tms_at ts l)) whole))
 
 -- two sequents with other conclusions
 pub other_conclusion : (a b : Bool) → b ≡ false → false ≡ (a && b)

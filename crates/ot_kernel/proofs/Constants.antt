@@ -1,5 +1,6 @@
 -- A constant that is defined as a term.
-use Rattle.std.specs.Prelude.{◌≡◌, ℕ, ◌<◌, ◌&&◌, Bool, true, false, if◌then◌else◌, List, [], ◌∷◌, ◌++◌, map, length, Result, Ok, Err, IfOk, IfErr}
+use Rattle.std.specs.Prelude.{◌≡◌, ℕ, ◌<◌, ◌&&◌, Bool, true, false, if◌then◌else◌, List}
+use Rattle.std.specs.Prelude.{[], ◌∷◌, ◌++◌, map, length, Result, Ok, Err, IfOk, IfErr}
 use Rattle.std.specs.List.{All}
 use Rattle.std.proofs.Common.{sym, ap, ◌∙◌, subst, arith}
 use Rattle.std.proofs.Math.Seq.{get_or-append_seam}
@@ -9,7 +10,8 @@ use mathlib.Core.Path.{PathP}
 use Rattle.ot_plain.specs.Names.{Name}
 use Rattle.ot_plain.specs.Lists.{IsSameSet}
 use Rattle.ot_plain.specs.Trees.{Alphabet, Tm, Con, Bound, Sequent, Symbol, ConSymbol, Definition, ConDef}
-use Rattle.ot_plain.specs.Hol.{type_of, equation, sequent_of, symbols_tm, symbols_all, is_shallow_sequent, theorems, defined, used, nameless, IsNext}
+use Rattle.ot_plain.specs.Hol.{type_of, equation, sequent_of, symbols_tm, symbols_all}
+use Rattle.ot_plain.specs.Hol.{is_shallow_sequent, theorems, defined, used, nameless, IsNext}
 use Rattle.ot_plain.specs.Faults.{Fault, NotClosed, TypeVarEscapes, Nesting}
 use Rattle.ot_plain.specs.Naming.{names, numbers, name_of}
 use Rattle.ot_plain.specs.Renamed.{map_symbol}
@@ -48,11 +50,13 @@ use Rattle.ot_kernel.proofs.Growth.{named_at-Extends}
 use Rattle.ot_kernel.proofs.Later.{Later, Between, spelled_name, over-term, term_typed}
 
 -- the name of a number, over the line of alphabets
-pub over-name : {ns ms : List Name} {t u : TermTable} {held : Held} {now mid : State} (l : Later ns ms t u held now mid) (n : ℕ) → n < length now.names → PathP (λ j. Between l j) n (name_at now n)
+pub over-name : {ns ms : List Name} {t u : TermTable} {held : Held} {now mid : State}
+    (l : Later ns ms t u held now mid) (n : ℕ) → n < length now.names → PathP (λ j. Between l j) n (name_at now n)
 over-name {ms = ms} l n h = subst (PathP (λ j. Between l j) n) (spelled_name l n h) (over_name (naming ms) n)
 
 -- ---- the checks
-module _ {ns : List Name} {t : TermTable} {held : Held} {now : State} (l : Later ns ns t t held now now) (n i : ℕ) (name_in : n < length now.names) (term_in : i < length now.terms) where
+module _ {ns : List Name} {t : TermTable} {held : Held} {now : State} (l : Later ns ns t t held now now) (n i : ℕ)
+    (name_in : n < length now.names) (term_in : i < length now.terms) where
   -- what is checked, over numbers and over names
   abbrev over_numbers : Result (Unit {0}) (Fault ℕ)
   over_numbers = checked_const numbers held.signature.defined held.signature.used n (tm_at t.terms i)
@@ -67,12 +71,21 @@ module _ {ns : List Name} {t : TermTable} {held : Held} {now : State} (l : Later
   named = map (map_symbol (name_of ns))
 
   symbols : AreSymbolsOf names now.definitions (named held.signature.defined) (named held.signature.used)
-  symbols = subst (λ (s : State). AreSymbolsOf names s.definitions (named held.signature.defined) (named held.signature.used)) l.before l.old.signature.symbols
+  symbols =
+      subst (λ (s : State). AreSymbolsOf names s.definitions (named held.signature.defined)
+      (named held.signature.used)) l.before l.old.signature.symbols
 
-  same_check : checked_const names (named held.signature.defined) (named held.signature.used) name term ≡ checked_const names (all_defined names now.definitions) (all_used names now.definitions) name term
+  same_check : checked_const names (named held.signature.defined) (named held.signature.used) name term
+      ≡ checked_const names (all_defined names now.definitions) (all_used names now.definitions) name term
   same_check =
-      ap (λ (r : Result (Unit {0}) (Fault Name)). r >>= λ _. unless NotClosed (is_closed names term) >>= λ _. unless TypeVarEscapes (keeps_type_vars names term))
-      (symbols-same names tells_names (named held.signature.defined) (all_defined names now.definitions) (named held.signature.used) (all_used names now.definitions) (symbols_tm names term) (ConSymbol name ∷ []) (all_defined-same names tells_names now.definitions (named held.signature.defined) (named held.signature.used) symbols) (all_used-same names tells_names now.definitions (named held.signature.defined) (named held.signature.used) symbols))
+      ap (λ (r : Result (Unit {0}) (Fault Name)). r >>= λ _. unless NotClosed (is_closed names term)
+      >>= λ _. unless TypeVarEscapes (keeps_type_vars names term))
+      (symbols-same names tells_names (named held.signature.defined) (all_defined names now.definitions)
+      (named held.signature.used) (all_used names now.definitions) (symbols_tm names term) (ConSymbol name ∷ [])
+      (all_defined-same names tells_names now.definitions (named held.signature.defined)
+      (named held.signature.used) symbols)
+      (all_used-same names tells_names now.definitions (named held.signature.defined) (named held.signature.used)
+      symbols))
 
   over_operands : PathP (λ j. Between l j × Tm (Between l j)) (n, tm_at t.terms i) (name, term)
   over_operands =
@@ -80,28 +93,46 @@ module _ {ns : List Name} {t : TermTable} {held : Held} {now : State} (l : Later
       let b = over-term l i term_in in
       λ j. (a j, b j)
 
-  passed_named : (u : Unit {0}) → Checks (Ok u) over_numbers → checked_const names (named held.signature.defined) (named held.signature.used) name term ≡ Ok tt
-  passed_named = check-passed l (λ L c. L × Tm L) (λ L c ds us p. checked_const c ds us p.0 p.1) held.signature.defined held.signature.used (n, tm_at t.terms i) (name, term) over_operands
+  passed_named : (u : Unit {0}) → Checks (Ok u) over_numbers
+      → checked_const names (named held.signature.defined) (named held.signature.used) name term ≡ Ok tt
+  passed_named = check-passed l (λ L c. L × Tm L) (λ L c ds us p. checked_const c ds us p.0 p.1)
+      held.signature.defined held.signature.used (n, tm_at t.terms i) (name, term) over_operands
 
-  pub constant_passed : (u : Unit {0}) → Checks (Ok u) over_numbers → checked_const names (all_defined names now.definitions) (all_used names now.definitions) name term ≡ Ok tt
+  pub constant_passed : (u : Unit {0}) → Checks (Ok u) over_numbers
+      → checked_const names (all_defined names now.definitions) (all_used names now.definitions) name term ≡ Ok tt
   constant_passed u h = sym same_check ∙ passed_named u h
 
-  pub constant_next : (u : Unit {0}) → Checks (Ok u) over_numbers → IsNext names now.assumptions now.definitions (ConDef name term)
-  constant_next u h = constants_are_next names tells_names now.assumptions now.definitions (named held.signature.defined) (named held.signature.used) name term symbols (term_typed l i term_in) (passed_named u h)
+  pub constant_next : (u : Unit {0}) → Checks (Ok u) over_numbers
+      → IsNext names now.assumptions now.definitions (ConDef name term)
+  constant_next u h = constants_are_next names tells_names now.assumptions now.definitions
+      (named held.signature.defined) (named held.signature.used) name term symbols (term_typed l i term_in)
+      (passed_named u h)
 
-  pub constant_refused : (e : DefineFault) → Checks (Err e) over_numbers → RefusesBy (name_at now) (of_define e) (const_definition names now.definitions name term)
+  pub constant_refused : (e : DefineFault) → Checks (Err e) over_numbers
+      → RefusesBy (name_at now) (of_define e) (const_definition names now.definitions name term)
   constant_refused e h =
-      let rest : Unit {0} → Result (Definition Name) (Fault Name) = λ _. limited_definition names (ConDef name term) in
-      let only = const_only (λ (x : Symbol ℕ). number_of x < length now.names) numbers held.signature.defined held.signature.used n (tm_at t.terms i) name_in in
+      let rest : Unit {0} → Result (Definition Name) (Fault Name) =
+      λ _. limited_definition names (ConDef name term) in
+      let only = const_only (λ (x : Symbol ℕ). number_of x < length now.names) numbers held.signature.defined
+      held.signature.used n (tm_at t.terms i) name_in in
       subst (λ r. RefusesBy (name_at now) (of_define e) (r >>= rest)) same_check
-      (check-refused l (λ L c. L × Tm L) (λ L c ds us p. checked_const c ds us p.0 p.1) held.signature.defined held.signature.used (n, tm_at t.terms i) (name, term) over_operands e only h rest)
+      (check-refused l (λ L c. L × Tm L) (λ L c ds us p. checked_const c ds us p.0 p.1) held.signature.defined
+      held.signature.used (n, tm_at t.terms i) (name, term) over_operands e only h rest)
 
   pub constant_symbol : (e : DefineFault) → Checks (Err e) over_numbers → IsSymbolIn (length now.names) (of_define e)
-  constant_symbol e h = symbol_below (length now.names) e over_numbers (const_only (λ (x : Symbol ℕ). number_of x < length now.names) numbers held.signature.defined held.signature.used n (tm_at t.terms i) name_in) h
+  constant_symbol e h =
+      symbol_below (length now.names) e over_numbers
+      (const_only (λ (x : Symbol ℕ). number_of x < length now.names) numbers held.signature.defined
+      held.signature.used n (tm_at t.terms i) name_in) h
 
 -- ---- the theorem, as the next one
-module _ (now : State) (n i : ℕ) (th : Theorem) (uses : List (Symbol ℕ)) (name_in : n < length now.names) (inside : IsInside (length now.terms) th) (next : IsNext names now.assumptions now.definitions (ConDef (name_at now n) (term_at now i)))
-    (is : spelled.sequent_of now.terms th ∷ [] ≡ theorems names (ConDef (name_at now n) (term_at now i))) (occurring : IsSameSet (map (map_symbol (name_at now)) uses) (symbols_all names (terms_at now (i ∷ th.concl ∷ [])))) (below : All (λ x. number_of x < length now.names) uses) where
+module _ (now : State) (n i : ℕ) (th : Theorem) (uses : List (Symbol ℕ)) (name_in : n < length now.names)
+    (inside : IsInside (length now.terms) th)
+    (next : IsNext names now.assumptions now.definitions (ConDef (name_at now n) (term_at now i)))
+    (is : spelled.sequent_of now.terms th ∷ [] ≡ theorems names (ConDef (name_at now n) (term_at now i)))
+    (occurring : IsSameSet (map (map_symbol (name_at now)) uses)
+    (symbols_all names (terms_at now (i ∷ th.concl ∷ []))))
+    (below : All (λ x. number_of x < length now.names) uses) where
   abbrev constant : Definition Name
   constant = ConDef (name_at now n) (term_at now i)
 
@@ -109,7 +140,8 @@ module _ (now : State) (n i : ℕ) (th : Theorem) (uses : List (Symbol ℕ)) (na
   coded = code.Con n (length now.theorems)
 
   abbrev states : Tm Name
-  states = equation names (type_of names (term_at now i)) (Con (name_at now n) (type_of names (term_at now i))) (term_at now i)
+  states = equation names (type_of names (term_at now i)) (Con (name_at now n) (type_of names (term_at now i)))
+      (term_at now i)
 
   first : spelled.sequent_of now.terms th ≡ sequent_of names states
   first = cc
@@ -129,20 +161,26 @@ module _ (now : State) (n i : ℕ) (th : Theorem) (uses : List (Symbol ℕ)) (na
     within = (name_in, omega arith);
     further = [];
     numbered = ap (λ q. q ∷ []) last ∙ (is ∙ ap (theorems names) (sym reads));
-    made = is ∙ ap (theorems names) (sym reads) ∙ sym (append-nil (theorems names (added_definition now (th ∷ []) coded)));
+    made = is ∙ ap (theorems names) (sym reads)
+        ∙ sym (append-nil (theorems names (added_definition now (th ∷ []) coded)));
     follow = λ _. All-nil _;
     next = subst (IsNext names now.assumptions now.definitions) (sym reads) next;
-    symbols_defined = subst (λ d. IsSameSet (ConSymbol (name_at now n) ∷ []) (defined names d)) (sym reads) (record { to = λ x m. m; back = λ x m. m });
+    symbols_defined = subst (λ d. IsSameSet (ConSymbol (name_at now n) ∷ []) (defined names d)) (sym reads)
+        (record { to = λ x m. m; back = λ x m. m });
     symbols_used =
-        let list : symbols_all names (terms_at now (i ∷ th.concl ∷ [])) ≡ used names constant = ap (λ x. symbols_tm names (term_at now i) ++ (symbols_tm names x ++ [])) concl in
+        let list : symbols_all names (terms_at now (i ∷ th.concl ∷ [])) ≡ used names constant =
+        ap (λ x. symbols_tm names (term_at now i) ++ (symbols_tm names x ++ [])) concl in
         subst (IsSameSet (map (map_symbol (name_at now)) uses)) (list ∙ ap (used names) (sym reads)) occurring;
-    defined_below = All-cons (λ (x : Symbol ℕ). number_of x < length now.names) (ConSymbol n) [] name_in (All-nil (λ (x : Symbol ℕ). number_of x < length now.names));
+    defined_below = All-cons (λ (x : Symbol ℕ). number_of x < length now.names) (ConSymbol n) [] name_in
+        (All-nil (λ (x : Symbol ℕ). number_of x < length now.names));
     used_below = below;
   }
 
 -- ---- the whole call
 -- further theorems may stand behind those of the definition
-pub accepted_more_keeps : {ns ms : List Name} {t u : TermTable} {held : Held} {now mid : State} (l : Later ns ms t u held now mid) (d : Definition Name) (more : List (Sequent Name)) → Keeps now (defining_more mid d more)
+pub accepted_more_keeps : {ns ms : List Name} {t u : TermTable} {held : Held} {now mid : State}
+    (l : Later ns ms t u held now mid) (d : Definition Name) (more : List (Sequent Name))
+    → Keeps now (defining_more mid d more)
 accepted_more_keeps {mid = mid} l d more = record {
   names = l.keeps.names;
   types = l.keeps.types;
@@ -154,7 +192,8 @@ accepted_more_keeps {mid = mid} l d more = record {
 }
 
 -- what a call answers that accepts a definition after its tables have grown
-module _ {ns ms : List Name} {t u : TermTable} {held : Held} {now mid : State} (l : Later ns ms t u held now mid) (d e : Definition Name) (same : e ≡ d) where
+module _ {ns ms : List Name} {t u : TermTable} {held : Held} {now mid : State} (l : Later ns ms t u held now mid)
+    (d e : Definition Name) (same : e ≡ d) where
   pub accepted_keeps : (new : State) → new ≡ defining mid e → Keeps now new
   accepted_keeps new is =
       subst (Keeps now) (sym (is ∙ ap (defining mid) same)) (record {
@@ -168,22 +207,42 @@ module _ {ns ms : List Name} {t u : TermTable} {held : Held} {now mid : State} (
       })
 
   pub accepted_definitions : (new : State) → new ≡ defining mid e → new.definitions ≡ now.definitions ++ d ∷ []
-  accepted_definitions new is = ap (λ (z : State). z.definitions) (is ∙ ap (defining mid) same) ∙ ap (λ k. k ++ d ∷ []) l.same.basis.definitions
+  accepted_definitions new is = ap (λ (z : State). z.definitions) (is ∙ ap (defining mid) same)
+      ∙ ap (λ k. k ++ d ∷ []) l.same.basis.definitions
 
   pub accepted_theorems : (new : State) → new ≡ defining mid e → new.theorems ≡ now.theorems ++ theorems names d
-  accepted_theorems new is = ap (λ (z : State). z.theorems) (is ∙ ap (defining mid) same) ∙ ap (λ k. k ++ theorems names d) l.same.theorems
+  accepted_theorems new is = ap (λ (z : State). z.theorems) (is ∙ ap (defining mid) same)
+      ∙ ap (λ k. k ++ theorems names d) l.same.theorems
 
   pub accepted_assumptions : (new : State) → new ≡ defining mid e → new.assumptions ≡ now.assumptions
-  accepted_assumptions new is = ap (λ (z : State). z.assumptions) (is ∙ ap (defining mid) same) ∙ l.same.basis.assumptions
+  accepted_assumptions new is = ap (λ (z : State). z.assumptions) (is ∙ ap (defining mid) same)
+      ∙ l.same.basis.assumptions
 
-  pub defines : (stated : Result (Definition Name) (Fault Name)) (r : Result ℕ RuleFault) (new : State) → stated ≡ Ok d → IfOk r (λ id. (id ≡ length mid.theorems) × (new ≡ defining mid e)) → IfErr r (λ f. (new ≡ mid) × (f ≡ Memory)) → Defines r stated now new × Keeps now new
-  defines stated (Ok id) new s ok err =
-      ((d, s, accepted_definitions new ok.1, accepted_theorems new ok.1, ok.0 ∙ ap length l.same.theorems, accepted_assumptions new ok.1), accepted_keeps new ok.1)
-  defines stated (Err Memory) new s ok err = ((subst (SameTheorems now) (sym err.0) l.same, memory_refuses stated (name_at new)), subst (Keeps now) (sym err.0) l.keeps)
+  pub defines : (stated : Result (Definition Name) (Fault Name)) (r : Result ℕ RuleFault) (new : State)
+      → stated ≡ Ok d → IfOk r (λ id. (id ≡ length mid.theorems) × (new ≡ defining mid e))
+      → IfErr r (λ f. (new ≡ mid) × (f ≡ Memory)) → Defines r stated now new × Keeps now new
+  defines stated (Ok id) new s ok err = (
+    (
+      d,
+      s,
+      accepted_definitions new ok.1,
+      accepted_theorems new ok.1,
+      ok.0
+          ∙ ap length l.same.theorems,
+      accepted_assumptions new ok.1,
+    ),
+    accepted_keeps new ok.1,
+  )
+  defines stated (Err Memory) new s ok err = (
+    (subst (SameTheorems now) (sym err.0) l.same, memory_refuses stated (name_at new)),
+    subst (Keeps now)
+        (sym err.0) l.keeps,
+  )
   defines stated (Err f) new s ok err = cc
 
 -- the theorem of a constant, over the terms that there are by then
-module _ {ns : List Name} {t u : TermTable} {held : Held} {now mid : State} (l : Later ns ns t u held now mid) (n i : ℕ) (name_in : n < length now.names) (term_in : i < length now.terms) where
+module _ {ns : List Name} {t u : TermTable} {held : Held} {now mid : State} (l : Later ns ns t u held now mid)
+    (n i : ℕ) (name_in : n < length now.names) (term_in : i < length now.terms) where
   abbrev rule : (L : Type 0) → Alphabet L → L × Tm L → Result (Sequent L) (Fault L)
   rule L c p = within_limit c (sequent_of c (equation c (type_of c p.1) (Con p.0 (type_of c p.1)) p.1))
 
@@ -194,29 +253,38 @@ module _ {ns : List Name} {t u : TermTable} {held : Held} {now mid : State} (l :
       λ j. (a j, b j)
 
   -- what was derived, over names
-  derived : (r : Result Theorem RuleFault) → Derives r (rule ℕ numbers (n, tm_at t.terms i)) u.terms → Made r (rule Name names (name_at now n, term_at now i)) mid
+  derived : (r : Result Theorem RuleFault) → Derives r (rule ℕ numbers (n, tm_at t.terms i)) u.terms
+      → Made r (rule Name names (name_at now n, term_at now i)) mid
   derived = made l (λ L c. L × Tm L) rule (n, tm_at t.terms i) (name_at now n, term_at now i) operands
 
   -- the numbers stand for what they stood for
-  pub same_constant : ◌≡◌ {A = Definition Name} (ConDef (name_at mid n) (term_at mid i)) (ConDef (name_at now n) (term_at now i))
+  pub same_constant : ◌≡◌ {A = Definition Name} (ConDef (name_at mid n) (term_at mid i))
+      (ConDef (name_at now n) (term_at now i))
   same_constant =
       let a = get_or-Extends now.names mid.names l.keeps.names n [] name_in in
       let b = named_at-Extends now.terms mid.terms l.keeps.terms i term_in in
       λ j. ConDef (a j) (nameless names (b j))
 
-  pub next_mid : IsNext names now.assumptions now.definitions (ConDef (name_at now n) (term_at now i)) → IsNext names mid.assumptions mid.definitions (ConDef (name_at mid n) (term_at mid i))
+  pub next_mid : IsNext names now.assumptions now.definitions (ConDef (name_at now n) (term_at now i))
+      → IsNext names mid.assumptions mid.definitions (ConDef (name_at mid n) (term_at mid i))
   next_mid h =
       let a = l.same.basis.assumptions in
       let b = l.same.basis.definitions in
-      subst (λ (z : List (Sequent Name) × List (Definition Name) × Definition Name). IsNext names z.0 z.1 z.2) (λ j. (sym a j, sym b j, sym same_constant j)) h
+      subst (λ (z : List (Sequent Name) × List (Definition Name) × Definition Name). IsNext names z.0 z.1 z.2)
+      (λ j. (sym a j, sym b j, sym same_constant j)) h
 
   -- what the theorem states
   abbrev sequent : Sequent Name
-  sequent = sequent_of names (equation names (type_of names (term_at now i)) (Con (name_at now n) (type_of names (term_at now i))) (term_at now i))
+  sequent =
+      sequent_of names
+      (equation names (type_of names (term_at now i)) (Con (name_at now n) (type_of names (term_at now i)))
+      (term_at now i))
 
-  pub theorem_is : (th : Theorem) → Derives (Ok th) (rule ℕ numbers (n, tm_at t.terms i)) u.terms → spelled.sequent_of mid.terms th ∷ [] ≡ theorems names (ConDef (name_at mid n) (term_at mid i))
+  pub theorem_is : (th : Theorem) → Derives (Ok th) (rule ℕ numbers (n, tm_at t.terms i)) u.terms
+      → spelled.sequent_of mid.terms th ∷ [] ≡ theorems names (ConDef (name_at mid n) (term_at mid i))
   theorem_is th d =
-      let q : sequent ≡ spelled.sequent_of mid.terms th = (within_limit-ok names tells_names sequent (spelled.sequent_of mid.terms th) (derived (Ok th) d).1).1 in
+      let q : sequent ≡ spelled.sequent_of mid.terms th =
+      (within_limit-ok names tells_names sequent (spelled.sequent_of mid.terms th) (derived (Ok th) d).1).1 in
       ap (λ r. r ∷ []) (sym q) ∙ ap (theorems names) (sym same_constant)
 
   abbrev stated : Result (Definition Name) (Fault Name)
@@ -225,22 +293,37 @@ module _ {ns : List Name} {t u : TermTable} {held : Held} {now mid : State} (l :
   abbrev limited : Result (Definition Name) (Fault Name)
   limited = limited_definition names (ConDef (name_at now n) (term_at now i))
 
-  checked_then : checked_const names (all_defined names now.definitions) (all_used names now.definitions) (name_at now n) (term_at now i) ≡ Ok tt → stated ≡ limited
+  checked_then : checked_const names (all_defined names now.definitions) (all_used names now.definitions)
+      (name_at now n) (term_at now i) ≡ Ok tt → stated ≡ limited
   checked_then h = ap (λ (r : Result (Unit {0}) (Fault Name)). r >>= λ _. limited) h
 
   -- the nesting limit refuses the theorem
-  pub theorem_refused : checked_const names (all_defined names now.definitions) (all_used names now.definitions) (name_at now n) (term_at now i) ≡ Ok tt → (e : RuleFault) → Derives (Err e) (rule ℕ numbers (n, tm_at t.terms i)) u.terms → RefusesRule e stated
-  theorem_refused h e d read = let r = derived (Err e) d read in (r.0, λ f p. checked_then h ∙ past (is_shallow_sequent names sequent) f (r.1 f p))
+  pub theorem_refused : checked_const names (all_defined names now.definitions) (all_used names now.definitions)
+      (name_at now n) (term_at now i) ≡ Ok tt → (e : RuleFault)
+      → Derives (Err e) (rule ℕ numbers (n, tm_at t.terms i)) u.terms → RefusesRule e stated
+  theorem_refused h e d read = let r = derived (Err e) d read in
+      (r.0, λ f p. checked_then h ∙ past (is_shallow_sequent names sequent) f (r.1 f p))
     where
-      past : (b : Bool) (f : Fault Name) → ◌≡◌ {A = Result (Sequent Name) (Fault Name)} (if b then Ok sequent else Err Nesting) (Err f) → ◌≡◌ {A = Result (Definition Name) (Fault Name)} (unless Nesting (b && true) >>= λ _. Ok (ConDef (name_at now n) (term_at now i))) (Err f)
+      past : (b : Bool) (f : Fault Name)
+          → ◌≡◌ {A = Result (Sequent Name) (Fault Name)} (if b then Ok sequent else Err Nesting) (Err f)
+          → ◌≡◌ {A = Result (Definition Name) (Fault Name)}
+          (unless Nesting (b && true) >>= λ _. Ok (ConDef (name_at now n) (term_at now i))) (Err f)
       past true f k = cc
       past false f k = let same : Nesting ≡ f = cc in ap Err same
 
-  pub theorem_made : checked_const names (all_defined names now.definitions) (all_used names now.definitions) (name_at now n) (term_at now i) ≡ Ok tt → (th : Theorem) → Derives (Ok th) (rule ℕ numbers (n, tm_at t.terms i)) u.terms → stated ≡ Ok (ConDef (name_at now n) (term_at now i))
+  pub theorem_made : checked_const names (all_defined names now.definitions) (all_used names now.definitions)
+      (name_at now n) (term_at now i) ≡ Ok tt → (th : Theorem) → Derives (Ok th) (rule ℕ numbers (n, tm_at t.terms i))
+      u.terms → stated ≡ Ok (ConDef (name_at now n) (term_at now i))
   theorem_made h th d =
-      let on : is_shallow_sequent names sequent ≡ true = (within_limit-ok names tells_names sequent (spelled.sequent_of mid.terms th) (derived (Ok th) d).1).0 in
-      checked_then h ∙ ap (λ b. unless {E = Fault Name} Nesting (b && true) >>= λ _. Ok (ConDef (name_at now n) (term_at now i))) on
+      let on : is_shallow_sequent names sequent ≡ true =
+      (within_limit-ok names tells_names sequent (spelled.sequent_of mid.terms th) (derived (Ok th) d).1).0 in
+      checked_then h
+      ∙ ap (λ b. unless {E = Fault Name} Nesting (b && true) >>= λ _. Ok (ConDef (name_at now n) (term_at now i)))
+      on
 
-  pub constant_defines : (r : Result ℕ RuleFault) (new : State) → stated ≡ Ok (ConDef (name_at now n) (term_at now i)) → IfOk r (λ id. (id ≡ length mid.theorems) × (new ≡ defining mid (ConDef (name_at mid n) (term_at mid i)))) → IfErr r (λ e. (new ≡ mid) × (e ≡ Memory))
+  pub constant_defines : (r : Result ℕ RuleFault) (new : State) → stated ≡ Ok (ConDef (name_at now n) (term_at now i))
+      → IfOk r (λ id. (id ≡ length mid.theorems) × (new ≡ defining mid (ConDef (name_at mid n) (term_at mid i))))
+      → IfErr r (λ e. (new ≡ mid) × (e ≡ Memory))
       → Defines r stated now new × Keeps now new
-  constant_defines r new s ok err = defines l (ConDef (name_at now n) (term_at now i)) (ConDef (name_at mid n) (term_at mid i)) same_constant stated r new s ok err
+  constant_defines r new s ok err = defines l (ConDef (name_at now n) (term_at now i))
+      (ConDef (name_at mid n) (term_at mid i)) same_constant stated r new s ok err

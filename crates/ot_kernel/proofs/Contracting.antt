@@ -48,8 +48,10 @@ no_redex (Abs t b) p = refl
 abbrev reduces_to : Tm ℕ → Tm ℕ → Tm ℕ
 reduces_to x y = equation numbers (type_of numbers x) x y
 
-redex : (x y : Tm ℕ) → contracted x ≡ Some y → beta_conv_rule numbers x ≡ within_limit numbers (sequent_of numbers (reduces_to x y))
-redex (App (Abs a b) u) y p = ap (λ z. within_limit numbers (sequent_of numbers (reduces_to (App (Abs a b) u) z))) (same_Some (opened numbers b u) y p)
+redex : (x y : Tm ℕ) → contracted x ≡ Some y → beta_conv_rule numbers x
+    ≡ within_limit numbers (sequent_of numbers (reduces_to x y))
+redex (App (Abs a b) u) y p = ap (λ z. within_limit numbers (sequent_of numbers (reduces_to (App (Abs a b) u) z)))
+    (same_Some (opened numbers b u) y p)
 redex (App (App f z) u) y p = cc
 redex (App (Free v) u) y p = cc
 redex (App (Con n t) u) y p = cc
@@ -63,7 +65,8 @@ redex (Abs t b) y p = cc
 same_type : (x y : Tm ℕ) (ty : Ty ℕ) → contracted x ≡ Some y → HasType numbers x ty → HasType numbers y ty
 same_type (App (Abs a b) u) y ty p h =
     subst (λ z. HasType numbers z ty) (same_Some (opened numbers b u) y p)
-    (equation-sides numbers tells_numbers ty (bool_ty numbers) (App (Abs a b) u) (opened numbers b u) (beta_conv-typed numbers tells_numbers b u a ty h).concl).1
+    (equation-sides numbers tells_numbers ty (bool_ty numbers) (App (Abs a b) u) (opened numbers b u)
+    (beta_conv-typed numbers tells_numbers b u a ty h).concl).1
 same_type (App (App f z) u) y ty p h = cc
 same_type (App (Free v) u) y ty p h = cc
 same_type (App (Con n t) u) y ty p h = cc
@@ -73,19 +76,28 @@ same_type (Con n t) y ty p h = cc
 same_type (Bound k) y ty p h = cc
 same_type (Abs t b) y ty p h = cc
 
-deep_redex : (x y : Tm ℕ) → contracted x ≡ Some y → is_shallow numbers (reduces_to x y) ≡ false → beta_conv_rule numbers x ≡ Err Nesting
+deep_redex : (x y : Tm ℕ) → contracted x ≡ Some y → is_shallow numbers (reduces_to x y) ≡ false
+    → beta_conv_rule numbers x ≡ Err Nesting
 deep_redex x y p q = redex x y p ∙ deep_conclusion (sequent_of numbers (reduces_to x y)) q
 
 -- ---- beta's refusals
-pub beta_refused : (x : Tm ℕ) (fault : SubstFault) → (fault ≡ faults.NotRedex → contracted x ≡ None) → (fault ≡ faults.Nesting → (y : Tm ℕ) × (contracted x ≡ Some y) × (is_shallow numbers y ≡ false)) → RefusesRule (of_subst fault) (beta_conv_rule numbers x)
-beta_refused x faults.NotRedex none deep = refuses_rule rules.NotRedex NotRedex (beta_conv_rule numbers x) (λ _. refl) (no_redex x (none refl))
+pub beta_refused : (x : Tm ℕ) (fault : SubstFault) → (fault ≡ faults.NotRedex → contracted x ≡ None)
+    → (fault ≡ faults.Nesting → (y : Tm ℕ) × (contracted x ≡ Some y) × (is_shallow numbers y ≡ false))
+    → RefusesRule (of_subst fault) (beta_conv_rule numbers x)
+beta_refused x faults.NotRedex none deep = refuses_rule rules.NotRedex NotRedex (beta_conv_rule numbers x) (λ _. refl)
+    (no_redex x (none refl))
 beta_refused x faults.Nesting none deep =
     let (y, p, q) = deep refl in
-    refuses_rule rules.Nesting Nesting (beta_conv_rule numbers x) (λ _. refl) (deep_redex x y p (deep-right (App (Con numbers.equals (fun_ty numbers (type_of numbers x) (fun_ty numbers (type_of numbers x) (bool_ty numbers)))) x) y q))
+    refuses_rule rules.Nesting Nesting (beta_conv_rule numbers x) (λ _. refl)
+    (deep_redex x y p
+    (deep-right (App
+    (Con numbers.equals
+    (fun_ty numbers (type_of numbers x) (fun_ty numbers (type_of numbers x) (bool_ty numbers)))) x) y q))
 beta_refused x faults.Memory none deep = memory_refuses _
 
 -- ---- the equation over the table, which has what beta made
-module _ (t u : TermTable) (g : Grows t u) (table : IsTermTable u) (i : ℕ) (h : i < length t.terms) (id : ℕ) (made : (y : Tm ℕ) × (contracted (tm_at t.terms i) ≡ Some y) × HasForm u id y) where
+module _ (t u : TermTable) (g : Grows t u) (table : IsTermTable u) (i : ℕ) (h : i < length t.terms) (id : ℕ)
+    (made : (y : Tm ℕ) × (contracted (tm_at t.terms i) ≡ Some y) × HasForm u id y) where
   same_redex : tm_at u.terms i ≡ tm_at t.terms i
   same_redex = tm_at-Grows t u g i h
 
@@ -93,23 +105,34 @@ module _ (t u : TermTable) (g : Grows t u) (table : IsTermTable u) (i : ℕ) (h 
   reduced = made.1 ∙ ap Some (sym made.2.form)
 
   -- the rule, at the type of the redex
-  conversion : (ty : Ty ℕ) → HasType numbers (tm_at u.terms i) ty → beta_conv_rule numbers (tm_at t.terms i) ≡ within_limit numbers (sequent_of numbers (equation numbers ty (tm_at u.terms i) (tm_at u.terms id)))
+  conversion : (ty : Ty ℕ) → HasType numbers (tm_at u.terms i) ty → beta_conv_rule numbers (tm_at t.terms i)
+      ≡ within_limit numbers (sequent_of numbers (equation numbers ty (tm_at u.terms i) (tm_at u.terms id)))
   conversion ty typed =
-      ap (beta_conv_rule numbers) (sym same_redex) ∙ redex (tm_at u.terms i) (tm_at u.terms id) (ap contracted same_redex ∙ reduced)
-      ∙ ap (λ a. within_limit numbers (sequent_of numbers (equation numbers a (tm_at u.terms i) (tm_at u.terms id)))) (type_of-is numbers (tm_at u.terms i) ty typed)
+      ap (beta_conv_rule numbers) (sym same_redex)
+      ∙ redex (tm_at u.terms i) (tm_at u.terms id) (ap contracted same_redex ∙ reduced)
+      ∙ ap (λ a. within_limit numbers (sequent_of numbers (equation numbers a (tm_at u.terms i) (tm_at u.terms id))))
+      (type_of-is numbers (tm_at u.terms i) ty typed)
 
   typed_redex : (ty : Ty ℕ) × HasType numbers (tm_at u.terms i) ty
   typed_redex =
-      let (ty, p) = table.typed i (term_at u.terms i) (slice_get-get_or u.terms i (NConst 0 (TyVar 0)) (omega (arith, h, g.terms.longer))) in
+      let (ty, p) = table.typed i (term_at u.terms i)
+      (slice_get-get_or u.terms i (NConst 0 (TyVar 0)) (omega (arith, h, g.terms.longer))) in
       (ty, type-nameless numbers tells_numbers (term_at u.terms i) ∙ p)
 
   pub one_type : type_in numbers [] (tm_at u.terms i) ≡ type_in numbers [] (tm_at u.terms id)
-  one_type = let (ty, typed) = typed_redex in typed ∙ sym (same_type (tm_at u.terms i) (tm_at u.terms id) ty (ap contracted same_redex ∙ reduced) typed)
+  one_type = let (ty, typed) = typed_redex in
+      typed ∙ sym (same_type (tm_at u.terms i) (tm_at u.terms id) ty (ap contracted same_redex ∙ reduced) typed)
 
-  pub redex_equated : (v : TermTable) → Grows u v → (new : Theorem) → new.hyps.items ≡ [] → Makes (Ok new.concl) (equation_rule numbers (tm_at u.terms i) (tm_at u.terms id)) v.terms → Derives (Ok new) (beta_conv_rule numbers (tm_at t.terms i)) v.terms
+  pub redex_equated : (v : TermTable) → Grows u v → (new : Theorem) → new.hyps.items ≡ []
+      → Makes (Ok new.concl) (equation_rule numbers (tm_at u.terms i) (tm_at u.terms id)) v.terms
+      → Derives (Ok new) (beta_conv_rule numbers (tm_at t.terms i)) v.terms
   redex_equated v grows new none made =
       let (ty, typed) = typed_redex in
-      equated_derives u v table grows new [] (tm_at u.terms i) (tm_at u.terms id) ty _ (subst (All (λ i. i < length u.terms)) (sym none) (All-nil (λ i. i < length u.terms))) (ap (tms_at u.terms) none) typed made (conversion ty typed)
+      equated_derives u v table grows new [] (tm_at u.terms i) (tm_at u.terms id) ty _
+      (subst (All (λ i. i < length u.terms)) (sym none) (All-nil (λ i. i < length u.terms)))
+      (ap (tms_at u.terms) none) typed made (conversion ty typed)
 
-  pub equation_refused : (e : RuleFault) → RefusesRule e (equation_rule numbers (tm_at u.terms i) (tm_at u.terms id)) → RefusesRule e (beta_conv_rule numbers (tm_at t.terms i))
-  equation_refused e refused = let (ty, typed) = typed_redex in equated_refused e [] (tm_at u.terms i) (tm_at u.terms id) ty _ typed refused (conversion ty typed)
+  pub equation_refused : (e : RuleFault) → RefusesRule e (equation_rule numbers (tm_at u.terms i) (tm_at u.terms id))
+      → RefusesRule e (beta_conv_rule numbers (tm_at t.terms i))
+  equation_refused e refused = let (ty, typed) = typed_redex in
+      equated_refused e [] (tm_at u.terms i) (tm_at u.terms id) ty _ typed refused (conversion ty typed)

@@ -29,7 +29,8 @@ pub record AreConversions (T U : Ty ℕ) (abs rep : ℕ) (m : TermTable) (ty u t
   pub from_below : from < length m.terms
   pub from_is : tm_at m.terms from ≡ Con rep (fun_ty numbers T U)
 
-pub conversions_later : (T U : Ty ℕ) (abs rep : ℕ) (m n : TermTable) (ty u to from : ℕ) → Grows m n → AreConversions T U abs rep m ty u to from → AreConversions T U abs rep n ty u to from
+pub conversions_later : (T U : Ty ℕ) (abs rep : ℕ) (m n : TermTable) (ty u to from : ℕ) → Grows m n
+    → AreConversions T U abs rep m ty u to from → AreConversions T U abs rep n ty u to from
 conversions_later T U abs rep m n ty u to from g k = record {
   new_below = omega (arith, k.new_below, g.types.longer);
   new_is = type_at-Grows m n g ty k.new_below ∙ k.new_is;
@@ -45,7 +46,8 @@ conversions_later T U abs rep m n ty u to from g k = record {
 made_is : (x y : Tm ℕ) → limited numbers x ≡ Ok y → x ≡ y
 made_is x y h = (limit-ok (is_shallow numbers x) Nesting x y h).1
 
-module _ (t m : TermTable) (first : Grows t m) (T : Ty ℕ) (u ty abs rep : ℕ) (below : u < length t.types) (number : IsNumberOf m.types T ty) where
+module _ (t m : TermTable) (first : Grows t m) (T : Ty ℕ) (u ty abs rep : ℕ) (below : u < length t.types)
+    (number : IsNumberOf m.types T ty) where
   abbrev U : Ty ℕ
   U = type_at t.types u
 
@@ -62,8 +64,10 @@ module _ (t m : TermTable) (first : Grows t m) (T : Ty ℕ) (u ty abs rep : ℕ)
         let new = type_at-Grows m n second ty number.within ∙ number.tree in
         λ i. Con rep (fun_ty numbers (new i) (old i))
 
-    pub conversions_made : (to from : ℕ) (o : TermTable) → Grows n o → Makes (Ok to) (limited numbers (Con abs (fun_ty numbers (type_at m.types u) (type_at m.types ty)))) n.terms
-        → Makes (Ok from) (limited numbers (Con rep (fun_ty numbers (type_at n.types ty) (type_at n.types u)))) o.terms → AreConversions T U abs rep o ty u to from
+    pub conversions_made : (to from : ℕ) (o : TermTable) → Grows n o
+        → Makes (Ok to) (limited numbers (Con abs (fun_ty numbers (type_at m.types u) (type_at m.types ty)))) n.terms
+        → Makes (Ok from) (limited numbers (Con rep (fun_ty numbers (type_at n.types ty) (type_at n.types u))))
+        o.terms → AreConversions T U abs rep o ty u to from
     conversions_made to from o third made made_from =
         let later = Grows-trans m n o second third in
         let all = Grows-trans t m o first later in
@@ -79,7 +83,8 @@ module _ (t m : TermTable) (first : Grows t m) (T : Ty ℕ) (u ty abs rep : ℕ)
         }
 
 -- ---- the theorems over such a table
-module _ (T U : Ty ℕ) (abs rep : ℕ) (P : Tm ℕ) (m : TermTable) (ty u to from : ℕ) (k : AreConversions T U abs rep m ty u to from) (v : VarKey) where
+module _ (T U : Ty ℕ) (abs rep : ℕ) (P : Tm ℕ) (m : TermTable) (ty u to from : ℕ)
+    (k : AreConversions T U abs rep m ty u to from) (v : VarKey) where
   module _ (name : v.name ≡ 3) (at : v.ty ≡ ty) where
     new_type : type_at m.types v.ty ≡ T
     new_type = ap (type_at m.types) at ∙ k.new_is
@@ -91,21 +96,36 @@ module _ (T U : Ty ℕ) (abs rep : ℕ) (P : Tm ℕ) (m : TermTable) (ty u to fr
       back = ap (type_in numbers []) k.to_is ∙ (λ i. Some (fun_ty numbers U (sym new_type i)));
     }
 
-    pub first_is : within_limit numbers (equal_functions (variable_of m.types v) (type_at m.types v.ty) (trip (tm_at m.terms from) (tm_at m.terms to) (variable_of m.types v)) (Free (variable_of m.types v))) ≡ within_limit numbers (new.first T U abs rep P)
+    pub first_is : within_limit numbers
+        (equal_functions (variable_of m.types v) (type_at m.types v.ty)
+        (trip (tm_at m.terms from) (tm_at m.terms to) (variable_of m.types v)) (Free (variable_of m.types v)))
+        ≡ within_limit numbers (new.first T U abs rep P)
     first_is =
-        let binder : variable_of m.types v ≡ new.new_variable T U abs rep P = λ i. record { name = name i; ty = new_type i } in
+        let binder : variable_of m.types v ≡ new.new_variable T U abs rep P =
+        λ i. record { name = name i; ty = new_type i } in
         let there = k.from_is in
         let back = k.to_is in
-        λ i. within_limit numbers (equal_functions (binder i) (new_type i) (trip (there i) (back i) (binder i)) (Free (binder i)))
+        λ i. within_limit numbers
+        (equal_functions (binder i) (new_type i) (trip (there i) (back i) (binder i)) (Free (binder i)))
 
     -- the open theorem
-    pub open_first_is : within_limit numbers (sequent_of numbers (equation numbers (type_at m.types v.ty) (trip (tm_at m.terms from) (tm_at m.terms to) (variable_of m.types v)) (Free (variable_of m.types v))))
-        ≡ within_limit numbers (sequent_of numbers (equation numbers T (trip (new.from T U abs rep P) (new.to T U abs rep P) (new.new_variable T U abs rep P)) (Free (new.new_variable T U abs rep P))))
+    pub open_first_is : within_limit numbers
+        (sequent_of numbers
+        (equation numbers (type_at m.types v.ty)
+        (trip (tm_at m.terms from) (tm_at m.terms to) (variable_of m.types v)) (Free (variable_of m.types v))))
+        ≡ within_limit numbers
+        (sequent_of numbers
+        (equation numbers T
+        (trip (new.from T U abs rep P) (new.to T U abs rep P) (new.new_variable T U abs rep P))
+        (Free (new.new_variable T U abs rep P))))
     open_first_is =
-        let binder : variable_of m.types v ≡ new.new_variable T U abs rep P = λ i. record { name = name i; ty = new_type i } in
+        let binder : variable_of m.types v ≡ new.new_variable T U abs rep P =
+        λ i. record { name = name i; ty = new_type i } in
         let there = k.from_is in
         let back = k.to_is in
-        λ i. within_limit numbers (sequent_of numbers (equation numbers (new_type i) (trip (there i) (back i) (binder i)) (Free (binder i))))
+        λ i. within_limit numbers
+        (sequent_of numbers
+        (equation numbers (new_type i) (trip (there i) (back i) (binder i)) (Free (binder i))))
 
   module _ (name : v.name ≡ 4) (at : v.ty ≡ u) where
     old_type : type_at m.types v.ty ≡ U
@@ -118,29 +138,54 @@ module _ (T U : Ty ℕ) (abs rep : ℕ) (P : Tm ℕ) (m : TermTable) (ty u to fr
       back = ap (type_in numbers []) k.from_is ∙ (λ i. Some (fun_ty numbers T (sym old_type i)));
     }
 
-    pub predicate_typed : (p : ℕ) → tm_at m.terms p ≡ P → HasType numbers P (fun_ty numbers U (bool_ty numbers)) → HasType numbers (tm_at m.terms p) (fun_ty numbers (type_at m.types v.ty) (bool_ty numbers))
-    predicate_typed p same typed = ap (type_in numbers []) same ∙ typed ∙ (λ i. Some (fun_ty numbers (sym old_type i) (bool_ty numbers)))
+    pub predicate_typed : (p : ℕ) → tm_at m.terms p ≡ P → HasType numbers P (fun_ty numbers U (bool_ty numbers))
+        → HasType numbers (tm_at m.terms p) (fun_ty numbers (type_at m.types v.ty) (bool_ty numbers))
+    predicate_typed p same typed = ap (type_in numbers []) same ∙ typed
+        ∙ (λ i. Some (fun_ty numbers (sym old_type i) (bool_ty numbers)))
 
     pub second_is : (p : ℕ) → tm_at m.terms p ≡ P
-        → within_limit numbers (equal_functions (variable_of m.types v) (bool_ty numbers) (equation numbers (type_at m.types v.ty) (trip (tm_at m.terms to) (tm_at m.terms from) (variable_of m.types v)) (Free (variable_of m.types v))) (App (tm_at m.terms p) (Free (variable_of m.types v))))
+        → within_limit numbers
+        (equal_functions (variable_of m.types v) (bool_ty numbers)
+        (equation numbers (type_at m.types v.ty)
+        (trip (tm_at m.terms to) (tm_at m.terms from) (variable_of m.types v)) (Free (variable_of m.types v)))
+        (App (tm_at m.terms p) (Free (variable_of m.types v))))
         ≡ within_limit numbers (new.second T U abs rep P)
     second_is p same =
-        let binder : variable_of m.types v ≡ new.old_variable T U abs rep P = λ i. record { name = name i; ty = old_type i } in
+        let binder : variable_of m.types v ≡ new.old_variable T U abs rep P =
+        λ i. record { name = name i; ty = old_type i } in
         let there = k.to_is in
         let back = k.from_is in
-        λ i. within_limit numbers (equal_functions (binder i) (bool_ty numbers) (equation numbers (old_type i) (trip (there i) (back i) (binder i)) (Free (binder i))) (App (same i) (Free (binder i))))
+        λ i. within_limit numbers
+        (equal_functions (binder i) (bool_ty numbers)
+        (equation numbers (old_type i) (trip (there i) (back i) (binder i)) (Free (binder i)))
+        (App (same i) (Free (binder i))))
 
     -- the open theorem, and the deepest term on the way
     pub open_second_is : (p : ℕ) → tm_at m.terms p ≡ P
-        → within_limit numbers (sequent_of numbers (equation numbers (bool_ty numbers) (App (tm_at m.terms p) (Free (variable_of m.types v))) (equation numbers (type_at m.types v.ty) (trip (tm_at m.terms to) (tm_at m.terms from) (variable_of m.types v)) (Free (variable_of m.types v)))))
-        ≡ within_limit numbers (sequent_of numbers (equation numbers (bool_ty numbers) (App P (Free (new.old_variable T U abs rep P))) (equation numbers U (trip (new.to T U abs rep P) (new.from T U abs rep P) (new.old_variable T U abs rep P)) (Free (new.old_variable T U abs rep P)))))
+        → within_limit numbers
+        (sequent_of numbers
+        (equation numbers (bool_ty numbers) (App (tm_at m.terms p) (Free (variable_of m.types v)))
+        (equation numbers (type_at m.types v.ty)
+        (trip (tm_at m.terms to) (tm_at m.terms from) (variable_of m.types v)) (Free (variable_of m.types v)))))
+        ≡ within_limit numbers
+        (sequent_of numbers
+        (equation numbers (bool_ty numbers) (App P (Free (new.old_variable T U abs rep P)))
+        (equation numbers U
+        (trip (new.to T U abs rep P) (new.from T U abs rep P) (new.old_variable T U abs rep P))
+        (Free (new.old_variable T U abs rep P)))))
     open_second_is p same =
-        let binder : variable_of m.types v ≡ new.old_variable T U abs rep P = λ i. record { name = name i; ty = old_type i } in
+        let binder : variable_of m.types v ≡ new.old_variable T U abs rep P =
+        λ i. record { name = name i; ty = old_type i } in
         let there = k.to_is in
         let back = k.from_is in
-        λ i. within_limit numbers (sequent_of numbers (equation numbers (bool_ty numbers) (App (same i) (Free (binder i))) (equation numbers (old_type i) (trip (there i) (back i) (binder i)) (Free (binder i)))))
+        λ i. within_limit numbers
+        (sequent_of numbers (equation numbers (bool_ty numbers) (App (same i) (Free (binder i)))
+        (equation numbers (old_type i) (trip (there i) (back i) (binder i)) (Free (binder i)))))
 
-    pub deepest_is : (p : ℕ) → tm_at m.terms p ≡ P → within_limit numbers (sequent_of numbers (beta_over numbers (variable_of m.types v) (tm_at m.terms p))) ≡ within_limit numbers (sequent_of numbers (beta_over numbers (new.old_variable T U abs rep P) P))
+    pub deepest_is : (p : ℕ) → tm_at m.terms p ≡ P
+        → within_limit numbers (sequent_of numbers (beta_over numbers (variable_of m.types v) (tm_at m.terms p)))
+        ≡ within_limit numbers (sequent_of numbers (beta_over numbers (new.old_variable T U abs rep P) P))
     deepest_is p same =
-        let binder : variable_of m.types v ≡ new.old_variable T U abs rep P = λ i. record { name = name i; ty = old_type i } in
+        let binder : variable_of m.types v ≡ new.old_variable T U abs rep P =
+        λ i. record { name = name i; ty = old_type i } in
         λ i. within_limit numbers (sequent_of numbers (beta_over numbers (binder i) (same i)))

@@ -2,7 +2,8 @@
 use Rattle.std.specs.Prelude.{nat_eq, slice_get, slice_index_or, Some, find, ◌&&◌}
 use Rattle.std.specs.List.{All}
 use Rattle.std.specs.Map.{lookup}
-use Rattle.std.proofs.Common.{◌≡◌, ℕ, ◌<◌, ◌≤◌, Bool, true, false, List, [], length, map, take, drop, refl, sym, ap, ◌∙◌, inl, inr, arith}
+use Rattle.std.proofs.Common.{◌≡◌, ℕ, ◌<◌, ◌≤◌, Bool, true, false, List, [], length}
+use Rattle.std.proofs.Common.{map, take, drop, refl, sym, ap, ◌∙◌, inl, inr, arith}
 use Rattle.std.proofs.lemmas.List.{length-take, get_or-take, drop-map}
 use Rattle.std.proofs.lemmas.Option.{get_or_from_slice_get}
 use Rattle.ot_plain.specs.Names.{Name}
@@ -21,16 +22,21 @@ use Rattle.ot_kernel.proofs.Theorems.{real_theorem, same_tm-real}
 use Rattle.ot_plain.proofs.Elements.{slice_get-there}
 
 -- as many as their numbers
-pub counted : (ns : List Name) (t : TermTable) (held : Held) (now : State) → state_of ns t held ≡ now → length now.assumptions ≡ length held.assumptions
+pub counted : (ns : List Name) (t : TermTable) (held : Held) (now : State) → state_of ns t held ≡ now
+    → length now.assumptions ≡ length held.assumptions
 counted ns t held now view =
     let dflt : Sequent Name = record { hyps = []; concl = Bound 0 } in
-    ap (λ (s : State). length s.assumptions) (sym view) ∙ length-map (λ i. slice_index_or (state_of ns t held).theorems i dflt) held.assumptions
+    ap (λ (s : State). length s.assumptions) (sym view)
+    ∙ length-map (λ i. slice_index_or (state_of ns t held).theorems i dflt) held.assumptions
 
-module _ (ns : List Name) (t : TermTable) (held : Held) (now : State) (view : state_of ns t held ≡ now) (k : IsKernel ns t held) where
+module _ (ns : List Name) (t : TermTable) (held : Held) (now : State) (view : state_of ns t held ≡ now)
+    (k : IsKernel ns t held) where
   -- n is no later than the place of the class, where it has one
-  module _ (concl c n : ℕ) (here : concl < length now.terms) (class : slice_get t.classes concl ≡ Some c) (first : (p : ℕ) → lookup (nat_eq c) held.places ≡ Some p → n ≤ p) where
+  module _ (concl c n : ℕ) (here : concl < length now.terms) (class : slice_get t.classes concl ≡ Some c)
+      (first : (p : ℕ) → lookup (nat_eq c) held.places ≡ Some p → n ≤ p) where
     -- the assumption before n
-    other : (j i : ℕ) → j < n → slice_get held.assumptions j ≡ Some i → i < length held.theorems → same_tm names (theorem_at now i).concl (term_at now concl) ≡ false
+    other : (j i : ℕ) → j < n → slice_get held.assumptions j ≡ Some i → i < length held.theorems
+        → same_tm names (theorem_at now i).concl (term_at now concl) ≡ false
     other j i h at below =
         let (th, found) = slice_get-there held.theorems i below in
         let inside = All-at (IsInside (length t.terms)) held.theorems i th k.inside found in
@@ -42,15 +48,21 @@ module _ (ns : List Name) (t : TermTable) (held : Held) (now : State) (view : st
         omega (arith, lt, le, h) in
         let theorems = ap (λ (s : State). length s.theorems) view in
         let many = length-map (sequent_of (state_of ns t held).terms) held.theorems in
-        let no : same_tm numbers (tm_at t.terms th.concl) (tm_at t.terms concl) ≡ false = elim (cases_of (same_tm numbers (tm_at t.terms th.concl) (tm_at t.terms concl)) (same_tm-is numbers tells_numbers (tm_at t.terms th.concl) (tm_at t.terms concl))) [ inl q ↦ absurd (apart q.1) | inr q ↦ q.0 ] in
-        ap (λ (q : Sequent Name). same_tm names q.concl (term_at now concl)) (sym (real_theorem ns t held now view i th (omega (arith, theorems, many, below)) (sym (get_or_from_slice_get held.theorems i th th found))))
+        let no : same_tm numbers (tm_at t.terms th.concl) (tm_at t.terms concl) ≡ false =
+        elim (cases_of (same_tm numbers (tm_at t.terms th.concl) (tm_at t.terms concl))
+        (same_tm-is numbers tells_numbers (tm_at t.terms th.concl) (tm_at t.terms concl)))
+        [ inl q ↦ absurd (apart q.1) | inr q ↦ q.0 ] in
+        ap (λ (q : Sequent Name). same_tm names q.concl (term_at now concl))
+        (sym (real_theorem ns t held now view i th (omega (arith, theorems, many, below))
+        (sym (get_or_from_slice_get held.theorems i th th found))))
         ∙ sym (same_tm-real ns t held now view k th.concl concl (omega (arith, inside.concl, terms_counted)) here)
         ∙ no
       where
         terms_counted : length now.terms ≡ length t.terms
         terms_counted = ap (λ (s : State). length s.terms) (sym view) ∙ length-map (map_named (name_of ns)) t.terms
 
-    pub none_before : n ≤ length held.assumptions → All (λ r. same_tm names r.concl (term_at now concl) ≡ false) (take n now.assumptions)
+    pub none_before : n ≤ length held.assumptions → All (λ r. same_tm names r.concl (term_at now concl) ≡ false)
+        (take n now.assumptions)
     none_before le j r h =
         let dflt : Sequent Name = record { hyps = []; concl = Bound 0 } in
         let many = counted ns t held now view in
@@ -59,10 +71,13 @@ module _ (ns : List Name) (t : TermTable) (held : Held) (now : State) (view : st
         let below = All-at (λ m. m < length held.theorems) held.assumptions j i k.numbered at in
         let read : slice_index_or now.assumptions j r ≡ theorem_at now i =
         ap (λ (s : State). slice_index_or s.assumptions j r) (sym view)
-        ∙ index-map (λ m. slice_index_or (state_of ns t held).theorems m dflt) held.assumptions j 0 r (omega (arith, short, le))
-        ∙ ap (λ m. slice_index_or (state_of ns t held).theorems m dflt) (get_or_from_slice_get held.assumptions j i 0 at)
+        ∙ index-map (λ m. slice_index_or (state_of ns t held).theorems m dflt) held.assumptions j 0 r
+        (omega (arith, short, le))
+        ∙ ap (λ m. slice_index_or (state_of ns t held).theorems m dflt)
+        (get_or_from_slice_get held.assumptions j i 0 at)
         ∙ ap (λ (s : State). theorem_at s i) view in
-        ap (λ (q : Sequent Name). same_tm names q.concl (term_at now concl)) (get_or-take n now.assumptions j r short ∙ read) ∙ other j i short at below
+        ap (λ (q : Sequent Name). same_tm names q.concl (term_at now concl))
+        (get_or-take n now.assumptions j r short ∙ read) ∙ other j i short at below
 
 -- sequents with other conclusions
 differ : (a : Bool) (b : Bool) → b ≡ false → (a && b) ≡ false
@@ -70,8 +85,10 @@ differ true b e = e
 differ false b e = refl
 
 -- the first assumption that is a sequent stands behind those with other conclusions
-pub found-behind : (now : State) (ids slice : List ℕ) (n : ℕ) (q : Sequent Name) → map (theorem_at now) ids ≡ now.assumptions → slice ≡ drop n ids → All (λ r. same_tm names r.concl q.concl ≡ false) (take n now.assumptions)
-    → find (λ r. same_sequent names r q) now.assumptions ≡ find (λ r. same_sequent names r q) (map (theorem_at now) slice)
+pub found-behind : (now : State) (ids slice : List ℕ) (n : ℕ) (q : Sequent Name) → map (theorem_at now) ids
+    ≡ now.assumptions → slice ≡ drop n ids → All (λ r. same_tm names r.concl q.concl ≡ false) (take n now.assumptions)
+    → find (λ r. same_sequent names r q) now.assumptions ≡ find (λ r. same_sequent names r q)
+    (map (theorem_at now) slice)
 found-behind now ids slice n q is same none =
     find-past (λ r. same_sequent names r q) now.assumptions n (λ j r h. differ _ _ (none j r h))
     ∙ ap (λ (l : List (Sequent Name)). find (λ r. same_sequent names r q) (drop n l)) (sym is)

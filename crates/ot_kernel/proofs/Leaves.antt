@@ -3,7 +3,8 @@ use Rattle.std.specs.Prelude.{nat_le, ◌&&◌}
 use Rattle.std.specs.Option.{option_map}
 use Rattle.std.proofs.Common.{◌≡◌, suc, max, List, [], ◌∷◌, Some, refl, sym, ap, subst, ◌∙◌, ◌⊎◌, inl, inr}
 use Rattle.ot_plain.specs.Trees.{Alphabet, Ty, TyVar, Variable, Tm, Free, Con, Bound, App, Abs}
-use Rattle.ot_plain.specs.Hol.{depth_limit, fun_ty, type_in, applied, inst_var, bind, term_at, subst_tm, depth_tm, is_shallow_type, has_shallow_types, is_shallow, constants_for}
+use Rattle.ot_plain.specs.Hol.{depth_limit, fun_ty, type_in, applied, inst_var, bind, term_at, subst_tm}
+use Rattle.ot_plain.specs.Hol.{depth_tm, is_shallow_type, has_shallow_types, is_shallow, constants_for}
 use Rattle.ot_laws.proofs.Tests.{Tells, var_cases}
 use Rattle.ot_laws.proofs.Terms.{inst_by-id}
 use Rattle.ot_laws.proofs.Opened.{inst_var-nil}
@@ -31,23 +32,30 @@ module _ {N : Type 0} (alphabet : Alphabet N) where
     type-put l (App f x) = λ i. applied alphabet (type-put l f i) (type-put l x i)
     type-put l (Abs t b) =
         let same = inst_by-id alphabet t in
-        (λ i. option_map (fun_ty alphabet (same i)) (type_in alphabet (same i ∷ l) (put b))) ∙ ap (option_map (fun_ty alphabet t)) (type-put (t ∷ l) b)
+        (λ i. option_map (fun_ty alphabet (same i)) (type_in alphabet (same i ∷ l) (put b)))
+        ∙ ap (option_map (fun_ty alphabet t)) (type-put (t ∷ l) b)
 
     types-put : (l : List (Ty N)) (t : Tm N) → has_shallow_types alphabet l (put t) ≡ has_shallow_types alphabet l t
-    types-put l (Free v) = elim (leaf v) [ inl p ↦ ap (has_shallow_types alphabet l) p | inr (n, p) ↦ ap (has_shallow_types alphabet l) p ]
+    types-put l (Free v) =
+        elim (leaf v)
+        [ inl p ↦ ap (has_shallow_types alphabet l) p | inr (n, p) ↦ ap (has_shallow_types alphabet l) p ]
     types-put l (Con n t) = ap (is_shallow_type alphabet) (type-put l (Con n t))
     types-put l (Bound k) = refl
-    types-put l (App f x) = λ i. is_shallow_type alphabet (type-put l (App f x) i) && (types-put l f i && types-put l x i)
+    types-put l (App f x) = λ i. is_shallow_type alphabet (type-put l (App f x) i)
+        && (types-put l f i && types-put l x i)
     types-put l (Abs t b) =
         let same = inst_by-id alphabet t in
-        (λ i. is_shallow_type alphabet (type_in alphabet l (Abs (same i) (put b))) && has_shallow_types alphabet (same i ∷ l) (put b))
-        ∙ (λ i. is_shallow_type alphabet (option_map (fun_ty alphabet t) (type-put (t ∷ l) b i)) && types-put (t ∷ l) b i)
+        (λ i. is_shallow_type alphabet (type_in alphabet l (Abs (same i) (put b)))
+        && has_shallow_types alphabet (same i ∷ l) (put b))
+        ∙ (λ i. is_shallow_type alphabet (option_map (fun_ty alphabet t) (type-put (t ∷ l) b i))
+        && types-put (t ∷ l) b i)
 
     shallow-put : (t : Tm N) → is_shallow alphabet (put t) ≡ is_shallow alphabet t
     shallow-put t = λ i. nat_le (depth-put t i) depth_limit && types-put [] t i
 
 module _ {N : Type 0} (alphabet : Alphabet N) (tells : Tells alphabet) where
-  constant-leaf : (ps : List (N × Variable N)) (v : Variable N) → IsLeaf v (term_at alphabet (constants_for alphabet ps) v)
+  constant-leaf : (ps : List (N × Variable N)) (v : Variable N)
+      → IsLeaf v (term_at alphabet (constants_for alphabet ps) v)
   constant-leaf [] v = inl refl
   constant-leaf (p ∷ ps) v = elim (var_cases alphabet tells v p.1) [
     | inl q ↦ rw q.0 (inr (p.0, ap (λ (w : Variable N). Con p.0 w.ty) (sym q.1)))
@@ -55,6 +63,9 @@ module _ {N : Type 0} (alphabet : Alphabet N) (tells : Tells alphabet) where
   ]
 
   -- so it is within the nesting limit where the term is
-  pub shallow-constants : (ps : List (N × Variable N)) (t : Tm N) → is_shallow alphabet (subst_tm alphabet [] (constants_for alphabet ps) t) ≡ is_shallow alphabet t
+  pub shallow-constants : (ps : List (N × Variable N)) (t : Tm N)
+      → is_shallow alphabet (subst_tm alphabet [] (constants_for alphabet ps) t) ≡ is_shallow alphabet t
   shallow-constants ps t =
-      shallow-put alphabet (λ v. term_at alphabet (constants_for alphabet ps) (inst_var alphabet [] v)) (λ v. subst (λ w. IsLeaf v (term_at alphabet (constants_for alphabet ps) w)) (sym (inst_var-nil alphabet v)) (constant-leaf ps v)) t
+      shallow-put alphabet (λ v. term_at alphabet (constants_for alphabet ps) (inst_var alphabet [] v))
+      (λ v. subst (λ w. IsLeaf v (term_at alphabet (constants_for alphabet ps) w)) (sym (inst_var-nil alphabet v))
+      (constant-leaf ps v)) t

@@ -12,7 +12,8 @@ use Rattle.ot_kernel.specs.Answers.{Refuses, RefusesRule}
 use Rattle.ot_kernel.specs.Numbered.{Derives}
 
 -- a refusal is the stated one
-pub refuses : {X E : Type 0} (fault_of : E → Option (Fault Name)) (e : E) (f : Fault Name) (stated : Result X (Fault Name)) → fault_of e ≡ Some f → stated ≡ Err f → Refuses fault_of e stated
+pub refuses : {X E : Type 0} (fault_of : E → Option (Fault Name)) (e : E) (f : Fault Name)
+    (stated : Result X (Fault Name)) → fault_of e ≡ Some f → stated ≡ Err f → Refuses fault_of e stated
 refuses fault_of e f stated p s g q = s ∙ ap Err (same_Some f g (sym p ∙ q))
 
 -- what holds of a refusal holds where a call hands it on
@@ -21,6 +22,7 @@ handed_on (Ok x) e P h p = tt
 handed_on (Err f) e P h p = subst P (sym h) p
 
 -- a rule's refusal that a call hands on
-pub none_derived : (r : Result Theorem RuleFault) (e : RuleFault) (stated : Result (Sequent ℕ) (Fault ℕ)) (ts : List (Named ℕ)) → IsErrAnd r (λ f. f ≡ e) → RefusesRule e stated → Derives r stated ts
+pub none_derived : (r : Result Theorem RuleFault) (e : RuleFault) (stated : Result (Sequent ℕ) (Fault ℕ))
+    (ts : List (Named ℕ)) → IsErrAnd r (λ f. f ≡ e) → RefusesRule e stated → Derives r stated ts
 none_derived (Ok th) e stated ts h p = absurd h
 none_derived (Err f) e stated ts h p = subst (λ g. RefusesRule g stated) (sym h) p

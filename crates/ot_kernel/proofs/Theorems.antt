@@ -1,7 +1,8 @@
 -- A theorem that follows, at the end of those that a kernel holds.
 use Rattle.std.specs.Prelude.{Bool, Result, Ok, Err, IfOk, IfErr}
 use Rattle.std.specs.List.{All}
-use Rattle.std.proofs.Common.{◌≡◌, ℕ, ◌<◌, List, [], ◌∷◌, ◌++◌, map, length, slice_index_or, refl, sym, ap, ◌∙◌, subst, arith, length-append}
+use Rattle.std.proofs.Common.{◌≡◌, ℕ, ◌<◌, List, [], ◌∷◌, ◌++◌, map, length, slice_index_or}
+use Rattle.std.proofs.Common.{refl, sym, ap, ◌∙◌, subst, arith, length-append}
 use Rattle.std.proofs.lemmas.List.{get_or_append_left}
 use Rattle.std.proofs.lemmas.List.Elements.{All-head, All-tail, All-push}
 use Rattle.ot_plain.specs.Names.{Name}
@@ -33,22 +34,28 @@ use Rattle.ot_kernel.proofs.Numbers.{real_term}
 use Rattle.ot_kernel.proofs.Namings.{index-map, length-map, map-push, table_names}
 
 -- ---- a number of a theorem
-pub real_theorem : (ns : List Name) (t : TermTable) (held : Held) (now : State) → state_of ns t held ≡ now → (i : ℕ) (th : Theorem) → i < length now.theorems → th ≡ slice_index_or held.theorems i th
-    → ◌≡◌ {A = Sequent Name} (record { hyps = terms_at now th.hyps.items; concl = term_at now th.concl }) (theorem_at now i)
+pub real_theorem : (ns : List Name) (t : TermTable) (held : Held) (now : State) → state_of ns t held ≡ now
+    → (i : ℕ) (th : Theorem) → i < length now.theorems → th ≡ slice_index_or held.theorems i th
+    → ◌≡◌ {A = Sequent Name} (record { hyps = terms_at now th.hyps.items; concl = term_at now th.concl })
+    (theorem_at now i)
 real_theorem ns t held now view i th h p =
     let e = ap (λ (s : State). length s.theorems) view in
     let f = sequent_of (state_of ns t held).terms in
     ap (λ (s : State). record { hyps = terms_at s th.hyps.items; concl = term_at s th.concl }) (sym view)
     ∙ ap f p
-    ∙ sym (index-map f held.theorems i th (record { hyps = []; concl = Bound 0 }) (omega (arith, e, length-map f held.theorems)))
+    ∙ sym (index-map f held.theorems i th (record { hyps = []; concl = Bound 0 })
+    (omega (arith, e, length-map f held.theorems)))
     ∙ ap (λ s. theorem_at s i) view
 
 -- ---- a sequent that is compared with a theorem's
-module _ (ns : List Name) (t : TermTable) (held : Held) (now : State) (view : state_of ns t held ≡ now) (k : IsKernel ns t held) where
+module _ (ns : List Name) (t : TermTable) (held : Held) (now : State) (view : state_of ns t held ≡ now)
+    (k : IsKernel ns t held) where
   pub real_tm : (i : ℕ) → i < length now.terms → map_tm (name_of ns) (tm_at t.terms i) ≡ term_at now i
-  real_tm i h = map-nameless (naming ns) numbers names (lettering ns (table_names ns k.names)) (terms.term_at t.terms i) ∙ ap (nameless names) (real_term ns t held now view k i h)
+  real_tm i h = map-nameless (naming ns) numbers names (lettering ns (table_names ns k.names))
+      (terms.term_at t.terms i) ∙ ap (nameless names) (real_term ns t held now view k i h)
 
-  real_tms : (is : List ℕ) → All (λ i. i < length now.terms) is → map (map_tm (name_of ns)) (tms_at t.terms is) ≡ terms_at now is
+  real_tms : (is : List ℕ) → All (λ i. i < length now.terms) is → map (map_tm (name_of ns)) (tms_at t.terms is)
+      ≡ terms_at now is
   real_tms [] h = refl
   real_tms (i ∷ is) h =
       let a = real_tm i (All-head (λ i. i < length now.terms) i is h) in
@@ -56,40 +63,54 @@ module _ (ns : List Name) (t : TermTable) (held : Held) (now : State) (view : st
       λ j. a j ∷ b j
 
   pub real_sequent : (hyps : List ℕ) (concl : ℕ) → All (λ i. i < length now.terms) hyps → concl < length now.terms
-      → ◌≡◌ {A = Sequent Name} (map_sequent (name_of ns) (record { hyps = tms_at t.terms hyps; concl = tm_at t.terms concl })) (record { hyps = terms_at now hyps; concl = term_at now concl })
-  real_sequent hyps concl h g = let a = real_tms hyps h in let b = real_tm concl g in λ j. record { hyps = a j; concl = b j }
+      → ◌≡◌ {A = Sequent Name}
+      (map_sequent (name_of ns) (record { hyps = tms_at t.terms hyps; concl = tm_at t.terms concl }))
+      (record { hyps = terms_at now hyps; concl = term_at now concl })
+  real_sequent hyps concl h g = let a = real_tms hyps h in let b = real_tm concl g in
+      λ j. record { hyps = a j; concl = b j }
 
-  pub same-real : (i : ℕ) (th : Theorem) (hyps : List ℕ) (concl : ℕ) (b : Bool) → i < length now.theorems → th ≡ slice_index_or held.theorems i th → All (λ i. i < length now.terms) hyps → concl < length now.terms
-      → b ≡ same_sequent numbers (numbered_sequent t.terms th) (record { hyps = tms_at t.terms hyps; concl = tm_at t.terms concl })
+  pub same-real : (i : ℕ) (th : Theorem) (hyps : List ℕ) (concl : ℕ) (b : Bool) → i < length now.theorems
+      → th ≡ slice_index_or held.theorems i th → All (λ i. i < length now.terms) hyps → concl < length now.terms
+      → b ≡ same_sequent numbers (numbered_sequent t.terms th)
+      (record { hyps = tms_at t.terms hyps; concl = tm_at t.terms concl })
       → b ≡ same_sequent names (theorem_at now i) (record { hyps = terms_at now hyps; concl = term_at now concl })
   same-real i th hyps concl b h p g l q =
       let e = ap (λ (s : State). length s.theorems) view in
       let d = ap (λ (s : State). length s.terms) view in
       let f = length-map (sequent_of (state_of ns t held).terms) held.theorems in
       let n = length-map (map_named (name_of ns)) t.terms in
-      let inside : IsInside (length t.terms) th = subst (IsInside (length t.terms)) (sym p) (k.inside i th (omega (arith, e, f))) in
-      let within : All (λ i. i < length now.terms) th.hyps.items = λ j x m. let w = inside.hyps j x m in omega (arith, d, n) in
-      let left = real_sequent th.hyps.items th.concl within (omega (arith, d, n, inside.concl)) ∙ real_theorem ns t held now view i th h p in
+      let inside : IsInside (length t.terms) th =
+      subst (IsInside (length t.terms)) (sym p) (k.inside i th (omega (arith, e, f))) in
+      let within : All (λ i. i < length now.terms) th.hyps.items = λ j x m. let w = inside.hyps j x m in
+      omega (arith, d, n) in
+      let left = real_sequent th.hyps.items th.concl within (omega (arith, d, n, inside.concl))
+      ∙ real_theorem ns t held now view i th h p in
       let right = real_sequent hyps concl g l in
-      carry-sequents (naming ns) numbers names (lettering ns (table_names ns k.names)) (λ L c y z. b ≡ same_sequent c y z) (numbered_sequent t.terms th) (record { hyps = tms_at t.terms hyps; concl = tm_at t.terms concl }) q
+      carry-sequents (naming ns) numbers names (lettering ns (table_names ns k.names))
+      (λ L c y z. b ≡ same_sequent c y z) (numbered_sequent t.terms th)
+      (record { hyps = tms_at t.terms hyps; concl = tm_at t.terms concl }) q
       ∙ (λ j. same_sequent names (left j) (right j))
 
   -- two terms that are compared
-  pub same_tm-real : (a b : ℕ) → a < length now.terms → b < length now.terms → same_tm numbers (tm_at t.terms a) (tm_at t.terms b) ≡ same_tm names (term_at now a) (term_at now b)
+  pub same_tm-real : (a b : ℕ) → a < length now.terms → b < length now.terms
+      → same_tm numbers (tm_at t.terms a) (tm_at t.terms b) ≡ same_tm names (term_at now a) (term_at now b)
   same_tm-real a b g l =
       let v = same_tm numbers (tm_at t.terms a) (tm_at t.terms b) in
       let q : Sequent ℕ = record { hyps = []; concl = tm_at t.terms a } in
       let r : Sequent ℕ = record { hyps = []; concl = tm_at t.terms b } in
       let left = real_sequent [] a (λ j x m. absurd (omega (arith, m))) g in
       let right = real_sequent [] b (λ j x m. absurd (omega (arith, m))) l in
-      carry-sequents (naming ns) numbers names (lettering ns (table_names ns k.names)) (λ L c y z. v ≡ same_tm c y.concl z.concl) q r refl
+      carry-sequents (naming ns) numbers names (lettering ns (table_names ns k.names))
+      (λ L c y z. v ≡ same_tm c y.concl z.concl) q r refl
       ∙ (λ j. same_tm names (left j).concl (right j).concl)
 
 -- ---- one theorem more
-pub sequents_at-push : (qs : List (Sequent Name)) (q : Sequent Name) (is : List ℕ) → All (λ i. i < length qs) is → sequents_at (qs ++ q ∷ []) is ≡ sequents_at qs is
+pub sequents_at-push : (qs : List (Sequent Name)) (q : Sequent Name) (is : List ℕ) → All (λ i. i < length qs) is
+    → sequents_at (qs ++ q ∷ []) is ≡ sequents_at qs is
 sequents_at-push qs q [] h = refl
 sequents_at-push qs q (i ∷ is) h =
-    let a = get_or_append_left qs (q ∷ []) (record { hyps = []; concl = Bound 0 }) i (All-head (λ i. i < length qs) i is h) in
+    let a = get_or_append_left qs (q ∷ []) (record { hyps = []; concl = Bound 0 }) i
+    (All-head (λ i. i < length qs) i is h) in
     let b = sequents_at-push qs q is (All-tail (λ i. i < length qs) i is h) in
     λ j. a j ∷ b j
 
@@ -98,9 +119,14 @@ pub record Pushed (now : State) (ns : List Name) (t : TermTable) (more : Held) (
   pub kernel : IsKernel ns t more
   pub state : state_of ns t more ≡ record now { theorems = now.theorems ++ sequent_of now.terms th ∷ [] }
 
-pushed_from : (ns : List Name) (t : TermTable) (held : Held) (ths : List Theorem) (th : Theorem) → IsKernel ns t held → ths ≡ held.theorems ++ th ∷ [] → IsInside (length (state_of ns t held).terms) th
-    → IsTheorem names (state_of ns t held).assumptions (state_of ns t held).definitions (sequent_of (state_of ns t held).terms th) → Pushed (state_of ns t held) ns t (record held { theorems = ths }) th
-pushed_from ns t held ths th k e inside follows = subst (λ l. Pushed (state_of ns t held) ns t (record held { theorems = l }) th) (sym e) (record { kernel = kernel; state = state })
+pushed_from : (ns : List Name) (t : TermTable) (held : Held) (ths : List Theorem) (th : Theorem) → IsKernel ns t held
+    → ths ≡ held.theorems ++ th ∷ [] → IsInside (length (state_of ns t held).terms) th
+    → IsTheorem names (state_of ns t held).assumptions (state_of ns t held).definitions
+    (sequent_of (state_of ns t held).terms th) → Pushed (state_of ns t held) ns t (record held { theorems = ths })
+    th
+pushed_from ns t held ths th k e inside follows =
+    subst (λ l. Pushed (state_of ns t held) ns t (record held { theorems = l }) th) (sym e)
+    (record { kernel = kernel; state = state })
   where
     f : Theorem → Sequent Name
     f = sequent_of (state_of ns t held).terms
@@ -123,17 +149,20 @@ pushed_from ns t held ths th k e inside follows = subst (λ l. Pushed (state_of 
     assumed : sequents_at (map f (held.theorems ++ th ∷ [])) held.assumptions ≡ sequents_at qs held.assumptions
     assumed =
         ap (λ l. sequents_at l held.assumptions) theorems
-        ∙ sequents_at-push qs q held.assumptions (λ i d h. let l = k.numbered i d h in omega (arith, l, length-map f held.theorems))
+        ∙ sequents_at-push qs q held.assumptions
+        (λ i d h. let l = k.numbered i d h in omega (arith, l, length-map f held.theorems))
 
     defined : (state_of ns t more).definitions ≡ (state_of ns t held).definitions
     defined = definitions_kept ns t held (undefined_state ns t more) k (Extends-refl _) (Extends-refl _) longer
 
     state : state_of ns t more ≡ record (state_of ns t held) { theorems = qs ++ q ∷ [] }
-    state = λ i. record (state_of ns t held) { theorems = theorems i; assumptions = assumed i; definitions = defined i }
+    state = λ i. record (state_of ns t held)
+        { theorems = theorems i; assumptions = assumed i; definitions = defined i }
 
     sound : IsSoundState (record (state_of ns t held) { theorems = qs ++ q ∷ [] })
     sound = record {
-      theorems = All-push (IsTheorem names (sequents_at qs held.assumptions) (state_of ns t held).definitions) qs q k.sound.theorems follows;
+      theorems = All-push (IsTheorem names (sequents_at qs held.assumptions) (state_of ns t held).definitions) qs q
+          k.sound.theorems follows;
       assumptions = k.sound.assumptions;
       accepted = k.sound.accepted;
       names = k.sound.names;
@@ -146,41 +175,53 @@ pushed_from ns t held ths th k e inside follows = subst (λ l. Pushed (state_of 
       types = k.types;
       terms = k.terms;
       table = k.table;
-      inside = All-push (IsInside (length t.terms)) held.theorems th k.inside (subst (λ n. IsInside n th) (length-map (map_named (name_of ns)) t.terms) inside);
+      inside = All-push (IsInside (length t.terms)) held.theorems th k.inside
+          (subst (λ n. IsInside n th) (length-map (map_named (name_of ns)) t.terms) inside);
       numbered = λ i d h. let l = k.numbered i d h in omega (arith, l, length-append held.theorems (th ∷ []));
-      accepted = held_stay (state_of ns t held) (state_of ns t more) (Extends-refl _) (Extends-refl _) longer held.definitions k.accepted;
+      accepted = held_stay (state_of ns t held) (state_of ns t more) (Extends-refl _) (Extends-refl _) longer
+          held.definitions k.accepted;
       signature = subst (λ dl. IsSignature ns dl held.signature) (sym defined) k.signature;
-      placed = places-grown (length t.terms) t.classes t.classes held.theorems (held.theorems ++ th ∷ []) held.assumptions held.places k.table.classed (Extends-refl _) (Extends-append held.theorems (th ∷ [])) k.numbered k.inside k.placed;
+      placed = places-grown (length t.terms) t.classes t.classes held.theorems (held.theorems ++ th ∷ [])
+          held.assumptions held.places k.table.classed (Extends-refl _) (Extends-append held.theorems (th ∷ []))
+          k.numbered k.inside k.placed;
       sound = subst IsSoundState (sym state) sound;
     }
 
 -- the same from the state that contracts see
-pub pushed : (ns : List Name) (t : TermTable) (held : Held) (now : State) (ths : List Theorem) (th : Theorem) → state_of ns t held ≡ now → IsKernel ns t held → ths ≡ held.theorems ++ th ∷ [] → IsInside (length now.terms) th
-    → IsTheorem names now.assumptions now.definitions (sequent_of now.terms th) → Pushed now ns t (record held { theorems = ths }) th
+pub pushed : (ns : List Name) (t : TermTable) (held : Held) (now : State) (ths : List Theorem) (th : Theorem)
+    → state_of ns t held ≡ now → IsKernel ns t held → ths ≡ held.theorems ++ th ∷ [] → IsInside (length now.terms) th
+    → IsTheorem names now.assumptions now.definitions (sequent_of now.terms th)
+    → Pushed now ns t (record held { theorems = ths }) th
 pushed ns t held now ths th view k e =
-    subst (λ s. IsInside (length s.terms) th → IsTheorem names s.assumptions s.definitions (sequent_of s.terms th) → Pushed s ns t (record held { theorems = ths }) th) view (pushed_from ns t held ths th k e)
+    subst (λ s. IsInside (length s.terms) th → IsTheorem names s.assumptions s.definitions (sequent_of s.terms th)
+    → Pushed s ns t (record held { theorems = ths }) th) view (pushed_from ns t held ths th k e)
 
 -- ---- what a rule answers
-pub record Concluded (result : Result ℕ RuleFault) (stated : Result (Sequent Name) (Fault Name)) (now new : State) : Type 0 where
+pub record Concluded (result : Result ℕ RuleFault) (stated : Result (Sequent Name) (Fault Name))
+    (now new : State) : Type 0 where
   pub concludes : Concludes result stated now new
   pub keeps : Keeps now new
   pub same : SameBasis now new
 
 -- the state mid, where terms may be new, with the theorem that the rule states
-pub concluded : (result : Result ℕ RuleFault) (stated : Result (Sequent Name) (Fault Name)) (now mid new : State) (q : Sequent Name) → Keeps now mid → SameTheorems now mid → stated ≡ Ok q
-    → IfOk result (λ id. (new ≡ record mid { theorems = mid.theorems ++ q ∷ [] }) × (id ≡ length mid.theorems)) → IfErr result (λ e. (new ≡ mid) × (e ≡ Memory)) → Concluded result stated now new
-concluded (Ok id) stated now mid new q keeps same s ok err = subst (λ n. Concluded (Ok id) stated now n) (sym ok.0) (record {
-  concludes = (q, s, ap (λ l. l ++ q ∷ []) same.theorems, ok.1 ∙ ap length same.theorems);
-  keeps = record {
-    names = keeps.names;
-    types = keeps.types;
-    terms = keeps.terms;
-    classes = keeps.classes;
-    theorems = Extends-trans keeps.theorems (Extends-append mid.theorems (q ∷ []));
-    assumptions = keeps.assumptions;
-    definitions = keeps.definitions;
-  };
-  same = record { assumptions = same.basis.assumptions; definitions = same.basis.definitions };
-})
-concluded (Err Memory) stated now mid new q keeps same s ok err = subst (λ n. Concluded (Err Memory) stated now n) (sym err.0) (record { concludes = (same.theorems, memory_refuses stated); keeps = keeps; same = same.basis })
+pub concluded : (result : Result ℕ RuleFault) (stated : Result (Sequent Name) (Fault Name)) (now mid new : State)
+    (q : Sequent Name) → Keeps now mid → SameTheorems now mid → stated ≡ Ok q
+    → IfOk result (λ id. (new ≡ record mid { theorems = mid.theorems ++ q ∷ [] }) × (id ≡ length mid.theorems))
+    → IfErr result (λ e. (new ≡ mid) × (e ≡ Memory)) → Concluded result stated now new
+concluded (Ok id) stated now mid new q keeps same s ok err =
+    subst (λ n. Concluded (Ok id) stated now n) (sym ok.0) (record {
+      concludes = (q, s, ap (λ l. l ++ q ∷ []) same.theorems, ok.1 ∙ ap length same.theorems);
+      keeps = record {
+        names = keeps.names;
+        types = keeps.types;
+        terms = keeps.terms;
+        classes = keeps.classes;
+        theorems = Extends-trans keeps.theorems (Extends-append mid.theorems (q ∷ []));
+        assumptions = keeps.assumptions;
+        definitions = keeps.definitions;
+      };
+      same = record { assumptions = same.basis.assumptions; definitions = same.basis.definitions };
+    })
+concluded (Err Memory) stated now mid new q keeps same s ok err = subst (λ n. Concluded (Err Memory) stated now n)
+    (sym err.0) (record { concludes = (same.theorems, memory_refuses stated); keeps = keeps; same = same.basis })
 concluded (Err e) stated now mid new q keeps same s ok err = cc

@@ -32,17 +32,21 @@ defining s d = record s { theorems = s.theorems ++ theorems names d; definitions
 
 -- the state with a definition, its theorems and further ones at the ends
 abbrev pub defining_more : State → Definition Name → List (Sequent Name) → State
-defining_more s d more = record s { theorems = s.theorems ++ (theorems names d ++ more); definitions = s.definitions ++ d ∷ [] }
+defining_more s d more =
+    record s { theorems = s.theorems ++ (theorems names d ++ more); definitions = s.definitions ++ d ∷ [] }
 
--- the definition may be next; these are its theorems, with further ones that follow from them, the symbols that it defines,
--- and those that occur in it
-pub record IsAcceptable (s : State) (ths : List Theorem) (c : code.Definition) (defs uses : List (Symbol ℕ)) : Type 0 where
+-- the definition may be next; these are its theorems, with further ones that follow from them, the symbols that it
+-- defines, and those that occur in it
+pub record IsAcceptable (s : State) (ths : List Theorem) (c : code.Definition) (defs uses : List (Symbol ℕ)) : Type
+    0 where
   pub inside : All (IsInside (length s.terms)) ths
   pub within : IsDefinitionIn (length s.names) (length s.types) (length s.theorems + length ths) c
   pub further : List (Sequent Name)
   pub numbered : theorems_at (adding s ths) c ≡ theorems names (added_definition s ths c)
   pub made : map (sequent_of s.terms) ths ≡ theorems names (added_definition s ths c) ++ further
-  pub follow : All (IsTheorem names s.assumptions (s.definitions ++ added_definition s ths c ∷ [])) (theorems names (added_definition s ths c)) → All (IsTheorem names s.assumptions (s.definitions ++ added_definition s ths c ∷ [])) further
+  pub follow : All (IsTheorem names s.assumptions (s.definitions ++ added_definition s ths c ∷ []))
+      (theorems names (added_definition s ths c))
+      → All (IsTheorem names s.assumptions (s.definitions ++ added_definition s ths c ∷ [])) further
   pub next : IsNext names s.assumptions s.definitions (added_definition s ths c)
   pub symbols_defined : IsSameSet (map (map_symbol (name_at s)) defs) (defined names (added_definition s ths c))
   pub symbols_used : IsSameSet (map (map_symbol (name_at s)) uses) (used names (added_definition s ths c))

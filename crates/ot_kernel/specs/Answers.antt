@@ -4,7 +4,9 @@ use Rattle.ot_plain.specs.Names.{Name}
 use Rattle.ot_plain.specs.Trees.{Ty, Tm, Sequent, Definition}
 use Rattle.ot_plain.specs.Hol.{theorems}
 use Rattle.ot_plain.specs.Naming.{names}
-use Rattle.ot_plain.specs.Faults.{Fault, NotFunction, ArgumentType, NotBool, NotEquation, NotAlphaEqual, VarFreeInHyps, NotRedex, Nesting, Primitive, AlreadyDefined, SymbolInUse, NotClosed, TypeVarEscapes, BadDefinitionList, HypothesesPresent, NotApplication, BadTypeVars}
+use Rattle.ot_plain.specs.Faults.{Fault, NotFunction, ArgumentType, NotBool, NotEquation, NotAlphaEqual}
+use Rattle.ot_plain.specs.Faults.{VarFreeInHyps, NotRedex, Nesting, Primitive, AlreadyDefined, SymbolInUse, NotClosed}
+use Rattle.ot_plain.specs.Faults.{TypeVarEscapes, BadDefinitionList, HypothesesPresent, NotApplication, BadTypeVars}
 use Rattle.ot_plain.specs.Renamed.{map_symbol}
 use Rattle.ot_type.specs.declared.fault.TableFault.{TableFault}
 use Rattle.ot_type.specs.declared.fault.TableFault.TheVariants as types
@@ -61,9 +63,11 @@ rule_fault read rules.Memory = None
 abbrev pub Refuses : {X E : Type 0} → (E → Option (Fault Name)) → E → Result X (Fault Name) → Type 0
 Refuses fault_of e stated = (f : Fault Name) → fault_of e ≡ Some f → stated ≡ Err f
 
--- a rule's refusal is the stated one, where numbers stand for these names; want of memory never comes as a definition's refusal
+-- a rule's refusal is the stated one, where numbers stand for these names; want of memory never comes as a
+-- definition's refusal
 abbrev pub RefusesBy : {X N : Type 0} → (ℕ → N) → RuleFault → Result X (Fault N) → Type 0
-RefusesBy {X} {N} read e stated = (e ≢ rules.Define definitions.Memory) × ((f : Fault N) → rule_fault read e ≡ Some f → stated ≡ Err f)
+RefusesBy {X} {N} read e stated = (e ≢ rules.Define definitions.Memory)
+    × ((f : Fault N) → rule_fault read e ≡ Some f → stated ≡ Err f)
 
 -- the same whatever numbers stand for: no rule but a definition names a symbol
 abbrev pub RefusesRule : {X N : Type 0} → RuleFault → Result X (Fault N) → Type 0
@@ -98,22 +102,30 @@ MakesAbstraction (Err e) stated new = Refuses table_fault e stated
 
 -- the number of a theorem that a rule gives, which stands at the end; after a refusal the theorems are as before
 abbrev pub Concludes : Result ℕ RuleFault → Result (Sequent Name) (Fault Name) → State → State → Type 0
-Concludes (Ok id) stated old new = (q : Sequent Name) × (stated ≡ Ok q) × (new.theorems ≡ old.theorems ++ q ∷ []) × (id ≡ length old.theorems)
+Concludes (Ok id) stated old new = (q : Sequent Name) × (stated ≡ Ok q) × (new.theorems ≡ old.theorems ++ q ∷ [])
+    × (id ≡ length old.theorems)
 Concludes (Err e) stated old new = (new.theorems ≡ old.theorems) × RefusesRule e stated
 
--- the number of the assumption that an axiom gives, which stands at the end of the assumptions and the theorems where it is new
+-- the number of the assumption that an axiom gives, which stands at the end of the assumptions and the theorems where
+-- it is new
 abbrev pub Assumes : Result ℕ RuleFault → Result (Sequent Name) (Fault Name) → State → State → Type 0
-Assumes (Ok id) stated old new = (q : Sequent Name) × (stated ≡ Ok q) × (id < length new.theorems) × (theorem_at new id ≡ known old.assumptions q)
-    × (new.assumptions ≡ with_sequent old.assumptions q) × (new.definitions ≡ old.definitions) × (new.theorems ≡ with_theorem old.theorems old.assumptions q)
+Assumes (Ok id) stated old new = (q : Sequent Name) × (stated ≡ Ok q) × (id < length new.theorems)
+    × (theorem_at new id ≡ known old.assumptions q)
+    × (new.assumptions ≡ with_sequent old.assumptions q) × (new.definitions ≡ old.definitions)
+    × (new.theorems ≡ with_theorem old.theorems old.assumptions q)
 Assumes (Err e) stated old new = SameTheorems old new × RefusesRule e stated
 
 -- the number of the theorem of a definition, which both stand at the end; after a refusal all is as before
 abbrev pub Defines : Result ℕ RuleFault → Defining names → State → State → Type 0
-Defines (Ok id) stated old new = (d : Definition Name) × (stated ≡ Ok d) × (new.definitions ≡ old.definitions ++ d ∷ []) × (new.theorems ≡ old.theorems ++ theorems names d) × (id ≡ length old.theorems) × (new.assumptions ≡ old.assumptions)
+Defines (Ok id) stated old new = (d : Definition Name) × (stated ≡ Ok d)
+    × (new.definitions ≡ old.definitions ++ d ∷ []) × (new.theorems ≡ old.theorems ++ theorems names d)
+    × (id ≡ length old.theorems) × (new.assumptions ≡ old.assumptions)
 Defines (Err e) stated old new = SameTheorems old new × RefusesBy (name_at new) e stated
 
 -- the numbers of the two theorems of a type
 abbrev pub DefinesType : Result (ℕ × ℕ) RuleFault → Defining names → State → State → Type 0
 DefinesType (Ok ids) stated old new =
-    (d : Definition Name) × (stated ≡ Ok d) × (new.definitions ≡ old.definitions ++ d ∷ []) × (new.theorems ≡ old.theorems ++ theorems names d) × (ids.0 ≡ length old.theorems) × (ids.1 ≡ suc (length old.theorems)) × (new.assumptions ≡ old.assumptions)
+    (d : Definition Name) × (stated ≡ Ok d) × (new.definitions ≡ old.definitions ++ d ∷ [])
+    × (new.theorems ≡ old.theorems ++ theorems names d) × (ids.0 ≡ length old.theorems)
+    × (ids.1 ≡ suc (length old.theorems)) × (new.assumptions ≡ old.assumptions)
 DefinesType (Err e) stated old new = SameTheorems old new × RefusesBy (name_at new) e stated

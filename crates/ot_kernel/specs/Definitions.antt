@@ -2,7 +2,8 @@
 use Rattle.std.specs.Prelude.{◌≡◌, ℕ, ◌<◌, List as Items, [], ◌∷◌, map, length}
 use Rattle.std.specs.List.{All}
 use Rattle.ot_plain.specs.Names.{Name}
-use Rattle.ot_plain.specs.Trees.{Variable, Tm, App, Sequent, Symbol, ConSymbol, OpSymbol, Definition, ConDef, ListDef, TyDef}
+use Rattle.ot_plain.specs.Trees.{Variable, Tm, App, Sequent, Symbol, ConSymbol}
+use Rattle.ot_plain.specs.Trees.{OpSymbol, Definition, ConDef, ListDef, TyDef}
 use Rattle.ot_plain.specs.Hol.{theorems}
 use Rattle.ot_plain.specs.Naming.{names, name_of}
 use Rattle.ot_plain.specs.Renamed.{map_symbol}
@@ -26,7 +27,8 @@ pairs_at s _ _ = []
 abbrev pub definition_at : State → code.Definition → Definition Name
 definition_at s (Con name th) = ConDef (name_at s name) (right_side (theorem_at s th).concl)
 definition_at s (List names vars premise th) = ListDef (pairs_at s names.items vars.items) (theorem_at s premise)
-definition_at s (TyOp name abs rep vars premise abs_th rep_th) = TyDef (name_at s name) (name_at s abs) (name_at s rep) (map (name_at s) vars.items) (theorem_at s premise)
+definition_at s (TyOp name abs rep vars premise abs_th rep_th) =
+    TyDef (name_at s name) (name_at s abs) (name_at s rep) (map (name_at s) vars.items) (theorem_at s premise)
 
 -- ---- what is kept of them
 
@@ -40,7 +42,8 @@ pub record ArePairsIn (n t : ℕ) (ns : Items ℕ) (vs : Items VarKey) : Type 0 
 abbrev pub IsDefinitionIn : (n t h : ℕ) → code.Definition → Type 0
 IsDefinitionIn n t h (Con name th) = (name < n) × (th < h)
 IsDefinitionIn n t h (List names vars premise th) = ArePairsIn n t names.items vars.items × (premise < h) × (th < h)
-IsDefinitionIn n t h (TyOp name abs rep vars premise abs_th rep_th) = (name < n) × (abs < n) × (rep < n) × All (λ i. i < n) vars.items × (premise < h) × (abs_th < h) × (rep_th < h)
+IsDefinitionIn n t h (TyOp name abs rep vars premise abs_th rep_th) =
+    (name < n) × (abs < n) × (rep < n) × All (λ i. i < n) vars.items × (premise < h) × (abs_th < h) × (rep_th < h)
 
 -- the sequents of a definition's theorems
 abbrev pub theorems_at : State → code.Definition → Items (Sequent Name)

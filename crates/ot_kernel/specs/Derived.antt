@@ -15,7 +15,8 @@ pub record Follows (s : State) (th : Theorem) : Type 0 where
 
 -- a theorem that was derived takes the next number, where memory allows; a refusal stays
 abbrev pub Adds : Result ℕ RuleFault → Result Theorem RuleFault → State → State → Type 0
-Adds (Ok id) (Ok th) old new = (new ≡ record old { theorems = old.theorems ++ sequent_of old.terms th ∷ [] }) × (id ≡ length old.theorems)
+Adds (Ok id) (Ok th) old new = (new ≡ record old { theorems = old.theorems ++ sequent_of old.terms th ∷ [] })
+    × (id ≡ length old.theorems)
 Adds (Ok id) (Err f) old new = ⊥
 Adds (Err e) (Ok th) old new = (new ≡ old) × (e ≡ Memory)
 Adds (Err e) (Err f) old new = (new ≡ old) × (e ≡ f)

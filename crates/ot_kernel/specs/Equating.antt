@@ -39,10 +39,13 @@ pub record AreSides (ts : List (Named ℕ)) (i : ℕ) (ty : Ty ℕ) (a b : ℕ) 
 -- the equation of a and b, which is within the nesting limit, follows from two theorems by transitivity
 pub record AreOuter (ts : List (Named ℕ)) (lower top : Sequent ℕ) (ty : Ty ℕ) (a b : ℕ) : Type 0 where
   pub typed : HaveType ts ty a b
-  pub follows : trans_rule numbers lower top ≡ Ok (record { hyps = union numbers lower.hyps top.hyps; concl = equation numbers ty (tm_at ts a) (tm_at ts b) })
+  pub follows : trans_rule numbers lower top ≡ Ok
+      (record { hyps = union numbers lower.hyps top.hyps; concl = equation numbers ty (tm_at ts a) (tm_at ts b) })
   pub limit : is_shallow numbers (equation numbers ty (tm_at ts a) (tm_at ts b)) ≡ true
 
 -- the outer sides of two equations, or the refusal of transitivity
 abbrev pub GivesOuter : Result (ℕ × ℕ) RuleFault → List (Named ℕ) → Theorem → Theorem → Type 0
-GivesOuter (Ok p) ts lower top = (ty : Ty ℕ) × AreOuter ts (numbered_sequent ts lower) (numbered_sequent ts top) ty p.0 p.1
-GivesOuter (Err e) ts lower top = RefusesRule e (trans_rule numbers (numbered_sequent ts lower) (numbered_sequent ts top))
+GivesOuter (Ok p) ts lower top = (ty : Ty ℕ) × AreOuter ts (numbered_sequent ts lower) (numbered_sequent ts top) ty
+    p.0 p.1
+GivesOuter (Err e) ts lower top =
+    RefusesRule e (trans_rule numbers (numbered_sequent ts lower) (numbered_sequent ts top))

@@ -2,7 +2,8 @@
 use Rattle.std.specs.Prelude.{codes, ◌≡◌, suc, List, [], ◌∷◌, ◌++◌, length, Result, Ok, Err}
 use Rattle.ot_plain.specs.Names.{Name}
 use Rattle.ot_plain.specs.Naming.{names}
-use Rattle.ot_plain.specs.Trees.{Alphabet, Ty, TyOp, Variable, Tm, Free, Con, Bound, App, Abs, Sequent, Definition, ConDef, ListDef, TyDef}
+use Rattle.ot_plain.specs.Trees.{Alphabet, Ty, TyOp, Variable, Tm, Free, Con, Bound}
+use Rattle.ot_plain.specs.Trees.{App, Abs, Sequent, Definition, ConDef, ListDef, TyDef}
 use Rattle.ot_plain.specs.Hol.{fun_ty, bool_ty, type_of, equation, is_shallow, sequent_of, tys_of_vars, theorems}
 use Rattle.ot_plain.specs.Faults.{Nesting}
 use Rattle.ot_plain.specs.Answers.{◌>>=◌, unless}
@@ -27,7 +28,8 @@ module _ {N : Type 0} (alphabet : Alphabet N) (a r : N) where
 
   -- of a premise p t
   abbrev pub open_theorems_at : N → N → N → List N → Tm N → List (Sequent N)
-  open_theorems_at n abs rep vs (App p t) = open_theorems (TyOp n (tys_of_vars alphabet vs)) (type_of alphabet t) abs rep p
+  open_theorems_at n abs rep vs (App p t) =
+      open_theorems (TyOp n (tys_of_vars alphabet vs)) (type_of alphabet t) abs rep p
   open_theorems_at n abs rep vs _ = []
 
 module _ {N : Type 0} (alphabet : Alphabet N) where
@@ -63,9 +65,17 @@ opened_by (TyDef n abs rep vs q) = open_theorems_at names var_a var_r n abs rep 
 opened_by (ConDef n t) = []
 opened_by (ListDef ps q) = []
 
--- the theorems of a type and its open theorems stand one after another at the end, and the definition; after a refusal all is as before
+-- the theorems of a type and its open theorems stand one after another at the end, and the definition; after a
+-- refusal all is as before
 abbrev pub DefinesOpenType : Result Type5 RuleFault → Defining names → State → State → Type 0
 DefinesOpenType (Ok ids) stated old new =
-    (d : Definition Name) × (stated ≡ Ok d) × (new.definitions ≡ old.definitions ++ d ∷ []) × (new.theorems ≡ old.theorems ++ theorems names d ++ opened_by d)
-    × (ids ≡ record { abs_th = length old.theorems; rep_th = suc (length old.theorems); abs_open = suc (suc (length old.theorems)); rep_open = suc (suc (suc (length old.theorems))) }) × (new.assumptions ≡ old.assumptions)
+    (d : Definition Name) × (stated ≡ Ok d) × (new.definitions ≡ old.definitions ++ d ∷ [])
+    × (new.theorems ≡ old.theorems ++ theorems names d ++ opened_by d)
+    × (ids ≡ record {
+      abs_th = length old.theorems;
+      rep_th = suc (length old.theorems);
+      abs_open = suc (suc (length old.theorems));
+      rep_open = suc (suc (suc (length old.theorems)));
+    })
+    × (new.assumptions ≡ old.assumptions)
 DefinesOpenType (Err e) stated old new = SameTheorems old new × RefusesBy (name_at new) e stated

@@ -4,7 +4,8 @@ use Rattle.std.specs.List.{list_all}
 use Rattle.ot_plain.specs.Trees.{Alphabet, Ty, Variable, Tm, Free, App, Abs, Named, Sequent}
 use Rattle.ot_plain.specs.Faults.{Fault, Nesting}
 use Rattle.ot_plain.specs.Answers.{unless}
-use Rattle.ot_plain.specs.Hol.{fun_ty, bool_ty, HasType, close, equation, sequent_of, is_shallow, is_shallow_sequent, IsClosed}
+use Rattle.ot_plain.specs.Hol.{fun_ty, bool_ty, HasType, close, equation}
+use Rattle.ot_plain.specs.Hol.{sequent_of, is_shallow, is_shallow_sequent, IsClosed}
 use Rattle.ot_plain.specs.Naming.{numbers}
 use Rattle.ot_type.specs.TypeTable.{type_at}
 use Rattle.ot_term.specs.Term.{TermTable}
@@ -34,7 +35,9 @@ pub record IsNumberOf (tys : List (Ty ℕ)) (ty : Ty ℕ) (id : ℕ) : Type 0 wh
 
 -- |- (\v. a) = (\v. b), where a and b have this type
 abbrev pub equal_functions : Variable ℕ → Ty ℕ → Tm ℕ → Tm ℕ → Sequent ℕ
-equal_functions v ty a b = sequent_of numbers (equation numbers (fun_ty numbers v.ty ty) (Abs v.ty (close numbers v a)) (Abs v.ty (close numbers v b)))
+equal_functions v ty a b =
+    sequent_of numbers
+    (equation numbers (fun_ty numbers v.ty ty) (Abs v.ty (close numbers v a)) (Abs v.ty (close numbers v b)))
 
 -- g (f v)
 abbrev pub trip : Tm ℕ → Tm ℕ → Variable ℕ → Tm ℕ
@@ -48,18 +51,23 @@ pub record TurnsBack (ty : Ty ℕ) (f g : Tm ℕ) : Type 0 where
 
 -- the numbers of v and of g (f v), or the stated refusal
 abbrev pub MakesTrip : Result (ℕ × ℕ) RuleFault → (f g : Tm ℕ) → Variable ℕ → List (Named ℕ) → Type 0
-MakesTrip (Ok p) f g v ts = (p.0 < length ts) × (p.1 < length ts) × (tm_at ts p.0 ≡ Free v) × (tm_at ts p.1 ≡ trip f g v)
+MakesTrip (Ok p) f g v ts = (p.0 < length ts) × (p.1 < length ts) × (tm_at ts p.0 ≡ Free v)
+    × (tm_at ts p.1 ≡ trip f g v)
 MakesTrip (Err e) f g v ts = RefusesRule e (limited numbers (trip f g v))
 
--- two theorems, whose sequents are the stated ones; a refusal is that of the nesting limit, where one of these passes it
+-- two theorems, whose sequents are the stated ones; a refusal is that of the nesting limit, where one of these passes
+-- it
 abbrev pub DerivesBoth : Result (Theorem × Theorem) RuleFault → List (Sequent ℕ) → List (Named ℕ) → Type 0
-DerivesBoth (Ok p) stated ts = IsInside (length ts) p.0 × IsInside (length ts) p.1 × (stated ≡ numbered_sequent ts p.0 ∷ numbered_sequent ts p.1 ∷ [])
-DerivesBoth (Err e) stated ts = RefusesRule e (unless {E = Fault ℕ} Nesting (list_all (is_shallow_sequent numbers) stated))
+DerivesBoth (Ok p) stated ts = IsInside (length ts) p.0 × IsInside (length ts) p.1
+    × (stated ≡ numbered_sequent ts p.0 ∷ numbered_sequent ts p.1 ∷ [])
+DerivesBoth (Err e) stated ts =
+    RefusesRule e (unless {E = Fault ℕ} Nesting (list_all (is_shallow_sequent numbers) stated))
 
--- two theorems, whose sequents are the stated ones, and the deepest term on the way to them is within the nesting limit; a
--- refusal is that of the limit, where this term passes it
+-- two theorems, whose sequents are the stated ones, and the deepest term on the way to them is within the nesting
+-- limit; a refusal is that of the limit, where this term passes it
 abbrev pub DerivesOpen : Result (Theorem × Theorem) RuleFault → Tm ℕ → List (Sequent ℕ) → List (Named ℕ) → Type 0
-DerivesOpen (Ok p) deepest stated ts = IsInside (length ts) p.0 × IsInside (length ts) p.1 × (stated ≡ numbered_sequent ts p.0 ∷ numbered_sequent ts p.1 ∷ []) × (is_shallow numbers deepest ≡ true)
+DerivesOpen (Ok p) deepest stated ts = IsInside (length ts) p.0 × IsInside (length ts) p.1
+    × (stated ≡ numbered_sequent ts p.0 ∷ numbered_sequent ts p.1 ∷ []) × (is_shallow numbers deepest ≡ true)
 DerivesOpen (Err e) deepest stated ts = RefusesRule e (unless {E = Fault ℕ} Nesting (is_shallow numbers deepest))
 
 -- ---- the premise of a type operator

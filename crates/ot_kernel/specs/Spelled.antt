@@ -16,8 +16,8 @@ use Rattle.ot_kernel.specs.Places.{ArePlaces}
 use Rattle.ot_kernel.specs.State.{State, named_at, IsSoundState}
 use Rattle.ot_kernel.specs.Definitions.{definition_at, IsHeld, IsSignature}
 
--- the theorems that a kernel holds, the numbers of those that are assumptions, the definitions with their symbols, and the
--- places of the assumptions by the classes of their conclusions
+-- the theorems that a kernel holds, the numbers of those that are assumptions, the definitions with their symbols,
+-- and the places of the assumptions by the classes of their conclusions
 pub record Held : Type 0 where
   pub theorems : List Theorem
   pub assumptions : List ℕ
@@ -27,7 +27,11 @@ pub record Held : Type 0 where
 
 -- the sequent of a theorem, over the real terms
 abbrev pub sequent_of : List (Named Name) → Theorem → Sequent Name
-sequent_of ts th = record { hyps = map (λ i. nameless names (named_at ts i)) th.hyps.items; concl = nameless names (named_at ts th.concl) }
+sequent_of ts th =
+    record {
+      hyps = map (λ i. nameless names (named_at ts i)) th.hyps.items;
+      concl = nameless names (named_at ts th.concl);
+    }
 
 -- the sequents of numbers of theorems
 abbrev pub sequents_at : List (Sequent Name) → List ℕ → List (Sequent Name)
@@ -38,11 +42,21 @@ abbrev pub undefined_state : List Name → TermTable → Held → State
 undefined_state ns t held =
     let ts = map (map_named (name_of ns)) t.terms in
     let qs = map (sequent_of ts) held.theorems in
-    record { names = ns; types = map (map_ty (name_of ns)) t.types; terms = ts; classes = t.classes; theorems = qs; assumptions = sequents_at qs held.assumptions; definitions = [] }
+    record {
+      names = ns;
+      types = map (map_ty (name_of ns)) t.types;
+      terms = ts;
+      classes = t.classes;
+      theorems = qs;
+      assumptions = sequents_at qs held.assumptions;
+      definitions = [];
+    }
 
 -- the state
 abbrev pub state_of : List Name → TermTable → Held → State
-state_of ns t held = record (undefined_state ns t held) { definitions = map (definition_at (undefined_state ns t held)) held.definitions }
+state_of ns t held =
+    record (undefined_state ns t held)
+    { definitions = map (definition_at (undefined_state ns t held)) held.definitions }
 
 -- the real state of a table over numbers
 pub record IsSpelled (s : State) (t : TermTable) : Type 0 where

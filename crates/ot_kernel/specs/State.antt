@@ -3,7 +3,8 @@ use Rattle.std.specs.Prelude.{◌≡◌, ℕ, false, List, [], ◌∷◌, map, s
 use Rattle.std.specs.List.{All}
 use Rattle.std.specs.Coded.{Coded, code_by, coded×, coded_list, coded_ℕ}
 use Rattle.ot_plain.specs.Names.{Name}
-use Rattle.ot_plain.specs.Trees.{Ty, Tys, TyVar, NoTys, MoreTys, Variable, Named, NConst, Tm, Bound, Sequent, Definition}
+use Rattle.ot_plain.specs.Trees.{Ty, Tys, TyVar, NoTys, MoreTys, Variable}
+use Rattle.ot_plain.specs.Trees.{Named, NConst, Tm, Bound, Sequent, Definition}
 use Rattle.ot_plain.specs.Hol.{nameless, same_sequent, IsSequent, Accepted}
 use Rattle.ot_plain.specs.Naming.{names, IsNameTable}
 use Rattle.ot_plain.specs.Codes.{coded_name, coded_ty, coded_named, coded_sequent, coded_definition}
@@ -22,10 +23,26 @@ pub record State : Type 0 where
   pub definitions : List (Definition Name)
 
 abbrev pub coded_state : Coded State
-coded_state = code_by (List Name × (List (Ty Name) × (List (Named Name) × (List ℕ × (List (Sequent Name) × (List (Sequent Name) × List (Definition Name)))))))
-    (coded× (coded_list coded_name) (coded× (coded_list (coded_ty coded_name)) (coded× (coded_list (coded_named coded_name)) (coded× (coded_list coded_ℕ) (coded× (coded_list (coded_sequent coded_name)) (coded× (coded_list (coded_sequent coded_name)) (coded_list (coded_definition coded_name))))))))
+coded_state =
+    code_by (List Name
+    × (List (Ty Name)
+    × (List (Named Name) × (List ℕ × (List (Sequent Name) × (List (Sequent Name) × List (Definition Name)))))))
+    (coded× (coded_list coded_name)
+    (coded× (coded_list (coded_ty coded_name))
+    (coded× (coded_list (coded_named coded_name))
+    (coded× (coded_list coded_ℕ)
+    (coded× (coded_list (coded_sequent coded_name))
+    (coded× (coded_list (coded_sequent coded_name)) (coded_list (coded_definition coded_name))))))))
     (λ s. (s.names, (s.types, (s.terms, (s.classes, (s.theorems, (s.assumptions, s.definitions)))))))
-    (λ p. record { names = p.0; types = p.1.0; terms = p.1.1.0; classes = p.1.1.1.0; theorems = p.1.1.1.1.0; assumptions = p.1.1.1.1.1.0; definitions = p.1.1.1.1.1.1 })
+    (λ p. record {
+      names = p.0;
+      types = p.1.0;
+      terms = p.1.1.0;
+      classes = p.1.1.1.0;
+      theorems = p.1.1.1.1.0;
+      assumptions = p.1.1.1.1.1.0;
+      definitions = p.1.1.1.1.1.1;
+    })
     (λ _. refl)
 
 -- ---- what a number stands for
@@ -84,7 +101,8 @@ pub record SameTheorems (old new : State) : Type 0 where
 abbrev pub AreApart : List (Sequent Name) → Type 0
 AreApart qs = AllPairs (λ q r. same_sequent names q r ≡ false) qs
 
--- each theorem is derivable from the assumptions under the definitions, these are accepted, and no two assumptions are one
+-- each theorem is derivable from the assumptions under the definitions, these are accepted, and no two assumptions
+-- are one
 pub record IsSoundState (s : State) : Type 0 where
   pub theorems : All (IsTheorem names s.assumptions s.definitions) s.theorems
   pub assumptions : All (IsSequent names) s.assumptions

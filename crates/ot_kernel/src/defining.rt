@@ -3,8 +3,8 @@ ghost use Rattle.std.specs.Prelude.{◌≡◌, ℕ, ◌<◌, ◌∷◌, [], map,
 ghost use Rattle.std.specs.List.{All};
 ghost use Rattle.ot_plain.specs.Lists.{AreDistinct};
 ghost use Rattle.ot_plain.specs.Trees.{TyOp, TyVar, Free, Con, App};
-ghost use Rattle.ot_plain.specs.Hol.{fun_ty, bool_ty, HasType, type_in, type_of, equation, sequent_of, IsClosed};
-ghost use Rattle.ot_plain.specs.Hol.{tys_of_vars, type_theorems, subst_tm, constants_for};
+ghost use Rattle.ot_plain.specs.Hol.{fun_ty, bool_ty, HasType, type_in, type_of, equation, sequent_of};
+ghost use Rattle.ot_plain.specs.Hol.{IsClosed, tys_of_vars, type_theorems, subst_tm, constants_for};
 ghost use Rattle.ot_plain.specs.Naming.{numbers, IsNameTable};
 ghost use Rattle.ot_plain.specs.Rules.{within_limit};
 ghost use Rattle.ot_type.specs.TypeTable.{type_at, types_at};
@@ -17,8 +17,8 @@ ghost use Rattle.ot_kernel.specs.Equating.{limited, Makes};
 ghost use Rattle.ot_kernel.specs.Spelled.{IsInside};
 ghost use Rattle.ot_kernel.specs.Defining.{zipped};
 ghost use Rattle.ot_kernel.specs.Opening.{beta_over};
-ghost use Rattle.ot_kernel.specs.Proved.{bound_of_names, IsGrownTo, IsNumberOf, equal_functions, trip, TurnsBack};
-ghost use Rattle.ot_kernel.specs.Proved.{MakesTrip, DerivesBoth};
+ghost use Rattle.ot_kernel.specs.Proved.{bound_of_names, IsGrownTo, IsNumberOf, equal_functions};
+ghost use Rattle.ot_kernel.specs.Proved.{trip, TurnsBack, MakesTrip, DerivesBoth};
 
 use crate::equations::{abstract_from, apply, equate};
 use crate::fault::RuleFault;

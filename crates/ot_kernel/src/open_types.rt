@@ -3,8 +3,8 @@
 ghost use Rattle.std.specs.Prelude.{◌≡◌, ◌<◌, true, map, length, ◌∷◌, IfErr};
 ghost use Rattle.std.specs.List.{All, list_all};
 ghost use Rattle.ot_plain.specs.Trees.{TyOp, Free, App};
-ghost use Rattle.ot_plain.specs.Hol.{fun_ty, bool_ty, HasType, IsClosed, equation, sequent_of as stated, tys_of_vars};
-ghost use Rattle.ot_plain.specs.Hol.{type_theorems, theorems_at, is_shallow_sequent};
+ghost use Rattle.ot_plain.specs.Hol.{fun_ty, bool_ty, HasType, IsClosed, equation, sequent_of as stated};
+ghost use Rattle.ot_plain.specs.Hol.{tys_of_vars, type_theorems, theorems_at, is_shallow_sequent};
 ghost use Rattle.ot_plain.specs.Naming.{names as name_alphabet, numbers};
 ghost use Rattle.ot_plain.specs.Rules.{within_limit};
 ghost use Rattle.ot_type.specs.TypeTable.{type_at};
@@ -13,8 +13,8 @@ ghost use Rattle.ot_kernel.specs.State.{name_at, theorem_at, Keeps};
 ghost use Rattle.ot_kernel.specs.Numbered.{tm_at, Derives, IsGrownBy};
 ghost use Rattle.ot_kernel.specs.Proved.{bound_of_names, IsGrownTo, trip, TurnsBack, IsPremise, DerivesOpen};
 ghost use Rattle.ot_kernel.specs.Answers.{IsSymbolIn};
-ghost use Rattle.ot_kernel.specs.Opening.{var_r, open_theorems, open_theorems_at, beta_over, beta_at};
-ghost use Rattle.ot_kernel.specs.Opening.{open_type_definition, DefinesOpenType};
+ghost use Rattle.ot_kernel.specs.Opening.{var_r, open_theorems, open_theorems_at, beta_over};
+ghost use Rattle.ot_kernel.specs.Opening.{beta_at, open_type_definition, DefinesOpenType};
 
 use crate::defining::{beta_theorem, constant_between, new_type, round_trip};
 use crate::equations::{apply, equate};

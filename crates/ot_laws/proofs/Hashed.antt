@@ -1,7 +1,8 @@
 -- Sets by hash: what is inserted, and how many.
 use Rattle.std.specs.Bool.{Decides}
 use Rattle.std.specs.List.{list_any}
-use Rattle.std.proofs.Common.{◌≡◌, ◌+◌, ◌≤◌, nat_eq, Bool, true, false, List, [], ◌∷◌, ◌++◌, take, length, fold, if◌then◌else◌, refl, sym, ap, subst, ◌∙◌, arith, inl, inr, length-append, append_assoc}
+use Rattle.std.proofs.Common.{◌≡◌, ◌+◌, ◌≤◌, nat_eq, Bool, true, false, List, [], ◌∷◌, ◌++◌, take, length, fold}
+use Rattle.std.proofs.Common.{if◌then◌else◌, refl, sym, ap, subst, ◌∙◌, arith, inl, inr, length-append, append_assoc}
 use Rattle.std.proofs.lemmas.Bool.Decides.{Decides-like, Decides-eqb, same_from_decides}
 use Rattle.std.proofs.lemmas.List.{append-nil}
 use Rattle.std.proofs.lemmas.Grind.{common_steps}
@@ -53,7 +54,8 @@ module _ {X : Type 0} (eq : X → X → Bool) (is : (x y : X) → Decides (eq x 
   module _ (ks : List X) (x : X) (xs : List X) where
     -- each of x and xs was added to ks just where nothing stands twice, the set being ls after x
     abbrev Added : List X → Type 0
-    Added ls = Decides (nat_eq (length (fold (insert_key eq) ls xs)) (length ks + length (x ∷ xs))) (AreNew ks (x ∷ xs))
+    Added ls = Decides (nat_eq (length (fold (insert_key eq) ls xs)) (length ks + length (x ∷ xs)))
+        (AreNew ks (x ∷ xs))
 
     new-to : ¬ (IsMember x ks) → AreNew (ks ++ x ∷ []) xs → AreNew ks (x ∷ xs)
     new-to m p = (
@@ -74,11 +76,14 @@ module _ {X : Type 0} (eq : X → X → Bool) (is : (x y : X) → Decides (eq x 
     )
 
   -- each was added just where nothing stands twice
-  all-new : (ks xs : List X) → Decides (nat_eq (length (fold (insert_key eq) ks xs)) (length ks + length xs)) (AreNew ks xs)
+  all-new : (ks xs : List X) → Decides (nat_eq (length (fold (insert_key eq) ks xs)) (length ks + length xs))
+      (AreNew ks xs)
   all-new ks [] = (λ h. (tt, λ x m. absurd m), λ h. (Decides-eqb (length ks) (length ks + 0)).1 (omega arith))
-  all-new ks (x ∷ xs) = elim (cases_of (list_any (eq x) ks) (any-is eq is x ks)) [ inl p ↦ old p.0 p.1 | inr p ↦ new p.0 p.1 (all-new (ks ++ x ∷ []) xs) ]
+  all-new ks (x ∷ xs) = elim (cases_of (list_any (eq x) ks) (any-is eq is x ks))
+      [ inl p ↦ old p.0 p.1 | inr p ↦ new p.0 p.1 (all-new (ks ++ x ∷ []) xs) ]
     where
-      by : (b : Bool) → list_any (eq x) ks ≡ b → Added ks x xs (if b then ks else ks ++ x ∷ []) → Added ks x xs (insert_key eq ks x)
+      by : (b : Bool) → list_any (eq x) ks ≡ b → Added ks x xs (if b then ks else ks ++ x ∷ [])
+          → Added ks x xs (insert_key eq ks x)
       by b e h = subst (λ c. Added ks x xs (if c then ks else ks ++ x ∷ [])) (sym e) h
 
       short : nat_eq (length (fold (insert_key eq) ks xs)) (length ks + length (x ∷ xs)) ≡ true → ⊥
@@ -93,16 +98,23 @@ module _ {X : Type 0} (eq : X → X → Bool) (is : (x y : X) → Decides (eq x 
       longer : length (ks ++ x ∷ []) + length xs ≡ length ks + length (x ∷ xs)
       longer = omega (arith, length-append ks (x ∷ []))
 
-      new : list_any (eq x) ks ≡ false → ¬ (IsMember x ks) → Decides (nat_eq (length (fold (insert_key eq) (ks ++ x ∷ []) xs)) (length (ks ++ x ∷ []) + length xs)) (AreNew (ks ++ x ∷ []) xs) → Added ks x xs (insert_key eq ks x)
+      new : list_any (eq x) ks ≡ false → ¬ (IsMember x ks)
+          → Decides (nat_eq (length (fold (insert_key eq) (ks ++ x ∷ []) xs)) (length (ks ++ x ∷ []) + length xs))
+          (AreNew (ks ++ x ∷ []) xs) → Added ks x xs (insert_key eq ks x)
       new e m rest =
-          by false e (subst (λ n. Decides (nat_eq (length (fold (insert_key eq) (ks ++ x ∷ []) xs)) n) (AreNew ks (x ∷ xs))) longer
-          (Decides-like (nat_eq (length (fold (insert_key eq) (ks ++ x ∷ []) xs)) (length (ks ++ x ∷ []) + length xs)) (new-to ks x xs m) (new-back ks x xs) rest))
+          by false e
+          (subst (λ n. Decides (nat_eq (length (fold (insert_key eq) (ks ++ x ∷ []) xs)) n) (AreNew ks (x ∷ xs)))
+          longer
+          (Decides-like (nat_eq (length (fold (insert_key eq) (ks ++ x ∷ []) xs)) (length (ks ++ x ∷ []) + length xs))
+          (new-to ks x xs m) (new-back ks x xs) rest))
 
-  pub distinct-count : {N : Type 0} (alphabet : Alphabet N) (xs : List X) → nat_eq (length (fold (insert_key eq) [] xs)) (length xs) ≡ are_distinct eq xs
+  pub distinct-count : {N : Type 0} (alphabet : Alphabet N) (xs : List X)
+      → nat_eq (length (fold (insert_key eq) [] xs)) (length xs) ≡ are_distinct eq xs
   distinct-count alphabet xs =
       same_from_decides (nat_eq (length (fold (insert_key eq) [] xs)) (length xs)) (are_distinct eq xs)
       (subst (λ n. Decides (nat_eq (length (fold (insert_key eq) [] xs)) n) (AreDistinct xs)) count
-      (Decides-like (nat_eq (length (fold (insert_key eq) [] xs)) (0 + length xs)) (λ p. p.0) (λ d. (d, λ x m never. never)) (all-new [] xs)))
+      (Decides-like (nat_eq (length (fold (insert_key eq) [] xs)) (0 + length xs)) (λ p. p.0)
+      (λ d. (d, λ x m never. never)) (all-new [] xs)))
       (are_distinct-is eq is alphabet xs)
     where
       count : 0 + length xs ≡ length xs

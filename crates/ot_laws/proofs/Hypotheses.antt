@@ -1,7 +1,8 @@
 -- Hypotheses as sets: the tests decide, and no list comes out with a repetition that had none.
 use Rattle.std.specs.Prelude.{◌≢◌, ◌↔◌, ◌||◌, ◌&&◌}
 use Rattle.std.specs.Bool.{Decides}
-use Rattle.std.proofs.Common.{◌≡◌, true, false, Bool, cond, List, [], ◌∷◌, ◌++◌, refl, sym, ap, ◌∙◌, subst, inl, inr, ◌⊎◌}
+use Rattle.std.proofs.Common.{◌≡◌, true, false, Bool, cond, List, [], ◌∷◌}
+use Rattle.std.proofs.Common.{◌++◌, refl, sym, ap, ◌∙◌, subst, inl, inr, ◌⊎◌}
 use Rattle.std.proofs.Math.Bool.{or_assoc}
 use Rattle.std.proofs.lemmas.Bool.Decides.{Decides-and, Decides-or, Decides-like}
 use Rattle.ot_plain.specs.Lists.{IsMember, IsPart, IsSameSet, AreDistinct}
@@ -11,36 +12,46 @@ use Rattle.ot_laws.proofs.Tests.{Tells, cases_of, same_tm-is, tm_cases}
 use Rattle.ot_laws.proofs.Sets.{distinct-append}
 use Rattle.ot_plain.proofs.Members.{IsMember-cases, IsMember-left, IsMember-right}
 
-kept-append : {X : Type 0} (b : Bool) (x : X) (xs ys zs : List X) → xs ≡ ys ++ zs → cond b xs (x ∷ xs) ≡ cond b ys (x ∷ ys) ++ zs
+kept-append : {X : Type 0} (b : Bool) (x : X) (xs ys zs : List X) → xs ≡ ys ++ zs
+    → cond b xs (x ∷ xs) ≡ cond b ys (x ∷ ys) ++ zs
 kept-append true x xs ys zs e = e
 kept-append false x xs ys zs e = ap (λ l. x ∷ l) e
 
 module _ {N : Type 0} (alphabet : Alphabet N) where
   -- ---- a list in two parts
-  pub is_in-append : (t : Tm N) (g h : List (Tm N)) → is_in alphabet t (g ++ h) ≡ (is_in alphabet t g || is_in alphabet t h)
+  pub is_in-append : (t : Tm N) (g h : List (Tm N)) → is_in alphabet t (g ++ h)
+      ≡ (is_in alphabet t g || is_in alphabet t h)
   is_in-append t [] h = refl
-  is_in-append t (u ∷ g) h = ap (λ b. same_tm alphabet u t || b) (is_in-append t g h) ∙ sym (or_assoc (same_tm alphabet u t) (is_in alphabet t g) (is_in alphabet t h))
+  is_in-append t (u ∷ g) h = ap (λ b. same_tm alphabet u t || b) (is_in-append t g h)
+      ∙ sym (or_assoc (same_tm alphabet u t) (is_in alphabet t g) (is_in alphabet t h))
 
-  pub minus-append : (x : Tm N) (g h : List (Tm N)) → minus alphabet x (g ++ h) ≡ minus alphabet x g ++ minus alphabet x h
+  pub minus-append : (x : Tm N) (g h : List (Tm N)) → minus alphabet x (g ++ h) ≡ minus alphabet x g
+      ++ minus alphabet x h
   minus-append x [] h = refl
-  minus-append x (y ∷ g) h = kept-append (same_tm alphabet y x) y (minus alphabet x (g ++ h)) (minus alphabet x g) (minus alphabet x h) (minus-append x g h)
+  minus-append x (y ∷ g) h = kept-append (same_tm alphabet y x) y (minus alphabet x (g ++ h)) (minus alphabet x g)
+      (minus alphabet x h) (minus-append x g h)
 
-  pub lacking-append : (g h k : List (Tm N)) → lacking alphabet g (h ++ k) ≡ lacking alphabet g h ++ lacking alphabet g k
+  pub lacking-append : (g h k : List (Tm N)) → lacking alphabet g (h ++ k) ≡ lacking alphabet g h
+      ++ lacking alphabet g k
   lacking-append g [] k = refl
-  lacking-append g (t ∷ h) k = kept-append (is_in alphabet t g) t (lacking alphabet g (h ++ k)) (lacking alphabet g h) (lacking alphabet g k) (lacking-append g h k)
+  lacking-append g (t ∷ h) k = kept-append (is_in alphabet t g) t (lacking alphabet g (h ++ k)) (lacking alphabet g h)
+      (lacking alphabet g k) (lacking-append g h k)
 
 module _ {N : Type 0} (alphabet : Alphabet N) (tells : Tells alphabet) where
   pub is_in-is : (t : Tm N) (ts : List (Tm N)) → Decides (is_in alphabet t ts) (IsMember t ts)
   is_in-is t [] = (λ h. cc, λ h. absurd h)
-  is_in-is t (u ∷ us) = Decides-or (same_tm alphabet u t) (is_in alphabet t us) (same_tm-is alphabet tells u t) (is_in-is t us)
+  is_in-is t (u ∷ us) = Decides-or (same_tm alphabet u t) (is_in alphabet t us) (same_tm-is alphabet tells u t)
+      (is_in-is t us)
 
-  pub in_cases : (t : Tm N) (ts : List (Tm N)) → ((is_in alphabet t ts ≡ true) × IsMember t ts) ⊎ ((is_in alphabet t ts ≡ false) × ¬ (IsMember t ts))
+  pub in_cases : (t : Tm N) (ts : List (Tm N)) → ((is_in alphabet t ts ≡ true) × IsMember t ts)
+      ⊎ ((is_in alphabet t ts ≡ false) × ¬ (IsMember t ts))
   in_cases t ts = cases_of (is_in alphabet t ts) (is_in-is t ts)
 
   pub all_in-is : (ts us : List (Tm N)) → Decides (all_in alphabet ts us) (IsPart ts us)
   all_in-is [] us = (λ h x i. absurd i, λ h. refl)
   all_in-is (t ∷ ts) us =
-      Decides-like (all_in alphabet (t ∷ ts) us) join split (Decides-and (is_in alphabet t us) (all_in alphabet ts us) (is_in-is t us) (all_in-is ts us))
+      Decides-like (all_in alphabet (t ∷ ts) us) join split
+      (Decides-and (is_in alphabet t us) (all_in alphabet ts us) (is_in-is t us) (all_in-is ts us))
     where
       join : IsMember t us × IsPart ts us → IsPart (t ∷ ts) us
       join p x (inl e) = subst (λ z. IsMember z us) e p.0
@@ -50,11 +61,14 @@ module _ {N : Type 0} (alphabet : Alphabet N) (tells : Tells alphabet) where
       split h = (h t (inl refl), λ x i. h x (inr i))
 
   -- the same set of hypotheses, and the same conclusion
-  pub same_sequent-is : (q r : Sequent N) → Decides (same_sequent alphabet q r) (IsSameSet q.hyps r.hyps × (q.concl ≡ r.concl))
+  pub same_sequent-is : (q r : Sequent N)
+      → Decides (same_sequent alphabet q r) (IsSameSet q.hyps r.hyps × (q.concl ≡ r.concl))
   same_sequent-is q r =
-      Decides-like (same_sequent alphabet q r) (λ p. (record { to = p.0.0; back = p.0.1 }, p.1)) (λ p. ((p.0.to, p.0.back), p.1))
+      Decides-like (same_sequent alphabet q r) (λ p. (record { to = p.0.0; back = p.0.1 }, p.1))
+      (λ p. ((p.0.to, p.0.back), p.1))
       (Decides-and (all_in alphabet q.hyps r.hyps && all_in alphabet r.hyps q.hyps) (same_tm alphabet q.concl r.concl)
-      (Decides-and (all_in alphabet q.hyps r.hyps) (all_in alphabet r.hyps q.hyps) (all_in-is q.hyps r.hyps) (all_in-is r.hyps q.hyps))
+      (Decides-and (all_in alphabet q.hyps r.hyps) (all_in alphabet r.hyps q.hyps) (all_in-is q.hyps r.hyps)
+      (all_in-is r.hyps q.hyps))
       (same_tm-is alphabet tells q.concl r.concl))
 
   -- ---- a set without a member
@@ -71,7 +85,8 @@ module _ {N : Type 0} (alphabet : Alphabet N) (tells : Tells alphabet) where
   ]
 
   pub IsMember-minus_back : (x y : Tm N) (ys : List (Tm N)) → IsMember x ys → x ≢ y → IsMember x (minus alphabet y ys)
-  IsMember-minus_back x y (z ∷ ys) (inl e) n = elim (tm_cases alphabet tells z y) [ inl p ↦ absurd (n (sym e ∙ p.1)) | inr p ↦ rw p.0 (inl e) ]
+  IsMember-minus_back x y (z ∷ ys) (inl e) n =
+      elim (tm_cases alphabet tells z y) [ inl p ↦ absurd (n (sym e ∙ p.1)) | inr p ↦ rw p.0 (inl e) ]
   IsMember-minus_back x y (z ∷ ys) (inr h) n = elim (tm_cases alphabet tells z y) [
     | inl p ↦ rw p.0 (IsMember-minus_back x y ys h n)
     | inr p ↦ rw p.0 (inr (IsMember-minus_back x y ys h n))
@@ -86,7 +101,8 @@ module _ {N : Type 0} (alphabet : Alphabet N) (tells : Tells alphabet) where
   ]
 
   -- ---- the union of two sets
-  pub IsMember-lacking : (x : Tm N) (g h : List (Tm N)) → IsMember x (lacking alphabet g h) → IsMember x h × ¬ (IsMember x g)
+  pub IsMember-lacking : (x : Tm N) (g h : List (Tm N)) → IsMember x (lacking alphabet g h)
+      → IsMember x h × ¬ (IsMember x g)
   IsMember-lacking x g [] i = absurd i
   IsMember-lacking x g (t ∷ ts) i = elim (in_cases t g) [
     | inl p ↦ let r = IsMember-lacking x g ts (rw p.0 at i) in (inr r.0, r.1)
@@ -98,8 +114,10 @@ module _ {N : Type 0} (alphabet : Alphabet N) (tells : Tells alphabet) where
         ]
   ]
 
-  pub IsMember-lacking_back : (x : Tm N) (g h : List (Tm N)) → IsMember x h → ¬ (IsMember x g) → IsMember x (lacking alphabet g h)
-  IsMember-lacking_back x g (t ∷ ts) (inl e) n = elim (in_cases t g) [ inl p ↦ absurd (n (subst (λ z. IsMember z g) e p.1)) | inr p ↦ rw p.0 (inl e) ]
+  pub IsMember-lacking_back : (x : Tm N) (g h : List (Tm N)) → IsMember x h → ¬ (IsMember x g)
+      → IsMember x (lacking alphabet g h)
+  IsMember-lacking_back x g (t ∷ ts) (inl e) n =
+      elim (in_cases t g) [ inl p ↦ absurd (n (subst (λ z. IsMember z g) e p.1)) | inr p ↦ rw p.0 (inl e) ]
   IsMember-lacking_back x g (t ∷ ts) (inr i) n = elim (in_cases t g) [
     | inl p ↦ rw p.0 (IsMember-lacking_back x g ts i n)
     | inr p ↦ rw p.0 (inr (IsMember-lacking_back x g ts i n))
@@ -127,23 +145,31 @@ module _ {N : Type 0} (alphabet : Alphabet N) (tells : Tells alphabet) where
       ]
 
       back : IsPart (union alphabet g h) (g ++ h)
-      back x i = elim (IsMember-cases x g (lacking alphabet g h) i) [ inl j ↦ IsMember-left x g h j | inr j ↦ IsMember-right x g h (IsMember-lacking x g h j).0 ]
+      back x i = elim (IsMember-cases x g (lacking alphabet g h) i)
+          [ inl j ↦ IsMember-left x g h j | inr j ↦ IsMember-right x g h (IsMember-lacking x g h j).0 ]
 
-  pub IsMember-union : (x : Tm N) (g h : List (Tm N)) → IsMember x (union alphabet g h) ↔ (IsMember x g ⊎ IsMember x h)
+  pub IsMember-union : (x : Tm N) (g h : List (Tm N)) → IsMember x (union alphabet g h)
+      ↔ (IsMember x g ⊎ IsMember x h)
   IsMember-union x g h = (
     λ i. IsMember-cases x g h ((same_set-union g h).back x i),
     λ i. (same_set-union g h).to x (elim i [ inl j ↦ IsMember-left x g h j | inr j ↦ IsMember-right x g h j ]),
   )
 
   pub distinct-union : (g h : List (Tm N)) → AreDistinct g → AreDistinct h → AreDistinct (union alphabet g h)
-  distinct-union g h d e = distinct-append g (lacking alphabet g h) d (distinct-lacking g h e) (λ x i j. (IsMember-lacking x g h j).1 i)
+  distinct-union g h d e = distinct-append g (lacking alphabet g h) d (distinct-lacking g h e)
+      (λ x i j. (IsMember-lacking x g h j).1 i)
 
   -- ---- each member once
   pub same_set-once_each : (ts : List (Tm N)) → IsSameSet ts (once_each alphabet ts)
   same_set-once_each ts = record { to = λ x. to x ts; back = λ x. back x ts }
     where
       to : (x : Tm N) (us : List (Tm N)) → IsMember x us → IsMember x (once_each alphabet us)
-      to x (u ∷ us) (inl e) = elim (in_cases u us) [ inl p ↦ rw p.0 (to x us (subst (λ z. IsMember z us) e p.1)) | inr p ↦ rw p.0 (inl e) ]
+      to x (u ∷ us) (inl e) =
+          elim (in_cases u us) [
+            | inl p ↦ rw p.0 (to x us (subst (λ z. IsMember z us) e p.1))
+            | inr p ↦
+                rw p.0 (inl e)
+          ]
       to x (u ∷ us) (inr i) = elim (in_cases u us) [ inl p ↦ rw p.0 (to x us i) | inr p ↦ rw p.0 (inr (to x us i)) ]
       to x [] i = i
 

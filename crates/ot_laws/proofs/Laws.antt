@@ -3,14 +3,19 @@ use Rattle.std.proofs.Common.{List, ◌++◌, refl, ap, ◌∙◌}
 use Rattle.ot_plain.specs.Trees.{Alphabet, Sequent, Definition}
 use Rattle.ot_plain.specs.Hol.{as_equation, distinct_named, parts}
 use Rattle.ot_plain.proofs.TableLemmas.{Extends-append}
-use Rattle.ot_laws.specs.Laws.{TestsDecide, HypothesesAreSets, SizeCountsParts, Growth, TermRulesAreSound, RulesAreSound}
-use Rattle.ot_laws.proofs.Tests.{Tells, same_ty-is, same_var-is, same_tm-is, same_named-is, has_type-is, is_free-is, is_free_in_some-is}
+use Rattle.ot_laws.specs.Laws.{TestsDecide, HypothesesAreSets, SizeCountsParts}
+use Rattle.ot_laws.specs.Laws.{Growth, TermRulesAreSound, RulesAreSound}
+use Rattle.ot_laws.proofs.Tests.{Tells, same_ty-is, same_var-is, same_tm-is, same_named-is}
+use Rattle.ot_laws.proofs.Tests.{has_type-is, is_free-is, is_free_in_some-is}
 use Rattle.ot_laws.proofs.Equations.{as_equation-some, as_equation-equation}
-use Rattle.ot_laws.proofs.Hypotheses.{is_in-is, same_sequent-is, same_set-union, distinct-union, IsMember-minus, IsMember-minus_back, distinct-minus, same_set-once_each, distinct-once_each}
+use Rattle.ot_laws.proofs.Hypotheses.{is_in-is, same_sequent-is, same_set-union, distinct-union, IsMember-minus}
+use Rattle.ot_laws.proofs.Hypotheses.{IsMember-minus_back, distinct-minus, same_set-once_each, distinct-once_each}
 use Rattle.ot_laws.proofs.Size.{remembered-size, same_set-distinct_named, distinct-distinct_named}
 use Rattle.ot_laws.proofs.Grown.{grown-derivable, grown-accepted, accepted-nil, accepted-push}
 use Rattle.ot_laws.proofs.Steps.{op_rule-ok, app_rule-ok, abs_rule-ok}
-use Rattle.ot_laws.proofs.Sound.{refl_rule-sound, assume_rule-sound, eq_mp_rule-sound, abs_thm_rule-sound, app_thm_rule-sound, deduct_antisym_rule-sound, beta_conv_rule-sound, subst_rule-sound, sym_rule-sound, trans_rule-sound, prove_hyp_rule-sound}
+use Rattle.ot_laws.proofs.Sound.{refl_rule-sound, assume_rule-sound, eq_mp_rule-sound, abs_thm_rule-sound}
+use Rattle.ot_laws.proofs.Sound.{app_thm_rule-sound, deduct_antisym_rule-sound, beta_conv_rule-sound}
+use Rattle.ot_laws.proofs.Sound.{subst_rule-sound, sym_rule-sound, trans_rule-sound, prove_hyp_rule-sound}
 use Rattle.ot_plain.proofs.Results.{if_ok}
 
 pub growth : {N : Type 0} (alphabet : Alphabet N) → Growth alphabet
@@ -33,14 +38,19 @@ module _ {N : Type 0} (alphabet : Alphabet N) (tells : Tells alphabet) where
     frees_in_some = is_free_in_some-is alphabet tells;
     members = is_in-is alphabet tells;
     sequents = same_sequent-is alphabet tells;
-    equations = λ t ty a b. (as_equation-some alphabet tells t ty a b, λ e. ap (as_equation alphabet) e ∙ as_equation-equation alphabet tells ty a b);
+    equations = λ t ty a b. (
+      as_equation-some alphabet tells t ty a b,
+      λ e. ap (as_equation alphabet) e
+          ∙ as_equation-equation alphabet tells ty a b,
+    );
   }
 
   pub hypotheses_are_sets : HypothesesAreSets alphabet
   hypotheses_are_sets = record {
     union_members = same_set-union alphabet tells;
     union_once = distinct-union alphabet tells;
-    minus_members = λ x y g. (IsMember-minus alphabet tells x y g, λ p. IsMember-minus_back alphabet tells x y g p.0 p.1);
+    minus_members =
+        λ x y g. (IsMember-minus alphabet tells x y g, λ p. IsMember-minus_back alphabet tells x y g p.0 p.1);
     minus_once = distinct-minus alphabet tells;
     each_members = same_set-once_each alphabet tells;
     each_once = distinct-once_each alphabet tells;
@@ -49,7 +59,13 @@ module _ {N : Type 0} (alphabet : Alphabet N) (tells : Tells alphabet) where
   pub size_counts_parts : SizeCountsParts alphabet
   size_counts_parts = record {
     most = remembered-size alphabet tells;
-    reached = λ t. (distinct_named alphabet (parts alphabet t), distinct-distinct_named alphabet tells (parts alphabet t), same_set-distinct_named alphabet tells (parts alphabet t), refl);
+    reached =
+        λ t. (
+          distinct_named alphabet (parts alphabet t),
+          distinct-distinct_named alphabet tells (parts alphabet t),
+          same_set-distinct_named alphabet tells (parts alphabet t),
+          refl,
+        );
   }
 
   pub term_rules_are_sound : TermRulesAreSound alphabet

@@ -1,13 +1,17 @@
 -- Named terms and their nameless forms: binders, and free variables.
 use Rattle.std.specs.Prelude.{◌≢◌}
-use Rattle.std.proofs.Common.{◌≡◌, ℕ, suc, cond, List, [], ◌∷◌, ◌++◌, length, Some, None, refl, sym, ap, ◌∙◌, inl, inr, ◌⊎◌}
+use Rattle.std.proofs.Common.{◌≡◌, ℕ, suc, cond, List, [], ◌∷◌, ◌++◌, length}
+use Rattle.std.proofs.Common.{Some, None, refl, sym, ap, ◌∙◌, inl, inr, ◌⊎◌}
 use Rattle.ot_plain.specs.Trees.{Alphabet, Variable, Tm, Free, Con, Bound, App, Abs, Named, NVar, NConst, NApp, NAbs}
 use Rattle.ot_plain.specs.Hol.{same_var, close_at, IsFree, nameless, nameless_in, place, IsFreeIn}
 use Rattle.ot_laws.proofs.Tests.{Tells, var_cases}
 
 module _ {N : Type 0} (alphabet : Alphabet N) (tells : Tells alphabet) where
   -- the place of a variable when one more binder stands outermost
-  place_cases : (e : List (Variable N)) (v w : Variable N) → ((k : ℕ) × (place alphabet e w ≡ Some k) × (place alphabet (e ++ v ∷ []) w ≡ Some k)) ⊎ ((place alphabet e w ≡ None) × (place alphabet (e ++ v ∷ []) w ≡ cond (same_var alphabet w v) (Some (length e)) None))
+  place_cases : (e : List (Variable N)) (v w : Variable N)
+      → ((k : ℕ) × (place alphabet e w ≡ Some k) × (place alphabet (e ++ v ∷ []) w ≡ Some k))
+      ⊎ ((place alphabet e w ≡ None)
+      × (place alphabet (e ++ v ∷ []) w ≡ cond (same_var alphabet w v) (Some (length e)) None))
   place_cases [] v w = inr (refl, refl)
   place_cases (u ∷ e) v w = elim (var_cases alphabet tells w u) [
     | inl p ↦ inl (0, rw p.0, rw p.0)
@@ -20,7 +24,8 @@ module _ {N : Type 0} (alphabet : Alphabet N) (tells : Tells alphabet) where
     ]
   ]
 
-  pub nameless_in-snoc : (e : List (Variable N)) (v : Variable N) (t : Named N) → nameless_in alphabet (e ++ v ∷ []) t ≡ close_at alphabet (length e) v (nameless_in alphabet e t)
+  pub nameless_in-snoc : (e : List (Variable N)) (v : Variable N) (t : Named N) → nameless_in alphabet (e ++ v ∷ []) t
+      ≡ close_at alphabet (length e) v (nameless_in alphabet e t)
   nameless_in-snoc e v (NVar w) = elim (place_cases e v w) [
     | inl (k, a, b) ↦ rw (a, b)
     | inr (a, b) ↦ elim (var_cases alphabet tells w v) [
@@ -42,10 +47,12 @@ module _ {N : Type 0} (alphabet : Alphabet N) (tells : Tells alphabet) where
       let p = nameless_in-nil f in
       let q = nameless_in-nil x in
       cc
-  nameless_in-nil (NAbs v b) = ap (Abs v.ty) (nameless_in-snoc [] v b ∙ ap (close_at alphabet 0 v) (nameless_in-nil b))
+  nameless_in-nil (NAbs v b) =
+      ap (Abs v.ty) (nameless_in-snoc [] v b ∙ ap (close_at alphabet 0 v) (nameless_in-nil b))
 
   -- free in the named term is free in its nameless form
-  pub free-from_close : (k : ℕ) (v w : Variable N) (t : Tm N) → IsFree alphabet v (close_at alphabet k w t) → (w ≢ v) × IsFree alphabet v t
+  pub free-from_close : (k : ℕ) (v w : Variable N) (t : Tm N) → IsFree alphabet v (close_at alphabet k w t)
+      → (w ≢ v) × IsFree alphabet v t
   free-from_close k v w (Free x) h = elim (var_cases alphabet tells x w) [
     | inl p ↦ absurd (rw p.0 at h)
     | inr p ↦ let e : x ≡ v = rw p.0 at h in (λ d. p.1 (e ∙ sym d), e)
@@ -56,7 +63,8 @@ module _ {N : Type 0} (alphabet : Alphabet N) (tells : Tells alphabet) where
   free-from_close k v w (App f x) (inr h) = let p = free-from_close k v w x h in (p.0, inr p.1)
   free-from_close k v w (Abs t b) h = free-from_close (suc k) v w b h
 
-  pub free-to_close : (k : ℕ) (v w : Variable N) (t : Tm N) → w ≢ v → IsFree alphabet v t → IsFree alphabet v (close_at alphabet k w t)
+  pub free-to_close : (k : ℕ) (v w : Variable N) (t : Tm N) → w ≢ v → IsFree alphabet v t
+      → IsFree alphabet v (close_at alphabet k w t)
   free-to_close k v w (Free x) n h = elim (var_cases alphabet tells x w) [
     | inl p ↦ absurd (n (sym p.1 ∙ h))
     | inr p ↦ rw p.0 h

@@ -29,14 +29,18 @@ pub record IsOld (k : ℕ) (r : Renaming numbers) (m : TermMap numbers) : Type 0
   pub terms : (p : Variable ℕ × Tm ℕ) → IsMember p m → (x : Variable ℕ) → IsFree numbers x p.1 → x.name < k
 
 -- the terms, by their bounds
-pub old-terms : (k : ℕ) (m : NamedMap numbers) → ((p : Variable ℕ × Named ℕ) → IsMember p m → bound_named p.1 ≤ k) → (p : Variable ℕ × Tm ℕ) → IsMember p (nameless_map numbers m) → (x : Variable ℕ) → IsFree numbers x p.1 → x.name < k
+pub old-terms : (k : ℕ) (m : NamedMap numbers) → ((p : Variable ℕ × Named ℕ) → IsMember p m → bound_named p.1 ≤ k)
+    → (p : Variable ℕ × Tm ℕ) → IsMember p (nameless_map numbers m) → (x : Variable ℕ) → IsFree numbers x p.1
+    → x.name < k
 old-terms k m h p i x f =
     let (q, j, e) = IsMember-map_back (λ (u : Variable ℕ × Named ℕ). (u.0, nameless numbers u.1)) p m i in
-    let g : IsFree numbers x (nameless numbers q.1) = subst (λ (z : Variable ℕ × Tm ℕ). IsFree numbers x z.1) (sym e) f in
+    let g : IsFree numbers x (nameless numbers q.1) =
+    subst (λ (z : Variable ℕ × Tm ℕ). IsFree numbers x z.1) (sym e) f in
     omega (arith, free-below x q.1 (free-nameless numbers tells_numbers x q.1 g), h q j)
 
 -- what is free in an image has an old name
-pub image-below : (k : ℕ) (x y : Variable ℕ) (r : Renaming numbers) (s : TypeMap numbers) (m : TermMap numbers) → IsOld k r m → x.name < k → IsFree numbers y (image numbers r s m x) → y.name < k
+pub image-below : (k : ℕ) (x y : Variable ℕ) (r : Renaming numbers) (s : TypeMap numbers) (m : TermMap numbers)
+    → IsOld k r m → x.name < k → IsFree numbers y (image numbers r s m x) → y.name < k
 image-below k x y [] s m o b f = elim (term_at-cases numbers tells_numbers m (inst_var numbers s x)) [
   | inl (p, i, e) ↦ o.terms p i y (subst (IsFree numbers y) e f)
   | inr e ↦
@@ -54,7 +58,9 @@ image-below k x y (p ∷ r) s m o b f = elim (var_cases numbers tells_numbers x 
 ]
 
 -- so a variable with a new name may stand for any binder
-pub apart-new : (k : ℕ) (w v : Variable ℕ) (r : Renaming numbers) (s : TypeMap numbers) (m : TermMap numbers) (b : Named ℕ) → k ≤ w.name → IsOld k r m → bound_named b ≤ k → (x : Variable ℕ) → IsFreeIn numbers x b → x ≢ v → ¬ (IsFree numbers w (image numbers r s m x))
+pub apart-new : (k : ℕ) (w v : Variable ℕ) (r : Renaming numbers) (s : TypeMap numbers) (m : TermMap numbers)
+    (b : Named ℕ) → k ≤ w.name → IsOld k r m → bound_named b ≤ k → (x : Variable ℕ) → IsFreeIn numbers x b → x ≢ v
+    → ¬ (IsFree numbers w (image numbers r s m x))
 apart-new k w v r s m b new o h x i d f =
     let below = free-below x b i in
     let old = image-below k x w r s m o (omega arith) f in
@@ -85,10 +91,12 @@ bound_all m r b = max (max (bound_binders r) (bound_map m)) (bound_named b)
 abbrev pub pick_new : TypeMap numbers → NamedMap numbers → BinderRule numbers
 pick_new s m r v b = record { name = bound_all m r b; ty = inst numbers s v.ty }
 
-pub pick_new-picks : (s : TypeMap numbers) (m : NamedMap numbers) → Picks numbers s (nameless_map numbers m) (pick_new s m)
+pub pick_new-picks : (s : TypeMap numbers) (m : NamedMap numbers)
+    → Picks numbers s (nameless_map numbers m) (pick_new s m)
 pick_new-picks s m = record {
   typed = λ r v b. refl;
-  apart = λ r v b. apart-new (bound_all m r b) (pick_new s m r v b) v r s (nameless_map numbers m) b (omega arith) (old r b) (omega arith);
+  apart = λ r v b. apart-new (bound_all m r b) (pick_new s m r v b) v r s (nameless_map numbers m) b (omega arith)
+      (old r b) (omega arith);
 }
   where
     old : (r : Renaming numbers) (b : Named ℕ) → IsOld (bound_all m r b) r (nameless_map numbers m)
@@ -101,7 +109,10 @@ pick_new-picks s m = record {
 -- the primitive symbols, as a table of names
 primitive_names : IsNames (names.arrow ∷ names.bool_name ∷ names.equals ∷ [])
 primitive_names = record {
-  distinct = (λ i. elim i [ inl e ↦ cc | inr j ↦ elim j [ inl e ↦ cc | inr k ↦ k ] ], (λ i. elim i [ inl e ↦ cc | inr k ↦ k ], (λ k. k, tt)));
+  distinct = (
+    λ i. elim i [ inl e ↦ cc | inr j ↦ elim j [ inl e ↦ cc | inr k ↦ k ] ],
+    (λ i. elim i [ inl e ↦ cc | inr k ↦ k ], (λ k. k, tt)),
+  );
   arrow = refl;
   bool_name = refl;
   equals = refl;
@@ -113,4 +124,6 @@ binders_of_numbers s m = (pick_new s m, pick_new-picks s m)
 -- each number has a name, and each name a number
 pub binders_of_names : BindersCanBePicked names
 binders_of_names =
-    carry (naming (names.arrow ∷ names.bool_name ∷ names.equals ∷ [])) numbers names (lettering (names.arrow ∷ names.bool_name ∷ names.equals ∷ []) primitive_names) (λ L letters. BindersCanBePicked letters) binders_of_numbers
+    carry (naming (names.arrow ∷ names.bool_name ∷ names.equals ∷ [])) numbers names
+    (lettering (names.arrow ∷ names.bool_name ∷ names.equals ∷ []) primitive_names)
+    (λ L letters. BindersCanBePicked letters) binders_of_numbers

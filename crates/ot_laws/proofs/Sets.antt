@@ -20,8 +20,10 @@ module _ {X : Type 0} where
 
   pub same_set-append : {xs ys us vs : List X} → IsSameSet xs us → IsSameSet ys vs → IsSameSet (xs ++ ys) (us ++ vs)
   same_set-append {xs} {ys} {us} {vs} s t = record {
-    to = part-append xs ys (us ++ vs) (λ x i. IsMember-left x us vs (s.to x i)) (λ x i. IsMember-right x us vs (t.to x i));
-    back = part-append us vs (xs ++ ys) (λ x i. IsMember-left x xs ys (s.back x i)) (λ x i. IsMember-right x xs ys (t.back x i));
+    to = part-append xs ys (us ++ vs) (λ x i. IsMember-left x us vs (s.to x i))
+        (λ x i. IsMember-right x us vs (t.to x i));
+    back = part-append us vs (xs ++ ys) (λ x i. IsMember-left x xs ys (s.back x i))
+        (λ x i. IsMember-right x xs ys (t.back x i));
   }
 
   pub same_set-swap : (xs ys : List X) → IsSameSet (ys ++ xs) (xs ++ ys)
@@ -40,13 +42,18 @@ module _ {X : Type 0} where
   all-from_members P [] h = tt
   all-from_members P (y ∷ xs) h = (h y (inl refl), all-from_members P xs (λ x i. h x (inr i)))
 
-  pub distinct-append : (xs ys : List X) → AreDistinct xs → AreDistinct ys → ((x : X) → IsMember x xs → ¬ (IsMember x ys)) → AreDistinct (xs ++ ys)
+  pub distinct-append : (xs ys : List X) → AreDistinct xs → AreDistinct ys
+      → ((x : X) → IsMember x xs → ¬ (IsMember x ys)) → AreDistinct (xs ++ ys)
   distinct-append [] ys d e apart = e
-  distinct-append (x ∷ xs) ys d e apart =
-      (λ i. elim (IsMember-cases x xs ys i) [ inl j ↦ d.0 j | inr j ↦ apart x (inl refl) j ], distinct-append xs ys d.1 e (λ y i. apart y (inr i)))
+  distinct-append (x ∷ xs) ys d e apart = (
+    λ i. elim (IsMember-cases x xs ys i) [ inl j ↦ d.0 j | inr j ↦ apart x (inl refl) j ],
+    distinct-append xs ys
+        d.1 e (λ y i. apart y (inr i)),
+  )
 
   -- a list without one of its elements
-  taken_out : (k : X) (ys : List X) → IsMember k ys → (zs : List X) × (length ys ≡ suc (length zs)) × ((x : X) → IsMember x ys → x ≢ k → IsMember x zs)
+  taken_out : (k : X) (ys : List X) → IsMember k ys → (zs : List X) × (length ys ≡ suc (length zs))
+      × ((x : X) → IsMember x ys → x ≢ k → IsMember x zs)
   taken_out k [] m = absurd m
   taken_out k (y ∷ ys) (inl e) = (ys, refl, λ x i n. elim i [ inl d ↦ absurd (n (sym d ∙ e)) | inr j ↦ j ])
   taken_out k (y ∷ ys) (inr m) =

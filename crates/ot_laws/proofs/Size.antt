@@ -17,7 +17,8 @@ module _ {N : Type 0} (alphabet : Alphabet N) where
   part-self (NApp f x) = inl refl
   part-self (NAbs v b) = inl refl
 
-  pub part-then : (s t u : Named N) → IsMember s (parts alphabet t) → IsMember t (parts alphabet u) → IsMember s (parts alphabet u)
+  pub part-then : (s t u : Named N) → IsMember s (parts alphabet t) → IsMember t (parts alphabet u)
+      → IsMember s (parts alphabet u)
   part-then s t (NVar v) i (inl e) = subst (λ z. IsMember s (parts alphabet z)) (sym e) i
   part-then s t (NVar v) i (inr j) = absurd j
   part-then s t (NConst n ty) i (inl e) = subst (λ z. IsMember s (parts alphabet z)) (sym e) i
@@ -34,9 +35,12 @@ module _ {N : Type 0} (alphabet : Alphabet N) (tells : Tells alphabet) where
   pub has_named-is : (t : Named N) (us : List (Named N)) → Decides (has_named alphabet t us) (IsMember t us)
   has_named-is t [] = (λ h. cc, λ h. absurd h)
   has_named-is t (u ∷ us) =
-      Decides-or (same_named alphabet t u) (has_named alphabet t us) (Decides-like (same_named alphabet t u) (λ e. sym e) (λ e. sym e) (same_named-is alphabet tells t u)) (has_named-is t us)
+      Decides-or (same_named alphabet t u) (has_named alphabet t us)
+      (Decides-like (same_named alphabet t u) (λ e. sym e) (λ e. sym e) (same_named-is alphabet tells t u))
+      (has_named-is t us)
 
-  has_cases : (t : Named N) (us : List (Named N)) → ((has_named alphabet t us ≡ true) × IsMember t us) ⊎ ((has_named alphabet t us ≡ false) × ¬ (IsMember t us))
+  has_cases : (t : Named N) (us : List (Named N)) → ((has_named alphabet t us ≡ true) × IsMember t us)
+      ⊎ ((has_named alphabet t us ≡ false) × ¬ (IsMember t us))
   has_cases t us = cases_of (has_named alphabet t us) (has_named-is t us)
 
   distinct_named-to : (x : Named N) (ts : List (Named N)) → IsMember x ts → IsMember x (distinct_named alphabet ts)
@@ -44,7 +48,9 @@ module _ {N : Type 0} (alphabet : Alphabet N) (tells : Tells alphabet) where
     | inl p ↦ rw p.0 (distinct_named-to x ts (subst (λ z. IsMember z ts) e p.1))
     | inr p ↦ rw p.0 (inl e)
   ]
-  distinct_named-to x (t ∷ ts) (inr i) = elim (has_cases t ts) [ inl p ↦ rw p.0 (distinct_named-to x ts i) | inr p ↦ rw p.0 (inr (distinct_named-to x ts i)) ]
+  distinct_named-to x (t ∷ ts) (inr i) =
+      elim (has_cases t ts)
+      [ inl p ↦ rw p.0 (distinct_named-to x ts i) | inr p ↦ rw p.0 (inr (distinct_named-to x ts i)) ]
   distinct_named-to x [] i = i
 
   distinct_named-back : (x : Named N) (ts : List (Named N)) → IsMember x (distinct_named alphabet ts) → IsMember x ts
@@ -68,5 +74,7 @@ module _ {N : Type 0} (alphabet : Alphabet N) (tells : Tells alphabet) where
   ]
 
   -- what a walk has remembered, each part once, is no more than the size
-  pub remembered-size : (t : Named N) (ks : List (Named N)) → AreDistinct ks → IsPart ks (parts alphabet t) → length ks ≤ size alphabet t
-  remembered-size t ks d h = distinct-length ks (distinct_named alphabet (parts alphabet t)) d (λ x i. distinct_named-to x (parts alphabet t) (h x i))
+  pub remembered-size : (t : Named N) (ks : List (Named N)) → AreDistinct ks → IsPart ks (parts alphabet t)
+      → length ks ≤ size alphabet t
+  remembered-size t ks d h = distinct-length ks (distinct_named alphabet (parts alphabet t)) d
+      (λ x i. distinct_named-to x (parts alphabet t) (h x i))

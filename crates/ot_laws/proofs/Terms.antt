@@ -1,7 +1,8 @@
 -- Terms under closing and substitution.
 use Rattle.std.specs.Prelude.{◌≢◌}
 use Rattle.std.proofs.Common.{◌≡◌, ℕ, suc, cond, refl, sym, ap, subst, inl, inr}
-use Rattle.ot_plain.specs.Trees.{Alphabet, Ty, Tys, TyVar, TyOp, NoTys, MoreTys, Variable, Tm, Free, Con, Bound, App, Abs}
+use Rattle.ot_plain.specs.Trees.{Alphabet, Ty, Tys, TyVar, TyOp, NoTys, MoreTys}
+use Rattle.ot_plain.specs.Trees.{Variable, Tm, Free, Con, Bound, App, Abs}
 use Rattle.ot_plain.specs.Hol.{same_var, inst_by, inst_all, close_at, bind, IsFree}
 use Rattle.ot_laws.proofs.Tests.{Tells, same_var-is, var_cases}
 
@@ -21,7 +22,8 @@ module _ {N : Type 0} (alphabet : Alphabet N) where
     inst_all-id (MoreTys t ts) = λ i. MoreTys (inst_by-id t i) (inst_all-id ts i)
 
   -- only the variables that are free count
-  pub bind-agree : (g : N → Ty N) (s r : Variable N → Tm N) (t : Tm N) → ((x : Variable N) → IsFree alphabet x t → s x ≡ r x) → bind alphabet g s t ≡ bind alphabet g r t
+  pub bind-agree : (g : N → Ty N) (s r : Variable N → Tm N) (t : Tm N)
+      → ((x : Variable N) → IsFree alphabet x t → s x ≡ r x) → bind alphabet g s t ≡ bind alphabet g r t
   bind-agree g s r (Free x) h = h x refl
   bind-agree g s r (Con n t) h = refl
   bind-agree g s r (Bound j) h = refl
@@ -32,7 +34,8 @@ module _ {N : Type 0} (alphabet : Alphabet N) where
   bind-agree g s r (Abs t b) h = ap (Abs (inst_by alphabet g t)) (bind-agree g s r b h)
 
   -- what is free after a substitution is free in the image of a free variable
-  pub free-bind : (g : N → Ty N) (s : Variable N → Tm N) (w : Variable N) (t : Tm N) → IsFree alphabet w (bind alphabet g s t) → (x : Variable N) × IsFree alphabet x t × IsFree alphabet w (s x)
+  pub free-bind : (g : N → Ty N) (s : Variable N → Tm N) (w : Variable N) (t : Tm N)
+      → IsFree alphabet w (bind alphabet g s t) → (x : Variable N) × IsFree alphabet x t × IsFree alphabet w (s x)
   free-bind g s w (Free x) h = (x, refl, h)
   free-bind g s w (Con n t) h = absurd h
   free-bind g s w (Bound j) h = absurd h
@@ -40,7 +43,8 @@ module _ {N : Type 0} (alphabet : Alphabet N) where
   free-bind g s w (App f x) (inr h) = let (y, i, j) = free-bind g s w x h in (y, inr i, j)
   free-bind g s w (Abs t b) h = free-bind g s w b h
 
-  pub bind-free : (g : N → Ty N) (s : Variable N → Tm N) (w x : Variable N) (t : Tm N) → IsFree alphabet x t → IsFree alphabet w (s x) → IsFree alphabet w (bind alphabet g s t)
+  pub bind-free : (g : N → Ty N) (s : Variable N → Tm N) (w x : Variable N) (t : Tm N) → IsFree alphabet x t
+      → IsFree alphabet w (s x) → IsFree alphabet w (bind alphabet g s t)
   bind-free g s w x (Free y) h i = subst (λ z. IsFree alphabet w (s z)) (sym h) i
   bind-free g s w x (Con n t) h i = absurd h
   bind-free g s w x (Bound j) h i = absurd h
@@ -61,7 +65,9 @@ module _ {N : Type 0} (alphabet : Alphabet N) (tells : Tells alphabet) where
   close_at_fresh k v (Abs t b) h = ap (Abs t) (close_at_fresh (suc k) v b h)
 
   -- the main lemma: a binder v that becomes w, where w is free in no image of another variable
-  pub bind-close_at : (g : N → Ty N) (s : Variable N → Tm N) (v w : Variable N) (k : ℕ) (t : Tm N) → ((x : Variable N) → IsFree alphabet x t → x ≢ v → ¬ (IsFree alphabet w (s x))) → bind alphabet g s (close_at alphabet k v t) ≡ close_at alphabet k w (bind alphabet g (with alphabet s v (Free w)) t)
+  pub bind-close_at : (g : N → Ty N) (s : Variable N → Tm N) (v w : Variable N) (k : ℕ) (t : Tm N)
+      → ((x : Variable N) → IsFree alphabet x t → x ≢ v → ¬ (IsFree alphabet w (s x))) → bind alphabet g s
+      (close_at alphabet k v t) ≡ close_at alphabet k w (bind alphabet g (with alphabet s v (Free w)) t)
   bind-close_at g s v w k (Free x) h =
       elim (var_cases alphabet tells x v) [
         | inl p ↦ rw (p.0, (same_var-is alphabet tells w w).1 refl)

@@ -6,8 +6,10 @@ use Rattle.std.proofs.lemmas.Bool.Decides.{Decides-and, Decides-or, Decides-like
 use Rattle.std.proofs.lemmas.Option.{same_Some}
 use Rattle.ot_plain.specs.Names.{same_name-Decides}
 use Rattle.ot_plain.specs.Naming.{names, numbers}
-use Rattle.ot_plain.specs.Trees.{Alphabet, Ty, Tys, TyVar, TyOp, NoTys, MoreTys, Variable, Tm, Free, Con, Bound, App, Abs, Named, NVar, NConst, NApp, NAbs}
-use Rattle.ot_plain.specs.Hol.{same_ty, same_tys, same_var, same_tm, same_named, type_in, HasType, IsFree, is_free, IsFreeInSome, is_free_in_some}
+use Rattle.ot_plain.specs.Trees.{Alphabet, Ty, Tys, TyVar, TyOp, NoTys, MoreTys, Variable, Tm}
+use Rattle.ot_plain.specs.Trees.{Free, Con, Bound, App, Abs, Named, NVar, NConst, NApp, NAbs}
+use Rattle.ot_plain.specs.Hol.{same_ty, same_tys, same_var, same_tm, same_named, type_in}
+use Rattle.ot_plain.specs.Hol.{HasType, IsFree, is_free, IsFreeInSome, is_free_in_some}
 use Rattle.ot_plain.specs.Rules.{has_type}
 
 -- the test of names is equality
@@ -32,20 +34,27 @@ module _ {N : Type 0} (alphabet : Alphabet N) (tells : Tells alphabet) where
     same_ty-is (TyVar a) (TyOp b us) = (λ h. cc, λ e. cc)
     same_ty-is (TyOp a ts) (TyVar b) = (λ h. cc, λ e. cc)
     same_ty-is (TyOp a ts) (TyOp b us) =
-        Decides-like (same_ty alphabet (TyOp a ts) (TyOp b us)) (λ p. λ i. TyOp (p.0 i) (p.1 i)) (λ e. (cc, cc)) (Decides-and (alphabet.same a b) (same_tys alphabet ts us) (tells a b) (same_tys-is ts us))
+        Decides-like (same_ty alphabet (TyOp a ts) (TyOp b us)) (λ p. λ i. TyOp (p.0 i) (p.1 i)) (λ e. (cc, cc))
+        (Decides-and (alphabet.same a b) (same_tys alphabet ts us) (tells a b) (same_tys-is ts us))
 
     pub same_tys-is : (a b : Tys N) → Decides (same_tys alphabet a b) (a ≡ b)
     same_tys-is NoTys NoTys = (λ h. refl, λ e. refl)
     same_tys-is NoTys (MoreTys u us) = (λ h. cc, λ e. cc)
     same_tys-is (MoreTys t ts) NoTys = (λ h. cc, λ e. cc)
     same_tys-is (MoreTys t ts) (MoreTys u us) =
-        Decides-like (same_tys alphabet (MoreTys t ts) (MoreTys u us)) (λ p. λ i. MoreTys (p.0 i) (p.1 i)) (λ e. (cc, cc)) (Decides-and (same_ty alphabet t u) (same_tys alphabet ts us) (same_ty-is t u) (same_tys-is ts us))
+        Decides-like (same_tys alphabet (MoreTys t ts) (MoreTys u us)) (λ p. λ i. MoreTys (p.0 i) (p.1 i))
+        (λ e. (cc, cc))
+        (Decides-and (same_ty alphabet t u) (same_tys alphabet ts us) (same_ty-is t u) (same_tys-is ts us))
 
   pub same_var-is : (v w : Variable N) → Decides (same_var alphabet v w) (v ≡ w)
   same_var-is v w =
-      Decides-like (same_var alphabet v w) (λ p. λ i. record { name = p.0 i; ty = p.1 i }) (λ e. (ap (λ x. x.name) e, ap (λ x. x.ty) e)) (Decides-and (alphabet.same v.name w.name) (same_ty alphabet v.ty w.ty) (tells v.name w.name) (same_ty-is v.ty w.ty))
+      Decides-like (same_var alphabet v w) (λ p. λ i. record { name = p.0 i; ty = p.1 i })
+      (λ e. (ap (λ x. x.name) e, ap (λ x. x.ty) e))
+      (Decides-and (alphabet.same v.name w.name) (same_ty alphabet v.ty w.ty) (tells v.name w.name)
+      (same_ty-is v.ty w.ty))
 
-  pub var_cases : (v w : Variable N) → ((same_var alphabet v w ≡ true) × (v ≡ w)) ⊎ ((same_var alphabet v w ≡ false) × (v ≢ w))
+  pub var_cases : (v w : Variable N) → ((same_var alphabet v w ≡ true) × (v ≡ w))
+      ⊎ ((same_var alphabet v w ≡ false) × (v ≢ w))
   var_cases v w = cases_of (same_var alphabet v w) (same_var-is v w)
 
   pub same_var-no : (v w : Variable N) → v ≢ w → same_var alphabet v w ≡ false
@@ -54,12 +63,15 @@ module _ {N : Type 0} (alphabet : Alphabet N) (tells : Tells alphabet) where
   pub same_tm-is : (a b : Tm N) → Decides (same_tm alphabet a b) (a ≡ b)
   same_tm-is (Free v) (Free w) = Decides-like (same_var alphabet v w) (ap Free) (λ e. cc) (same_var-is v w)
   same_tm-is (Con n t) (Con m u) =
-      Decides-like (same_tm alphabet (Con n t) (Con m u)) (λ p. λ i. Con (p.0 i) (p.1 i)) (λ e. (cc, cc)) (Decides-and (alphabet.same n m) (same_ty alphabet t u) (tells n m) (same_ty-is t u))
+      Decides-like (same_tm alphabet (Con n t) (Con m u)) (λ p. λ i. Con (p.0 i) (p.1 i)) (λ e. (cc, cc))
+      (Decides-and (alphabet.same n m) (same_ty alphabet t u) (tells n m) (same_ty-is t u))
   same_tm-is (Bound j) (Bound k) = Decides-like (j == k) (ap Bound) (λ e. cc) (Decides-eqb j k)
   same_tm-is (App f x) (App g y) =
-      Decides-like (same_tm alphabet (App f x) (App g y)) (λ p. λ i. App (p.0 i) (p.1 i)) (λ e. (cc, cc)) (Decides-and (same_tm alphabet f g) (same_tm alphabet x y) (same_tm-is f g) (same_tm-is x y))
+      Decides-like (same_tm alphabet (App f x) (App g y)) (λ p. λ i. App (p.0 i) (p.1 i)) (λ e. (cc, cc))
+      (Decides-and (same_tm alphabet f g) (same_tm alphabet x y) (same_tm-is f g) (same_tm-is x y))
   same_tm-is (Abs t b) (Abs u c) =
-      Decides-like (same_tm alphabet (Abs t b) (Abs u c)) (λ p. λ i. Abs (p.0 i) (p.1 i)) (λ e. (cc, cc)) (Decides-and (same_ty alphabet t u) (same_tm alphabet b c) (same_ty-is t u) (same_tm-is b c))
+      Decides-like (same_tm alphabet (Abs t b) (Abs u c)) (λ p. λ i. Abs (p.0 i) (p.1 i)) (λ e. (cc, cc))
+      (Decides-and (same_ty alphabet t u) (same_tm alphabet b c) (same_ty-is t u) (same_tm-is b c))
   same_tm-is _ _ = (λ h. cc, λ e. cc)
 
   pub tm_cases : (a b : Tm N) → ((same_tm alphabet a b ≡ true) × (a ≡ b)) ⊎ ((same_tm alphabet a b ≡ false) × (a ≢ b))
@@ -68,11 +80,14 @@ module _ {N : Type 0} (alphabet : Alphabet N) (tells : Tells alphabet) where
   pub same_named-is : (a b : Named N) → Decides (same_named alphabet a b) (a ≡ b)
   same_named-is (NVar v) (NVar w) = Decides-like (same_var alphabet v w) (ap NVar) (λ e. cc) (same_var-is v w)
   same_named-is (NConst n t) (NConst m u) =
-      Decides-like (same_named alphabet (NConst n t) (NConst m u)) (λ p. λ i. NConst (p.0 i) (p.1 i)) (λ e. (cc, cc)) (Decides-and (alphabet.same n m) (same_ty alphabet t u) (tells n m) (same_ty-is t u))
+      Decides-like (same_named alphabet (NConst n t) (NConst m u)) (λ p. λ i. NConst (p.0 i) (p.1 i)) (λ e. (cc, cc))
+      (Decides-and (alphabet.same n m) (same_ty alphabet t u) (tells n m) (same_ty-is t u))
   same_named-is (NApp f x) (NApp g y) =
-      Decides-like (same_named alphabet (NApp f x) (NApp g y)) (λ p. λ i. NApp (p.0 i) (p.1 i)) (λ e. (cc, cc)) (Decides-and (same_named alphabet f g) (same_named alphabet x y) (same_named-is f g) (same_named-is x y))
+      Decides-like (same_named alphabet (NApp f x) (NApp g y)) (λ p. λ i. NApp (p.0 i) (p.1 i)) (λ e. (cc, cc))
+      (Decides-and (same_named alphabet f g) (same_named alphabet x y) (same_named-is f g) (same_named-is x y))
   same_named-is (NAbs v b) (NAbs w c) =
-      Decides-like (same_named alphabet (NAbs v b) (NAbs w c)) (λ p. λ i. NAbs (p.0 i) (p.1 i)) (λ e. (cc, cc)) (Decides-and (same_var alphabet v w) (same_named alphabet b c) (same_var-is v w) (same_named-is b c))
+      Decides-like (same_named alphabet (NAbs v b) (NAbs w c)) (λ p. λ i. NAbs (p.0 i) (p.1 i)) (λ e. (cc, cc))
+      (Decides-and (same_var alphabet v w) (same_named alphabet b c) (same_var-is v w) (same_named-is b c))
   same_named-is _ _ = (λ h. cc, λ e. cc)
 
   pub is_free-is : (v : Variable N) (t : Tm N) → Decides (is_free alphabet v t) (IsFree alphabet v t)
@@ -82,13 +97,16 @@ module _ {N : Type 0} (alphabet : Alphabet N) (tells : Tells alphabet) where
   is_free-is v (App f x) = Decides-or (is_free alphabet v f) (is_free alphabet v x) (is_free-is v f) (is_free-is v x)
   is_free-is v (Abs t b) = is_free-is v b
 
-  pub is_free_in_some-is : (v : Variable N) (ts : List (Tm N)) → Decides (is_free_in_some alphabet v ts) (IsFreeInSome alphabet v ts)
+  pub is_free_in_some-is : (v : Variable N) (ts : List (Tm N))
+      → Decides (is_free_in_some alphabet v ts) (IsFreeInSome alphabet v ts)
   is_free_in_some-is v [] = (λ h. cc, λ h. absurd h)
-  is_free_in_some-is v (t ∷ ts) = Decides-or (is_free alphabet v t) (is_free_in_some alphabet v ts) (is_free-is v t) (is_free_in_some-is v ts)
+  is_free_in_some-is v (t ∷ ts) = Decides-or (is_free alphabet v t) (is_free_in_some alphabet v ts) (is_free-is v t)
+      (is_free_in_some-is v ts)
 
   pub has_type-is : (t : Tm N) (ty : Ty N) → Decides (has_type alphabet t ty) (HasType alphabet t ty)
   has_type-is t ty = go (type_in alphabet [] t) refl
     where
       go : (o : Option (Ty N)) → type_in alphabet [] t ≡ o → Decides (has_type alphabet t ty) (HasType alphabet t ty)
       go None e = rw e (λ h. cc, λ h. cc)
-      go (Some u) e = rw e (Decides-like (same_ty alphabet u ty) (λ p. ap Some p) (λ p. same_Some u ty p) (same_ty-is u ty))
+      go (Some u) e =
+          rw e (Decides-like (same_ty alphabet u ty) (λ p. ap Some p) (λ p. same_Some u ty p) (same_ty-is u ty))

@@ -8,4 +8,5 @@ module _ {N : Type 0} (alphabet : Alphabet N) where
   -- whether a named term is within the nesting limit: its depth, and the depth of the type of each part
   abbrev pub is_shallow_named : Named N → Bool
   is_shallow_named t =
-      nat_le (named_depth alphabet t) depth_limit && list_all (λ u. is_shallow_type alphabet (named_type alphabet u)) (parts alphabet t)
+      nat_le (named_depth alphabet t) depth_limit && list_all (λ u. is_shallow_type alphabet (named_type alphabet u))
+      (parts alphabet t)

@@ -1,7 +1,8 @@
 -- Substitution on named terms: a walk that renames each binder by some rule.
 use Rattle.std.specs.Prelude.{◌≡◌, ◌≢◌, List, [], ◌∷◌, cond, map}
 use Rattle.ot_plain.specs.Trees.{Alphabet, Variable, Named, NVar, NConst, NApp, NAbs}
-use Rattle.ot_plain.specs.Hol.{same_var, TypeMap, TermMap, inst, inst_var, IsFree, nameless, IsFreeIn, Renaming, image}
+use Rattle.ot_plain.specs.Hol.{same_var, TypeMap, TermMap, inst, inst_var}
+use Rattle.ot_plain.specs.Hol.{IsFree, nameless, IsFreeIn, Renaming, image}
 
 module _ {N : Type 0} (alphabet : Alphabet N) where
   -- the variable part of a substitution, of named terms
@@ -35,4 +36,5 @@ module _ {N : Type 0} (alphabet : Alphabet N) where
   -- a new binder has the type that it should have, and captures no image of another free variable of the body
   pub record Picks (s : TypeMap alphabet) (m : TermMap alphabet) (pick : BinderRule) : Type 0 where
     pub typed : (r : Renaming alphabet) (v : Variable N) (b : Named N) → (pick r v b).ty ≡ inst alphabet s v.ty
-    pub apart : (r : Renaming alphabet) (v : Variable N) (b : Named N) (x : Variable N) → IsFreeIn alphabet x b → x ≢ v → ¬ (IsFree alphabet (pick r v b) (image alphabet r s m x))
+    pub apart : (r : Renaming alphabet) (v : Variable N) (b : Named N) (x : Variable N) → IsFreeIn alphabet x b
+        → x ≢ v → ¬ (IsFree alphabet (pick r v b) (image alphabet r s m x))

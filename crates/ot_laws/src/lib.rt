@@ -6,10 +6,10 @@ ghost use Rattle.ot_plain.specs.Naming.{names, numbers};
 ghost use Rattle.ot_plain.specs.Trees.{Sequent, Definition};
 ghost use Rattle.ot_plain.specs.Names.{Name};
 ghost use Rattle.ot_laws.specs.Next.{ConstantsAreNext, ListsAreNext, TypesAreNext};
-ghost use Rattle.ot_laws.specs.Laws.{NamelessForm, NamelessFree, NamelessTyping, NamelessLimit, NamedSubstitution};
-ghost use Rattle.ot_laws.specs.Laws.{BindersCanBePicked, BetaIsSubstitution, SubstitutionTyping, TestsDecide};
-ghost use Rattle.ot_laws.specs.Laws.{HypothesesAreSets, SizeCountsParts, Growth, DerivableAreSequents};
-ghost use Rattle.ot_laws.specs.Laws.{TermRulesAreSound, RulesAreSound};
+ghost use Rattle.ot_laws.specs.Laws.{NamelessForm, NamelessFree, NamelessTyping, NamelessLimit};
+ghost use Rattle.ot_laws.specs.Laws.{NamedSubstitution, BindersCanBePicked, BetaIsSubstitution};
+ghost use Rattle.ot_laws.specs.Laws.{SubstitutionTyping, TestsDecide, HypothesesAreSets, SizeCountsParts};
+ghost use Rattle.ot_laws.specs.Laws.{Growth, DerivableAreSequents, TermRulesAreSound, RulesAreSound};
 
 /// The two ways to the nameless form of a term agree, and the same variables are free in it.
 pub fn nameless_law()

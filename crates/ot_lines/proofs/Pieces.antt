@@ -1,5 +1,6 @@
 -- Laws of cutting at newlines.
-use Rattle.std.proofs.Common.{◌≡◌, ◌≢◌, ◌<◌, ◌-◌, inl, inr, ℕ, zero, suc, List, [], ◌∷◌, ◌++◌, length, take, drop, get_or, append_assoc, append-nil, sym, ap, ◌∙◌, refl, arith}
+use Rattle.std.proofs.Common.{◌≡◌, ◌≢◌, ◌<◌, ◌-◌, inl, inr, ℕ, zero, suc, List, [], ◌∷◌, ◌++◌, length}
+use Rattle.std.proofs.Common.{take, drop, get_or, append_assoc, append-nil, sym, ap, ◌∙◌, refl, arith}
 use Rattle.std.specs.List.{concat}
 use Rattle.std.proofs.lemmas.Bool.Decides.{eqb_tells}
 use Rattle.std.proofs.lemmas.List.{take_all, take-append-le, drop-append-le, length-append}
@@ -12,7 +13,8 @@ use Rattle.ot_lines.specs.Pieces.{onto_first, pieces, IsWhole, IsOpen, AreWhole,
 pub pieces-other : (b : ℕ) (bs : List ℕ) → b ≢ 10 → pieces (b ∷ bs) ≡ onto_first b (pieces bs)
 pieces-other b bs n = elim (eqb_tells b 10) [ inl q ↦ absurd (n q.1) | inr q ↦ rw q.0 refl ]
 
-pieces-front : (front rest : List ℕ) → ¬ (IsMember 10 front) → pieces (front ++ 10 ∷ rest) ≡ (front ++ 10 ∷ []) ∷ pieces rest
+pieces-front : (front rest : List ℕ) → ¬ (IsMember 10 front) → pieces (front ++ 10 ∷ rest) ≡ (front ++ 10 ∷ [])
+    ∷ pieces rest
 pieces-front [] rest n = refl
 pieces-front (b ∷ bs) rest n =
     pieces-other b (bs ++ 10 ∷ rest) (λ e. n (inl e)) ∙ ap (onto_first b) (pieces-front bs rest (λ m. n (inr m)))
@@ -81,17 +83,20 @@ one_cut-from bytes ps e = rw e (record { joined = concat-pieces bytes; whole = w
 
 -- ---- the first piece, by its length
 
-pieces_at : (xs : List ℕ) (n : ℕ) → n < length xs → get_or xs n 0 ≡ 10 → ((k : ℕ) → k < n → get_or xs k 0 ≢ 10) → pieces xs ≡ take (suc n) xs ∷ pieces (drop (suc n) xs)
+pieces_at : (xs : List ℕ) (n : ℕ) → n < length xs → get_or xs n 0 ≡ 10 → ((k : ℕ) → k < n → get_or xs k 0 ≢ 10)
+    → pieces xs ≡ take (suc n) xs ∷ pieces (drop (suc n) xs)
 pieces_at [] n lt h none = absurd (omega (arith, lt))
 pieces_at (b ∷ bs) zero lt h none = rw h refl
 pieces_at (b ∷ bs) (suc n) lt h none =
-    pieces-other b bs (none 0 (omega arith)) ∙ ap (onto_first b) (pieces_at bs n (omega (arith, lt)) h (λ k l. none (suc k) (omega (arith, l))))
+    pieces-other b bs (none 0 (omega arith))
+    ∙ ap (onto_first b) (pieces_at bs n (omega (arith, lt)) h (λ k l. none (suc k) (omega (arith, l))))
 
 pieces_none : (xs : List ℕ) → 0 < length xs → ((k : ℕ) → k < length xs → get_or xs k 0 ≢ 10) → pieces xs ≡ xs ∷ []
 pieces_none [] some none = absurd (omega (arith, some))
 pieces_none (b ∷ []) some none = pieces-other b [] (none 0 (omega arith))
 pieces_none (b ∷ c ∷ cs) some none =
-    pieces-other b (c ∷ cs) (none 0 (omega arith)) ∙ ap (onto_first b) (pieces_none (c ∷ cs) (omega arith) (λ k l. none (suc k) (omega (arith, l))))
+    pieces-other b (c ∷ cs) (none 0 (omega arith))
+    ∙ ap (onto_first b) (pieces_none (c ∷ cs) (omega arith) (λ k l. none (suc k) (omega (arith, l))))
 
 -- bytes before the first piece
 abbrev pub before_first : List ℕ → List (List ℕ) → List (List ℕ)
@@ -102,11 +107,13 @@ before_first-one : (b : ℕ) (ps : List (List ℕ)) → onto_first b ps ≡ befo
 before_first-one b [] = refl
 before_first-one b (p ∷ ps) = refl
 
-before_first-more : (b : ℕ) (front : List ℕ) (ps : List (List ℕ)) → onto_first b (before_first front ps) ≡ before_first (b ∷ front) ps
+before_first-more : (b : ℕ) (front : List ℕ) (ps : List (List ℕ)) → onto_first b (before_first front ps)
+    ≡ before_first (b ∷ front) ps
 before_first-more b front [] = refl
 before_first-more b front (p ∷ ps) = refl
 
-pub pieces_open : (front rest : List ℕ) → 0 < length front → IsOpenTo (length front) front → pieces (front ++ rest) ≡ before_first front (pieces rest)
+pub pieces_open : (front rest : List ℕ) → 0 < length front → IsOpenTo (length front) front → pieces (front ++ rest)
+    ≡ before_first front (pieces rest)
 pieces_open [] rest some none = absurd (omega (arith, some))
 pieces_open (b ∷ []) rest some none = pieces-other b rest (none 0 (omega arith)) ∙ before_first-one b (pieces rest)
 pieces_open (b ∷ c ∷ cs) rest some none =
@@ -116,17 +123,20 @@ pieces_open (b ∷ c ∷ cs) rest some none =
 
 -- ---- the first piece, by the bytes that are held
 
-pub first-ends : (len : ℕ) (held rest : List ℕ) → EndsAt len held → pieces (held ++ rest) ≡ take len held ∷ pieces (drop len held ++ rest)
+pub first-ends : (len : ℕ) (held rest : List ℕ) → EndsAt len held → pieces (held ++ rest) ≡ take len held
+    ∷ pieces (drop len held ++ rest)
 first-ends len held rest h =
     let one : suc (len - 1) ≡ len = omega (arith, h.some) in
     let below : len - 1 < length held = omega (arith, h.some, h.within) in
-    pieces_at (held ++ rest) (len - 1) (omega (arith, below, length-append held rest)) (get_or-append held rest 0 (len - 1) below ∙ h.newline)
+    pieces_at (held ++ rest) (len - 1) (omega (arith, below, length-append held rest))
+    (get_or-append held rest 0 (len - 1) below ∙ h.newline)
     (λ k l e. h.open_before k l (sym (get_or-append held rest 0 k (omega (arith, l, below))) ∙ e))
     ∙ ap (λ n. take n (held ++ rest) ∷ pieces (drop n (held ++ rest))) one
     ∙ ap (λ z. z ∷ pieces (drop len (held ++ rest))) (take-append-le len held rest h.within)
     ∙ ap (λ z. take len held ∷ pieces z) (drop-append-le len held rest h.within)
 
-pub first-all : (len : ℕ) (held : List ℕ) → 0 < len → length held ≡ len → IsOpenTo len held → pieces (held ++ []) ≡ take len held ∷ pieces (drop len held ++ [])
+pub first-all : (len : ℕ) (held : List ℕ) → 0 < len → length held ≡ len → IsOpenTo len held
+    → pieces (held ++ []) ≡ take len held ∷ pieces (drop len held ++ [])
 first-all len held some all none =
     ap pieces (append-nil held)
     ∙ pieces_none held (omega (arith, some, all)) (λ k l. none k (omega (arith, l, all)))

@@ -1,5 +1,7 @@
 -- Laws of trimming.
-use Rattle.std.proofs.Common.{◌≡◌, ◌≢◌, ◌<◌, ◌≤◌, ◌+◌, ◌-◌, inl, inr, ℕ, zero, suc, List, [], ◌∷◌, ◌++◌, length, take, get_or, reverse, Bool, true, false, ◌==◌, ◌||◌, if◌then◌else◌, sym, ap, ◌∙◌, refl, arith}
+use Rattle.std.proofs.Common.{◌≡◌, ◌≢◌, ◌<◌, ◌≤◌, ◌+◌, ◌-◌, inl, inr, ℕ, zero, suc, List}
+use Rattle.std.proofs.Common.{[], ◌∷◌, ◌++◌, length, take, get_or, reverse, Bool, true}
+use Rattle.std.proofs.Common.{false, ◌==◌, ◌||◌, if◌then◌else◌, sym, ap, ◌∙◌, refl, arith}
 use Rattle.std.proofs.lemmas.Bool.Decides.{eqb_tells}
 use Rattle.std.proofs.lemmas.List.{take_more, reverse-append, reverse-reverse}
 use Rattle.ot_lines.specs.Pieces.{without_last, is_blank, is_skipped, text_of, trim_front, trim_back}
@@ -20,7 +22,8 @@ last_other x (a ∷ c ∷ cs) zero e h = absurd (omega (arith, e))
 last_other x (a ∷ c ∷ cs) (suc n) e h = ap (λ z. a ∷ z) (last_other x (c ∷ cs) n (omega (arith, e)) h)
 
 -- the same, in the code's indices
-pub cut_last : (x : ℕ) (xs : List ℕ) → 0 < length xs → get_or xs (length xs - 1) 0 ≡ x → take (length xs - 1) xs ≡ without_last x xs
+pub cut_last : (x : ℕ) (xs : List ℕ) → 0 < length xs → get_or xs (length xs - 1) 0 ≡ x → take (length xs - 1) xs
+    ≡ without_last x xs
 cut_last x xs some h = sym (last_is x xs (length xs - 1) (omega (arith, some)) h)
 
 pub kept_last : (x : ℕ) (xs : List ℕ) → (0 < length xs → get_or xs (length xs - 1) 0 ≢ x) → xs ≡ without_last x xs
@@ -35,7 +38,8 @@ length-without_last x (b ∷ c ∷ cs) = omega (arith, length-without_last x (c 
 
 pub length-without_last_le : (x : ℕ) (xs : List ℕ) → length (without_last x xs) ≤ length xs
 length-without_last_le x [] = omega arith
-length-without_last_le x (b ∷ []) = elim (eqb_tells b x) [ inl q ↦ rw q.0 (omega arith) | inr q ↦ rw q.0 (omega arith) ]
+length-without_last_le x (b ∷ []) =
+    elim (eqb_tells b x) [ inl q ↦ rw q.0 (omega arith) | inr q ↦ rw q.0 (omega arith) ]
 length-without_last_le x (b ∷ c ∷ cs) = omega (arith, length-without_last_le x (c ∷ cs))
 
 -- ---- a blank at the end goes, another byte stays
@@ -53,10 +57,13 @@ last_byte xs n some le =
     let one : n ≡ n - 1 + 1 = omega arith in
     ap (λ i. take i xs) one ∙ take_more xs (n - 1) 0 (omega arith)
 
-pub back_step : (xs : List ℕ) (n : ℕ) → 0 < n → n ≤ length xs → true ≡ is_blank (get_or xs (n - 1) 0) → trim_back (take (n - 1) xs) ≡ trim_back (take n xs)
-back_step xs n some le h = sym (ap trim_back (last_byte xs n some le) ∙ back_blank (take (n - 1) xs) (get_or xs (n - 1) 0) (sym h))
+pub back_step : (xs : List ℕ) (n : ℕ) → 0 < n → n ≤ length xs → true ≡ is_blank (get_or xs (n - 1) 0)
+    → trim_back (take (n - 1) xs) ≡ trim_back (take n xs)
+back_step xs n some le h =
+    sym (ap trim_back (last_byte xs n some le) ∙ back_blank (take (n - 1) xs) (get_or xs (n - 1) 0) (sym h))
 
-pub back_end : (xs : List ℕ) (n : ℕ) → n ≤ length xs → (0 < n → false ≡ is_blank (get_or xs (n - 1) 0)) → take n xs ≡ trim_back (take n xs)
+pub back_end : (xs : List ℕ) (n : ℕ) → n ≤ length xs → (0 < n → false ≡ is_blank (get_or xs (n - 1) 0))
+    → take n xs ≡ trim_back (take n xs)
 back_end xs zero le h = refl
 back_end xs (suc n) le h =
     let some : 0 < suc n = omega arith in
@@ -68,20 +75,26 @@ first-without_last : (x b : ℕ) (bs : List ℕ) → b ≢ x → (rest : List �
 first-without_last x b [] other = elim (eqb_tells b x) [ inl q ↦ absurd (other q.1) | inr q ↦ ([], rw q.0 refl) ]
 first-without_last x b (c ∷ cs) other = (without_last x (c ∷ cs), refl)
 
-last-trim_front : (b : ℕ) → is_blank b ≡ false → (xs : List ℕ) → (rest : List ℕ) × (trim_front (xs ++ b ∷ []) ≡ rest ++ b ∷ [])
+last-trim_front : (b : ℕ) → is_blank b ≡ false → (xs : List ℕ)
+    → (rest : List ℕ) × (trim_front (xs ++ b ∷ []) ≡ rest ++ b ∷ [])
 last-trim_front b plain [] = ([], rw plain refl)
 last-trim_front b plain (x ∷ xs) = by (is_blank x) (last-trim_front b plain xs)
   where
-    by : (blank : Bool) → ((rest : List ℕ) × (trim_front (xs ++ b ∷ []) ≡ rest ++ b ∷ [])) → (rest : List ℕ) × ((if blank then trim_front (xs ++ b ∷ []) else x ∷ (xs ++ b ∷ [])) ≡ rest ++ b ∷ [])
+    by : (blank : Bool) → ((rest : List ℕ) × (trim_front (xs ++ b ∷ []) ≡ rest ++ b ∷ []))
+        → (rest : List ℕ) × ((if blank then trim_front (xs ++ b ∷ []) else x ∷ (xs ++ b ∷ [])) ≡ rest ++ b ∷ [])
     by true found = found
     by false found = (x ∷ xs, refl)
 
 first-trim_back : (b : ℕ) (bs : List ℕ) → is_blank b ≡ false → (rest : List ℕ) × (trim_back (b ∷ bs) ≡ b ∷ rest)
 first-trim_back b bs plain =
-    let (rest, e) = last-trim_front b plain (reverse bs) in
-    (reverse rest, ap (λ z. reverse (trim_front z)) (reverse-append (b ∷ []) bs) ∙ ap reverse e ∙ reverse-append rest (b ∷ []))
+    let (rest, e) = last-trim_front b plain (reverse bs) in (
+      reverse rest,
+      ap (λ z. reverse (trim_front z)) (reverse-append (b ∷ []) bs) ∙ ap reverse e
+          ∙ reverse-append rest (b ∷ []),
+    )
 
-first-text : (b : ℕ) (bs : List ℕ) → b ≢ 10 → b ≢ 13 → is_blank b ≡ false → (rest : List ℕ) × (text_of (b ∷ bs) ≡ b ∷ rest)
+first-text : (b : ℕ) (bs : List ℕ) → b ≢ 10 → b ≢ 13 → is_blank b ≡ false
+    → (rest : List ℕ) × (text_of (b ∷ bs) ≡ b ∷ rest)
 first-text b bs newline return plain =
     let (line, e) = first-without_last 10 b bs newline in
     let (front, f) = first-without_last 13 b line return in
@@ -94,6 +107,7 @@ not_equal b x above = elim (eqb_tells b x) [ inl q ↦ absurd (omega (arith, q.1
 pub above_passes : (piece : List ℕ) → 1 ≤ length piece → 35 < get_or piece 0 0 → false ≡ is_skipped (text_of piece)
 above_passes [] some above = absurd (omega (arith, some))
 above_passes (b ∷ bs) some above =
-    let plain : is_blank b ≡ false = ap (λ z. z || (b == 9)) (not_equal b 32 (omega arith)) ∙ not_equal b 9 (omega arith) in
+    let plain : is_blank b ≡ false = ap (λ z. z || (b == 9)) (not_equal b 32 (omega arith))
+    ∙ not_equal b 9 (omega arith) in
     let (rest, e) = first-text b bs (λ q. omega (arith, q)) (λ q. omega (arith, q)) plain in
     sym (ap is_skipped e ∙ not_equal b 35 above)

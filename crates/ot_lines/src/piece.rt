@@ -1,6 +1,6 @@
 ghost use Rattle.std.specs.Prelude.{◌≡◌, ◌≤◌, length, MatchOption};
-ghost use Rattle.ot_lines.specs.Pieces.{IsOpenTo, EndsAt, OneCut, text_of, is_skipped, is_blank, without_last};
-ghost use Rattle.ot_lines.specs.Pieces.{trim_front, trim_back};
+ghost use Rattle.ot_lines.specs.Pieces.{IsOpenTo, EndsAt, OneCut, text_of, is_skipped};
+ghost use Rattle.ot_lines.specs.Pieces.{is_blank, without_last, trim_front, trim_back};
 
 /// How long the first piece is, its newline counted, where the newline is among the bytes. None of
 /// the first `searched` is a newline.

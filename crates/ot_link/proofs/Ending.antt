@@ -27,7 +27,8 @@ pub ok-as : {A E : Type 0} {P Q : A → Type 0} (r : Result A E) → ((x : A) �
 ok-as (Ok x) f h = f x h
 ok-as (Err e) f h = tt
 
-module _ (s0 s : Session) (before after : Machine) (c : Context) (lines : Lines) (fresh : article_of s0 before ≡ fresh_article) where
+module _ (s0 s : Session) (before after : Machine) (c : Context) (lines : Lines)
+    (fresh : article_of s0 before ≡ fresh_article) where
   abbrev start : ArticleState → State
   start a = record { article = a; run = run_of s0 }
 
@@ -35,14 +36,18 @@ module _ (s0 s : Session) (before after : Machine) (c : Context) (lines : Lines)
   begun = ap (λ a. run c lines (start a)) (sym fresh)
 
   -- the exports are copied, or memory runs out
-  pub article-ended : (r : Result (Vec Export Global) ArticleFault) → Runs s.kernel (Ok tt) c lines (state_of s0 before) (state_of s after) → IfOk r (λ copy. copy.items ≡ after.exports.items) → IfErr r (λ e. e ≡ article.Memory)
+  pub article-ended : (r : Result (Vec Export Global) ArticleFault)
+      → Runs s.kernel (Ok tt) c lines (state_of s0 before) (state_of s after)
+      → IfOk r (λ copy. copy.items ≡ after.exports.items) → IfErr r (λ e. e ≡ article.Memory)
       → EndsAs s r (run c lines (start fresh_article))
-  article-ended (Ok copy) h same memory = (state_of s after, begun ∙ h, λ i. record { exports = map (export_of s) (same i); run = run_of s })
+  article-ended (Ok copy) h same memory =
+      (state_of s after, begun ∙ h, λ i. record { exports = map (export_of s) (same i); run = run_of s })
   article-ended (Err (article.At line fault)) h same memory = absurd (cc)
   article-ended (Err article.ReadFault) h same memory = tt
   article-ended (Err article.Memory) h same memory = tt
 
-  pub article-stopped : (e : ArticleFault) → Runs s.kernel (Err e) c lines (state_of s0 before) (state_of s after) → EndsAs s (Err e) (run c lines (start fresh_article))
+  pub article-stopped : (e : ArticleFault) → Runs s.kernel (Err e) c lines (state_of s0 before) (state_of s after)
+      → EndsAs s (Err e) (run c lines (start fresh_article))
   article-stopped (article.At line fault) h = (state_of s after, h.0, h.1, begun ∙ h.2)
   article-stopped article.ReadFault h = tt
   article-stopped article.Memory h = tt

@@ -28,11 +28,16 @@ module _ (k : kernel.State) (e : Setting) (path : List ℕ) where
     behind_text = rest-next (text_at e path) rest_of text is
 
     -- the text is no theory file
-    pub shown-unparsed : (err : LinkFault) → Stops k err (answered (in_theory path (theory text))) → Stops k err (shown e path)
-    shown-unparsed err h = stops-rest k _ _ behind_text err (stops-first k (answered (in_theory path (theory text))) names_of err h)
+    pub shown-unparsed : (err : LinkFault) → Stops k err (answered (in_theory path (theory text)))
+        → Stops k err (shown e path)
+    shown-unparsed err h =
+        stops-rest k _ _ behind_text err (stops-first k (answered (in_theory path (theory text))) names_of err h)
 
-    pub shown-parsed : (t : TheoryText) (ns : List Name) → in_theory path (theory text) ≡ Ok t → ns ≡ shown_by_all t.tags → (shown e path).answer ≡ Ok ns
-    shown-parsed t ns u v = (rest-on (rest-next (answered (in_theory path (theory text))) names_of t u) behind_text).answer ∙ ap Ok (sym v)
+    pub shown-parsed : (t : TheoryText) (ns : List Name) → in_theory path (theory text) ≡ Ok t
+        → ns ≡ shown_by_all t.tags → (shown e path).answer ≡ Ok ns
+    shown-parsed t ns u v =
+        (rest-on (rest-next (answered (in_theory path (theory text))) names_of t u) behind_text).answer
+        ∙ ap Ok (sym v)
 
 -- what holds where something is told
 pub told-each : {X : Type 0} {P : X → Type 0} (o : Option X) → ((x : X) → o ≡ Some x → P x) → IfSome o P

@@ -30,7 +30,8 @@ module _ (s t : Session) (grown : Grows s t) where
     -- it stands for the same
     export-kept : (e : Export) → IsExportIn s e → export_of t e ≡ export_of s e
     export-kept e h =
-        let sequent = at-Extends s.kernel.theorems t.kernel.theorems grown.kernel.theorems (record { hyps = []; concl = Bound 0 }) e.th h.th in
+        let sequent = at-Extends s.kernel.theorems t.kernel.theorems grown.kernel.theorems
+        (record { hyps = []; concl = Bound 0 }) e.th h.th in
         let theorem = origin-kept s t run grown e.theorem h.theorem in
         let list = origin-kept s t run grown e.list h.list in
         let term = origin-kept s t run grown e.term h.term in
@@ -43,13 +44,15 @@ module _ (s t : Session) (grown : Grows s t) where
         let b = exports-kept es (All-tail (IsExportIn s) e es h) in
         λ i. a i ∷ b i
 
-module _ {S : Type 0} (s t : Session) (run : IsRun s) (grown : Grows s t) (old new : HashMap ℕ (Vec Export Global) S) (b : ℕ) (exports : Vec Export Global)
+module _ {S : Type 0} (s t : Session) (run : IsRun s) (grown : Grows s t) (old new : HashMap ℕ (Vec Export Global) S)
+    (b : ℕ) (exports : Vec Export Global)
     (updates : (c : ℕ) → get_by (λ key. c == key) new ≡ cond (b == c) (Some exports) (get_by (λ key. c == key) old))
     (inside : (c : ℕ) → All (IsExportIn s) (held_at old c)) where
   pub held-as : (c : ℕ) → held_at new c ≡ cond (b == c) exports.items (held_at old c)
   held-as c = ap items_of (updates c) ∙ by (b == c)
     where
-      by : (x : Bool) → items_of (cond x (Some exports) (get_by (λ key. c == key) old)) ≡ cond x exports.items (held_at old c)
+      by : (x : Bool) → items_of (cond x (Some exports) (get_by (λ key. c == key) old))
+          ≡ cond x exports.items (held_at old c)
       by true = refl
       by false = refl
 
@@ -57,7 +60,8 @@ module _ {S : Type 0} (s t : Session) (run : IsRun s) (grown : Grows s t) (old n
   pub held-done : done_of t new ≡ with_done (done_of s old) b (map (export_of t) exports.items)
   held-done i c = (ap (map (export_of t)) (held-as c) ∙ by (b == c)) i
     where
-      by : (x : Bool) → map (export_of t) (cond x exports.items (held_at old c)) ≡ cond x (map (export_of t) exports.items) (map (export_of s) (held_at old c))
+      by : (x : Bool) → map (export_of t) (cond x exports.items (held_at old c))
+          ≡ cond x (map (export_of t) exports.items) (map (export_of s) (held_at old c))
       by true = refl
       by false = exports-kept s t grown run (held_at old c) (inside c)
 

@@ -3,7 +3,8 @@ use Rattle.std.specs.Prelude.{◌==◌, Option, Some, None, Vec, flat_map}
 use Rattle.std.specs.Global.{Global}
 use Rattle.std.specs.List.{All}
 use Rattle.std.specs.HashMap.{HashMap, get_by}
-use Rattle.std.proofs.Common.{◌≡◌, ℕ, List, [], ◌∷◌, ◌++◌, map, Bool, true, false, cond, if◌then◌else◌, refl, sym, subst}
+use Rattle.std.proofs.Common.{◌≡◌, ℕ, List, [], ◌∷◌, ◌++◌, map, Bool, true}
+use Rattle.std.proofs.Common.{false, cond, if◌then◌else◌, refl, sym, subst}
 use Rattle.std.proofs.lemmas.List.{map-append}
 use Rattle.std.proofs.lemmas.List.Elements.{All-nil, All-head, All-tail, All-cons, All-append, All-push}
 use Rattle.ot_interp.specs.Interpretation.{identity, map_interpretation}
@@ -11,7 +12,8 @@ use Rattle.ot_kernel.specs.State as kernel
 use Rattle.ot_theory.specs.Theory.{TagText}
 use Rattle.ot_machine.specs.States as states
 use Rattle.ot_machine.specs.States.{RunState, Context, fresh_article, no_context}
-use Rattle.ot_machine.specs.Lawful.{IsLarger, IsLawfulExport, IsLawfulRun, IsLawful, GivenFits, Keeps, AreLawfulGivens, StatesSequent, AreApart, IsNaming}
+use Rattle.ot_machine.specs.Lawful.{IsLarger, IsLawfulExport, IsLawfulRun, IsLawful, GivenFits}
+use Rattle.ot_machine.specs.Lawful.{Keeps, AreLawfulGivens, StatesSequent, AreApart, IsNaming}
 use Rattle.ot_machine.specs.Writable.{IsWritable}
 use Rattle.ot_machine.specs.LawfulLaws.{CanBeNamed, FreshIsLawful, LinesAreLawful, LawfulStays}
 use Rattle.ot_machine.specs.Commanded.{LeadsTo}
@@ -27,7 +29,8 @@ use Rattle.ot_machine.proofs.Apart.{apart-push, not-exported}
 use Rattle.ot_link.specs.Blocks.{given_by, context_in, each_once}
 use Rattle.ot_link.specs.Adding.{AreRight}
 use Rattle.ot_link.specs.Holding.{held_at, held_of}
-use Rattle.ot_link.specs.Lawful.{basis_of, IsLawfulSession, AreLawfulExports, AreLawfulOnce, IsLawfulContext, StaysLawful, BlocksAreNaming}
+use Rattle.ot_link.specs.Lawful.{basis_of, IsLawfulSession, AreLawfulExports, AreLawfulOnce}
+use Rattle.ot_link.specs.Lawful.{IsLawfulContext, StaysLawful, BlocksAreNaming}
 use Rattle.ot_link.proofs.Held.{exports-kept, held-as}
 
 -- ---- sessions that stay lawful
@@ -40,7 +43,11 @@ stays-same s h = record { run = h; larger = same-larger (run_of s) }
 
 -- the run is as before
 pub stays-as : (s t : Session) → run_of t ≡ run_of s → IsLawfulSession s → StaysLawful s t
-stays-as s t e h = record { run = subst (IsLawfulRun IsWritable) (sym e) h; larger = subst (λ r. IsLarger (basis_of (run_of s)) (basis_of r)) (sym e) (same-larger (run_of s)) }
+stays-as s t e h =
+    record {
+      run = subst (IsLawfulRun IsWritable) (sym e) h;
+      larger = subst (λ r. IsLarger (basis_of (run_of s)) (basis_of r)) (sym e) (same-larger (run_of s));
+    }
 
 pub stays-on : {a b c : Session} → StaysLawful a b → StaysLawful b c → StaysLawful a c
 stays-on h k = record {
@@ -55,24 +62,35 @@ stays-on h k = record {
 -- ---- a context
 
 -- without renamings and theorems
-pub empty-context : (s : Session) (c : code.Context) → c.interp.now ≡ identity → c.theorems.now ≡ [] → context_of s c ≡ no_context
-empty-context s c i t = λ j. record { interpretation = map_interpretation (kernel.name_at s.kernel) (i j); theorems = map (given_of s) (t j) }
+pub empty-context : (s : Session) (c : code.Context) → c.interp.now ≡ identity → c.theorems.now ≡ []
+    → context_of s c ≡ no_context
+empty-context s c i t =
+    λ j. record {
+      interpretation = map_interpretation (kernel.name_at s.kernel) (i j);
+      theorems = map (given_of s) (t j);
+    }
 
-pub empty-lawful : (s : Session) (c : code.Context) → c.interp.now ≡ identity → c.theorems.now ≡ [] → IsLawfulContext s c
+pub empty-lawful : (s : Session) (c : code.Context) → c.interp.now ≡ identity → c.theorems.now ≡ []
+    → IsLawfulContext s c
 empty-lawful s c i t =
     let same = empty-context s c i t in
     record {
-      theorems = subst (λ x. AreLawfulGivens IsWritable (run_of s) x.theorems) (sym same) (All-nil (GivenFits (basis_of (run_of s))));
+      theorems = subst (λ x. AreLawfulGivens IsWritable (run_of s) x.theorems) (sym same)
+          (All-nil (GivenFits (basis_of (run_of s))));
       naming = subst (IsNaming IsWritable) (sym same) (record { constants = λ n w. w; type_ops = λ n w. w });
     }
 
 -- ---- an article
 
-module _ (old new : Session) (m n : Machine) (c : Context) (fresh : FreshIsLawful IsWritable) (lines : LinesAreLawful IsWritable) (said : CanBeNamed IsWritable) (begun : article_of old m ≡ fresh_article)
-    (run : IsLawfulSession old) (naming : IsNaming IsWritable c) (givens : AreLawfulGivens IsWritable (run_of old) c.theorems) (led : LeadsTo c (state_of old m) (state_of new n)) where
+module _ (old new : Session) (m n : Machine) (c : Context) (fresh : FreshIsLawful IsWritable)
+    (lines : LinesAreLawful IsWritable) (said : CanBeNamed IsWritable) (begun : article_of old m ≡ fresh_article)
+    (run : IsLawfulSession old) (naming : IsNaming IsWritable c)
+    (givens : AreLawfulGivens IsWritable (run_of old) c.theorems)
+    (led : LeadsTo c (state_of old m) (state_of new n)) where
   article-keeps : Keeps IsWritable (state_of old m) (state_of new n)
   article-keeps =
-      let start = subst (λ (a : states.ArticleState). IsLawful IsWritable (record { article = a; run = run_of old })) (sym begun) (fresh.1 (run_of old) run) in
+      let start = subst (λ (a : states.ArticleState). IsLawful IsWritable (record { article = a; run = run_of old }))
+      (sym begun) (fresh.1 (run_of old) run) in
       lines c (state_of old m) (state_of new n) naming said givens start led
 
   pub article-stays : StaysLawful old new
@@ -81,72 +99,94 @@ module _ (old new : Session) (m n : Machine) (c : Context) (fresh : FreshIsLawfu
   pub article-exports : (es : List Export) → es ≡ n.exports.items → AreLawfulOnce new es
   article-exports es e =
       let article = article-keeps.0.article in
-      subst (AreLawfulOnce new) (sym e) (record { exports = record { lawful = article.exports; stated = article.stated }; apart = article.apart })
+      subst (AreLawfulOnce new) (sym e)
+      (record { exports = record { lawful = article.exports; stated = article.stated }; apart = article.apart })
 
 -- ---- a block
 
 -- each sequent once
-pub once-all : (P : states.Export → Type 0) (seen es : List states.Export) → All P seen → All P es → All P (each_once seen es)
+pub once-all : (P : states.Export → Type 0) (seen es : List states.Export) → All P seen → All P es
+    → All P (each_once seen es)
 once-all P seen [] before now = before
-once-all P seen (e ∷ es) before now = once-all P (if is_exported e.sequent seen then seen else seen ++ e ∷ []) es (by (is_exported e.sequent seen)) (All-tail P e es now)
+once-all P seen (e ∷ es) before now = once-all P (if is_exported e.sequent seen then seen else seen ++ e ∷ []) es
+    (by (is_exported e.sequent seen)) (All-tail P e es now)
   where
     by : (b : Bool) → All P (if b then seen else seen ++ e ∷ [])
     by true = before
     by false = All-push P seen e before (All-head P e es now)
 
-once-apart : (seen es : List states.Export) → AreApart (λ e. e.sequent) seen → AreApart (λ e. e.sequent) (each_once seen es)
+once-apart : (seen es : List states.Export) → AreApart (λ e. e.sequent) seen
+    → AreApart (λ e. e.sequent) (each_once seen es)
 once-apart seen [] apart = apart
-once-apart seen (e ∷ es) apart = once-apart (if is_exported e.sequent seen then seen else seen ++ e ∷ []) es (by (is_exported e.sequent seen) refl)
+once-apart seen (e ∷ es) apart = once-apart (if is_exported e.sequent seen then seen else seen ++ e ∷ []) es
+    (by (is_exported e.sequent seen) refl)
   where
-    by : (b : Bool) → is_exported e.sequent seen ≡ b → AreApart (λ (x : states.Export). x.sequent) (if b then seen else seen ++ e ∷ [])
+    by : (b : Bool) → is_exported e.sequent seen ≡ b
+        → AreApart (λ (x : states.Export). x.sequent) (if b then seen else seen ++ e ∷ [])
     by true p = apart
     by false p = apart-push (λ (x : states.Export). x.sequent) seen e apart (not-exported e.sequent seen p)
 
-pub once-lawful : (s : Session) (once es : List Export) → map (export_of s) once ≡ each_once [] (map (export_of s) es) → AreLawfulExports s es → AreLawfulOnce s once
+pub once-lawful : (s : Session) (once es : List Export) → map (export_of s) once ≡ each_once [] (map (export_of s) es)
+    → AreLawfulExports s es → AreLawfulOnce s once
 once-lawful s once es e h =
     let P = IsLawfulExport (basis_of (run_of s)) in
     record {
       exports = record {
         lawful = subst (All P) (sym e) (once-all P [] (map (export_of s) es) (All-nil P) h.lawful);
-        stated = subst (All StatesSequent) (sym e) (once-all StatesSequent [] (map (export_of s) es) (All-nil StatesSequent) h.stated);
+        stated = subst (All StatesSequent) (sym e)
+            (once-all StatesSequent [] (map (export_of s) es) (All-nil StatesSequent) h.stated);
       };
-      apart = subst (AreApart (λ (x : states.Export). x.sequent)) (sym e) (once-apart [] (map (export_of s) es) (λ i j x y p q same. absurd (cc)));
+      apart = subst (AreApart (λ (x : states.Export). x.sequent)) (sym e)
+          (once-apart [] (map (export_of s) es) (λ i j x y p q same. absurd (cc)));
     }
 
 module _ (r : RunState) where
-  given-lawful : (es : List states.Export) → All (IsLawfulExport (basis_of r)) es → AreLawfulGivens IsWritable r (map given_by es)
+  given-lawful : (es : List states.Export) → All (IsLawfulExport (basis_of r)) es
+      → AreLawfulGivens IsWritable r (map given_by es)
   given-lawful [] h = All-nil (GivenFits (basis_of r))
   given-lawful (e ∷ es) h =
       All-cons (GivenFits (basis_of r)) (given_by e) (map given_by es)
-      (All-head (IsLawfulExport (basis_of r)) e es h).proved (given-lawful es (All-tail (IsLawfulExport (basis_of r)) e es h))
+      (All-head (IsLawfulExport (basis_of r)) e es h).proved
+      (given-lawful es (All-tail (IsLawfulExport (basis_of r)) e es h))
 
   -- the context of a block
-  block-lawful : (outer : Context) (statements : List TagText) (es : List states.Export) → AreLawfulGivens IsWritable r outer.theorems → All (IsLawfulExport (basis_of r)) es
+  block-lawful : (outer : Context) (statements : List TagText) (es : List states.Export)
+      → AreLawfulGivens IsWritable r outer.theorems → All (IsLawfulExport (basis_of r)) es
       → AreLawfulGivens IsWritable r (context_in outer statements es).theorems
-  block-lawful outer statements es given h = All-append (GivenFits (basis_of r)) (map given_by es) outer.theorems (given-lawful es h) given
+  block-lawful outer statements es given h = All-append (GivenFits (basis_of r)) (map given_by es) outer.theorems
+      (given-lawful es h) given
 
 -- a block's context, over a session whose run is as before
-pub inner-lawful : (s t : Session) (outer inner : code.Context) (statements : List TagText) (imports : List Export) → run_of t ≡ run_of s
-    → context_of t inner ≡ context_in (context_of s outer) statements (map (export_of s) imports) → BlocksAreNaming → AreRight statements
+pub inner-lawful : (s t : Session) (outer inner : code.Context) (statements : List TagText) (imports : List Export)
+    → run_of t ≡ run_of s
+    → context_of t inner ≡ context_in (context_of s outer) statements (map (export_of s) imports) → BlocksAreNaming
+    → AreRight statements
     → IsLawfulContext s outer → AreLawfulExports s imports → IsLawfulContext t inner
 inner-lawful s t outer inner statements imports e same law right given h =
-    let here = block-lawful (run_of s) (context_of s outer) statements (map (export_of s) imports) given.theorems h.lawful in
-    let there : AreLawfulGivens IsWritable (run_of s) (context_of t inner).theorems = subst (λ c. AreLawfulGivens IsWritable (run_of s) c.theorems) (sym same) here in
+    let here = block-lawful (run_of s) (context_of s outer) statements (map (export_of s) imports) given.theorems
+    h.lawful in
+    let there : AreLawfulGivens IsWritable (run_of s) (context_of t inner).theorems =
+    subst (λ c. AreLawfulGivens IsWritable (run_of s) c.theorems) (sym same) here in
     record {
       theorems = subst (λ r. AreLawfulGivens IsWritable r (context_of t inner).theorems) (sym e) there;
-      naming = subst (IsNaming IsWritable) (sym same) (law (context_of s outer) statements (map (export_of s) imports) right given.naming);
+      naming = subst (IsNaming IsWritable) (sym same)
+          (law (context_of s outer) statements (map (export_of s) imports) right given.naming);
     }
 
 -- the exports of a list stand for the same
-lawful-as : (s t : Session) (es : List Export) → map (export_of t) es ≡ map (export_of s) es → All (IsLawfulExport (basis_of (run_of t))) (map (export_of s) es) → All StatesSequent (map (export_of s) es) → AreLawfulExports t es
+lawful-as : (s t : Session) (es : List Export) → map (export_of t) es ≡ map (export_of s) es
+    → All (IsLawfulExport (basis_of (run_of t))) (map (export_of s) es) → All StatesSequent (map (export_of s) es)
+    → AreLawfulExports t es
 lawful-as s t es same lawful stated = record {
   lawful = subst (All (IsLawfulExport (basis_of (run_of t)))) (sym same) lawful;
   stated = subst (All StatesSequent) (sym same) stated;
 }
 
-pub same-exports-lawful : (s t : Session) → IsRun s → Grows s t → run_of t ≡ run_of s → (es : List Export) → All (IsExportIn s) es → AreLawfulExports s es → AreLawfulExports t es
+pub same-exports-lawful : (s t : Session) → IsRun s → Grows s t → run_of t ≡ run_of s → (es : List Export)
+    → All (IsExportIn s) es → AreLawfulExports s es → AreLawfulExports t es
 same-exports-lawful s t run grown e es inside h =
-    lawful-as s t es (exports-kept s t grown run es inside) (subst (λ r. All (IsLawfulExport (basis_of r)) (map (export_of s) es)) (sym e) h.lawful) h.stated
+    lawful-as s t es (exports-kept s t grown run es inside)
+    (subst (λ r. All (IsLawfulExport (basis_of r)) (map (export_of s) es)) (sym e) h.lawful) h.stated
 
 -- ---- what is held of earlier blocks
 
@@ -156,16 +196,19 @@ none-lawful s = record {
   apart = λ i j x y p q same. absurd (cc);
 }
 
-module _ {S : Type 0} (s : Session) (held : HashMap ℕ (Vec Export Global) S) (lawful : (b : ℕ) → AreLawfulOnce s (held_at held b)) where
+module _ {S : Type 0} (s : Session) (held : HashMap ℕ (Vec Export Global) S)
+    (lawful : (b : ℕ) → AreLawfulOnce s (held_at held b)) where
   pub place-lawful : (place : Option ℕ) → AreLawfulOnce s (held_of held place)
   place-lawful None = none-lawful s
   place-lawful (Some b) = lawful b
 
-  each-imported : (P : states.Export → Type 0) → ((b : ℕ) → All P (map (export_of s) (held_at held b))) → (places : List ℕ) → All P (map (export_of s) (flat_map (held_at held) places))
+  each-imported : (P : states.Export → Type 0) → ((b : ℕ) → All P (map (export_of s) (held_at held b)))
+      → (places : List ℕ) → All P (map (export_of s) (flat_map (held_at held) places))
   each-imported P all [] = All-nil P
   each-imported P all (b ∷ places) =
       subst (All P) (sym (map-append (export_of s) (held_at held b) (flat_map (held_at held) places)))
-      (All-append P (map (export_of s) (held_at held b)) (map (export_of s) (flat_map (held_at held) places)) (all b) (each-imported P all places))
+      (All-append P (map (export_of s) (held_at held b)) (map (export_of s) (flat_map (held_at held) places)) (all b)
+      (each-imported P all places))
 
   pub imported-lawful : (places : List ℕ) → AreLawfulExports s (flat_map (held_at held) places)
   imported-lawful places = record {
@@ -173,13 +216,15 @@ module _ {S : Type 0} (s : Session) (held : HashMap ℕ (Vec Export Global) S) (
     stated = each-imported StatesSequent (λ b. (lawful b).exports.stated) places;
   }
 
-module _ (s t : Session) (run : IsRun s) (grown : Grows s t) (law : LawfulStays IsWritable) (larger : IsLarger (basis_of (run_of s)) (basis_of (run_of t))) where
+module _ (s t : Session) (run : IsRun s) (grown : Grows s t) (law : LawfulStays IsWritable)
+    (larger : IsLarger (basis_of (run_of s)) (basis_of (run_of t))) where
   -- exports
   exports-lawful : (es : List Export) → All (IsExportIn s) es → AreLawfulOnce s es → AreLawfulOnce t es
   exports-lawful es inside h =
       let same = exports-kept s t grown run es inside in
       record {
-        exports = lawful-as s t es same ((law (run_of s) (run_of t) larger).1 (map (export_of s) es) h.exports.lawful) h.exports.stated;
+        exports = lawful-as s t es same ((law (run_of s) (run_of t) larger).1 (map (export_of s) es) h.exports.lawful)
+            h.exports.stated;
         apart = subst (AreApart (λ (x : states.Export). x.sequent)) (sym same) h.apart;
       }
 
@@ -188,15 +233,18 @@ module _ (s t : Session) (run : IsRun s) (grown : Grows s t) (law : LawfulStays 
   context-lawful c of h =
       let same = context-kept s t run grown c of in
       record {
-        theorems = subst (λ x. AreLawfulGivens IsWritable (run_of t) x.theorems) (sym same) ((law (run_of s) (run_of t) larger).0 (context_of s c).theorems h.theorems);
+        theorems = subst (λ x. AreLawfulGivens IsWritable (run_of t) x.theorems) (sym same)
+            ((law (run_of s) (run_of t) larger).0 (context_of s c).theorems h.theorems);
         naming = subst (IsNaming IsWritable) (sym same) h.naming;
       }
 
   -- the exports that are held, those of a block added
   pub held-lawful : {S : Type 0} (old new : HashMap ℕ (Vec Export Global) S) (b : ℕ) (exports : Vec Export Global)
       → ((c : ℕ) → get_by (λ key. c == key) new ≡ cond (b == c) (Some exports) (get_by (λ key. c == key) old))
-      → ((c : ℕ) → All (IsExportIn s) (held_at old c)) → ((c : ℕ) → AreLawfulOnce s (held_at old c)) → AreLawfulOnce t exports.items → (c : ℕ) → AreLawfulOnce t (held_at new c)
-  held-lawful old new b exports updates inside lawful here c = subst (AreLawfulOnce t) (sym (held-as s t run grown old new b exports updates inside c)) (by (b == c))
+      → ((c : ℕ) → All (IsExportIn s) (held_at old c)) → ((c : ℕ) → AreLawfulOnce s (held_at old c))
+      → AreLawfulOnce t exports.items → (c : ℕ) → AreLawfulOnce t (held_at new c)
+  held-lawful old new b exports updates inside lawful here c =
+      subst (AreLawfulOnce t) (sym (held-as s t run grown old new b exports updates inside c)) (by (b == c))
     where
       by : (x : Bool) → AreLawfulOnce t (cond x exports.items (held_at old c))
       by true = here

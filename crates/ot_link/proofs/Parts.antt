@@ -23,19 +23,23 @@ rest-same l = record { answer = refl; paths = λ path m. m }
 pub rest-on : {A : Type 0} {a b c : Linked A} → IsRest a b → IsRest b c → IsRest a c
 rest-on p q = record { answer = q.answer ∙ p.answer; paths = λ path m. q.paths path (p.paths path m) }
 
-rest-went : {A B : Type 0} (paths : List (List ℕ)) (r : Result A Stop) (f : A → Linked B) (x : A) → r ≡ Ok x → IsRest (f x) (go_on paths r f)
-rest-went paths (Ok y) f x e = let same : y ≡ x = cc in rw same (record { answer = refl; paths = λ path m. member-behind paths (f x).paths path m })
+rest-went : {A B : Type 0} (paths : List (List ℕ)) (r : Result A Stop) (f : A → Linked B) (x : A) → r ≡ Ok x
+    → IsRest (f x) (go_on paths r f)
+rest-went paths (Ok y) f x e = let same : y ≡ x = cc in
+    rw same (record { answer = refl; paths = λ path m. member-behind paths (f x).paths path m })
 rest-went paths (Err stop) f x e = absurd (cc)
 
 -- what goes on with what was made
 pub rest-next : {A B : Type 0} (l : Linked A) (f : A → Linked B) (x : A) → l.answer ≡ Ok x → IsRest (f x) (l >>= f)
 rest-next l f x e = rest-went l.paths l.answer f x e
 
-stopped-went : {A B : Type 0} (paths : List (List ℕ)) (r : Result A Stop) (f : A → Linked B) (s : Stop) → r ≡ Err s → (go_on paths r f).answer ≡ Err s
+stopped-went : {A B : Type 0} (paths : List (List ℕ)) (r : Result A Stop) (f : A → Linked B) (s : Stop) → r ≡ Err s
+    → (go_on paths r f).answer ≡ Err s
 stopped-went paths (Ok y) f s e = absurd (cc)
 stopped-went paths (Err stop) f s e = let same : stop ≡ s = cc in rw same refl
 
-needed-went : {A B : Type 0} (paths : List (List ℕ)) (r : Result A Stop) (f : A → Linked B) (path : List ℕ) → IsMember path paths → IsMember path (go_on paths r f).paths
+needed-went : {A B : Type 0} (paths : List (List ℕ)) (r : Result A Stop) (f : A → Linked B) (path : List ℕ)
+    → IsMember path paths → IsMember path (go_on paths r f).paths
 needed-went paths (Ok y) f path m = member-before paths (f y).paths path m
   where
     member-before : (xs ys : List (List ℕ)) (x : List ℕ) → IsMember x xs → IsMember x (xs ++ ys)
@@ -79,6 +83,7 @@ pub told-as : {X : Type 0} {P Q : X → Type 0} (o : Option X) → ((x : X) → 
 told-as None f h = tt
 told-as (Some x) f h = f x h
 
-pub told-both : {X : Type 0} {P Q R : X → Type 0} (o p : Option X) → p ≡ o → ((x : X) → P x → Q x → R x) → IfSome o P → IfSome p Q → IfSome o R
+pub told-both : {X : Type 0} {P Q R : X → Type 0} (o p : Option X) → p ≡ o → ((x : X) → P x → Q x → R x) → IfSome o P
+    → IfSome p Q → IfSome o R
 told-both None p e f h i = tt
 told-both {X} {P} {Q} (Some x) p e f h i = f x h (rw e at i)

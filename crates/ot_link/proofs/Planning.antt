@@ -26,7 +26,10 @@ module _ (path text : List ℕ) where
 
   module _ (t : TheoryText) (e : in_theory path (theory text) ≡ Ok t) where
     pub planned-unordered : (s : Stop) → in_structure path (plan t.blocks) ≡ Err s → planned path text ≡ Err s
-    planned-unordered s h = bind-ok (in_theory path (theory text)) with_theory t e ∙ bind-err (in_structure path (plan t.blocks)) (with_plan t) s h
+    planned-unordered s h = bind-ok (in_theory path (theory text)) with_theory t e
+        ∙ bind-err (in_structure path (plan t.blocks)) (with_plan t) s h
 
-    pub planned-ordered : (p : PlanText) → in_structure path (plan t.blocks) ≡ Ok p → planned path text ≡ Ok (record { blocks = t.blocks; plan = p })
-    planned-ordered p h = bind-ok (in_theory path (theory text)) with_theory t e ∙ bind-ok (in_structure path (plan t.blocks)) (with_plan t) p h
+    pub planned-ordered : (p : PlanText) → in_structure path (plan t.blocks) ≡ Ok p
+        → planned path text ≡ Ok (record { blocks = t.blocks; plan = p })
+    planned-ordered p h = bind-ok (in_theory path (theory text)) with_theory t e
+        ∙ bind-ok (in_structure path (plan t.blocks)) (with_plan t) p h

@@ -34,28 +34,38 @@ package-right false e = absurd (cc)
 
 module _ (places : Places) where
   -- the source of these statements
-  source-right : (ts : List TagText) → AllByRecursion (λ t. IsRightValue (key_of t.key) t.value) ts → filter_map (fault_of places) ts ≡ []
+  source-right : (ts : List TagText) → AllByRecursion (λ t. IsRightValue (key_of t.key) t.value) ts
+      → filter_map (fault_of places) ts ≡ []
       → IsSourceRight (source_at (find (λ t. is_source (key_of t.key)) ts))
   source-right [] values faults = tt
   source-right (t ∷ ts) values faults =
       let here = nothing-first (fault_of places t) (filter_map (fault_of places) ts) faults in
       by (key_of t.key) refl values.0 here.0 (source-right ts values.1 here.1)
     where
-      by : (key : Key) → key_of t.key ≡ key → IsRightValue key t.value → option_map {U = ℕ × StructureFault} (λ fault. (t.line, fault)) (statement_fault places key t.value) ≡ None
+      by : (key : Key) → key_of t.key ≡ key → IsRightValue key t.value
+          → option_map {U = ℕ × StructureFault} (λ fault. (t.line, fault)) (statement_fault places key t.value) ≡ None
           → IsSourceRight (source_at (find (λ u. is_source (key_of u.key)) ts))
           → IsSourceRight (source_at (if is_source key then Some t else find (λ u. is_source (key_of u.key)) ts))
-      by keys.Article e value fault rest = let key : key_of t.key ≡ keys.Article = e in subst (λ key. IsSourceRight (source_by key t)) (sym key) value
-      by keys.Package e value fault rest = let key : key_of t.key ≡ keys.Package = e in subst (λ key. IsSourceRight (source_by key t)) (sym key) (package-right (is_package t.value) (no-fault (statement_fault places keys.Package t.value) t.line fault))
+      by keys.Article e value fault rest = let key : key_of t.key ≡ keys.Article = e in
+          subst (λ key. IsSourceRight (source_by key t)) (sym key) value
+      by keys.Package e value fault rest = let key : key_of t.key ≡ keys.Package = e in
+          subst (λ key. IsSourceRight (source_by key t)) (sym key)
+          (package-right (is_package t.value) (no-fault (statement_fault places keys.Package t.value) t.line fault))
       by keys.Import e value fault rest = rest
       by keys.Interpret e value fault rest = rest
       by keys.Other e value fault rest = rest
 
-  each-runnable : (bs : List BlockText) → AllByRecursion IsRightBlock bs → filter_map (fault_of places) (flat_map (λ b. b.statements) bs) ≡ [] → All IsRunnable bs
+  each-runnable : (bs : List BlockText) → AllByRecursion IsRightBlock bs
+      → filter_map (fault_of places) (flat_map (λ b. b.statements) bs) ≡ [] → All IsRunnable bs
   each-runnable [] right faults = All-nil IsRunnable
   each-runnable (b ∷ bs) right faults =
-      let parts = nothing-both (filter_map (fault_of places) b.statements) _ (sym (filter_map-append (fault_of places) b.statements (flat_map (λ c. c.statements) bs)) ∙ faults) in
+      let parts = nothing-both (filter_map (fault_of places) b.statements) _
+      (sym (filter_map-append (fault_of places) b.statements (flat_map (λ c. c.statements) bs)) ∙ faults) in
       All-cons IsRunnable b bs
-      (record { statements = record { lines = right.0.lines; values = right.0.values; renamings = right.0.renamings }; source = source-right b.statements right.0.values parts.0 })
+      (record {
+        statements = record { lines = right.0.lines; values = right.0.values; renamings = right.0.renamings };
+        source = source-right b.statements right.0.values parts.0;
+      })
       (each-runnable bs right.1 parts.1)
 
 -- where a sound theory file has a plan, each of its blocks may run

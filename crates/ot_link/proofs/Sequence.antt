@@ -18,16 +18,19 @@ module _ (e : Setting) (opener : Opener) (path : List ℕ) (outer : Context) (f 
   whole = run_blocks e opener path outer f f.plan.order none_done start
 
   abbrev finish : Done × RunState → Linked Ran
-  finish ended = answered (Ok (record { exports = exports_at ended.0 (place_of f.blocks (codes "main")); run = ended.1 }))
+  finish ended =
+      answered (Ok (record { exports = exports_at ended.0 (place_of f.blocks (codes "main")); run = ended.1 }))
 
   -- the blocks from a place on are what is left of the run
   abbrev pub IsLeft : ℕ → Done → RunState → Type 0
-  IsLeft i done r = IsRest (run_blocks e opener path outer f (drop i f.plan.order) done r) (run_blocks e opener path outer f f.plan.order none_done start)
+  IsLeft i done r = IsRest (run_blocks e opener path outer f (drop i f.plan.order) done r)
+      (run_blocks e opener path outer f f.plan.order none_done start)
 
   pub all-left : IsLeft 0 none_done start
   all-left = rest-same whole
 
-  module _ (i b : ℕ) (done : Done) (r : RunState) (h : i < length f.plan.order) (is : b ≡ get_or f.plan.order i b) (left : IsLeft i done r) where
+  module _ (i b : ℕ) (done : Done) (r : RunState) (h : i < length f.plan.order) (is : b ≡ get_or f.plan.order i b)
+      (left : IsLeft i done r) where
     abbrev pub now : Linked Ran
     now = run_at e opener path outer (imported f.plan.imports done b) (slice_get f.blocks b) r
 
@@ -53,11 +56,18 @@ module _ (e : Setting) (opener : Opener) (path : List ℕ) (outer : Context) (f 
       one-ran ran went = rest-on (rest-next now later ran (ap (λ l. l.answer) (sym as-now) ∙ went)) next-left
 
       -- a block stopped
-      pub one-stopped : (k : kernel.State) (err : LinkFault) → Stops k err now-in → Stops k err (run_planned e opener path outer start f)
-      one-stopped k err s = stops-first k whole finish err (stops-rest k (now >>= later) whole next-left err (stops-first k now later err (subst (Stops k err) as-now s)))
+      pub one-stopped : (k : kernel.State) (err : LinkFault) → Stops k err now-in
+          → Stops k err (run_planned e opener path outer start f)
+      one-stopped k err s =
+          stops-first k whole finish err
+          (stops-rest k (now >>= later) whole next-left err
+          (stops-first k now later err (subst (Stops k err) as-now s)))
 
   -- all of them ran
-  pub all-ran : (i : ℕ) (done : Done) (r : RunState) → drop i f.plan.order ≡ [] → IsLeft i done r → (run_planned e opener path outer start f).answer ≡ Ok (record { exports = exports_at done (place_of f.blocks (codes "main")); run = r })
+  pub all-ran : (i : ℕ) (done : Done) (r : RunState) → drop i f.plan.order ≡ [] → IsLeft i done r
+      → (run_planned e opener path outer start f).answer
+      ≡ Ok (record { exports = exports_at done (place_of f.blocks (codes "main")); run = r })
   all-ran i done r none left =
-      let end : IsRest (answered (Ok (done, r))) whole = subst (λ bs. IsRest (run_blocks e opener path outer f bs done r) whole) none left in
+      let end : IsRest (answered (Ok (done, r))) whole =
+      subst (λ bs. IsRest (run_blocks e opener path outer f bs done r) whole) none left in
       (rest-next whole finish (done, r) end.answer).answer

@@ -35,9 +35,11 @@ pub record AreWithin (limits : Limits) : Type 0 where
 abbrev pub setting_of : Folder → code_setting.Setting → Setting
 setting_of folder s = record { folder = folder; packages = s.packages.now; limits = s.limits.now }
 
--- the link stops with this fault, of an article by the kernel's names; a path that can't be read is one that is needed
+-- the link stops with this fault, of an article by the kernel's names; a path that can't be read is one that is
+-- needed
 abbrev pub Stops : {A : Type 0} → kernel.State → LinkFault → Linked A → Type 0
-Stops k (link.Article path line fault) l = (f : faults.Fault Name) × (fault_of (kernel.name_at k) fault ≡ Some f) × (l.answer ≡ Err (InArticle (string_bytes path) line f))
+Stops k (link.Article path line fault) l = (f : faults.Fault Name) × (fault_of (kernel.name_at k) fault ≡ Some f)
+    × (l.answer ≡ Err (InArticle (string_bytes path) line f))
 Stops k (link.Theory path line fault) l = l.answer ≡ Err (InTheory (string_bytes path) line fault)
 Stops k (link.Structure path line fault) l = l.answer ≡ Err (InStructure (string_bytes path) line fault)
 Stops k (link.TheoryTooLarge path) l = l.answer ≡ Err (TooLarge (string_bytes path))
@@ -56,8 +58,10 @@ ran_of s exports = record { exports = map (export_of s) exports.items; run = run
 
 -- what the run of an article answered, against the stated end
 abbrev pub EndsAs : Session → Result (Vec code.Export Global) ArticleFault → Outcome → Type 0
-EndsAs s (Ok exports) o = (t : State) × (o ≡ Ended t) × (ran_of s exports ≡ record { exports = t.article.exports; run = t.run })
-EndsAs s (Err (article.At line fault)) o = (t : State) × (f : faults.Fault Name) × (fault_of (kernel.name_at s.kernel) fault ≡ Some f) × (o ≡ Stopped line f t)
+EndsAs s (Ok exports) o =
+    (t : State) × (o ≡ Ended t) × (ran_of s exports ≡ record { exports = t.article.exports; run = t.run })
+EndsAs s (Err (article.At line fault)) o = (t : State) × (f : faults.Fault Name)
+    × (fault_of (kernel.name_at s.kernel) fault ≡ Some f) × (o ≡ Stopped line f t)
 EndsAs s (Err article.ReadFault) o = Unit {0}
 EndsAs s (Err article.Memory) o = Unit {0}
 
@@ -78,7 +82,8 @@ NamesSymbolIn k link.Memory = Unit {0}
 -- a missing file is counted, and so is a failure, which is one of the path that was asked for, where that is told
 abbrev pub HasCause : LinkFault → ℕ → ℕ → ℕ → ℕ → Option (List ℕ) → Type 0
 HasCause (link.NoFile path) misses misses' faults faults' at = Rose misses misses'
-HasCause (link.ReadFault path) misses misses' faults faults' at = Rose faults faults' × IfSome at (λ asked. string_bytes path ≡ asked)
+HasCause (link.ReadFault path) misses misses' faults faults' at =
+    Rose faults faults' × IfSome at (λ asked. string_bytes path ≡ asked)
 HasCause (link.Article path line fault) misses misses' faults faults' at = Unit {0}
 HasCause (link.Theory path line fault) misses misses' faults faults' at = Unit {0}
 HasCause (link.Structure path line fault) misses misses' faults faults' at = Unit {0}

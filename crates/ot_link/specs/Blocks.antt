@@ -49,13 +49,15 @@ article_end path (Stopped line fault s) = Err (InArticle path line fault)
 abbrev pub run_article : Setting → List ℕ → Context → RunState → Linked Ran
 run_article e path c r =
     file_at e path >>= λ bytes.
-    answered (article_end path (run c (lines_of e.limits.article_bytes bytes) (record { article = fresh_article; run = r })))
+    answered (article_end path
+    (run c (lines_of e.limits.article_bytes bytes) (record { article = fresh_article; run = r })))
 
 -- a package that a line asks for, run in a context
 abbrev pub Opener : Type 0
 Opener = ℕ → List ℕ → Context → RunState → Linked Ran
 
--- what a block takes its exports from: an article with this value, a package that is asked for in this line, or its imports
+-- what a block takes its exports from: an article with this value, a package that is asked for in this line, or its
+-- imports
 pub data Source : Type 0 where
   FromArticle : List ℕ → Source
   FromPackage : ℕ → List ℕ → Source
@@ -80,4 +82,5 @@ run_source e opener path imports FromImports c r = answered (Ok (record { export
 
 -- a block with these imported exports, in the theory file of this path, which is run in an outer context
 abbrev pub run_block : Setting → Opener → List ℕ → Context → BlockText → List Export → RunState → Linked Ran
-run_block e opener path outer b imports r = run_source e opener path imports (source_at (source_of b)) (context_in outer b.statements imports) r
+run_block e opener path outer b imports r =
+    run_source e opener path imports (source_at (source_of b)) (context_in outer b.statements imports) r

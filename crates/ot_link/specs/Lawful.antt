@@ -1,10 +1,12 @@
--- When a session is lawful, and what is lawful over it: every assumption, definition and export of a run is what its origin
--- makes, from the axioms and the definitions of the run, and each name of an origin is one that a line can say.
+-- When a session is lawful, and what is lawful over it: every assumption, definition and export of a run is what its
+-- origin makes, from the axioms and the definitions of the run, and each name of an origin is one that a line can
+-- say.
 use Rattle.std.specs.Prelude.{List, map}
 use Rattle.std.specs.List.{All}
 use Rattle.ot_theory.specs.Theory.{TagText}
 use Rattle.ot_machine.specs.States.{RunState, Context, Export}
-use Rattle.ot_machine.specs.Lawful.{Basis, run_basis, IsLarger, IsLawfulExport, IsLawfulRun, AreLawfulGivens, StatesSequent, AreApart, IsNaming}
+use Rattle.ot_machine.specs.Lawful.{Basis, run_basis, IsLarger, IsLawfulExport, IsLawfulRun}
+use Rattle.ot_machine.specs.Lawful.{AreLawfulGivens, StatesSequent, AreApart, IsNaming}
 use Rattle.ot_machine.specs.Writable.{IsWritable}
 use Rattle.ot_machine.specs.Meaning.{export_of, run_of}
 use Rattle.ot_machine.specs.Contexts.{context_of}
@@ -43,4 +45,5 @@ pub record StaysLawful (old new : Session) : Type 0 where
 
 -- a law: in a block, too, what a line can say is read so, where it is in the context of the block's file
 abbrev pub BlocksAreNaming : Type 0
-BlocksAreNaming = (outer : Context) (statements : List TagText) (imports : List Export) → AreRight statements → IsNaming IsWritable outer → IsNaming IsWritable (context_in outer statements imports)
+BlocksAreNaming = (outer : Context) (statements : List TagText) (imports : List Export) → AreRight statements
+    → IsNaming IsWritable outer → IsNaming IsWritable (context_in outer statements imports)

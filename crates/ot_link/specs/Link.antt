@@ -1,5 +1,6 @@
 -- The run of theory files.
-use Rattle.std.specs.Prelude.{ℕ, zero, suc, List, [], ◌∷◌, ◌++◌, ◌==◌, codes, flat_map, slice_get, slice_index_or, Option, Some, None, Ok, Err, if◌then◌else◌}
+use Rattle.std.specs.Prelude.{ℕ, zero, suc, List, [], ◌∷◌, ◌++◌, ◌==◌, codes, flat_map, slice_get}
+use Rattle.std.specs.Prelude.{slice_index_or, Option, Some, None, Ok, Err, if◌then◌else◌}
 use Rattle.std.specs.List.{list_any}
 use Rattle.std.specs.Str.{bytes_eq}
 use Rattle.ot_theory.specs.Theory.{BlockText}
@@ -33,7 +34,8 @@ run_at e opener path outer imports None r = answered (Ok (record { exports = [];
 run_at e opener path outer imports (Some b) r = run_block e opener path outer b imports r
 
 -- blocks in their order
-abbrev pub run_blocks : Setting → Opener → List ℕ → Context → Planned → List ℕ → Done → RunState → Linked (Done × RunState)
+abbrev pub run_blocks : Setting → Opener → List ℕ → Context → Planned → List ℕ → Done → RunState
+    → Linked (Done × RunState)
 run_blocks e opener path outer f [] done r = answered (Ok (done, r))
 run_blocks e opener path outer f (b ∷ bs) done r =
     run_at e opener path outer (imported f.plan.imports done b) (slice_get f.blocks b) r >>= λ ran.
@@ -64,14 +66,17 @@ run_file e opener path outer r =
 
 -- a package isn't opened inside itself; the chain has the full names of the packages that are being run
 abbrev pub unless_open : List (List ℕ) → List ℕ → ℕ → List ℕ → Linked Ran → Linked Ran
-unless_open chain path line full inside = if list_any (bytes_eq full) chain then answered (Err (InStructure path line PackageCycle)) else inside
+unless_open chain path line full inside =
+    if list_any (bytes_eq full) chain then answered (Err (InStructure path line PackageCycle)) else inside
 
 -- how a theory file opens packages, where so many more may be opened inside each other
 abbrev pub opener : ℕ → Setting → List (List ℕ) → List ℕ → Opener
-opener zero e chain path line full c r = unless_open chain path line full (answered (Err (InStructure path line PackageDepth)))
+opener zero e chain path line full c r =
+    unless_open chain path line full (answered (Err (InStructure path line PackageDepth)))
 opener (suc left) e chain path line full c r =
     unless_open chain path line full
-    (run_file e (opener left e (chain ++ full ∷ []) (package_path e.packages full)) (package_path e.packages full) c r)
+    (run_file e (opener left e (chain ++ full ∷ []) (package_path e.packages full)) (package_path e.packages full) c
+    r)
 
 -- the theory file of a path and all that it asks for, from no assumption and no definition
 abbrev pub link : Setting → List ℕ → Linked Ran

@@ -10,8 +10,8 @@ ghost use Rattle.ot_machine.specs.Run.{run};
 ghost use Rattle.ot_machine.specs.Answers.{NamesSymbolIn as NamesSymbolInArticle};
 ghost use Rattle.ot_link.specs.Blocks.{article_end, run_article};
 ghost use Rattle.ot_link.specs.Stops.{answered_by};
-ghost use Rattle.ot_link.specs.Answers.{AreWithin, setting_of, Comes, ran_of, EndsAs, AreExportsIn, NamesSymbolIn};
-ghost use Rattle.ot_link.specs.Answers.{HasCause, IsOfArticle, HasFailed};
+ghost use Rattle.ot_link.specs.Answers.{AreWithin, setting_of, Comes, ran_of, EndsAs, AreExportsIn};
+ghost use Rattle.ot_link.specs.Answers.{NamesSymbolIn, HasCause, IsOfArticle, HasFailed};
 ghost use Rattle.ot_link.specs.Lawful.{IsLawfulSession, IsLawfulContext, AreLawfulOnce, StaysLawful};
 
 use crate::fault::LinkFault;

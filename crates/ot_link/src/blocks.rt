@@ -1,6 +1,6 @@
 // Blocks, theory files and packages as they are run.
-ghost use Rattle.std.specs.Prelude.{◌≡◌, ◌≤◌, ◌<◌, ◌++◌, ◌∷◌, ℕ, [], Some, true, map, codes, length, position};
-ghost use Rattle.std.specs.Prelude.{slice_get, slice_index_or, IfOk, IfErr, string_bytes};
+ghost use Rattle.std.specs.Prelude.{◌≡◌, ◌≤◌, ◌<◌, ◌++◌, ◌∷◌, ℕ, [], Some, true, map, codes, length};
+ghost use Rattle.std.specs.Prelude.{position, slice_get, slice_index_or, IfOk, IfErr, string_bytes};
 ghost use Rattle.std.specs.List.{All, list_any};
 ghost use Rattle.std.specs.Str.{bytes_eq};
 ghost use Rattle.ot_io.specs.Folder.{Folder};
@@ -14,8 +14,8 @@ ghost use Rattle.ot_link.specs.Link.{imported, run_at, run_planned, run_file};
 ghost use Rattle.ot_link.specs.Answers.{AreWithin, setting_of, Comes, ran_of, AreExportsIn, NamesSymbolIn, HasCause};
 ghost use Rattle.ot_link.specs.Holding.{held_at, held_of, done_of};
 ghost use Rattle.ot_link.specs.Running.{chain_of, first_source, opener_of, source_value, IsRunnable, IsSourceRight};
-ghost use Rattle.ot_link.specs.Lawful.{IsLawfulSession, IsLawfulContext, AreLawfulExports, AreLawfulOnce};
-ghost use Rattle.ot_link.specs.Lawful.{StaysLawful};
+ghost use Rattle.ot_link.specs.Lawful.{IsLawfulSession, IsLawfulContext};
+ghost use Rattle.ot_link.specs.Lawful.{AreLawfulExports, AreLawfulOnce, StaysLawful};
 
 use crate::article::run_article;
 use crate::exports::{each_once, given_to, imported};

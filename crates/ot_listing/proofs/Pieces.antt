@@ -1,5 +1,6 @@
 -- The texts of types and terms, piece by piece.
-use Rattle.std.specs.Prelude.{◌≡◌, ℕ, ◌+◌, ◌<◌, Bool, true, false, cond, List, [], ◌∷◌, ◌++◌, length, map, is_some, codes, None, Some}
+use Rattle.std.specs.Prelude.{◌≡◌, ℕ, ◌+◌, ◌<◌, Bool, true, false, cond, List, []}
+use Rattle.std.specs.Prelude.{◌∷◌, ◌++◌, length, map, is_some, codes, None, Some}
 use Rattle.std.specs.Global.{Vec}
 use Rattle.std.proofs.Common.{refl, sym, ◌∙◌, ap, arith, append_assoc, append-nil, get_or}
 use Rattle.ot_plain.specs.Names.{Name, spelled}
@@ -23,12 +24,14 @@ cond-false true x y p = cc
 cond-false false x y p = refl
 
 -- ---- names
-pub spelled-name : (n : Name) (cs : List (Vec ℕ)) → map (λ c. c.items) cs ≡ n → 0 < length cs → spelled n ≡ name_text n
+pub spelled-name : (n : Name) (cs : List (Vec ℕ)) → map (λ c. c.items) cs ≡ n → 0 < length cs
+    → spelled n ≡ name_text n
 spelled-name n [] p h = absurd (omega (arith, h))
 spelled-name n (c ∷ cs) p h = ap spelled (sym p) ∙ ap name_text p
 
 -- ---- types
-arrow-pieces : (x y : List ℕ) → codes "(" ++ x ++ codes " -> " ++ y ++ codes ")" ≡ codes "(" ++ x ++ codes " ->" ++ (codes " " ++ y ++ []) ++ codes ")"
+arrow-pieces : (x y : List ℕ) → codes "(" ++ x ++ codes " -> " ++ y ++ codes ")"
+    ≡ codes "(" ++ x ++ codes " ->" ++ (codes " " ++ y ++ []) ++ codes ")"
 arrow-pieces x y =
     ap (λ z. z ++ codes ")") (
     append_assoc (codes "(" ++ x) (codes " -> ") y
@@ -36,13 +39,17 @@ arrow-pieces x y =
     ∙ sym (append_assoc (codes "(" ++ x) (codes " ->") (codes " " ++ y ++ []))
     )
 
-pub function-pieces : (t a b : Ty Name) → as_fun_ty names t ≡ Some (a, b) → codes "(" ++ ty_text a ++ codes " -> " ++ ty_text b ++ codes ")" ≡ ty_text t
+pub function-pieces : (t a b : Ty Name) → as_fun_ty names t ≡ Some (a, b)
+    → codes "(" ++ ty_text a ++ codes " -> " ++ ty_text b ++ codes ")" ≡ ty_text t
 function-pieces t a b p =
     arrow-pieces (ty_text a) (ty_text b)
-    ∙ cond-true (is_function names (fun_ty names a b)) _ (codes "(" ++ name_text names.arrow ++ spaced_text (MoreTys a (MoreTys b NoTys)) ++ codes ")") (ap is_some (as_fun_ty-fun names tells_names a b))
+    ∙ cond-true (is_function names (fun_ty names a b)) _
+    (codes "(" ++ name_text names.arrow ++ spaced_text (MoreTys a (MoreTys b NoTys)) ++ codes ")")
+    (ap is_some (as_fun_ty-fun names tells_names a b))
     ∙ ap ty_text (sym (as_fun_ty-some names tells_names t a b p))
 
-pub operator-pieces : (ts : List Item) (t : Ty Name) (n : Name) (is : List ℕ) → t ≡ TyOp n (types_at ts is) → as_fun_ty names t ≡ None → 0 < length is
+pub operator-pieces : (ts : List Item) (t : Ty Name) (n : Name) (is : List ℕ) → t ≡ TyOp n (types_at ts is)
+    → as_fun_ty names t ≡ None → 0 < length is
     → codes "(" ++ name_text n ++ spaced_text (types_at ts is) ++ codes ")" ≡ ty_text t
 operator-pieces ts t n [] p h some = absurd (omega arith)
 operator-pieces ts t n (i ∷ is) p h some =
@@ -50,18 +57,23 @@ operator-pieces ts t n (i ∷ is) p h some =
     ∙ ap ty_text (sym p)
 
 pub spaced-more : (ts : List Item) (is : List ℕ) (k i : ℕ) (p0 p q : Printed) → k < length is → i ≡ get_or is k i
-    → Puts (λ js. spaced_text (types_at ts js)) is k p0 p → IsPut (codes " " ++ ty_text (type_at ts i)) p q → Puts (λ js. spaced_text (types_at ts js)) is (k + 1) p0 q
+    → Puts (λ js. spaced_text (types_at ts js)) is k p0 p → IsPut (codes " " ++ ty_text (type_at ts i)) p q
+    → Puts (λ js. spaced_text (types_at ts js)) is (k + 1) p0 q
 spaced-more ts is k i p0 p q h e before put =
-    puts-more (λ js. spaced_text (types_at ts js)) (λ j. codes " " ++ ty_text (type_at ts j)) (λ x xs. refl) is k i p0 p q h before
+    puts-more (λ js. spaced_text (types_at ts js)) (λ j. codes " " ++ ty_text (type_at ts j)) (λ x xs. refl) is k i p0
+    p q h before
     (same-text (ap (λ j. codes " " ++ ty_text (type_at ts j)) e) put)
 
 -- ---- terms
-pub equation-pieces : (t a b : Tm Name) (ty : Ty Name) → as_equation names t ≡ Some (ty, a, b) → codes "(" ++ tm_text a ++ codes " = " ++ tm_text b ++ codes ")" ≡ tm_text t
+pub equation-pieces : (t a b : Tm Name) (ty : Ty Name) → as_equation names t ≡ Some (ty, a, b)
+    → codes "(" ++ tm_text a ++ codes " = " ++ tm_text b ++ codes ")" ≡ tm_text t
 equation-pieces t a b ty p =
-    cond-true (is_equation names (equation names ty a b)) _ _ (ap is_some (as_equation-equation names tells_names ty a b))
+    cond-true (is_equation names (equation names ty a b)) _ _
+    (ap is_some (as_equation-equation names tells_names ty a b))
     ∙ ap tm_text (sym (as_equation-some names tells_names t ty a b p))
 
-pub application-pieces : (t f x : Tm Name) → t ≡ App f x → as_equation names t ≡ None → codes "(" ++ tm_text f ++ codes " " ++ tm_text x ++ codes ")" ≡ tm_text t
+pub application-pieces : (t f x : Tm Name) → t ≡ App f x → as_equation names t ≡ None
+    → codes "(" ++ tm_text f ++ codes " " ++ tm_text x ++ codes ")" ≡ tm_text t
 application-pieces t f x p h =
     cond-false (is_equation names (App f x)) _ _ (ap (is_equation names) (sym p) ∙ ap is_some h)
     ∙ ap tm_text (sym p)

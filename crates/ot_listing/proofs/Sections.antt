@@ -8,19 +8,24 @@ use Rattle.ot_text.specs.Pages.{Printed, IsPut}
 use Rattle.ot_text.proofs.Putting.{Puts, puts-more, same-text}
 
 -- an item's line, followed by those of the others
-pub items-first : (x y : List ℕ) (xs : List (List ℕ)) → y ≡ x → items_text (x ∷ xs) ≡ codes "  " ++ y ++ codes "\n" ++ items_text xs
+pub items-first : (x y : List ℕ) (xs : List (List ℕ)) → y ≡ x → items_text (x ∷ xs) ≡ codes "  " ++ y ++ codes "\n"
+    ++ items_text xs
 items-first x y xs p =
     ap (λ z. codes "  " ++ z ++ 10 ∷ items_text xs) (sym p)
     ∙ sym (append_assoc (codes "  " ++ y) (10 ∷ []) (items_text xs))
 
-pub items-more : {X : Type 0} (f : X → List ℕ) (xs : List X) (i : ℕ) (x : X) (s0 s t : Printed) → i < length xs → x ≡ get_or xs i x
-    → Puts (λ ys. items_text (map f ys)) xs i s0 s → IsPut (codes "  " ++ f x ++ codes "\n") s t → Puts (λ ys. items_text (map f ys)) xs (i + 1) s0 t
+pub items-more : {X : Type 0} (f : X → List ℕ) (xs : List X) (i : ℕ) (x : X) (s0 s t : Printed) → i < length xs
+    → x ≡ get_or xs i x
+    → Puts (λ ys. items_text (map f ys)) xs i s0 s → IsPut (codes "  " ++ f x ++ codes "\n") s t
+    → Puts (λ ys. items_text (map f ys)) xs (i + 1) s0 t
 items-more f xs i x s0 s t h p before put =
-    puts-more (λ ys. items_text (map f ys)) (λ y. codes "  " ++ f y ++ codes "\n") (λ y ys. items-first (f y) (f y) (map f ys) refl) xs i x s0 s t h before
+    puts-more (λ ys. items_text (map f ys)) (λ y. codes "  " ++ f y ++ codes "\n")
+    (λ y ys. items-first (f y) (f y) (map f ys) refl) xs i x s0 s t h before
     (same-text (ap (λ y. codes "  " ++ f y ++ codes "\n") p) put)
 
 -- a section: its title, how many items it has, and their lines
-pub section-pieces : (title : List ℕ) (n : ℕ) (xs : List (List ℕ)) → n ≡ length xs → (title ++ codes ": " ++ number_text n ++ 10 ∷ []) ++ items_text xs ≡ section_text true title xs
+pub section-pieces : (title : List ℕ) (n : ℕ) (xs : List (List ℕ)) → n ≡ length xs
+    → (title ++ codes ": " ++ number_text n ++ 10 ∷ []) ++ items_text xs ≡ section_text true title xs
 section-pieces title n xs p =
     append_assoc (title ++ codes ": " ++ number_text n) (10 ∷ []) (items_text xs)
     ∙ ap (λ k. title ++ codes ": " ++ number_text k ++ 10 ∷ items_text xs) p
@@ -30,10 +35,12 @@ items-bytes : (xs : List (List ℕ)) → bytes_in xs ≤ length (items_text xs)
 items-bytes [] = omega arith
 items-bytes (x ∷ xs) =
     let more = items-bytes xs in
-    let n : length (codes "  " ++ x ++ 10 ∷ items_text xs) ≡ suc (suc (length x + suc (length (items_text xs)))) = ap (λ k. suc (suc k)) (length-append x (10 ∷ items_text xs)) in
+    let n : length (codes "  " ++ x ++ 10 ∷ items_text xs) ≡ suc (suc (length x + suc (length (items_text xs)))) =
+    ap (λ k. suc (suc k)) (length-append x (10 ∷ items_text xs)) in
     omega arith
 
-pub section-bytes : (room : ℕ) (title : List ℕ) (xs : List (List ℕ)) → room < bytes_in xs → room < length (section_text true title xs)
+pub section-bytes : (room : ℕ) (title : List ℕ) (xs : List (List ℕ)) → room < bytes_in xs
+    → room < length (section_text true title xs)
 section-bytes room title xs h =
     let items = items-bytes xs in
     let n = length-append (title ++ codes ": " ++ number_text (length xs)) (10 ∷ items_text xs) in

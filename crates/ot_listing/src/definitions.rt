@@ -6,8 +6,8 @@ ghost use Rattle.ot_nodes.specs.Changing.{variable_at, HasVariable};
 ghost use Rattle.ot_rules.specs.Statements.{sequent_at, HasStatement};
 ghost use Rattle.ot_rules.specs.Definitions.{definition_at, HasDefinition, pairs_at, HasPairs, names_at};
 ghost use Rattle.ot_text.specs.Texts.{sequent_text};
-ghost use Rattle.ot_text.specs.Sections.{pair_text, pairs_text, names_text, head_text, theorems_text};
-ghost use Rattle.ot_text.specs.Sections.{definition_text};
+ghost use Rattle.ot_text.specs.Sections.{pair_text, pairs_text, names_text};
+ghost use Rattle.ot_text.specs.Sections.{head_text, theorems_text, definition_text};
 ghost use Rattle.ot_text.specs.Pages.{IsPut, printed};
 ghost use Rattle.ot_rules.specs.Accepting.{accepted_at, HasAccepted};
 

@@ -1,7 +1,9 @@
--- No step of a run is refused: terms and theorems of a run are well typed, and words have as many operands as they take.
+-- No step of a run is refused: terms and theorems of a run are well typed, and words have as many operands as they
+-- take.
 use Rattle.std.specs.Prelude.{◌⊎◌, ◌==◌}
 use Rattle.std.specs.List.{All, AllByRecursion}
-use Rattle.std.proofs.Common.{◌≡◌, ◌<◌, inl, inr, ℕ, suc, true, List, [], ◌∷◌, length, Ok, refl, sym, ap, subst, ◌∙◌, arith}
+use Rattle.std.proofs.Common.{◌≡◌, ◌<◌, inl, inr, ℕ, suc, true, List, [], ◌∷◌}
+use Rattle.std.proofs.Common.{length, Ok, refl, sym, ap, subst, ◌∙◌, arith}
 use Rattle.std.proofs.lemmas.Bool.Decides.{nat_tests}
 use Rattle.std.proofs.lemmas.List.Elements.{All-nil, All-cons}
 use Rattle.ot_plain.specs.Names.{Name}
@@ -33,7 +35,8 @@ use Rattle.ot_plain.proofs.Results.{bind-ok, same_Ok, unless-ok}
 pub typed-term : (o : Origin Name) (t : Tm Name) → HasResult (value o) → Makes o (term t) → IsWellTyped names t
 typed-term o t h m = let k : IsKeptTerm t = subst IsKeptObject (m.is h.0 h.1) (value-kept o h.0 h.1) in k.typed
 
-all-typed : (ts : List (Tm Name)) → AllByRecursion (λ t. HasType names t (bool_ty names)) ts → All (IsWellTyped names) ts
+all-typed : (ts : List (Tm Name)) → AllByRecursion (λ t. HasType names t (bool_ty names)) ts
+    → All (IsWellTyped names) ts
 all-typed [] h = All-nil (IsWellTyped names)
 all-typed (t ∷ ts) h = All-cons (IsWellTyped names) t ts (bool_ty names, h.0) (all-typed ts h.1)
 
@@ -44,7 +47,8 @@ typed-theorem o q h m =
 
 -- ---- how many operands
 
-values-long : (s : Session) (is : List ℕ) (vs : List Object) → values (origins_of s is) ≡ Ok vs → length vs ≡ length is
+values-long : (s : Session) (is : List ℕ) (vs : List Object) → values (origins_of s is) ≡ Ok vs
+    → length vs ≡ length is
 values-long s [] vs h = ap length (sym (same_Ok [] vs h))
 values-long s (i ∷ is) vs h =
     let (v, p, k) = bind-ok (value (origin_of s i)) _ vs h in
@@ -54,7 +58,8 @@ values-long s (i ∷ is) vs h =
 same-number : (m n : ℕ) → (m == n) ≡ true → m ≡ n
 same-number m n h = grind (arith, nat_tests)
 
-made-long : (s : Session) (w : Cmd) (is : List ℕ) → HasResult (value (Make w (origins_of s is))) → length is ≡ arity (maker w)
+made-long : (s : Session) (w : Cmd) (is : List ℕ) → HasResult (value (Make w (origins_of s is)))
+    → length is ≡ arity (maker w)
 made-long s w is h =
     let (vs, p, k) = bind-ok (values (origins_of s is)) _ h.0 h.1 in
     let (u, q, l) = bind-ok (unless StackEmpty (length vs == arity (maker w))) _ h.0 k in
@@ -77,7 +82,8 @@ one-or-two words.Axiom h = inr refl
 one-or-two _ h = absurd (cc)
 
 -- a word that makes theorems has one operand or two
-pub few-operands : (s : Session) (w : Cmd) (is : List ℕ) → makes_theorem w ≡ true → HasResult (value (Make w (origins_of s is)))
+pub few-operands : (s : Session) (w : Cmd) (is : List ℕ) → makes_theorem w ≡ true
+    → HasResult (value (Make w (origins_of s is)))
     → (0 < length is) × (length is < 3)
 few-operands s w is m h = elim (one-or-two w m) [
   | inl e ↦ let n = made-long s w is h ∙ e in (omega (arith, n), omega (arith, n))
@@ -87,13 +93,15 @@ few-operands s w is m h = elim (one-or-two w m) [
 -- ---- definitions
 
 accepted : (s : Session) (w : Cmd) (is : List ℕ) → IsDefinable (Define w (origins_of s is))
-    → (ds : List (Definition Name)) × (vs : List Object) × (values (origins_of s is) ≡ Ok vs) × HasResult (defines w ds vs)
+    → (ds : List (Definition Name)) × (vs : List Object) × (values (origins_of s is) ≡ Ok vs)
+    × HasResult (defines w ds vs)
 accepted s w is h =
     let (vs, p, k) = bind-ok (values (origins_of s is)) _ h.1.0 h.1.1 in
     (h.0, vs, p, (h.1.0, k))
 
 -- what a word defines of these values, where it is accepted of the steps that have them
-pub defines-something : (s : Session) (w : Cmd) (is : List ℕ) (vs : List Object) → IsDefinable (Define w (origins_of s is))
+pub defines-something : (s : Session) (w : Cmd) (is : List ℕ) (vs : List Object)
+    → IsDefinable (Define w (origins_of s is))
     → values (origins_of s is) ≡ Ok vs → (ds : List (Definition Name)) × HasResult (defines w ds vs)
 defines-something s w is vs h e =
     let (ds, us, p, d) = accepted s w is h in
@@ -115,8 +123,10 @@ defining-word s w is h a b c =
     let (u, q, l) = bind-ok (unless StackEmpty (length vs == definition_arity w)) _ d.0 d.1 in
     other w ds vs d.0 a b c l
   where
-    other : (w : Cmd) (ds : List (Definition Name)) (vs : List Object) (x : Definition Name) → (w ≡ words.DefineConst → ⊥)
-        → (w ≡ words.DefineConstList → ⊥) → (w ≡ words.DefineTypeOp → ⊥) → defined_by w ds (λ n. value_at n vs) ≡ Ok x → ⊥
+    other : (w : Cmd) (ds : List (Definition Name)) (vs : List Object) (x : Definition Name)
+        → (w ≡ words.DefineConst → ⊥)
+        → (w ≡ words.DefineConstList → ⊥) → (w ≡ words.DefineTypeOp → ⊥) → defined_by w ds (λ n. value_at n vs) ≡ Ok x
+        → ⊥
     other words.DefineConst ds vs x a b c e = a refl
     other words.DefineConstList ds vs x a b c e = b refl
     other words.DefineTypeOp ds vs x a b c e = c refl

@@ -1,14 +1,16 @@
 -- The records of a theorem whose operands are written, and of definitions.
 use Rattle.std.specs.Prelude.{◌-◌, pos}
 use Rattle.std.specs.List.{All, AllByRecursion}
-use Rattle.std.proofs.Common.{◌≡◌, ℕ, suc, ◌<◌, List, [], ◌∷◌, ◌++◌, map, length, slice_get, slice_index_or, Some, Ok, refl, sym}
+use Rattle.std.proofs.Common.{◌≡◌, ℕ, suc, ◌<◌, List, [], ◌∷◌, ◌++◌, map, length}
+use Rattle.std.proofs.Common.{slice_get, slice_index_or, Some, Ok, refl, sym}
 use Rattle.std.proofs.Common.{ap, subst, ◌∙◌, arith}
 use Rattle.std.proofs.lemmas.Option.{get_or_from_slice_get}
 use Rattle.std.proofs.lemmas.List.Elements.{All-head, All-tail}
 use Rattle.ot_plain.specs.Names.{Name}
 use Rattle.ot_plain.specs.declared.command.Cmd.{Cmd}
 use Rattle.ot_kernel.specs.State.{name_at}
-use Rattle.ot_trace.specs.Origins.{Origin, Origins, Number, Make, Define, NoOrigins, MoreOrigins, map_origin, map_origins}
+use Rattle.ot_trace.specs.Origins.{Origin, Origins, Number, Make, Define}
+use Rattle.ot_trace.specs.Origins.{NoOrigins, MoreOrigins, map_origin, map_origins}
 use Rattle.ot_trace.specs.Trace.{IsBelow, origin_at, origins_at, origin_of as step_origin}
 use Rattle.ot_trace.specs.declared.step.Step.{Step}
 use Rattle.ot_trace.specs.declared.step.Step.TheVariants as step
@@ -20,14 +22,16 @@ use Rattle.ot_entries.specs.Entries.{Entry}
 use Rattle.ot_entries.specs.Logged.{Log, write_entry, write_sequents}
 use Rattle.ot_log.specs.declared.writer.Place.{Place}
 use Rattle.ot_proof_log.specs.Derived.{theorem_entries, definition_entries, read}
-use Rattle.ot_proof_log.specs.Writing.{Written, listed, number_of, numbers_of, mark, put_theorem, put_definition, put_result}
+use Rattle.ot_proof_log.specs.Writing.{Written, listed, number_of, numbers_of, mark}
+use Rattle.ot_proof_log.specs.Writing.{put_theorem, put_definition, put_result}
 use Rattle.ot_proof_log.specs.Writing.{result_entry, write, write_entries}
 use Rattle.ot_sheet.specs.Sheets.{Shows, Moves as SheetMoves}
 use Rattle.ot_sheet.specs.declared.sheet.Sheet.{Sheet}
 use Rattle.ot_rules.specs.declared.statement.Statement.{Statement}
 use Rattle.ot_values.specs.Steps.{origins_of}
 use Rattle.ot_words.specs.declared.words.Made.{Made}
-use Rattle.ot_log.specs.Keeping.{Holds, IsNumbered, IsWriter, Marks, Moves, Puts, PutsDefinition, number_in, number_at}
+use Rattle.ot_log.specs.Keeping.{Holds, IsNumbered, IsWriter, Marks, Moves}
+use Rattle.ot_log.specs.Keeping.{Puts, PutsDefinition, number_in, number_at}
 use Rattle.ot_log.specs.Keeping.{numbers_at}
 use Rattle.ot_log.specs.Working.{close}
 use Rattle.ot_log.specs.declared.writer.Writer.{Writer}
@@ -37,7 +41,8 @@ use Rattle.ot_log.proofs.Placed.{marked-holds, marked-writer}
 
 -- ---- the origins of steps
 
-pub origins-are : (s : Session) (is : List ℕ) → map_origins (name_at s.kernel) (origins_at s.trace is) ≡ origins_of s is
+pub origins-are : (s : Session) (is : List ℕ) → map_origins (name_at s.kernel) (origins_at s.trace is)
+    ≡ origins_of s is
 origins-are s [] = refl
 origins-are s (i ∷ is) = ap (MoreOrigins (origin_of s i)) (origins-are s is)
 
@@ -50,20 +55,24 @@ each-lower : (is : List ℕ) (n id : ℕ) → All (λ i. i < id) is → id < n �
 each-lower is n id h low j d l = let g : slice_index_or is j d < id = h j d l in omega arith
 
 -- by the word and the operands that are read
-pub made-origin : (s : Session) (id : ℕ) (ts : List (Origin ℕ)) (r : Step) (w : Cmd) (ops : _) (is : List ℕ) → ts ≡ s.trace
-    → slice_get ts id ≡ Some (step_origin ts r) → r ≡ step.Make w ops → is ≡ ops.items → origin_of s id ≡ Make w (origins_of s is)
+pub made-origin : (s : Session) (id : ℕ) (ts : List (Origin ℕ)) (r : Step) (w : Cmd) (ops : _) (is : List ℕ)
+    → ts ≡ s.trace
+    → slice_get ts id ≡ Some (step_origin ts r) → r ≡ step.Make w ops → is ≡ ops.items
+    → origin_of s id ≡ Make w (origins_of s is)
 made-origin s id ts r w ops is t at e l =
     step-origin s id r (step.Make w ops) (subst (λ ts. slice_get ts id ≡ Some (step_origin ts r)) t at) e
     ∙ ap (Make w) (origins-are s ops.items ∙ ap (origins_of s) (sym l))
 
-pub defined-origin : (s : Session) (id : ℕ) (ts : List (Origin ℕ)) (r : Step) (w : Cmd) (ops : _) (syms : _) (is : List ℕ)
+pub defined-origin : (s : Session) (id : ℕ) (ts : List (Origin ℕ)) (r : Step) (w : Cmd) (ops : _) (syms : _)
+    (is : List ℕ)
     → ts ≡ s.trace → slice_get ts id ≡ Some (step_origin ts r) → r ≡ step.Define w ops syms → is ≡ ops.items
     → origin_of s id ≡ Define w (origins_of s is)
 defined-origin s id ts r w ops syms is t at e l =
     step-origin s id r (step.Define w ops syms) (subst (λ ts. slice_get ts id ≡ Some (step_origin ts r)) t at) e
     ∙ ap (Define w) (origins-are s ops.items ∙ ap (origins_of s) (sym l))
 
-pub made-numbered : (s : Session) (id : ℕ) (ts : List (Origin ℕ)) (r : Step) (w : Cmd) (ops : _) (is : List ℕ) → ts ≡ s.trace
+pub made-numbered : (s : Session) (id : ℕ) (ts : List (Origin ℕ)) (r : Step) (w : Cmd) (ops : _) (is : List ℕ)
+    → ts ≡ s.trace
     → slice_get ts id ≡ Some (step_origin ts r) → r ≡ step.Make w ops → is ≡ ops.items
     → origin_at s.trace id ≡ Make w (origins_at s.trace is)
 made-numbered s id ts r w ops is t at e l =
@@ -72,7 +81,8 @@ made-numbered s id ts r w ops is t at e l =
     ∙ ap (λ l. Make w (origins_at s.trace l)) (sym l)
 
 -- a step's operands are of the trace
-pub made-inside : (n id : ℕ) (r : Step) (w : Cmd) (ops : _) (is : List ℕ) → IsBelow id r → r ≡ step.Make w ops → is ≡ ops.items
+pub made-inside : (n id : ℕ) (r : Step) (w : Cmd) (ops : _) (is : List ℕ) → IsBelow id r → r ≡ step.Make w ops
+    → is ≡ ops.items
     → id < n → All (λ i. i < n) is
 made-inside n id r w ops is below e l low = subst (All (λ i. i < n)) (sym l)
     (each-lower ops.items n id (subst (IsBelow id) e below) low)
@@ -113,7 +123,8 @@ module _ (s : Session) (num : IsNumbered s) (old mid new : Writer) (w : Cmd) (id
       ap (read (λ vs. theorem_entries x.log.sequents w vs (numbers_of os x.theorems))) p.values_are
       ∙ ap (theorem_entries x.log.sequents w p.objects) (numbers-agree s max old x ids h inside) in
       subst (Holds s max new) (ap (λ o. mark o m.number y) e ∙ ap (λ n. mark (Make w os) n y) added.1
-      ∙ ap (λ es. mark (Make w os) ((write_sequents es x.log).sequents - 1) (record x { log = write_sequents es x.log }))
+      ∙ ap (λ es. mark (Make w os) ((write_sequents es x.log).sequents - 1)
+      (record x { log = write_sequents es x.log }))
       (sym reads)) marked
 
   pub closed : (id : ℕ) → id < length s.trace → origin_of s id ≡ Make w (origins_of s ids) → Marks id m mid new
@@ -122,7 +133,8 @@ module _ (s : Session) (num : IsNumbered s) (old mid new : Writer) (w : Cmd) (id
 
 -- ---- a definition
 
-pub defined : (s : Session) (old new : Writer) (w : Cmd) (ids : List ℕ) (qs : List Statement) → PutsDefinition s old new w ids qs
+pub defined : (s : Session) (old new : Writer) (w : Cmd) (ids : List ℕ) (qs : List Statement)
+    → PutsDefinition s old new w ids qs
     → All (λ i. i < length s.trace) ids → Moves s old new (put_definition w (origins_of s ids))
 defined s old new w ids qs p inside = λ max x h.
     let os = origins_of s ids in
@@ -140,7 +152,8 @@ defined s old new w ids qs p inside = λ max x h.
 
 -- the theorem of a step that was put has its place
 pub put-writer : (s : Session) (num : IsNumbered s) (old mid new : Writer) (w : Cmd) (ids : List ℕ) (m : Made)
-    (p : Puts s old mid w ids m) (id : ℕ) → id < length s.trace → origin_of s id ≡ Make w (origins_of s ids) → Marks id m mid new
+    (p : Puts s old mid w ids m) (id : ℕ) → id < length s.trace → origin_of s id ≡ Make w (origins_of s ids)
+    → Marks id m mid new
     → IsWriter s new
 put-writer s num old mid new w ids m p id low e k =
     marked-writer s num mid new p.writer id m k low p.records.has (record {
@@ -158,6 +171,7 @@ result-moves s old mid b id p low at m k = λ max x h.
     let holds = m max x h in
     let number : number_of (origin_of s id) y.theorems ≡ Some p.number = holds.numbers id low ∙ ap number_in at in
     record {
-      log = subst (λ l. Shows mid.nodes max b (write_entry (result_entry (listed l)) y.log)) (sym number) (k max y.log holds.log);
+      log = subst (λ l. Shows mid.nodes max b (write_entry (result_entry (listed l)) y.log)) (sym number)
+          (k max y.log holds.log);
       numbers = holds.numbers;
     }

@@ -1,7 +1,8 @@
 -- The theorems of definitions, and their numbers.
 use Rattle.std.specs.Prelude.{IfNone}
 use Rattle.std.specs.List.{All}
-use Rattle.std.proofs.Common.{◌≡◌, ◌≢◌, ℕ, suc, ◌+◌, ◌<◌, List, [], ◌∷◌, ◌++◌, map, length, get_or, slice_get, Option, None}
+use Rattle.std.proofs.Common.{◌≡◌, ◌≢◌, ℕ, suc, ◌+◌, ◌<◌, List, [], ◌∷◌, ◌++◌}
+use Rattle.std.proofs.Common.{map, length, get_or, slice_get, Option, None}
 use Rattle.std.proofs.Common.{Some, Ok, refl, sym, ap, subst, ◌∙◌, arith}
 use Rattle.ot_plain.specs.Names.{Name}
 use Rattle.ot_plain.specs.Naming.{names, name_of}
@@ -33,7 +34,8 @@ use Rattle.ot_sheet.specs.declared.sheet.Sheet.{Sheet}
 use Rattle.ot_values.specs.Steps.{Makes, origins_of}
 use Rattle.ot_words.specs.Recording.{HasResult}
 use Rattle.ot_words.specs.declared.words.Made.{Made}
-use Rattle.ot_log.specs.Keeping.{AreTheorems, Holds, IsDefinable, IsNumbered, IsWriter, Marks, Moves, PutsDefinition, number_at}
+use Rattle.ot_log.specs.Keeping.{AreTheorems, Holds, IsDefinable, IsNumbered}
+use Rattle.ot_log.specs.Keeping.{IsWriter, Marks, Moves, PutsDefinition, number_at}
 use Rattle.ot_log.specs.declared.writer.Writer.{Writer}
 use Rattle.ot_log.proofs.Closed.{defined, step-origin}
 use Rattle.ot_log.proofs.Placed.{naming-is, origin-here, number-other, marked-holds, marked-writer, writer-grown}
@@ -43,7 +45,8 @@ use Rattle.ot_plain.proofs.Results.{bind-ok, same_Ok, some_or-ok}
 -- ---- what the theorems are
 
 pub theorems-made : (s : Session) (old new : Writer) (w : Cmd) (id : ℕ) (ids : List ℕ) (qs : List Statement)
-    → PutsDefinition s old new w ids qs → origin_of s id ≡ Define w (origins_of s ids) → AreTheorems new.nodes (origin_of s id) qs
+    → PutsDefinition s old new w ids qs → origin_of s id ≡ Define w (origins_of s ids)
+    → AreTheorems new.nodes (origin_of s id) qs
 theorems-made s old new w id ids qs p e j q at = record {
   is = λ v h.
       let os = origins_of s ids in
@@ -72,7 +75,8 @@ only-one xs (y ∷ ys) x n e = let m = ap length e in let h = some-long ys x in 
 
 pub only-two : {X : Type 0} (xs ys zs : List X) (x y : X) → length xs ≡ 2 → xs ≡ ys ++ y ∷ [] → ys ≡ zs ++ x ∷ []
     → (slice_get xs 0 ≡ Some x) × (slice_get xs 1 ≡ Some y)
-only-two xs ys [] x y n e f = let g = e ∙ ap (λ l. l ++ y ∷ []) f in (ap (λ l. slice_get l 0) g, ap (λ l. slice_get l 1) g)
+only-two xs ys [] x y n e f = let g = e ∙ ap (λ l. l ++ y ∷ []) f in
+    (ap (λ l. slice_get l 0) g, ap (λ l. slice_get l 1) g)
 only-two xs ys (z ∷ zs) x y n e f = let g = ap length (e ∙ ap (λ l. l ++ y ∷ []) f) in let h =
     two-long zs x y in absurd (omega (arith, g, n, h))
   where
@@ -94,7 +98,8 @@ module _ (s : Session) (num : IsNumbered s) (old : Writer) (b : Sheet) (w : IsWr
   counted-holds m max x h = record { log = m max x.log h.log; numbers = h.numbers }
 
   -- the step of the theorem is of the trace
-  pub outcome-marked : (new : Writer) (step : ℕ) (m : Made) (o : Origin Name) → SheetMoves old.nodes old.sheet b count_sequent
+  pub outcome-marked : (new : Writer) (step : ℕ) (m : Made) (o : Origin Name)
+      → SheetMoves old.nodes old.sheet b count_sequent
       → step < length s.trace → origin_of s step ≡ o → m.number ≡ old.sheet.sequents → Marks step m mid new
       → Moves s old new (add_outcomes (o ∷ []))
   outcome-marked new step m o c low e n k = λ max x h.
@@ -102,8 +107,10 @@ module _ (s : Session) (num : IsNumbered s) (old : Writer) (b : Sheet) (w : IsWr
       subst (Holds s max new) (λ i. mark (e i) ((n ∙ h.log.sequents) i) y)
       (marked-holds s num mid new counted-writer step m k low max y (counted-holds c max x h))
 
-  pub outcome-writer : (new : Writer) (step : ℕ) (m : Made) (o : Origin Name) → step < length s.trace → origin_of s step ≡ o
-      → Marks step m mid new → HasStatement old.nodes m.statement → Makes o (theorem (sequent_at old.nodes m.statement))
+  pub outcome-writer : (new : Writer) (step : ℕ) (m : Made) (o : Origin Name) → step < length s.trace
+      → origin_of s step ≡ o
+      → Marks step m mid new → HasStatement old.nodes m.statement
+      → Makes o (theorem (sequent_at old.nodes m.statement))
       → IsWriter s new
   outcome-writer new step m o low e k has makes =
       marked-writer s num mid new counted-writer step m k low has
@@ -126,12 +133,14 @@ no-step s num j id low none i l e =
     let same : map_origin naming (origin_at s.trace i)
     ≡ map_origin naming (Outcome j (origin_at s.trace id)) = naming-is s num i l ∙ e
     ∙ ap (Outcome j) (sym (naming-is s num id low)) in
-    let one = origin-injective naming (name_of-injective s.kernel.names) (origin_at s.trace i) (Outcome j (origin_at s.trace id))
+    let one = origin-injective naming (name_of-injective s.kernel.names) (origin_at s.trace i)
+    (Outcome j (origin_at s.trace id))
     same in
     none i (origin-here s.trace i l ∙ ap Some one)
 
 -- definitions have values of their operands
-pub definable-values : (o : Origin Name) (w : Cmd) (os : Origins Name) → o ≡ Define w os → IsDefinable o → HasResult (values os)
+pub definable-values : (o : Origin Name) (w : Cmd) (os : Origins Name) → o ≡ Define w os → IsDefinable o
+    → HasResult (values os)
 definable-values o w os e h =
     let d : definition_of h.0 (Define w os) ≡ Ok h.1.0 = ap (definition_of h.0) (sym e) ∙ h.1.1 in
     let (vs, p, k) = bind-ok (values os) _ h.1.0 d in (vs, p)
@@ -158,9 +167,11 @@ if-none None f h = f h
 if-none (Some x) f h = tt
 
 -- five operands
-pub five-are : (xs : List ℕ) (a b c d e : ℕ) → length xs ≡ 5 → a ≡ get_or xs 0 a → b ≡ get_or xs 1 b → c ≡ get_or xs 2 c
+pub five-are : (xs : List ℕ) (a b c d e : ℕ) → length xs ≡ 5 → a ≡ get_or xs 0 a → b ≡ get_or xs 1 b
+    → c ≡ get_or xs 2 c
     → d ≡ get_or xs 3 d → e ≡ get_or xs 4 e → xs ≡ a ∷ b ∷ c ∷ d ∷ e ∷ []
-five-are (p ∷ q ∷ r ∷ s ∷ t ∷ []) a b c d e n ha hb hc hd he = λ i. sym ha i ∷ sym hb i ∷ sym hc i ∷ sym hd i ∷ sym he i ∷ []
+five-are (p ∷ q ∷ r ∷ s ∷ t ∷ []) a b c d e n ha hb hc hd he = λ i. sym ha i ∷ sym hb i ∷ sym hc i ∷ sym hd i
+    ∷ sym he i ∷ []
 five-are (p ∷ q ∷ r ∷ s ∷ t ∷ u ∷ xs) a b c d e n ha hb hc hd he = absurd (omega arith)
 five-are _ a b c d e n ha hb hc hd he = absurd (omega arith)
 
@@ -168,7 +179,8 @@ five-are _ a b c d e n ha hb hc hd he = absurd (omega arith)
 pub define-moves : (s : Session) (a b c d : Writer) (w : Cmd) (id : ℕ) (is ids : List ℕ) (qs : List Statement)
     (outs : List (Origin Name)) → origin_of s id ≡ Define w (origins_of s ids) → is ≡ ids
     → Moves s a b (write_all (origins_of s is)) → PutsDefinition s b c w ids qs → All (λ i. i < length s.trace) ids
-    → outcomes w (origin_of s id) ≡ outs → Moves s c d (add_outcomes outs) → Moves s a d (write_definition (origin_of s id))
+    → outcomes w (origin_of s id) ≡ outs → Moves s c d (add_outcomes outs)
+    → Moves s a d (write_definition (origin_of s id))
 define-moves s a b c d w id is ids qs outs e l first p inside o last = λ max x h.
     let os = origins_of s ids in
     let y = write_all os x in

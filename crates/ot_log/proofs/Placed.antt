@@ -2,8 +2,10 @@
 use Rattle.std.specs.Prelude.{nat_eq, pos}
 use Rattle.std.specs.Bool.{Decides}
 use Rattle.std.specs.List.{All}
-use Rattle.std.proofs.Common.{◌≡◌, ◌≢◌, ℕ, zero, suc, ◌+◌, ◌<◌, ◌⊎◌, inl, inr, Bool, true, false, cond, List, [], ◌∷◌, ◌++◌}
-use Rattle.std.proofs.Common.{length, set, replicate, slice_get, get_or, Option, None, Some, Ok, refl, sym, ap, subst, ◌∙◌, arith}
+use Rattle.std.proofs.Common.{◌≡◌, ◌≢◌, ℕ, zero, suc, ◌+◌, ◌<◌, ◌⊎◌, inl, inr}
+use Rattle.std.proofs.Common.{Bool, true, false, cond, List, [], ◌∷◌, ◌++◌}
+use Rattle.std.proofs.Common.{length, set, replicate, slice_get, get_or, Option}
+use Rattle.std.proofs.Common.{None, Some, Ok, refl, sym, ap, subst, ◌∙◌, arith}
 use Rattle.std.proofs.lemmas.List.{length-set}
 use Rattle.std.proofs.lemmas.List.Elements.{All-weaker, All-push}
 use Rattle.ot_plain.specs.Names.{Name, same_name-Decides}
@@ -52,9 +54,11 @@ origin-here [] i h = absurd (omega arith)
 origin-here (t ∷ ts) zero h = refl
 origin-here (t ∷ ts) (suc i) h = origin-here ts i (omega arith)
 
-once-at : (ts : List (Origin ℕ)) → IsStepTable ts → (i j : ℕ) → i < length ts → j < length ts → origin_at ts i ≡ origin_at ts j
+once-at : (ts : List (Origin ℕ)) → IsStepTable ts → (i j : ℕ) → i < length ts → j < length ts
+    → origin_at ts i ≡ origin_at ts j
     → i ≡ j
-once-at ts table i j h k e = table.injective.same i j (origin_at ts i) (origin-here ts i h) (origin-here ts j k ∙ ap Some (sym e))
+once-at ts table i j h k e =
+    table.injective.same i j (origin_at ts i) (origin-here ts i h) (origin-here ts j k ∙ ap Some (sym e))
 
 get-last : {X : Type 0} (xs : List X) (x : X) → slice_get (xs ++ x ∷ []) (length xs) ≡ Some x
 get-last [] x = refl
@@ -77,7 +81,8 @@ placed-grown s ts us qs i p e all h = record {
   at = h.at;
   makes = record {
     is = λ v k. h.makes.is v k
-        ∙ ap theorem (sym (sequent-stays ts us e h.statement (All-slice_get (HasStatement ts) qs p.at h.statement all h.at)));
+        ∙ ap theorem
+        (sym (sequent-stays ts us e h.statement (All-slice_get (HasStatement ts) qs p.at h.statement all h.at)));
   };
 }
 
@@ -89,7 +94,8 @@ writer-grown s old new w e k t p q = record {
   known = k;
   typings = t;
   statements = subst (All (HasStatement new.nodes)) (sym p)
-      (All-weaker (HasStatement old.nodes) (HasStatement new.nodes) (still-statement old.nodes new.nodes e) old.statements.items
+      (All-weaker (HasStatement old.nodes) (HasStatement new.nodes) (still-statement old.nodes new.nodes e)
+      old.statements.items
       w.statements);
   long = ap length q ∙ w.long;
   placed = λ i pl h.
@@ -100,7 +106,8 @@ writer-grown s old new w e k t p q = record {
 
 -- ---- numbers
 
-pub number-some : (ps : List (Option Place)) (i : ℕ) (p : Place) → slice_get ps i ≡ Some (Some p) → number_at ps i ≡ Some p.number
+pub number-some : (ps : List (Option Place)) (i : ℕ) (p : Place) → slice_get ps i ≡ Some (Some p)
+    → number_at ps i ≡ Some p.number
 number-some ps i p h = ap number_in h
 
 -- what isn't a theorem has no number
@@ -122,7 +129,8 @@ module _ (s : Session) (num : IsNumbered s) where
   naming = name_of s.kernel.names
 
   pub naming-is : (i : ℕ) → i < length s.trace → map_origin naming (origin_at s.trace i) ≡ origin_of s i
-  naming-is i h = origin-agree naming (name_at s.kernel) (length s.kernel.names) (name_of-index s.kernel.names num.names)
+  naming-is i h =
+      origin-agree naming (name_at s.kernel) (length s.kernel.names) (name_of-index s.kernel.names num.names)
       (origin_at s.trace i) (num.run.named i (Number (pos 0)) h)
 
   -- equal origins have equal numbers
@@ -151,7 +159,8 @@ number-more p o n (q ∷ ps) = go (same_origin names.same p q.0) (number-more p 
 
 pub number-first : (o : Origin Name) (n : ℕ) (ps : List (Origin Name × ℕ)) → number_of o ps ≡ None
     → number_of o (ps ++ (o, n) ∷ []) ≡ Some n
-number-first o n ps e = number-more o o n ps ∙ ap (λ r. or_number r (cond (same_origin names.same o o) (Some n) None)) e
+number-first o n ps e = number-more o o n ps ∙ ap (λ r. or_number r (cond (same_origin names.same o o) (Some n) None))
+    e
     ∙ ap (λ b. cond b (Some n) None) ((origin-tells o o).1 refl)
 
 pub number-other : (p o : Origin Name) (n : ℕ) (ps : List (Origin Name × ℕ)) → p ≢ o
@@ -160,7 +169,8 @@ number-other p o n ps d = number-more p o n ps ∙ ap (λ b. or_number (number_o
     ∙ go (number_of p ps)
   where
     differs : same_origin names.same p o ≡ false
-    differs = elim (bool_cases (same_origin names.same p o)) [ inl e ↦ absurd (d ((origin-tells p o).0 e)) | inr e ↦ e ]
+    differs =
+        elim (bool_cases (same_origin names.same p o)) [ inl e ↦ absurd (d ((origin-tells p o).0 e)) | inr e ↦ e ]
 
     go : (r : Option ℕ) → or_number r None ≡ r
     go None = refl
@@ -175,7 +185,8 @@ same_steps (suc i) (suc j) = elim (same_steps i j)
 
 -- ---- a theorem that gets a place
 
-module _ (s : Session) (num : IsNumbered s) (old new : Writer) (w : IsWriter s old) (id : ℕ) (m : Made) (k : Marks id m old new)
+module _ (s : Session) (num : IsNumbered s) (old new : Writer) (w : IsWriter s old) (id : ℕ) (m : Made)
+    (k : Marks id m old new)
     (inside : id < length s.trace) where
   abbrev place : Place
   place = record { number = m.number; at = length old.statements.items }
@@ -190,7 +201,8 @@ module _ (s : Session) (num : IsNumbered s) (old new : Writer) (w : IsWriter s o
     | inr n ↦ inr (sym (slice_get-set_other old.places.items id i (Some place) n) ∙ h)
   ]
 
-  pub marked-writer : HasStatement old.nodes m.statement → Makes (origin_of s id) (theorem (sequent_at old.nodes m.statement))
+  pub marked-writer : HasStatement old.nodes m.statement
+      → Makes (origin_of s id) (theorem (sequent_at old.nodes m.statement))
       → IsWriter s new
   marked-writer has makes = record {
     known = subst (λ z. AreKnown s z new.values) (sym k.nodes) (subst (AreKnown s old.nodes) (sym k.values) w.known);
@@ -216,7 +228,8 @@ module _ (s : Session) (num : IsNumbered s) (old new : Writer) (w : IsWriter s o
         makes = h.makes;
       }
 
-      at-new : (i : ℕ) (p : Place) → i ≡ id → place ≡ p → IsPlaced s old.nodes (old.statements.items ++ m.statement ∷ []) i p
+      at-new : (i : ℕ) (p : Place) → i ≡ id → place ≡ p
+          → IsPlaced s old.nodes (old.statements.items ++ m.statement ∷ []) i p
       at-new i p e q = subst (λ p. IsPlaced s old.nodes (old.statements.items ++ m.statement ∷ []) i p) q (record {
         within = long-push old.statements.items m.statement;
         statement = m.statement;
@@ -226,24 +239,29 @@ module _ (s : Session) (num : IsNumbered s) (old new : Writer) (w : IsWriter s o
 
   pub marked-holds : (max : ℕ) (x : Written) → Holds s max old x → Holds s max new (mark (origin_of s id) m.number x)
   marked-holds max x h = record {
-    log = subst (λ z. Shows z max new.sheet x.log) (sym k.nodes) (subst (λ z. Shows old.nodes max z x.log) (sym k.sheet) h.log);
+    log = subst (λ z. Shows z max new.sheet x.log) (sym k.nodes)
+        (subst (λ z. Shows old.nodes max z x.log) (sym k.sheet) h.log);
     numbers = λ i l. elim (same_steps i id) [
-      | inl e ↦ (let none : number_of (origin_of s id) x.theorems ≡ None = h.numbers id inside ∙ ap number_in k.first in
+      | inl e ↦ (let none : number_of (origin_of s id) x.theorems ≡ None = h.numbers id inside
+          ∙ ap number_in k.first in
           let low : id < length old.places.items = slice_get-low old.places.items id None k.first in
           ap (λ j. number_of (origin_of s j) (x.theorems ++ (origin_of s id, m.number) ∷ [])) e
           ∙ number-first (origin_of s id) m.number x.theorems none
           ∙ sym (ap (λ l. number_at l i) k.places ∙ ap (number_at (set old.places.items id (Some place))) e
           ∙ ap number_in (slice_get-set_same old.places.items id (Some place) low)))
-      | inr n ↦ number-other (origin_of s i) (origin_of s id) m.number x.theorems (λ e. n (steps-same s num i id l inside e))
+      | inr n ↦ number-other (origin_of s i) (origin_of s id) m.number x.theorems
+          (λ e. n (steps-same s num i id l inside e))
           ∙ h.numbers i l
-          ∙ sym (ap (λ l. number_at l i) k.places ∙ ap number_in (slice_get-set_other old.places.items id i (Some place) n))
+          ∙ sym (ap (λ l. number_at l i) k.places
+          ∙ ap number_in (slice_get-set_other old.places.items id i (Some place) n))
     ];
   }
 
 -- ---- a statement that is read at a place, in a table that grew since
 
 pub placed-later : (s : Session) (w : Writer) → IsWriter s w → (ts : List Item) → Extends w.nodes ts
-    → (i : ℕ) (p : Place) (q : Statement) → slice_get w.places.items i ≡ Some (Some p) → q ≡ get_or w.statements.items p.at q
+    → (i : ℕ) (p : Place) (q : Statement) → slice_get w.places.items i ≡ Some (Some p)
+    → q ≡ get_or w.statements.items p.at q
     → HasStatement ts q × Makes (origin_of s i) (theorem (sequent_at ts q))
 placed-later s w is ts e i p q at r =
     let h = is.placed i p at in
@@ -256,7 +274,8 @@ placed-later s w is ts e i p q at r =
     )
 
 -- before the first theorem
-pub none-placed : (ps : List (Option Place)) (n i : ℕ) (p : Place) → ps ≡ replicate n None → slice_get ps i ≢ Some (Some p)
+pub none-placed : (ps : List (Option Place)) (n i : ℕ) (p : Place) → ps ≡ replicate n None
+    → slice_get ps i ≢ Some (Some p)
 none-placed ps n i p e h = go n i (ap (λ l. slice_get l i) (sym e) ∙ h)
   where
     go : (n i : ℕ) → slice_get (replicate n None) i ≢ Some (Some p)

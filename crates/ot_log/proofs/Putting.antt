@@ -1,5 +1,6 @@
 -- What the records of a word, of operands by their steps, are.
-use Rattle.std.proofs.Common.{◌≡◌, ◌≢◌, ℕ, List, [], ◌∷◌, ◌++◌, slice_get, Some, Result, Ok, Err, IfOk, refl, sym, ap, subst, ◌∙◌}
+use Rattle.std.proofs.Common.{◌≡◌, ◌≢◌, ℕ, List, [], ◌∷◌, ◌++◌, slice_get, Some}
+use Rattle.std.proofs.Common.{Result, Ok, Err, IfOk, refl, sym, ap, subst, ◌∙◌}
 use Rattle.ot_plain.specs.Names.{Name}
 use Rattle.ot_plain.specs.Naming.{names}
 use Rattle.ot_plain.specs.Table.{Extends}
@@ -40,7 +41,8 @@ use Rattle.ot_words.proofs.Recorded.{records-later}
 use Rattle.ot_log.specs.Keeping.{IsWriter, Puts, PutsDefinition, number_at, numbers_at}
 use Rattle.ot_log.specs.declared.writer.Place.{Place}
 use Rattle.ot_log.specs.declared.writer.Writer.{Writer}
-use Rattle.ot_log.proofs.Valued.{has-values, has-applied, has-first, has-rest, none-are, more-are, its-value, list-is, reads-list}
+use Rattle.ot_log.proofs.Valued.{has-values, has-applied, has-first, has-rest}
+use Rattle.ot_log.proofs.Valued.{none-are, more-are, its-value, list-is, reads-list}
 use Rattle.ot_log.proofs.Placed.{writer-grown, number-some, number-none}
 use Rattle.ot_plain.proofs.Results.{bind-ok}
 
@@ -69,7 +71,8 @@ one-applied s c a x h is =
     let os = origins_of s (a ∷ []) in
     has-applied c os (x ∷ []) (more-are (origin_of s a) NoOrigins x [] is none-are (has-values c os h)) h
 
-pub two-applied : (s : Session) (c : Cmd) (a d : ℕ) (x y : Object) → HasResult (value (Make c (origins_of s (a ∷ d ∷ []))))
+pub two-applied : (s : Session) (c : Cmd) (a d : ℕ) (x y : Object)
+    → HasResult (value (Make c (origins_of s (a ∷ d ∷ []))))
     → Makes (origin_of s a) x → Makes (origin_of s d) y → HasResult (applied (maker c) (x ∷ y ∷ []))
 two-applied s c a d x y h is these =
     let os = origins_of s (a ∷ d ∷ []) in
@@ -86,7 +89,8 @@ pub reads-maps : (s : Session) (ts : List Item) (a d : ℕ) (types : List (ℕ �
     → (os : Objects) × Makes (origin_of s a) (list os) × (maps_of os ≡ Ok (type_map ts types, term_map ts terms))
 reads-maps s ts a d types terms q h are these =
     let one = origin_of s a in
-    let v = has-first one (MoreOrigins (origin_of s d) NoOrigins) (has-values words.Subst (origins_of s (a ∷ d ∷ [])) h) in
+    let v = has-first one (MoreOrigins (origin_of s d) NoOrigins)
+    (has-values words.Subst (origins_of s (a ∷ d ∷ [])) h) in
     let z = two-applied s words.Subst a d v.0 (theorem q) h (its-value one v.0 v.1) these in
     let l = bind-ok (as_list v.0) _ z.0 z.1 in
     let x = bind-ok (maps_of l.0) _ z.0 l.2 in
@@ -102,7 +106,8 @@ constant-values s ts a d n t hs is these =
     let up = origin_of s d in
     let x = name (name_at ts n) in
     let y = term (term_at ts t) in
-    more-are o (MoreOrigins up NoOrigins) x (y ∷ []) (its-value o x is.is) (more-are up NoOrigins y [] these.made none-are) hs
+    more-are o (MoreOrigins up NoOrigins) x (y ∷ []) (its-value o x is.is)
+    (more-are up NoOrigins y [] these.made none-are) hs
 
 pub type_operator-values : (s : Session) (ts : List Item) (a d f g k n abs rep : ℕ) (os : Objects) (q : Sequent Name)
     → HasResult (values (origins_of s (a ∷ d ∷ f ∷ g ∷ k ∷ [])))
@@ -131,7 +136,8 @@ type_operator-values s ts a d f g k n abs rep os q hs nh ah rh l is =
 
 -- the table of nodes may have grown before
 module _ (s : Session) (old : Writer) (w : IsWriter s old) (ts us : List Item) (k : Values) (y : Typings) (b : Sheet)
-    (e : Extends old.nodes ts) (f : Extends ts us) (known : AreKnown s ts k) (typed : AreTypings us y.known.entries) where
+    (e : Extends old.nodes ts) (f : Extends ts us) (known : AreKnown s ts k)
+    (typed : AreTypings us y.known.entries) where
   abbrev new : Writer
   new = record old { sheet = b; nodes = us; typings = y; values = k }
 
@@ -139,7 +145,8 @@ module _ (s : Session) (old : Writer) (w : IsWriter s old) (ts us : List Item) (
   mid = record old { nodes = ts; values = k }
 
   mid-writer : IsWriter s mid
-  mid-writer = writer-grown s old mid w e known (typings-grown old.nodes ts e old.typings.known.entries w.typings) refl refl
+  mid-writer = writer-grown s old mid w e known (typings-grown old.nodes ts e old.typings.known.entries w.typings)
+      refl refl
 
   new-writer : IsWriter s new
   new-writer = writer-grown s old new w (Extends-trans e f) (known-later s ts us f k known) typed refl refl
@@ -163,7 +170,8 @@ module _ (s : Session) (old : Writer) (w : IsWriter s old) (ts us : List Item) (
       → listed (number_at old.places.items i) ≡ p.number ∷ []
   some-at i p h = ap listed (number-some old.places.items i p h)
 
-  pub term-puts : (c : Cmd) (a t : ℕ) (m : Made) → HasResult (value (Make c (origins_of s (a ∷ [])))) → IsTermOf s ts a t
+  pub term-puts : (c : Cmd) (a t : ℕ) (m : Made) → HasResult (value (Make c (origins_of s (a ∷ []))))
+      → IsTermOf s ts a t
       → Records ts us old.sheet b c (term (term_at ts t) ∷ []) [] m → Puts s old new c (a ∷ []) m
   term-puts c a t m h is r =
       let hs = has-values c (origins_of s (a ∷ [])) h in
@@ -172,7 +180,8 @@ module _ (s : Session) (old : Writer) (w : IsWriter s old) (ts us : List Item) (
       (ap (λ l. l ++ []) (none-at a (term (term_at ts t)) is.made (has-first (origin_of s a) NoOrigins hs)
       (no-theorem (term_at ts t)))) r
 
-  pub one-puts : (c : Cmd) (a : ℕ) (p : Place) (q : Sequent Name) (m : Made) → HasResult (value (Make c (origins_of s (a ∷ []))))
+  pub one-puts : (c : Cmd) (a : ℕ) (p : Place) (q : Sequent Name) (m : Made)
+      → HasResult (value (Make c (origins_of s (a ∷ []))))
       → slice_get old.places.items a ≡ Some (Some p) → Makes (origin_of s a) (theorem q)
       → Records ts us old.sheet b c (theorem q ∷ []) (p.number ∷ []) m → Puts s old new c (a ∷ []) m
   one-puts c a p q m h at is r =
@@ -184,7 +193,8 @@ module _ (s : Session) (old : Writer) (w : IsWriter s old) (ts us : List Item) (
       → HasResult (value (Make c (origins_of s (a ∷ d ∷ [])))) → slice_get old.places.items a ≡ Some (Some p)
       → slice_get old.places.items d ≡ Some (Some o)
       → Makes (origin_of s a) (theorem q) → Makes (origin_of s d) (theorem r)
-      → Records ts us old.sheet b c (theorem q ∷ theorem r ∷ []) (p.number ∷ o.number ∷ []) m → Puts s old new c (a ∷ d ∷ []) m
+      → Records ts us old.sheet b c (theorem q ∷ theorem r ∷ []) (p.number ∷ o.number ∷ []) m
+      → Puts s old new c (a ∷ d ∷ []) m
   two-puts c a d p o q r m h at up is these x =
       puts c (a ∷ d ∷ []) (theorem q ∷ theorem r ∷ []) (p.number ∷ o.number ∷ []) m
       (more-are (origin_of s a) (MoreOrigins (origin_of s d) NoOrigins) (theorem q) (theorem r ∷ []) is
@@ -193,7 +203,8 @@ module _ (s : Session) (old : Writer) (w : IsWriter s old) (ts us : List Item) (
 
   -- the first operand is no theorem, and the second one is
   lower-puts : (c : Cmd) (a d : ℕ) (x : Object) (o : Place) (r : Sequent Name) (m : Made)
-      → HasResult (value (Make c (origins_of s (a ∷ d ∷ [])))) → Makes (origin_of s a) x → ((q : Sequent Name) → x ≢ theorem q)
+      → HasResult (value (Make c (origins_of s (a ∷ d ∷ [])))) → Makes (origin_of s a) x
+      → ((q : Sequent Name) → x ≢ theorem q)
       → slice_get old.places.items d ≡ Some (Some o)
       → Makes (origin_of s d) (theorem r) → Records ts us old.sheet b c (x ∷ theorem r ∷ []) (o.number ∷ []) m
       → Puts s old new c (a ∷ d ∷ []) m
@@ -208,12 +219,14 @@ module _ (s : Session) (old : Writer) (w : IsWriter s old) (ts us : List Item) (
   pub abs_thm-puts : (a d : ℕ) (v : VariableNode) (o : Place) (r : Sequent Name) (m : Made)
       → HasResult (value (Make words.AbsThm (origins_of s (a ∷ d ∷ [])))) → IsVariableOf s ts a v
       → slice_get old.places.items d ≡ Some (Some o)
-      → Makes (origin_of s d) (theorem r) → Records ts us old.sheet b words.AbsThm (variable (variable_at ts v) ∷ theorem r ∷ [])
+      → Makes (origin_of s d) (theorem r)
+      → Records ts us old.sheet b words.AbsThm (variable (variable_at ts v) ∷ theorem r ∷ [])
       (o.number ∷ []) m → Puts s old new words.AbsThm (a ∷ d ∷ []) m
   abs_thm-puts a d v o r m h is = lower-puts words.AbsThm a d (variable (variable_at ts v)) o r m h is.made
       (no-variable (variable_at ts v))
 
-  pub axiom-puts : (a d : ℕ) (hyps : List ℕ) (t : ℕ) (m : Made) → HasResult (value (Make words.Axiom (origins_of s (a ∷ d ∷ []))))
+  pub axiom-puts : (a d : ℕ) (hyps : List ℕ) (t : ℕ) (m : Made)
+      → HasResult (value (Make words.Axiom (origins_of s (a ∷ d ∷ []))))
       → AreTermsOf s ts a hyps → IsTermOf s ts d t
       → ((os : Objects) → as_each as_term os ≡ Ok (terms_at ts hyps)
       → Records ts us old.sheet b words.Axiom (list os ∷ term (term_at ts t) ∷ []) [] m)
@@ -222,16 +235,19 @@ module _ (s : Session) (old : Writer) (w : IsWriter s old) (ts us : List Item) (
       let o = origin_of s a in
       let up = origin_of s d in
       let hs = has-values words.Axiom (origins_of s (a ∷ d ∷ [])) h in
-      let l = reads-list (as_each as_term) o (terms_at ts hyps) are.read (has-first o (MoreOrigins up NoOrigins) hs) in
+      let l = reads-list (as_each as_term) o (terms_at ts hyps) are.read
+      (has-first o (MoreOrigins up NoOrigins) hs) in
       let x = term (term_at ts t) in
       puts words.Axiom (a ∷ d ∷ []) (list l.0 ∷ x ∷ []) [] m
       (more-are o (MoreOrigins up NoOrigins) (list l.0) (x ∷ []) l.1 (more-are up NoOrigins x [] is.made none-are) hs)
       (λ i. none-at a (list l.0) l.1 (has-first o (MoreOrigins up NoOrigins) hs) (no-list l.0) i
-      ++ (none-at d x is.made (has-first up NoOrigins (has-rest o (MoreOrigins up NoOrigins) hs)) (no-theorem (term_at ts t)) i
+      ++ (none-at d x is.made (has-first up NoOrigins (has-rest o (MoreOrigins up NoOrigins) hs))
+      (no-theorem (term_at ts t)) i
       ++ []))
       (r l.0 l.2)
 
-  pub subst-puts : (a d : ℕ) (types : List (ℕ × ℕ)) (terms : List (VariableNode × ℕ)) (o : Place) (q : Sequent Name) (m : Made)
+  pub subst-puts : (a d : ℕ) (types : List (ℕ × ℕ)) (terms : List (VariableNode × ℕ)) (o : Place) (q : Sequent Name)
+      (m : Made)
       → HasResult (value (Make words.Subst (origins_of s (a ∷ d ∷ [])))) → AreMapsOf s ts a types terms
       → slice_get old.places.items d ≡ Some (Some o) → Makes (origin_of s d) (theorem q)
       → ((os : Objects) → maps_of os ≡ Ok (type_map ts types, term_map ts terms)
@@ -243,8 +259,10 @@ module _ (s : Session) (old : Writer) (w : IsWriter s old) (ts us : List Item) (
 
   -- ---- definitions
 
-  defines : (c : Cmd) (ids : List ℕ) (vs : List Object) (is : List ℕ) (qs : List Statement) → values (origins_of s ids) ≡ Ok vs
-      → numbers_at old.places.items ids ≡ is → Defined ts us old.sheet b c vs is qs → PutsDefinition s old new c ids qs
+  defines : (c : Cmd) (ids : List ℕ) (vs : List Object) (is : List ℕ) (qs : List Statement)
+      → values (origins_of s ids) ≡ Ok vs
+      → numbers_at old.places.items ids ≡ is → Defined ts us old.sheet b c vs is qs
+      → PutsDefinition s old new c ids qs
   defines c ids vs is qs v n d = record {
     writer = new-writer;
     places = refl;
@@ -258,8 +276,10 @@ module _ (s : Session) (old : Writer) (w : IsWriter s old) (ts us : List Item) (
         });
   }
 
-  pub constant-puts : (a d n t : ℕ) (qs : List Statement) → HasResult (values (origins_of s (a ∷ d ∷ []))) → IsNameOf s ts a n
-      → IsTermOf s ts d t → Defined ts us old.sheet b words.DefineConst (name (name_at ts n) ∷ term (term_at ts t) ∷ []) [] qs
+  pub constant-puts : (a d n t : ℕ) (qs : List Statement) → HasResult (values (origins_of s (a ∷ d ∷ [])))
+      → IsNameOf s ts a n
+      → IsTermOf s ts d t
+      → Defined ts us old.sheet b words.DefineConst (name (name_at ts n) ∷ term (term_at ts t) ∷ []) [] qs
       → PutsDefinition s old new words.DefineConst (a ∷ d ∷ []) qs
   constant-puts a d n t qs hs is these r =
       let o = origin_of s a in
@@ -269,11 +289,13 @@ module _ (s : Session) (old : Writer) (w : IsWriter s old) (ts us : List Item) (
       let m = its-value o x is.is in
       defines words.DefineConst (a ∷ d ∷ []) (x ∷ y ∷ []) [] qs (constant-values s ts a d n t hs is these)
       (λ i. none-at a x m (x, is.is) (no-name (name_at ts n)) i
-      ++ (none-at d y these.made (has-first up NoOrigins (has-rest o (MoreOrigins up NoOrigins) hs)) (no-theorem (term_at ts t)) i
+      ++ (none-at d y these.made (has-first up NoOrigins (has-rest o (MoreOrigins up NoOrigins) hs))
+      (no-theorem (term_at ts t)) i
       ++ [])) r
 
   pub constants-puts : (a d : ℕ) (ps : List (ℕ × VariableNode)) (p : Place) (q : Sequent Name) (qs : List Statement)
-      → HasResult (values (origins_of s (a ∷ d ∷ []))) → ArePairsOf s ts a ps → slice_get old.places.items d ≡ Some (Some p)
+      → HasResult (values (origins_of s (a ∷ d ∷ []))) → ArePairsOf s ts a ps → slice_get old.places.items d
+      ≡ Some (Some p)
       → Makes (origin_of s d) (theorem q)
       → ((os : Objects) → pairs_of os ≡ Ok (pairs_at ts ps)
       → Defined ts us old.sheet b words.DefineConstList (list os ∷ theorem q ∷ []) (p.number ∷ []) qs)
@@ -288,13 +310,15 @@ module _ (s : Session) (old : Writer) (w : IsWriter s old) (ts us : List Item) (
       (more-are up NoOrigins (theorem q) [] is none-are) hs)
       (λ i. none-at a (list l.0) l.1 h (no-list l.0) i ++ (some-at d p at i ++ [])) (r l.0 l.2)
 
-  pub type_operator-puts : (a d f g k : ℕ) (n abs rep : ℕ) (vars : List ℕ) (p : Place) (q : Sequent Name) (qs : List Statement)
+  pub type_operator-puts : (a d f g k : ℕ) (n abs rep : ℕ) (vars : List ℕ) (p : Place) (q : Sequent Name)
+      (qs : List Statement)
       → HasResult (values (origins_of s (a ∷ d ∷ f ∷ g ∷ k ∷ [])))
       → IsNameOf s ts a n → IsNameOf s ts d abs → IsNameOf s ts f rep → AreNamesOf s ts g vars
       → slice_get old.places.items k ≡ Some (Some p) → Makes (origin_of s k) (theorem q)
       → ((os : Objects) → as_each as_name os ≡ Ok (names_at ts vars)
       → Defined ts us old.sheet b words.DefineTypeOp
-      (name (name_at ts n) ∷ name (name_at ts abs) ∷ name (name_at ts rep) ∷ list os ∷ theorem q ∷ []) (p.number ∷ []) qs)
+      (name (name_at ts n) ∷ name (name_at ts abs) ∷ name (name_at ts rep) ∷ list os ∷ theorem q ∷ []) (p.number ∷ [])
+      qs)
       → PutsDefinition s old new words.DefineTypeOp (a ∷ d ∷ f ∷ g ∷ k ∷ []) qs
   type_operator-puts a d f g k n abs rep vars p q qs hs nh ah rh are at is r =
       let oa = origin_of s a in

@@ -2,8 +2,10 @@
 use Rattle.std.specs.Prelude.{nat_eq, pos}
 use Rattle.std.specs.Bool.{Decides}
 use Rattle.std.specs.List.{All}
-use Rattle.std.proofs.Common.{◌≡◌, ℕ, zero, suc, ◌+◌, ◌<◌, ◌≤◌, ◌^◌, inl, inr, Bool, true, false, List, [], ◌∷◌, ◌++◌, map, take}
-use Rattle.std.proofs.Common.{length, slice_get, get_or, Some, Result, Ok, Err, OnOk, refl, sym, ap, subst, ◌∙◌, arith}
+use Rattle.std.proofs.Common.{◌≡◌, ℕ, zero, suc, ◌+◌, ◌<◌, ◌≤◌, ◌^◌, inl, inr}
+use Rattle.std.proofs.Common.{Bool, true, false, List, [], ◌∷◌, ◌++◌, map, take}
+use Rattle.std.proofs.Common.{length, slice_get, get_or, Some, Result, Ok}
+use Rattle.std.proofs.Common.{Err, OnOk, refl, sym, ap, subst, ◌∙◌, arith}
 use Rattle.std.proofs.Common.{true≢false}
 use Rattle.std.proofs.lemmas.Bool.Decides.{nat_tests}
 use Rattle.std.proofs.lemmas.List.{take_more, map-append}
@@ -35,7 +37,8 @@ use Rattle.ot_machine.specs.declared.session.Session.{Session}
 use Rattle.ot_machine.specs.declared.machine.Export as code
 use Rattle.ot_entries.specs.Bytes.{bytes_of}
 use Rattle.ot_proof_log.specs.Checked.{origins_made, run_log, IsLogOf, RunLogLaw}
-use Rattle.ot_proof_log.specs.Writing.{Written, log, write, write_definition, write_definitions, write_results, put_result}
+use Rattle.ot_proof_log.specs.Writing.{Written, log, write, write_definition}
+use Rattle.ot_proof_log.specs.Writing.{write_definitions, write_results, put_result}
 use Rattle.ot_words.specs.Recording.{HasResult}
 use Rattle.ot_log.specs.Keeping.{IsDefinable, IsNumbered}
 use Rattle.ot_log.specs.Logs.{AreLawful, HasProof, Writes, roots_in, steps_log}
@@ -59,7 +62,8 @@ definitions-more f is n i x h low =
     ∙ ap (λ l. write_definitions l x) (map-append f (take n is) (i ∷ []))
     ∙ writes-append (map f (take n is)) (f i ∷ []) x)
 
-results-append : (xs ys : List (Origin Name)) (x : Written) → write_results (xs ++ ys) x ≡ write_results ys (write_results xs x)
+results-append : (xs ys : List (Origin Name)) (x : Written) → write_results (xs ++ ys) x
+    ≡ write_results ys (write_results xs x)
 results-append [] ys x = refl
 results-append (o ∷ xs) ys x = results-append xs ys (put_result o (write o x))
 
@@ -74,12 +78,15 @@ results-more f es n e x h low =
 
 -- ---- members
 
-made-member : (s : Session) (ds : List (Definition Name)) (is : List ℕ) → length is ≡ length ds → (i : ℕ) → IsMember i is
+made-member : (s : Session) (ds : List (Definition Name)) (is : List ℕ) → length is ≡ length ds → (i : ℕ)
+    → IsMember i is
     → (k : ℕ) × ((m : Made) × ((slice_get (made_of s ds is) k ≡ Some m) × (m.origin ≡ origin_of s i)))
 made-member s ds [] n i m = elim m [ ]
 made-member s [] (j ∷ is) n i m = absurd (omega arith)
-made-member s (d ∷ ds) (j ∷ is) n i (inl e) = (0, (record { definition = d; origin = origin_of s j }, (refl, ap (origin_of s) e)))
-made-member s (d ∷ ds) (j ∷ is) n i (inr m) = let r = made-member s ds is (omega arith) i m in (suc r.0, (r.1.0, r.1.1))
+made-member s (d ∷ ds) (j ∷ is) n i (inl e) =
+    (0, (record { definition = d; origin = origin_of s j }, (refl, ap (origin_of s) e)))
+made-member s (d ∷ ds) (j ∷ is) n i (inr m) = let r = made-member s ds is (omega arith) i m in
+    (suc r.0, (r.1.0, r.1.1))
 
 -- each definition of a lawful run is accepted
 pub lawful-definable : (s : Session) → length s.definition_steps.items ≡ length s.kernel.definitions
@@ -132,7 +139,8 @@ module _ (s : Session) (num : IsNumbered s) where
     ]
   ]
 
-  steps-are : (is : List ℕ) → All (λ i. i < length s.trace) is → map to (map (origin_at s.trace) is) ≡ map (origin_of s) is
+  steps-are : (is : List ℕ) → All (λ i. i < length s.trace) is → map to (map (origin_at s.trace) is)
+      ≡ map (origin_of s) is
   steps-are [] h = refl
   steps-are (i ∷ is) h =
       let here = naming-is s num i (All-head (λ i. i < length s.trace) i is h) in
@@ -162,9 +170,11 @@ module _ (s : Session) (num : IsNumbered s) where
   theorems-are [] = refl
   theorems-are (e ∷ es) = ap (λ l. origin_of s e.theorem ∷ l) (theorems-are es)
 
-  pub log-is : (es : List code.Export) (needed : List ℕ) → All (IsExportIn s) es → IsPart needed s.definition_steps.items
+  pub log-is : (es : List code.Export) (needed : List ℕ) → All (IsExportIn s) es
+      → IsPart needed s.definition_steps.items
       → map (origin_at s.trace) needed ≡ needed_definitions same (roots_of (map (roots_at s.trace) (map roots_in es)))
-      (map (origin_at s.trace) s.definition_steps.items) → steps_log s needed es ≡ run_log (run_of s) (map (export_of s) es)
+      (map (origin_at s.trace) s.definition_steps.items)
+      → steps_log s needed es ≡ run_log (run_of s) (map (export_of s) es)
   log-is es needed h part e =
       let steps = s.definition_steps.items in
       let inside = num.run.definitions in
@@ -188,7 +198,8 @@ within (Ok u) bytes max old new h f = f h.1
 within (Err e) bytes max old new h f = tt
 
 pub checked : RunLogLaw → (r : RunState) (es : List Export) → AreLawful r es
-    → (a : Result (Unit {0}) LogRefusal) (max : ℕ) (old new : List ℕ) → max < 2 ^ 63 → Writes a (run_log r es) max old new
+    → (a : Result (Unit {0}) LogRefusal) (max : ℕ) (old new : List ℕ) → max < 2 ^ 63
+    → Writes a (run_log r es) max old new
     → OnOk a (IsLogOf max r es (run_log r es))
 checked law r es h a max old new small writes =
     within a (run_log r es) max old new writes (λ fits. law r es max h.run h.exports h.apart fits small)

@@ -1,12 +1,14 @@
 -- The work list, over plain values.
 use Rattle.std.specs.List.{All}
-use Rattle.std.proofs.Common.{◌≡◌, ℕ, suc, ◌+◌, ◌<◌, Bool, true, false, cond, List, [], ◌∷◌, ◌++◌, map, length, reverse}
+use Rattle.std.proofs.Common.{◌≡◌, ℕ, suc, ◌+◌, ◌<◌, Bool, true, false, cond}
+use Rattle.std.proofs.Common.{List, [], ◌∷◌, ◌++◌, map, length, reverse}
 use Rattle.std.proofs.Common.{slice_get, Option, None, Some, Result, Ok, Err, refl, sym, ap, subst, ◌∙◌, arith}
 use Rattle.std.proofs.lemmas.List.{reverse-append}
 use Rattle.std.proofs.lemmas.List.Elements.{All-head, All-tail}
 use Rattle.ot_plain.specs.Names.{Name}
 use Rattle.ot_plain.specs.declared.command.Cmd.{Cmd}
-use Rattle.ot_trace.specs.Origins.{Origin, Origins, Number, Named, Make, Define, Outcome, NoOrigins, MoreOrigins, map_origin}
+use Rattle.ot_trace.specs.Origins.{Origin, Origins, Number, Named, Make, Define}
+use Rattle.ot_trace.specs.Origins.{Outcome, NoOrigins, MoreOrigins, map_origin}
 use Rattle.ot_trace.specs.Trace.{origin_at, origins_at, origin_of as step_origin}
 use Rattle.ot_machine.specs.Values.{value, values}
 use Rattle.ot_machine.specs.Meaning.{origin_of}
@@ -30,7 +32,8 @@ use Rattle.ot_log.proofs.Closed.{step-origin}
 -- ---- what leads to the whole: once f is done too
 
 abbrev pub Leads : Session → Writer → Writer → (Written → Written) → (Written → Written) → Type 0
-Leads s start now f whole = (max : ℕ) (x : Written) → Holds s max start x → (y : Written) × Holds s max now y × (f y ≡ whole x)
+Leads s start now f whole = (max : ℕ) (x : Written) → Holds s max start x → (y : Written) × Holds s max now y
+    × (f y ≡ whole x)
 
 module _ (s : Session) where
   pub rest-append : (xs ys : List Task) (x : Written) → rest s (xs ++ ys) x ≡ rest s xs (rest s ys x)
@@ -38,7 +41,8 @@ module _ (s : Session) where
   rest-append (k ∷ xs) ys x = ap (perform s k) (rest-append xs ys x)
 
   -- steps that are asked for from the last to the first
-  pub rest-steps : (is : List ℕ) (x : Written) → rest s (reverse (map task.Write is)) x ≡ write_all (origins_of s is) x
+  pub rest-steps : (is : List ℕ) (x : Written) → rest s (reverse (map task.Write is)) x
+      ≡ write_all (origins_of s is) x
   rest-steps [] x = refl
   rest-steps (i ∷ is) x =
       ap (λ l. rest s l x) (reverse-append (task.Write i ∷ []) (map task.Write is))
@@ -92,7 +96,8 @@ module _ (s : Session) where
   cheaper-same ws id = let h = cost-some (origin_at s.trace id) in omega arith
 
   pub asked-cheaper : (old new : List Task) (id : ℕ) (c : Cmd) (ops : List ℕ)
-      → origin_at s.trace id ≡ Make c (origins_at s.trace ops) → new ≡ (old ++ task.Close id ∷ []) ++ reverse (map task.Write ops)
+      → origin_at s.trace id ≡ Make c (origins_at s.trace ops) → new ≡ (old ++ task.Close id ∷ [])
+      ++ reverse (map task.Write ops)
       → total s new < total s old + task_cost s (task.Write id)
   asked-cheaper old new id c ops e a =
       let p = ap (total s) a in
@@ -131,7 +136,8 @@ module _ (s : Session) where
         tt,
       ))
 
-  pub asked-tasks : (old new : List Task) (id : ℕ) (c : Cmd) (ops : List ℕ) → origin_of s id ≡ Make c (origins_of s ops)
+  pub asked-tasks : (old new : List Task) (id : ℕ) (c : Cmd) (ops : List ℕ)
+      → origin_of s id ≡ Make c (origins_of s ops)
       → new ≡ (old ++ task.Close id ∷ []) ++ reverse (map task.Write ops) → AreTasks s old → IsTask s (task.Write id)
       → All (λ i. i < length s.trace) ops
       → makes_theorem c ≡ true → AreTasks s new
@@ -146,7 +152,8 @@ module _ (s : Session) where
   write-known : (o : Origin Name) (x : Written) (n : ℕ) → number_of o x.theorems ≡ Some n → x ≡ write o x
   write-known (Make w os) x n e = go (makes_theorem w)
     where
-      go : (b : Bool) → x ≡ cond b (once (number_of (Make w os) x.theorems) (λ y. put_theorem w os (write_all os y)) x) x
+      go : (b : Bool)
+          → x ≡ cond b (once (number_of (Make w os) x.theorems) (λ y. put_theorem w os (write_all os y)) x) x
       go true = sym (ap (λ r. once r (λ y. put_theorem w os (write_all os y)) x) e)
       go false = refl
   write-known (Number k) x n e = refl
@@ -154,9 +161,11 @@ module _ (s : Session) where
   write-known (Define w os) x n e = refl
   write-known (Outcome j d) x n e = refl
 
-  pub replaces-known : (now : Writer) (ws : List Task) (id n : ℕ) → id < length s.trace → number_at now.places.items id ≡ Some n
+  pub replaces-known : (now : Writer) (ws : List Task) (id n : ℕ) → id < length s.trace
+      → number_at now.places.items id ≡ Some n
       → Replaces s now now ws ws (write (origin_of s id))
-  replaces-known now ws id n low e = λ max x h. (x, h, ap (rest s ws) (write-known (origin_of s id) x n (h.numbers id low ∙ e)))
+  replaces-known now ws id n low e =
+      λ max x h. (x, h, ap (rest s ws) (write-known (origin_of s id) x n (h.numbers id low ∙ e)))
 
   pub replaces-none : (now : Writer) (ws : List Task) (f : Written → Written) → ((x : Written) → x ≡ f x)
       → Replaces s now now ws ws f
@@ -164,7 +173,8 @@ module _ (s : Session) where
 
   pub replaces-asked : (now : Writer) (old new : List Task) (id : ℕ) (c : Cmd) (ops : List ℕ) → id < length s.trace
       → number_at now.places.items id ≡ None → origin_of s id ≡ Make c (origins_of s ops) → makes_theorem c ≡ true
-      → new ≡ (old ++ task.Close id ∷ []) ++ reverse (map task.Write ops) → Replaces s now now old new (write (origin_of s id))
+      → new ≡ (old ++ task.Close id ∷ []) ++ reverse (map task.Write ops)
+      → Replaces s now now old new (write (origin_of s id))
   replaces-asked now old new id c ops low none e t a = λ max x h. (
     x,
     h,
@@ -172,7 +182,8 @@ module _ (s : Session) where
         ∙ ap (rest s (old ++ task.Close id ∷ [])) (rest-steps ops x)
         ∙ rest-append old (task.Close id ∷ []) (write_all (origins_of s ops) x)
         ∙ ap (rest s old) (ap (λ o. close o (write_all (origins_of s ops) x)) e
-        ∙ sym (writes x (sym (ap (λ o. number_of o x.theorems) e) ∙ h.numbers id low ∙ none)) ∙ sym (ap (λ o. write o x) e)),
+        ∙ sym (writes x (sym (ap (λ o. number_of o x.theorems) e) ∙ h.numbers id low ∙ none))
+        ∙ sym (ap (λ o. write o x) e)),
   )
     where
       writes : (x : Written) → number_of (Make c (origins_of s ops)) x.theorems ≡ None
@@ -182,7 +193,8 @@ module _ (s : Session) where
           (λ y. put_theorem c (origins_of s ops) (write_all (origins_of s ops) y)) x) x) t
           ∙ ap (λ r. once r (λ y. put_theorem c (origins_of s ops) (write_all (origins_of s ops) y)) x) n
 
-  pub write-other : (o : Origin Name) (c : Cmd) (os : Origins Name) → o ≡ Make c os → makes_theorem c ≡ false → (x : Written)
+  pub write-other : (o : Origin Name) (c : Cmd) (os : Origins Name) → o ≡ Make c os → makes_theorem c ≡ false
+      → (x : Written)
       → x ≡ write o x
   write-other o c os e f x = sym (ap (λ o. write o x) e
       ∙ ap (λ b. cond b (once (number_of (Make c os) x.theorems) (λ y. put_theorem c os (write_all os y)) x) x) f)
@@ -204,7 +216,8 @@ module _ (s : Session) where
       go (step.Outcome j d) h = refl
 
 -- no other step makes a theorem
-pub not-made : (s : Session) (id : ℕ) (ts : List (Origin ℕ)) (r : Step) → ts ≡ s.trace → slice_get ts id ≡ Some (step_origin ts r)
+pub not-made : (s : Session) (id : ℕ) (ts : List (Origin ℕ)) (r : Step) → ts ≡ s.trace
+    → slice_get ts id ≡ Some (step_origin ts r)
     → ((w : Cmd) (ops : _) → r ≡ step.Make w ops → ⊥) → MakesTheorem (origin_of s id) → ⊥
 not-made s id ts r a at lacks m = other r lacks (subst MakesTheorem (step-origin s id r r here refl) m)
   where

@@ -43,7 +43,8 @@ pub record IsWriter (s : Session) (w : Writer) : Type 0 where
   pub typings : AreTypings w.nodes w.typings.known.entries
   pub statements : All (HasStatement w.nodes) w.statements.items
   pub long : length w.places.items ≡ length s.trace
-  pub placed : (i : ℕ) (p : Place) → slice_get w.places.items i ≡ Some (Some p) → IsPlaced s w.nodes w.statements.items i p
+  pub placed : (i : ℕ) (p : Place) → slice_get w.places.items i ≡ Some (Some p)
+      → IsPlaced s w.nodes w.statements.items i p
 
 -- ---- the numbers of theorems
 
@@ -81,7 +82,8 @@ pub record Puts (s : Session) (old new : Writer) (w : Cmd) (ids : List ℕ) (m :
   pub records : Records old.nodes new.nodes old.sheet new.sheet w objects (numbers_at old.places.items ids) m
 
 -- the same of a definition
-pub record PutsDefinition (s : Session) (old new : Writer) (w : Cmd) (ids : List ℕ) (qs : List Statement) : Type 0 where
+pub record PutsDefinition (s : Session) (old new : Writer) (w : Cmd) (ids : List ℕ) (qs : List Statement) : Type
+    0 where
   pub writer : IsWriter s new
   pub places : new.places.items ≡ old.places.items
   pub objects : List Object
@@ -95,7 +97,8 @@ pub record Marks (id : ℕ) (m : Made) (old new : Writer) : Type 0 where
   pub values : new.values ≡ old.values
   pub typings : new.typings ≡ old.typings
   pub statements : new.statements.items ≡ old.statements.items ++ m.statement ∷ []
-  pub places : new.places.items ≡ set old.places.items id (Some (record { number = m.number; at = length old.statements.items }))
+  pub places : new.places.items
+      ≡ set old.places.items id (Some (record { number = m.number; at = length old.statements.items }))
   pub first : slice_get old.places.items id ≡ Some None
 
 -- ---- definitions
@@ -106,4 +109,5 @@ IsDefinable o = (ds : List (Definition Name)) × HasResult (definition_of ds o)
 
 -- the statements are those of the theorems of a definition, in order
 abbrev pub AreTheorems : List Item → Origin Name → List Statement → Type 0
-AreTheorems ts d qs = (j : ℕ) (q : Statement) → slice_get qs j ≡ Some q → Makes (Outcome (suc j) d) (theorem (sequent_at ts q))
+AreTheorems ts d qs = (j : ℕ) (q : Statement) → slice_get qs j ≡ Some q
+    → Makes (Outcome (suc j) d) (theorem (sequent_at ts q))

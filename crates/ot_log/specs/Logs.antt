@@ -15,7 +15,8 @@ use Rattle.ot_words.specs.Recording.{HasResult}
 use Rattle.ot_log.specs.declared.writing.LogRefusal.{LogRefusal}
 use Rattle.ot_log.specs.declared.writing.LogRefusal.TheVariants as refusals
 
--- each assumption, definition and export is what its origin makes of names that a line can say, and no sequent is exported twice
+-- each assumption, definition and export is what its origin makes of names that a line can say, and no sequent is
+-- exported twice
 pub record AreLawful (r : RunState) (es : List Export) : Type 0 where
   pub run : IsLawfulRun IsWritable r
   pub exports : All (IsLawfulExport (run_basis IsWritable r)) es

@@ -15,9 +15,11 @@ use Rattle.ot_plain.specs.Faults.{Fault, NoEntry, ExportMismatch}
 use Rattle.ot_plain.specs.Answers.{some_or, unless}
 use Rattle.ot_machine.specs.Objects.{Object, Objects, list, term, theorem}
 use Rattle.ot_machine.specs.States.{Entry, Export, ArticleState, RunState}
-use Rattle.ot_machine.specs.Places.{entry_at, object_at, dropped, as_list, as_term, as_theorem, as_each, number_on, list_on, term_on, terms_on, theorem_on}
+use Rattle.ot_machine.specs.Places.{entry_at, object_at, dropped, as_list, as_term, as_theorem}
+use Rattle.ot_machine.specs.Places.{as_each, number_on, list_on, term_on, terms_on, theorem_on}
 use Rattle.ot_machine.specs.Rows.{def_row, ref_row, remove_row, thm_row, exported, is_exported, origin_at}
-use Rattle.ot_machine.specs.Lawful.{Basis, run_basis, Fits, EntryFits, IsLawfulExport, StatesSequent, AreApart, IsLawfulArticle}
+use Rattle.ot_machine.specs.Lawful.{Basis, run_basis, Fits, EntryFits, IsLawfulExport}
+use Rattle.ot_machine.specs.Lawful.{StatesSequent, AreApart, IsLawfulArticle}
 use Rattle.ot_machine.proofs.Tops.{same-ok}
 use Rattle.ot_machine.proofs.ListOrigin.{is-list}
 use Rattle.ot_machine.proofs.StackRows.{AllFit, entry-fits, object-fits, dropped-fits, pushed-fits}
@@ -34,19 +36,22 @@ is-theorem o q p = absurd (cc)
 
 module _ (b : Basis) where
   -- the theorem, the list and the term at a place fit the origins there
-  pub theorem-at : (n : ℕ) (stack : List Entry) (q : Sequent Name) → AllFit b stack → theorem_on n stack ≡ Ok q → Fits b (origin_at n stack) (theorem q)
+  pub theorem-at : (n : ℕ) (stack : List Entry) (q : Sequent Name) → AllFit b stack → theorem_on n stack ≡ Ok q
+      → Fits b (origin_at n stack) (theorem q)
   theorem-at n stack q all p =
       let a = bind-ok (object_at n stack) as_theorem q p in
       let f = object-fits b n stack a.0 all a.1 in
       rw f.1 (subst (Fits b f.0) (is-theorem a.0 q a.2) f.2)
 
-  pub term-at : (n : ℕ) (stack : List Entry) (t : Tm Name) → AllFit b stack → term_on n stack ≡ Ok t → Fits b (origin_at n stack) (term t)
+  pub term-at : (n : ℕ) (stack : List Entry) (t : Tm Name) → AllFit b stack → term_on n stack ≡ Ok t
+      → Fits b (origin_at n stack) (term t)
   term-at n stack t all p =
       let a = bind-ok (object_at n stack) as_term t p in
       let f = object-fits b n stack a.0 all a.1 in
       rw f.1 (subst (Fits b f.0) (is-term a.0 t a.2) f.2)
 
-  pub list-at : (n : ℕ) (stack : List Entry) (os : Objects) → AllFit b stack → list_on n stack ≡ Ok os → Fits b (origin_at n stack) (list os)
+  pub list-at : (n : ℕ) (stack : List Entry) (os : Objects) → AllFit b stack → list_on n stack ≡ Ok os
+      → Fits b (origin_at n stack) (list os)
   list-at n stack os all p =
       let a = bind-ok (object_at n stack) as_list os p in
       let f = object-fits b n stack a.0 all a.1 in
@@ -127,12 +132,18 @@ module _ (P : Name → Type 0) (run : RunState) where
   more : (Q : Export → Type 0) (e : Export) (es : List Export) → All Q es → Q e → All Q (es ++ e ∷ [])
   more Q e es all f = All-append Q es (e ∷ []) all (All-cons Q e [] f (All-nil Q))
 
-  export-keeps : (e : Export) (es : List Export) → ExportsLawful es → IsLawfulExport b e → StatesSequent e → ExportsLawful (exported e es)
+  export-keeps : (e : Export) (es : List Export) → ExportsLawful es → IsLawfulExport b e → StatesSequent e
+      → ExportsLawful (exported e es)
   export-keeps e es h f says = by (is_exported e.sequent es) refl
     where
       by : (t : Bool) → is_exported e.sequent es ≡ t → ExportsLawful (cond t es (es ++ e ∷ []))
       by true q = h
-      by false q = (more (IsLawfulExport b) e es h.0 f, more StatesSequent e es h.1 says, apart-push (λ (e : Export). e.sequent) es e h.2 (not-exported e.sequent es q))
+      by false q = (
+        more (IsLawfulExport b) e es h.0 f,
+        more StatesSequent e es h.1 says,
+        apart-push
+            (λ (e : Export). e.sequent) es e h.2 (not-exported e.sequent es q),
+      )
 
   same-list : (os qs : Objects) → list os ≡ list qs → os ≡ qs
   same-list os qs p = cc
@@ -145,11 +156,20 @@ module _ (P : Name → Type 0) (run : RunState) where
       let t = bind-ok (term_on 0 a.stack) _ _ p in
       let hs = bind-ok (terms_on 1 a.stack) _ _ t.2 in
       let q = bind-ok (theorem_on 2 a.stack) _ _ hs.2 in
-      let u = bind-ok (unless ExportMismatch (same_sequent names q.0 (record { hyps = hs.0; concl = t.0 }))) _ _ q.2 in
+      let u = bind-ok (unless ExportMismatch (same_sequent names q.0 (record { hyps = hs.0; concl = t.0 }))) _ _
+      q.2 in
       let l = bind-ok (list_on 1 a.stack) (as_each as_term) hs.0 hs.1 in
       let f = list-at b 1 a.stack l.0 h.stack l.1 in
       let g = term-at b 0 a.stack t.0 h.stack t.1 in
-      let e : Export = record { sequent = q.0; roots = record { theorem = origin_at 2 a.stack; list = origin_at 1 a.stack; term = origin_at 0 a.stack } } in
+      let e : Export =
+      record {
+        sequent = q.0;
+        roots = record {
+          theorem = origin_at 2 a.stack;
+          list = origin_at 1 a.stack;
+          term = origin_at 0 a.stack;
+        };
+      } in
       let lawful : IsLawfulExport b e = record {
         proved = theorem-at b 2 a.stack q.0 h.stack q.1;
         objects = l.0;
@@ -166,4 +186,11 @@ module _ (P : Name → Type 0) (run : RunState) where
       (λ i. same_sequent names q.0 (record { hyps = sym two i; concl = sym three i })) ∙ unless-ok _ _ u.0 u.1
       in
       let es = export-keeps e a.exports (h.exports, h.stated, h.apart) lawful says in
-      answered _ c (record { stack = dropped-fits b 3 a.stack h.stack; dictionary = h.dictionary; exports = es.0; stated = es.1; apart = es.2 }) u.2
+      answered _ c
+      (record {
+        stack = dropped-fits b 3 a.stack h.stack;
+        dictionary = h.dictionary;
+        exports = es.0;
+        stated = es.1;
+        apart = es.2;
+      }) u.2

@@ -1,5 +1,7 @@
--- The canonical origin of a named term is that of its nameless form, and depends on what its free variables become alone.
-use Rattle.std.specs.Prelude.{◌≡◌, ◌<◌, ◌&&◌, ℕ, suc, nat_eq, cond, Bool, true, false, List, [], ◌∷◌, ◌++◌, map, length, Option, Some, None}
+-- The canonical origin of a named term is that of its nameless form, and depends on what its free variables become
+-- alone.
+use Rattle.std.specs.Prelude.{◌≡◌, ◌<◌, ◌&&◌, ℕ, suc, nat_eq, cond, Bool, true, false}
+use Rattle.std.specs.Prelude.{List, [], ◌∷◌, ◌++◌, map, length, Option, Some, None}
 use Rattle.std.specs.List.{All}
 use Rattle.std.specs.Map.{lookup}
 use Rattle.std.specs.Option.{option_map, unwrap_or}
@@ -13,7 +15,8 @@ use Rattle.std.proofs.lemmas.List.Elements.{All-head, All-tail}
 use Rattle.ot_plain.specs.Names.{Name}
 use Rattle.ot_plain.specs.Naming.{names}
 use Rattle.ot_plain.specs.Trees.{Ty, TyVar, Variable, Bound, Named, NVar, NConst, NApp, NAbs}
-use Rattle.ot_plain.specs.Hol.{bool_ty, type_of, named_type, tys_of_vars, same_var, place, at_place, nameless, nameless_in, IsFreeIn}
+use Rattle.ot_plain.specs.Hol.{bool_ty, type_of, named_type, tys_of_vars, same_var}
+use Rattle.ot_plain.specs.Hol.{place, at_place, nameless, nameless_in, IsFreeIn}
 use Rattle.ot_laws.proofs.Tests.{tells_names, var_cases}
 use Rattle.ot_laws.proofs.Named.{nameless_in-nil}
 use Rattle.ot_laws.proofs.Typing.{type-nameless}
@@ -23,7 +26,8 @@ use Rattle.ot_trace.specs.Origins.{Origin, Make, NoOrigins, make_two}
 use Rattle.ot_term.specs.declared.term.VarKey.{VarKey}
 use Rattle.ot_machine.specs.Nodes.{IsKey}
 use Rattle.ot_machine.specs.Version5.{canon_ty, canon_tys, canon_under, canon, numbered, var_term, app, lam}
-use Rattle.ot_machine.specs.Canonical.{Binders, variable_in, canon_in, binders_at, IsBinderIn, Adds, AreTypes, same_binder, same_part, IsStepOf, AreTerms, AreKnown}
+use Rattle.ot_machine.specs.Canonical.{Binders, variable_in, canon_in, binders_at, IsBinderIn, Adds}
+use Rattle.ot_machine.specs.Canonical.{AreTypes, same_binder, same_part, IsStepOf, AreTerms, AreKnown}
 use Rattle.ot_machine.specs.declared.makers.canonical.Binder.{Binder}
 use Rattle.ot_machine.specs.declared.makers.canonical.Part.{Part}
 use Rattle.ot_machine.specs.declared.makers.canonical.Known.{Known}
@@ -42,19 +46,23 @@ variables = map (λ b. b.0)
 abbrev origins : Binders → List (Origin Name)
 origins = map (λ b. b.1)
 
-further : (k : ℕ) (o : Origin Name) (os : List (Origin Name)) (v : Variable Name) (p : Option ℕ) → canon_under k os (at_place names v p) ≡ canon_under k (o ∷ os) (at_place names v (option_map suc p))
+further : (k : ℕ) (o : Origin Name) (os : List (Origin Name)) (v : Variable Name) (p : Option ℕ)
+    → canon_under k os (at_place names v p) ≡ canon_under k (o ∷ os) (at_place names v (option_map suc p))
 further k o os v None = refl
 further k o os v (Some i) = refl
 
-variable-is : (k : ℕ) (bs : Binders) (v : Variable Name) → var_term (variable_in bs v) ≡ canon_under k (origins bs) (at_place names v (place names (variables bs) v))
+variable-is : (k : ℕ) (bs : Binders) (v : Variable Name) → var_term (variable_in bs v)
+    ≡ canon_under k (origins bs) (at_place names v (place names (variables bs) v))
 variable-is k [] v = refl
 variable-is k (b ∷ bs) v =
-    elim (same_var names v b.0) as (λ c. var_term (cond c b.1 (variable_in bs v)) ≡ canon_under k (b.1 ∷ origins bs) (at_place names v (cond c (Some 0) (option_map suc (place names (variables bs) v))))) [
+    elim (same_var names v b.0) as (λ c. var_term (cond c b.1 (variable_in bs v)) ≡ canon_under k (b.1 ∷ origins bs)
+    (at_place names v (cond c (Some 0) (option_map suc (place names (variables bs) v))))) [
       | true ↦ refl
       | false ↦ variable-is k bs v ∙ further k b.1 (origins bs) v (place names (variables bs) v)
     ]
 
-form-is : (k : ℕ) (bs : Binders) (t : Named Name) → canon_in k bs t ≡ canon_under k (origins bs) (nameless_in names (variables bs) t)
+form-is : (k : ℕ) (bs : Binders) (t : Named Name)
+    → canon_in k bs t ≡ canon_under k (origins bs) (nameless_in names (variables bs) t)
 form-is k bs (NVar v) = variable-is k bs v
 form-is k bs (NConst n t) = refl
 form-is k bs (NApp f x) = λ i. app (form-is k bs f i) (form-is k bs x i)
@@ -64,13 +72,18 @@ pub canon-is : (t : Named Name) → canon_in 0 [] t ≡ canon (nameless names t)
 canon-is t = form-is 0 [] t ∙ ap canon (nameless_in-nil names tells_names t)
 
 -- ---- free variables decide
-pub canon-agree : (k : ℕ) (bs cs : Binders) (t : Named Name) → ((v : Variable Name) → IsFreeIn names v t → variable_in bs v ≡ variable_in cs v) → canon_in k bs t ≡ canon_in k cs t
+pub canon-agree : (k : ℕ) (bs cs : Binders) (t : Named Name)
+    → ((v : Variable Name) → IsFreeIn names v t → variable_in bs v ≡ variable_in cs v)
+    → canon_in k bs t ≡ canon_in k cs t
 canon-agree k bs cs (NVar v) h = ap var_term (h v refl)
 canon-agree k bs cs (NConst n t) h = refl
-canon-agree k bs cs (NApp f x) h = λ i. app (canon-agree k bs cs f (λ v p. h v (inl p)) i) (canon-agree k bs cs x (λ v p. h v (inr p)) i)
-canon-agree k bs cs (NAbs w b) h = ap (lam (numbered k w.ty)) (canon-agree (suc k) ((w, numbered k w.ty) ∷ bs) ((w, numbered k w.ty) ∷ cs) b inside)
+canon-agree k bs cs (NApp f x) h =
+    λ i. app (canon-agree k bs cs f (λ v p. h v (inl p)) i) (canon-agree k bs cs x (λ v p. h v (inr p)) i)
+canon-agree k bs cs (NAbs w b) h =
+    ap (lam (numbered k w.ty)) (canon-agree (suc k) ((w, numbered k w.ty) ∷ bs) ((w, numbered k w.ty) ∷ cs) b inside)
   where
-    inside : (v : Variable Name) → IsFreeIn names v b → variable_in ((w, numbered k w.ty) ∷ bs) v ≡ variable_in ((w, numbered k w.ty) ∷ cs) v
+    inside : (v : Variable Name) → IsFreeIn names v b → variable_in ((w, numbered k w.ty) ∷ bs) v
+        ≡ variable_in ((w, numbered k w.ty) ∷ cs) v
     inside v p = elim (var_cases names tells_names v w) [
       | inl e ↦ rw e.0 refl
       | inr e ↦ rw e.0 (h v ((λ q. e.1 (sym q)), p))
@@ -81,10 +94,17 @@ pub adds-traces : (s t : Session) (m : Machine) → Traces s t m → Adds s t m
 adds-traces s t m h = record { grown = traces-grow s t m h; article = h.article; run = h.run; of = h.of }
 
 pub adds-leaves : (s t : Session) (m : Machine) → Leaves s t m → Adds s t m
-adds-leaves s t m h = record { grown = record { kernel = h.machine.grown; trace = trace-same s.trace t.trace h.machine.trace }; article = h.machine.article; run = h.run; of = h.machine.of }
+adds-leaves s t m h =
+    record {
+      grown = record { kernel = h.machine.grown; trace = trace-same s.trace t.trace h.machine.trace };
+      article = h.machine.article;
+      run = h.run;
+      of = h.machine.of;
+    }
 
 pub adds-on : (s t u : Session) (m : Machine) → Adds s t m → Adds t u m → Adds s u m
-adds-on s t u m p q = record { grown = grows-on p.grown q.grown; article = q.article ∙ p.article; run = q.run ∙ p.run; of = q.of }
+adds-on s t u m p q =
+    record { grown = grows-on p.grown q.grown; article = q.article ∙ p.article; run = q.run ∙ p.run; of = q.of }
 
 module _ (s t : Session) (grown : Grows s t) where
   pub name-later : (n : ℕ) → n < length s.kernel.names → kernel.name_at t.kernel n ≡ kernel.name_at s.kernel n
@@ -93,7 +113,8 @@ module _ (s t : Session) (grown : Grows s t) where
   pub type-later : (i : ℕ) → i < length s.kernel.types → kernel.type_at t.kernel i ≡ kernel.type_at s.kernel i
   type-later i h = at-Extends s.kernel.types t.kernel.types grown.kernel.types (TyVar []) i h
 
-  pub named-later : (i : ℕ) → i < length s.kernel.terms → kernel.named_at t.kernel.terms i ≡ kernel.named_at s.kernel.terms i
+  pub named-later : (i : ℕ) → i < length s.kernel.terms → kernel.named_at t.kernel.terms i
+      ≡ kernel.named_at s.kernel.terms i
   named-later i h = at-Extends s.kernel.terms t.kernel.terms grown.kernel.terms (NConst [] (TyVar [])) i h
 
   pub key-later : (v : VarKey) → IsKey s.kernel v → IsKey t.kernel v
@@ -116,20 +137,31 @@ module _ (s t : Session) (grown : Grows s t) where
     pub types-later : (es : List (ℕ × ℕ)) → AreTypes s es → AreTypes t es
     types-later es h = record {
       known = λ y i p.
-          let k = h.known y i p in
-          (omega (arith, k.0, grown.kernel.types.longer), omega (arith, k.1, grown.trace.longer), origin-kept s t run grown i k.1 ∙ k.2 ∙ ap canon_ty (sym (type-later y k.0)));
+          let k = h.known y i p in (
+            omega (arith, k.0, grown.kernel.types.longer),
+            omega (arith, k.1, grown.trace.longer),
+            origin-kept s t run
+                grown i k.1 ∙ k.2 ∙ ap canon_ty (sym (type-later y k.0)),
+          );
     }
 
 -- one type more
-pub types-insert : (s : Session) (old new : List (ℕ × ℕ)) (y i : ℕ) → AreTypes s old → y < length s.kernel.types → i < length s.trace → origin_of s i ≡ canon_ty (kernel.type_at s.kernel y)
+pub types-insert : (s : Session) (old new : List (ℕ × ℕ)) (y i : ℕ) → AreTypes s old → y < length s.kernel.types
+    → i < length s.trace → origin_of s i ≡ canon_ty (kernel.type_at s.kernel y)
     → ((z : ℕ) → lookup (nat_eq z) new ≡ cond (nat_eq y z) (Some i) (lookup (nat_eq z) old)) → AreTypes s new
-types-insert s old new y i h ly li is after = record { known = λ z j known. by z j (nat_eq y z) refl (sym (after z) ∙ known) }
+types-insert s old new y i h ly li is after =
+    record { known = λ z j known. by z j (nat_eq y z) refl (sym (after z) ∙ known) }
   where
-    by : (z j : ℕ) (b : Bool) → nat_eq y z ≡ b → cond (nat_eq y z) (Some i) (lookup (nat_eq z) old) ≡ Some j → (z < length s.kernel.types) × (j < length s.trace) × (origin_of s j ≡ canon_ty (kernel.type_at s.kernel z))
+    by : (z j : ℕ) (b : Bool) → nat_eq y z ≡ b → cond (nat_eq y z) (Some i) (lookup (nat_eq z) old) ≡ Some j
+        → (z < length s.kernel.types) × (j < length s.trace) × (origin_of s j ≡ canon_ty (kernel.type_at s.kernel z))
     by z j true e known =
         let same : y ≡ z = eqb-true y z e in
-        let value : i ≡ j = same_Some i j (sym (ap (λ b. cond b (Some i) (lookup (nat_eq z) old)) e) ∙ known) in
-        (omega (arith, ly, same), omega (arith, li, value), (λ k. origin_of s (sym value k)) ∙ is ∙ ap (λ y. canon_ty (kernel.type_at s.kernel y)) same)
+        let value : i ≡ j = same_Some i j (sym (ap (λ b. cond b (Some i) (lookup (nat_eq z) old)) e) ∙ known) in (
+          omega (arith, ly, same),
+          omega (arith, li, value),
+          (λ k. origin_of s (sym value k)) ∙ is
+              ∙ ap (λ y. canon_ty (kernel.type_at s.kernel y)) same,
+        )
     by z j false e known = h.known z j (sym (ap (λ b. cond b (Some i) (lookup (nat_eq z) old)) e) ∙ known)
 
 -- ---- a list of types, from its end
@@ -137,11 +169,13 @@ abbrev pub types_onto : kernel.State → List ℕ → Origin Name → Origin Nam
 types_onto k [] o = o
 types_onto k (i ∷ is) o = make_two words.Cons (canon_ty (kernel.type_at k i)) (types_onto k is o)
 
-pub types_onto-push : (k : kernel.State) (is : List ℕ) (j : ℕ) (o : Origin Name) → types_onto k (is ++ j ∷ []) o ≡ types_onto k is (make_two words.Cons (canon_ty (kernel.type_at k j)) o)
+pub types_onto-push : (k : kernel.State) (is : List ℕ) (j : ℕ) (o : Origin Name) → types_onto k (is ++ j ∷ []) o
+    ≡ types_onto k is (make_two words.Cons (canon_ty (kernel.type_at k j)) o)
 types_onto-push k [] j o = refl
 types_onto-push k (i ∷ is) j o = ap (make_two words.Cons (canon_ty (kernel.type_at k i))) (types_onto-push k is j o)
 
-pub types_onto-whole : (k : kernel.State) (is : List ℕ) → types_onto k is (Make words.Nil NoOrigins) ≡ canon_tys (kernel.types_at k is)
+pub types_onto-whole : (k : kernel.State) (is : List ℕ) → types_onto k is (Make words.Nil NoOrigins)
+    ≡ canon_tys (kernel.types_at k is)
 types_onto-whole k [] = refl
 types_onto-whole k (i ∷ is) = ap (make_two words.Cons (canon_ty (kernel.type_at k i))) (types_onto-whole k is)
 
@@ -151,7 +185,8 @@ same_binder-Decides b c = (to, from)
   where
     to : same_binder b c ≡ true → b ≡ c
     to p =
-        let q = and_parts (nat_eq b.variable.name c.variable.name && nat_eq b.variable.ty c.variable.ty) (nat_eq b.step c.step) p in
+        let q = and_parts (nat_eq b.variable.name c.variable.name && nat_eq b.variable.ty c.variable.ty)
+        (nat_eq b.step c.step) p in
         let r = and_parts (nat_eq b.variable.name c.variable.name) (nat_eq b.variable.ty c.variable.ty) q.0 in
         let n = eqb-true b.variable.name c.variable.name r.0 in
         let y = eqb-true b.variable.ty c.variable.ty r.1 in
@@ -159,7 +194,12 @@ same_binder-Decides b c = (to, from)
         λ i. record { variable = record { name = n i; ty = y i }; step = s i }
 
     self : (d : Binder) → same_binder d d ≡ true
-    self d = rw (eq-eqb d.variable.name d.variable.name refl, eq-eqb d.variable.ty d.variable.ty refl, eq-eqb d.step d.step refl) refl
+    self d = rw (
+      eq-eqb d.variable.name d.variable.name refl,
+      eq-eqb d.variable.ty d.variable.ty refl,
+      eq-eqb d.step
+          d.step refl,
+    ) refl
 
     from : b ≡ c → same_binder b c ≡ true
     from e = subst (λ d. same_binder b d ≡ true) e (self b)
@@ -171,24 +211,34 @@ pub record IsSamePart (p q : Part) : Type 0 where
 
 part-same : (p q : Part) → same_part p q ≡ true → IsSamePart p q
 part-same p q h =
-    let a = and_parts (nat_eq p.id q.id) (nat_eq p.depth q.depth && pointwise same_binder p.binders.items q.binders.items) h in
+    let a = and_parts (nat_eq p.id q.id)
+    (nat_eq p.depth q.depth && pointwise same_binder p.binders.items q.binders.items) h in
     let b = and_parts (nat_eq p.depth q.depth) (pointwise same_binder p.binders.items q.binders.items) a.1 in
-    record { id = eqb-true p.id q.id a.0; depth = eqb-true p.depth q.depth b.0; binders = (slice_eq-Decides same_binder-Decides p.binders.items q.binders.items _ refl).0 b.1 }
+    record {
+      id = eqb-true p.id q.id a.0;
+      depth = eqb-true p.depth q.depth b.0;
+      binders = (slice_eq-Decides same_binder-Decides p.binders.items q.binders.items _ refl).0 b.1;
+    }
 
 step-same : (s : Session) (p q : Part) (i j : ℕ) → IsSamePart p q → i ≡ j → IsStepOf s p i → IsStepOf s q j
 step-same s p q i j same e h = record {
   id = omega (arith, h.id, same.id);
   step = omega (arith, h.step, e);
   binders = subst (All (IsBinderIn s)) same.binders h.binders;
-  origin = (λ k. origin_of s (sym e k)) ∙ h.origin ∙ (λ k. canon_in (same.depth k) (binders_at s (same.binders k)) (kernel.named_at s.kernel.terms (same.id k)));
+  origin = (λ k. origin_of s (sym e k)) ∙ h.origin
+      ∙ (λ k. canon_in (same.depth k) (binders_at s (same.binders k)) (kernel.named_at s.kernel.terms (same.id k)));
 }
 
 pub terms-insert : (s : Session) (old new : List (Part × ℕ)) (p : Part) (i : ℕ) → AreTerms s old → IsStepOf s p i
-    → ((q : Part) → lookup (same_part q) new ≡ cond (same_part p q) (Some i) (lookup (same_part q) old)) → AreTerms s new
-terms-insert s old new p i h here after = record { known = λ q j known. by q j (same_part p q) refl (sym (after q) ∙ known) }
+    → ((q : Part) → lookup (same_part q) new ≡ cond (same_part p q) (Some i) (lookup (same_part q) old))
+    → AreTerms s new
+terms-insert s old new p i h here after =
+    record { known = λ q j known. by q j (same_part p q) refl (sym (after q) ∙ known) }
   where
-    by : (q : Part) (j : ℕ) (b : Bool) → same_part p q ≡ b → cond (same_part p q) (Some i) (lookup (same_part q) old) ≡ Some j → IsStepOf s q j
-    by q j true e known = step-same s p q i j (part-same p q e) (same_Some i j (sym (ap (λ b. cond b (Some i) (lookup (same_part q) old)) e) ∙ known)) here
+    by : (q : Part) (j : ℕ) (b : Bool) → same_part p q ≡ b → cond (same_part p q) (Some i) (lookup (same_part q) old)
+        ≡ Some j → IsStepOf s q j
+    by q j true e known = step-same s p q i j (part-same p q e)
+        (same_Some i j (sym (ap (λ b. cond b (Some i) (lookup (same_part q) old)) e) ∙ known)) here
     by q j false e known = h.known q j (sym (ap (λ b. cond b (Some i) (lookup (same_part q) old)) e) ∙ known)
 
 module _ (s t : Session) (grown : Grows s t) (run : IsRun s) where
@@ -218,23 +268,29 @@ abbrev pub variables_onto : List Name → Origin Name → Origin Name
 variables_onto [] o = o
 variables_onto (n ∷ ns) o = make_two words.Cons (canon_ty (TyVar n)) (variables_onto ns o)
 
-pub variables_onto-push : (ns : List Name) (n : Name) (o : Origin Name) → variables_onto (ns ++ n ∷ []) o ≡ variables_onto ns (make_two words.Cons (canon_ty (TyVar n)) o)
+pub variables_onto-push : (ns : List Name) (n : Name) (o : Origin Name) → variables_onto (ns ++ n ∷ []) o
+    ≡ variables_onto ns (make_two words.Cons (canon_ty (TyVar n)) o)
 variables_onto-push [] n o = refl
 variables_onto-push (m ∷ ns) n o = ap (make_two words.Cons (canon_ty (TyVar m))) (variables_onto-push ns n o)
 
-pub variables_onto-whole : (ns : List Name) → variables_onto ns (Make words.Nil NoOrigins) ≡ canon_tys (tys_of_vars names ns)
+pub variables_onto-whole : (ns : List Name) → variables_onto ns (Make words.Nil NoOrigins)
+    ≡ canon_tys (tys_of_vars names ns)
 variables_onto-whole [] = refl
 variables_onto-whole (n ∷ ns) = ap (make_two words.Cons (canon_ty (TyVar n))) (variables_onto-whole ns)
 
 -- ---- binders whose variables don't matter
 module _ (s : Session) where
-  pub variable-skip : (kept rest : List Binder) (b : Binder) (v : Variable Name) → same_var names v (kernel.variable_at s.kernel b.variable) ≡ false
+  pub variable-skip : (kept rest : List Binder) (b : Binder) (v : Variable Name)
+      → same_var names v (kernel.variable_at s.kernel b.variable) ≡ false
       → variable_in (binders_at s (kept ++ b ∷ rest)) v ≡ variable_in (binders_at s (kept ++ rest)) v
   variable-skip [] rest b v e = ap (λ c. cond c (origin_of s b.step) (variable_in (binders_at s rest) v)) e
-  variable-skip (k ∷ kept) rest b v e = ap (cond (same_var names v (kernel.variable_at s.kernel k.variable)) (origin_of s k.step)) (variable-skip kept rest b v e)
+  variable-skip (k ∷ kept) rest b v e =
+      ap (cond (same_var names v (kernel.variable_at s.kernel k.variable)) (origin_of s k.step))
+      (variable-skip kept rest b v e)
 
 -- a variable that isn't free isn't one that is
-pub other-variable : (t : Named Name) (w v : Variable Name) (b : Bool) → Decides b (IsFreeIn names w t) → b ≡ false → IsFreeIn names v t → same_var names v w ≡ false
+pub other-variable : (t : Named Name) (w v : Variable Name) (b : Bool) → Decides b (IsFreeIn names w t) → b ≡ false
+    → IsFreeIn names v t → same_var names v w ≡ false
 other-variable t w v b d refused here = elim (var_cases names tells_names v w) [
   | inl p ↦ absurd (true≢false (sym (d.1 (subst (λ x. IsFreeIn names x t) p.1 here)) ∙ refused))
   | inr p ↦ p.0
@@ -251,7 +307,8 @@ adds-none s m h = adds-traces s s m (traces-none s m h)
 
 -- ---- names and theorems of a session that grew
 module _ (s t : Session) (grown : Grows s t) where
-  pub names-later : (ns : List ℕ) → All (λ n. n < length s.kernel.names) ns → map (kernel.name_at t.kernel) ns ≡ map (kernel.name_at s.kernel) ns
+  pub names-later : (ns : List ℕ) → All (λ n. n < length s.kernel.names) ns → map (kernel.name_at t.kernel) ns
+      ≡ map (kernel.name_at s.kernel) ns
   names-later [] h = refl
   names-later (n ∷ ns) h =
       let a = name-later s t grown n (All-head (λ n. n < length s.kernel.names) n ns h) in
@@ -261,11 +318,14 @@ module _ (s t : Session) (grown : Grows s t) where
   pub names-inside : (ns : List ℕ) → All (λ n. n < length s.kernel.names) ns → All (λ n. n < length t.kernel.names) ns
   names-inside ns h i d p = let n = h i d p in omega (arith, n, grown.kernel.names.longer)
 
-  pub theorem-later : (i : ℕ) → i < length s.kernel.theorems → kernel.theorem_at t.kernel i ≡ kernel.theorem_at s.kernel i
-  theorem-later i h = at-Extends s.kernel.theorems t.kernel.theorems grown.kernel.theorems (record { hyps = []; concl = Bound 0 }) i h
+  pub theorem-later : (i : ℕ) → i < length s.kernel.theorems → kernel.theorem_at t.kernel i
+      ≡ kernel.theorem_at s.kernel i
+  theorem-later i h = at-Extends s.kernel.theorems t.kernel.theorems grown.kernel.theorems
+      (record { hyps = []; concl = Bound 0 }) i h
 
 -- nothing is known yet
-pub known-none : (s : Session) (k : Known) → k.types.entries ≡ [] → k.terms.entries ≡ [] → k.free.entries ≡ [] → AreKnown s k
+pub known-none : (s : Session) (k : Known) → k.types.entries ≡ [] → k.terms.entries ≡ [] → k.free.entries ≡ []
+    → AreKnown s k
 known-none s k e f g = record {
   types = record { known = λ y i p. absurd (none-there (sym (ap (λ es. lookup (nat_eq y) es) e) ∙ p)) };
   terms = record { known = λ q i p. absurd (none-there (sym (ap (λ es. lookup (same_part q) es) f) ∙ p)) };

@@ -19,7 +19,8 @@ pub constants_onto-start : (ns : List Name) → constants_onto ns no_objects ≡
 constants_onto-start [] = refl
 constants_onto-start (n ∷ ns) = ap (more_objects (constant n)) (constants_onto-start ns)
 
-pub constants_onto-push : (ns : List Name) (n : Name) (os : Objects) → constants_onto (ns ++ n ∷ []) os ≡ constants_onto ns (more_objects (constant n) os)
+pub constants_onto-push : (ns : List Name) (n : Name) (os : Objects) → constants_onto (ns ++ n ∷ []) os
+    ≡ constants_onto ns (more_objects (constant n) os)
 constants_onto-push [] n os = refl
 constants_onto-push (m ∷ ns) n os = ap (more_objects (constant m)) (constants_onto-push ns n os)
 
@@ -27,7 +28,8 @@ constants_onto-push (m ∷ ns) n os = ap (more_objects (constant m)) (constants_
 pub consed-made : (o : Object) (os xs : Objects) → consed o os ≡ Ok (list xs) → xs ≡ more_objects o os
 consed-made o os xs e = by (nat_le (nesting (list (more_objects o os))) depth_limit) e
   where
-    by : (b : Bool) → ◌≡◌ {A = Result Object (Fault Name)} (if b then Ok (list (more_objects o os)) else Err Nesting) (Ok (list xs)) → xs ≡ more_objects o os
+    by : (b : Bool) → ◌≡◌ {A = Result Object (Fault Name)} (if b then Ok (list (more_objects o os)) else Err Nesting)
+        (Ok (list xs)) → xs ≡ more_objects o os
     by true e = cc
     by false e = cc
 
@@ -40,6 +42,7 @@ pub constants_from-start : (ns : List Name) → constants_from ns (Make words.Ni
 constants_from-start [] = refl
 constants_from-start (n ∷ ns) = ap (make_two words.Cons (constant_origin (Named n))) (constants_from-start ns)
 
-pub constants_from-push : (ns : List Name) (n : Name) (o : Origin Name) → constants_from (ns ++ n ∷ []) o ≡ constants_from ns (make_two words.Cons (constant_origin (Named n)) o)
+pub constants_from-push : (ns : List Name) (n : Name) (o : Origin Name) → constants_from (ns ++ n ∷ []) o
+    ≡ constants_from ns (make_two words.Cons (constant_origin (Named n)) o)
 constants_from-push [] n o = refl
 constants_from-push (m ∷ ns) n o = ap (make_two words.Cons (constant_origin (Named m))) (constants_from-push ns n o)

@@ -23,45 +23,62 @@ module _ (c : Context) (max : ℕ) (start : State) where
   Follows now scan (Some bytes) None = ⊥
   Follows now scan (Some bytes) (Some left) = After c (lines_of max bytes) start now (lines_to_come scan left)
 
-  pub follows-start : (scan : Scan) (left : Option (List ℕ)) → scan ≡ record { max = max; held = []; before = 0; number = 0 } → Follows start scan left left
+  pub follows-start : (scan : Scan) (left : Option (List ℕ))
+      → scan ≡ record { max = max; held = []; before = 0; number = 0 } → Follows start scan left left
   follows-start scan None is = tt
-  follows-start scan (Some bytes) is = subst (λ s. After c (lines_of max bytes) start start (lines_to_come s bytes)) (sym is) (after_start c (lines_of max bytes) start)
+  follows-start scan (Some bytes) is = subst (λ s. After c (lines_of max bytes) start start (lines_to_come s bytes))
+      (sym is) (after_start c (lines_of max bytes) start)
 
   -- at the end of the lines the run has ended
-  pub follows-end : (k : kernel.State) (now : State) (old new : Scan) (all left left' : Option (List ℕ)) → Follows now old all left → TakesFrom (Ok None) old new left left' → IfSome all (λ bytes. Runs k (Ok (tt {0})) c (lines_of max bytes) start now)
+  pub follows-end : (k : kernel.State) (now : State) (old new : Scan) (all left left' : Option (List ℕ))
+      → Follows now old all left → TakesFrom (Ok None) old new left left'
+      → IfSome all (λ bytes. Runs k (Ok (tt {0})) c (lines_of max bytes) start now)
   follows-end k now old new None left left' f t = tt
   follows-end k now old new (Some bytes) None left' f t = absurd f
   follows-end k now old new (Some bytes) (Some l) None f t = absurd t
-  follows-end k now old new (Some bytes) (Some l) (Some l') f t = after_run c _ _ _ _ f ∙ ap (λ z. run c z now) t.line.0
+  follows-end k now old new (Some bytes) (Some l) (Some l') f t = after_run c _ _ _ _ f
+      ∙ ap (λ z. run c z now) t.line.0
 
   -- at the end no byte is left
-  pub follows-spent : (now : State) (old new : Scan) (all left left' : Option (List ℕ)) → Follows now old all left → TakesFrom (Ok None) old new left left' → IfSome all (λ _. IfSome left' (λ bytes. bytes ≡ []))
+  pub follows-spent : (now : State) (old new : Scan) (all left left' : Option (List ℕ)) → Follows now old all left
+      → TakesFrom (Ok None) old new left left' → IfSome all (λ _. IfSome left' (λ bytes. bytes ≡ []))
   follows-spent now old new None left left' f t = tt
   follows-spent now old new (Some bytes) None left' f t = absurd f
   follows-spent now old new (Some bytes) (Some l) None f t = absurd t
   follows-spent now old new (Some bytes) (Some l) (Some l') f t = t.end.1
 
   -- a line more that passes
-  pub follows-line : (now next : State) (old new : Scan) (line : Line) (all left left' : Option (List ℕ)) → Follows now old all left → TakesFrom (Ok (Some line)) old new left left' → line_step c now line.text.now ≡ Ok next → Follows next new all left'
+  pub follows-line : (now next : State) (old new : Scan) (line : Line) (all left left' : Option (List ℕ))
+      → Follows now old all left → TakesFrom (Ok (Some line)) old new left left' → line_step c now line.text.now
+      ≡ Ok next → Follows next new all left'
   follows-line now next old new line None left left' f t p = tt
   follows-line now next old new line (Some bytes) None left' f t p = absurd f
   follows-line now next old new line (Some bytes) (Some l) None f t p = absurd t
   follows-line now next old new line (Some bytes) (Some l) (Some l') f t p = after_more c _ _ _ _ _ _ _ _ f t.line p
 
   -- a line that is refused
-  pub follows-refused : (k : kernel.State) (e : Fault) (now next : State) (old new : Scan) (line : Line) (all left left' : Option (List ℕ)) → Follows now old all left → TakesFrom (Ok (Some line)) old new left left' → (next ≡ now) × Refuses k e (line_step c now line.text.now) → IfSome all (λ bytes. Runs k (Err (refusal line.number e)) c (lines_of max bytes) start next)
+  pub follows-refused : (k : kernel.State) (e : Fault) (now next : State) (old new : Scan) (line : Line)
+      (all left left' : Option (List ℕ)) → Follows now old all left → TakesFrom (Ok (Some line)) old new left left'
+      → (next ≡ now) × Refuses k e (line_step c now line.text.now)
+      → IfSome all (λ bytes. Runs k (Err (refusal line.number e)) c (lines_of max bytes) start next)
   follows-refused k e now next old new line None left left' f t m = tt
   follows-refused k e now next old new line (Some bytes) None left' f t m = absurd f
   follows-refused k e now next old new line (Some bytes) (Some l) None f t m = absurd t
-  follows-refused k e now next old new line (Some bytes) (Some l) (Some l') f t m = runs_stopped c k line.number e _ _ _ _ _ _ _ f t.line m
+  follows-refused k e now next old new line (Some bytes) (Some l) (Some l') f t m =
+      runs_stopped c k line.number e _ _ _ _ _ _ _ f t.line m
 
   -- lines that a limit or the source stops
-  runs-broken : (k : kernel.State) (e : ScanFault) (all : Lines) (now : State) (old new : Lines) → After c all start now old → TakesLine (Err e) old new → Runs k (Err (article_fault e)) c all start now
-  runs-broken k (scan.LineTooLong n) all now old new a t = (stated.LineTooLong, refl, after_run c _ _ _ _ a ∙ ap (λ z. run c z now) t.0)
-  runs-broken k (scan.ArticleTooLong n) all now old new a t = (stated.ArticleTooLong, refl, after_run c _ _ _ _ a ∙ ap (λ z. run c z now) t.0)
+  runs-broken : (k : kernel.State) (e : ScanFault) (all : Lines) (now : State) (old new : Lines)
+      → After c all start now old → TakesLine (Err e) old new → Runs k (Err (article_fault e)) c all start now
+  runs-broken k (scan.LineTooLong n) all now old new a t =
+      (stated.LineTooLong, refl, after_run c _ _ _ _ a ∙ ap (λ z. run c z now) t.0)
+  runs-broken k (scan.ArticleTooLong n) all now old new a t =
+      (stated.ArticleTooLong, refl, after_run c _ _ _ _ a ∙ ap (λ z. run c z now) t.0)
   runs-broken k scan.ReadFault all now old new a t = (a.count, a.now_is)
 
-  pub follows-stopped : (k : kernel.State) (e : ScanFault) (now : State) (old new : Scan) (all left left' : Option (List ℕ)) → Follows now old all left → TakesFrom (Err e) old new left left' → IfSome all (λ bytes. Runs k (Err (article_fault e)) c (lines_of max bytes) start now)
+  pub follows-stopped : (k : kernel.State) (e : ScanFault) (now : State) (old new : Scan)
+      (all left left' : Option (List ℕ)) → Follows now old all left → TakesFrom (Err e) old new left left'
+      → IfSome all (λ bytes. Runs k (Err (article_fault e)) c (lines_of max bytes) start now)
   follows-stopped k e now old new None left left' f t = tt
   follows-stopped k e now old new (Some bytes) None left' f t = absurd f
   follows-stopped k e now old new (Some bytes) (Some l) None f t = absurd t

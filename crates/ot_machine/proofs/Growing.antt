@@ -7,7 +7,8 @@ use Rattle.ot_plain.specs.declared.command.Cmd.TheVariants as words
 use Rattle.ot_trace.specs.Origins.{Origin, Origins, Number, Named, Make, Define, Outcome, NoOrigins, MoreOrigins}
 use Rattle.ot_machine.specs.Objects.{Object}
 use Rattle.ot_machine.specs.States.{Entry, Export, Given}
-use Rattle.ot_machine.specs.Lawful.{Basis, IsLarger, IsTaken, RestsOn, AreOn, Fits, EntryFits, GivenFits, IsLawfulExport}
+use Rattle.ot_machine.specs.Lawful.{Basis, IsLarger, IsTaken, RestsOn, AreOn}
+use Rattle.ot_machine.specs.Lawful.{Fits, EntryFits, GivenFits, IsLawfulExport}
 
 module _ (b c : Basis) (h : IsLarger b c) where
   pub taken-more : (w : Cmd) (os : Origins Name) → IsTaken b w os → IsTaken c w os

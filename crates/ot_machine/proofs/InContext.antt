@@ -17,34 +17,46 @@ use Rattle.ot_machine.specs.Meaning.{IsRun, Grows}
 use Rattle.ot_machine.proofs.Kept.{at-Extends, origin-kept, places-kept}
 
 -- a name that a map of numbers gives, by the names of the numbers
-pub name-renamed : (k : kernel.State) (pairs : List (ℕ × ℕ)) (n m : ℕ) → IsNameTable k.names → AreWithin (length k.names) pairs → n < length k.names → m ≡ renamed numbers pairs n → kernel.name_at k m ≡ renamed names (map_pairs (kernel.name_at k) pairs) (kernel.name_at k n)
+pub name-renamed : (k : kernel.State) (pairs : List (ℕ × ℕ)) (n m : ℕ) → IsNameTable k.names
+    → AreWithin (length k.names) pairs → n < length k.names → m ≡ renamed numbers pairs n
+    → kernel.name_at k m ≡ renamed names (map_pairs (kernel.name_at k) pairs) (kernel.name_at k n)
 name-renamed k pairs n m table within below is =
-    ap (kernel.name_at k) is ∙ sym (renamed-at (kernel.name_at k) (length k.names) (λ i j. get_or-IsInjective k.names table.injective i j []) pairs n within below)
+    ap (kernel.name_at k) is
+    ∙ sym (renamed-at (kernel.name_at k) (length k.names)
+    (λ i j. get_or-IsInjective k.names table.injective i j []) pairs n within below)
 
 -- the theorems of givens are of the kernel
-pub given-theorems : (k : kernel.State) (gs : List code_given.Given) → All (λ g. g.th < length k.theorems) gs → All (λ th. th < length k.theorems) (map (λ g. g.th) gs)
+pub given-theorems : (k : kernel.State) (gs : List code_given.Given) → All (λ g. g.th < length k.theorems) gs
+    → All (λ th. th < length k.theorems) (map (λ g. g.th) gs)
 given-theorems k gs h = All-map (λ th. th < length k.theorems) (λ (g : code_given.Given). g.th) gs h
 
 -- ---- a context over a session that grew
 module _ (s t : Session) (run : IsRun s) (grown : Grows s t) where
-  theorems-kept : (gs : List code_given.Given) → All (λ g. g.th < length s.kernel.theorems) gs → All (λ g. g.step < length s.trace) gs → map (given_of t) gs ≡ map (given_of s) gs
+  theorems-kept : (gs : List code_given.Given) → All (λ g. g.th < length s.kernel.theorems) gs
+      → All (λ g. g.step < length s.trace) gs → map (given_of t) gs ≡ map (given_of s) gs
   theorems-kept [] h f = refl
   theorems-kept (g ∷ gs) h f =
-      let a = at-Extends s.kernel.theorems t.kernel.theorems grown.kernel.theorems (record { hyps = []; concl = Bound 0 }) g.th (All-head (λ g. g.th < length s.kernel.theorems) g gs h) in
+      let a = at-Extends s.kernel.theorems t.kernel.theorems grown.kernel.theorems
+      (record { hyps = []; concl = Bound 0 }) g.th (All-head (λ g. g.th < length s.kernel.theorems) g gs h) in
       let o = origin-kept s t run grown g.step (All-head (λ g. g.step < length s.trace) g gs f) in
-      let b = theorems-kept gs (All-tail (λ g. g.th < length s.kernel.theorems) g gs h) (All-tail (λ g. g.step < length s.trace) g gs f) in
+      let b = theorems-kept gs (All-tail (λ g. g.th < length s.kernel.theorems) g gs h)
+      (All-tail (λ g. g.step < length s.trace) g gs f) in
       λ i. record { sequent = a i; origin = o i } ∷ b i
 
   pub context-kept : (c : code.Context) → IsContextOf s c → context_of t c ≡ context_of s c
   context-kept c h =
-      let symbols = map_interpretation-agree (kernel.name_at t.kernel) (kernel.name_at s.kernel) (length s.kernel.names) (at-Extends s.kernel.names t.kernel.names grown.kernel.names []) c.interp.now h.interpretation in
+      let symbols = map_interpretation-agree (kernel.name_at t.kernel) (kernel.name_at s.kernel)
+      (length s.kernel.names) (at-Extends s.kernel.names t.kernel.names grown.kernel.names []) c.interp.now
+      h.interpretation in
       let theorems = theorems-kept c.theorems.now h.theorems h.steps in
       λ i. record { interpretation = symbols i; theorems = theorems i }
 
   pub of_context-kept : (c : code.Context) → IsContextOf s c → IsContextOf t c
   of_context-kept c h = record {
-    interpretation = IsWithin-more (length s.kernel.names) (length t.kernel.names) grown.kernel.names.longer c.interp.now h.interpretation;
+    interpretation = IsWithin-more (length s.kernel.names) (length t.kernel.names) grown.kernel.names.longer
+        c.interp.now h.interpretation;
     theorems = λ i g q. let x = h.theorems i g q in omega (arith, x, grown.kernel.theorems.longer);
     steps = λ i g q. let x = h.steps i g q in omega (arith, x, grown.trace.longer);
-    placed = places-kept s.kernel t.kernel grown.kernel (map (λ g. g.th) c.theorems.now) (given-theorems s.kernel c.theorems.now h.theorems) c.places.now h.placed;
+    placed = places-kept s.kernel t.kernel grown.kernel (map (λ g. g.th) c.theorems.now)
+        (given-theorems s.kernel c.theorems.now h.theorems) c.places.now h.placed;
   }

@@ -1,5 +1,6 @@
 -- What a machine stands for stays as its session and its cells grow.
-use Rattle.std.specs.Prelude.{◌≡◌, ◌<◌, ◌≤◌, ◌⊎◌, ℕ, suc, ℤ, pos, List, [], ◌∷◌, ◌++◌, length, map, slice_get, slice_index_or, Option, Some, None, cond}
+use Rattle.std.specs.Prelude.{◌≡◌, ◌<◌, ◌≤◌, ◌⊎◌, ℕ, suc, ℤ, pos, List, [], ◌∷◌, ◌++◌, length}
+use Rattle.std.specs.Prelude.{map, slice_get, slice_index_or, Option, Some, None, cond}
 use Rattle.std.specs.List.{All}
 use Rattle.std.specs.Map.{lookup}
 use Rattle.std.specs.Ordering.{int_cmp, int_eq, is_eq}
@@ -18,8 +19,10 @@ use Rattle.ot_plain.proofs.TableLemmas.{Extends-refl, Extends-trans, Extends-app
 use Rattle.ot_kernel.specs.State as kernel
 use Rattle.ot_kernel.specs.Alike.{HasPlace, AreFirstPlaces}
 use Rattle.ot_trace.specs.Trace.{origin_at}
-use Rattle.ot_trace.specs.Origins.{Origin, Origins, Number, Named, Make, Define, Outcome, NoOrigins, MoreOrigins, map_origin, map_origins}
-use Rattle.ot_machine.specs.Objects.{Objects, name, list, type_op, a_type, constant, variable, term, theorem, more_objects, nesting}
+use Rattle.ot_trace.specs.Origins.{Origin, Origins, Number, Named, Make, Define, Outcome}
+use Rattle.ot_trace.specs.Origins.{NoOrigins, MoreOrigins, map_origin, map_origins}
+use Rattle.ot_machine.specs.Objects.{Objects, name, list, type_op, a_type, constant}
+use Rattle.ot_machine.specs.Objects.{variable, term, theorem, more_objects, nesting}
 use Rattle.ot_machine.specs.declared.object.Object as object
 use Rattle.ot_machine.specs.declared.object.Object.TheVariants as objects
 use Rattle.ot_machine.specs.declared.object.Cell as cell
@@ -27,11 +30,23 @@ use Rattle.ot_machine.specs.declared.object.Entry as code_entry
 use Rattle.ot_machine.specs.declared.session.Session.{Session}
 use Rattle.ot_machine.specs.declared.machine.Export as code
 use Rattle.ot_machine.specs.declared.machine.Machine.{Machine}
-use Rattle.ot_machine.specs.Meaning.{list_at, object_of, cell_of, cells_onto, cells_of, IsIn, IsCell, AreCells, origin_of, origin_or, AreNamesBelow, AreAllNamesBelow, givens_of, made_of, IsRun, entry_of, dictionary_of, export_of, concls_of, version_of, lists_of, article_of, HasStep, IsEntryIn, IsExportIn, IsOf, Grows, Leaves, Traces}
+use Rattle.ot_machine.specs.Meaning.{list_at, object_of, cell_of, cells_onto, cells_of, IsIn, IsCell, AreCells}
+use Rattle.ot_machine.specs.Meaning.{origin_of, origin_or, AreNamesBelow, AreAllNamesBelow, givens_of, made_of}
+use Rattle.ot_machine.specs.Meaning.{IsRun, entry_of, dictionary_of, export_of, concls_of, version_of, lists_of}
+use Rattle.ot_machine.specs.Meaning.{article_of, HasStep, IsEntryIn, IsExportIn, IsOf, Grows, Leaves, Traces}
 
 -- ---- kernels that grow
 pub keeps-same : (k : kernel.State) → kernel.Keeps k k
-keeps-same k = record { names = Extends-refl _; types = Extends-refl _; terms = Extends-refl _; classes = Extends-refl _; theorems = Extends-refl _; assumptions = Extends-refl _; definitions = Extends-refl _ }
+keeps-same k =
+    record {
+      names = Extends-refl _;
+      types = Extends-refl _;
+      terms = Extends-refl _;
+      classes = Extends-refl _;
+      theorems = Extends-refl _;
+      assumptions = Extends-refl _;
+      definitions = Extends-refl _;
+    }
 
 pub keeps-on : {a b c : kernel.State} → kernel.Keeps a b → kernel.Keeps b c → kernel.Keeps a c
 keeps-on p q = record {
@@ -62,8 +77,10 @@ module _ (k l : kernel.State) (kept : kernel.Keeps k l) where
       let a = at-Extends k.names l.names kept.names [] v.name h.0 in
       let b = at-Extends k.types l.types kept.types (TyVar []) v.ty h.1 in
       λ i. variable (record { name = a i; ty = b i })
-  object-kept cs n (objects.Term t) h = ap (λ x. term (nameless names x)) (at-Extends k.terms l.terms kept.terms (NConst [] (TyVar [])) t h)
-  object-kept cs n (objects.Theorem th) h = ap theorem (at-Extends k.theorems l.theorems kept.theorems (record { hyps = []; concl = Bound 0 }) th h)
+  object-kept cs n (objects.Term t) h =
+      ap (λ x. term (nameless names x)) (at-Extends k.terms l.terms kept.terms (NConst [] (TyVar [])) t h)
+  object-kept cs n (objects.Theorem th) h =
+      ap theorem (at-Extends k.theorems l.theorems kept.theorems (record { hyps = []; concl = Bound 0 }) th h)
 
   pub in-kept : (n : ℕ) (o : object.Object) → IsIn k n o → IsIn l n o
   in-kept n (objects.Number m) h = tt
@@ -76,11 +93,14 @@ module _ (k l : kernel.State) (kept : kernel.Keeps k l) where
   in-kept n (objects.Term t) h = omega (arith, h, kept.terms.longer)
   in-kept n (objects.Theorem th) h = omega (arith, h, kept.theorems.longer)
 
-  cells-kept : (cs : List Objects) (more : List cell.Cell) → ((i : ℕ) (c : cell.Cell) → slice_get more i ≡ Some c → (n : ℕ) × IsIn k n c.head) → cells_onto l cs more ≡ cells_onto k cs more
+  cells-kept : (cs : List Objects) (more : List cell.Cell)
+      → ((i : ℕ) (c : cell.Cell) → slice_get more i ≡ Some c → (n : ℕ) × IsIn k n c.head)
+      → cells_onto l cs more ≡ cells_onto k cs more
   cells-kept cs [] h = refl
   cells-kept cs (c ∷ more) h =
       let first = h 0 c refl in
-      ap (λ o. cells_onto l (cs ++ more_objects o (list_at cs c.tail) ∷ []) more) (object-kept cs first.0 c.head first.1)
+      ap (λ o. cells_onto l (cs ++ more_objects o (list_at cs c.tail) ∷ []) more)
+      (object-kept cs first.0 c.head first.1)
       ∙ cells-kept (cs ++ cell_of k cs c ∷ []) more (λ i d p. h (suc i) d p)
 
   pub lists-kept : (cells : List cell.Cell) → AreCells k cells → cells_of l cells ≡ cells_of k cells
@@ -95,7 +115,8 @@ module _ (k l : kernel.State) (kept : kernel.Keeps k l) where
         list_is = h.list_is ∙ sym (ap (λ o. Some (more_objects o (list_at (cells_of k cells) c.tail))) there);
         head = in-kept i c.head h.head;
         tail = h.tail;
-        nesting_is = h.nesting_is ∙ ap (λ o. nesting (list (more_objects o (list_at (cells_of k cells) c.tail)))) (sym there);
+        nesting_is = h.nesting_is ∙ ap (λ o. nesting (list (more_objects o (list_at (cells_of k cells) c.tail))))
+            (sym there);
         shallow = h.shallow;
       })
 
@@ -125,13 +146,16 @@ module _ {X : Type 0} (f g : ℕ → X) (n : ℕ) (same : (i : ℕ) → i < n �
 
     origins-agree : (os : Origins ℕ) → AreAllNamesBelow n os → map_origins f os ≡ map_origins g os
     origins-agree NoOrigins h = refl
-    origins-agree (MoreOrigins o os) h = let a = origin-agree o h.0 in let b = origins-agree os h.1 in λ i. MoreOrigins (a i) (b i)
+    origins-agree (MoreOrigins o os) h = let a = origin-agree o h.0 in let b = origins-agree os h.1 in
+        λ i. MoreOrigins (a i) (b i)
 
 module _ (s t : Session) (run : IsRun s) (grown : Grows s t) where
   pub origin-kept : (i : ℕ) → i < length s.trace → origin_of t i ≡ origin_of s i
   origin-kept i h =
       ap (map_origin (kernel.name_at t.kernel)) (at-Extends s.trace t.trace grown.trace (Number (pos 0)) i h)
-      ∙ origin-agree (kernel.name_at t.kernel) (kernel.name_at s.kernel) (length s.kernel.names) (at-Extends s.kernel.names t.kernel.names grown.kernel.names []) (origin_at s.trace i) (run.named i (Number (pos 0)) h)
+      ∙ origin-agree (kernel.name_at t.kernel) (kernel.name_at s.kernel) (length s.kernel.names)
+      (at-Extends s.kernel.names t.kernel.names grown.kernel.names []) (origin_at s.trace i)
+      (run.named i (Number (pos 0)) h)
 
   step_in-kept : (o : object.Object) (i : Option ℕ) → HasStep s.trace o i → HasStep t.trace o i
   step_in-kept o (Some i) h = omega (arith, h, grown.trace.longer)
@@ -141,16 +165,22 @@ module _ (s t : Session) (run : IsRun s) (grown : Grows s t) where
   origin_or-kept o (Some i) h = origin-kept i h
   origin_or-kept o None h = refl
 
-  entry-kept : (cs : List Objects) (n : ℕ) (e : code_entry.Entry) → IsEntryIn s n e → entry_of t cs e ≡ entry_of s cs e
+  entry-kept : (cs : List Objects) (n : ℕ) (e : code_entry.Entry) → IsEntryIn s n e
+      → entry_of t cs e ≡ entry_of s cs e
   entry-kept cs n e h =
       let a = object-kept s.kernel t.kernel grown.kernel cs n e.object h.object in
       let b = origin_or-kept e.object e.step h.step in
       λ i. record { object = a i; origin = b i }
 
   pub entry_in-kept : (n : ℕ) (e : code_entry.Entry) → IsEntryIn s n e → IsEntryIn t n e
-  entry_in-kept n e h = record { object = in-kept s.kernel t.kernel grown.kernel n e.object h.object; step = step_in-kept e.object e.step h.step }
+  entry_in-kept n e h =
+      record {
+        object = in-kept s.kernel t.kernel grown.kernel n e.object h.object;
+        step = step_in-kept e.object e.step h.step;
+      }
 
-  stack-kept : (cs : List Objects) (n : ℕ) (es : List code_entry.Entry) → All (IsEntryIn s n) es → map (entry_of t cs) es ≡ map (entry_of s cs) es
+  stack-kept : (cs : List Objects) (n : ℕ) (es : List code_entry.Entry) → All (IsEntryIn s n) es
+      → map (entry_of t cs) es ≡ map (entry_of s cs) es
   stack-kept cs n [] h = refl
   stack-kept cs n (e ∷ es) h =
       let a = entry-kept cs n e (All-head (IsEntryIn s n) e es h) in
@@ -159,7 +189,8 @@ module _ (s t : Session) (run : IsRun s) (grown : Grows s t) where
 
   export-kept : (e : code.Export) → IsExportIn s e → export_of t e ≡ export_of s e
   export-kept e h =
-      let q = at-Extends s.kernel.theorems t.kernel.theorems grown.kernel.theorems (record { hyps = []; concl = Bound 0 }) e.th h.th in
+      let q = at-Extends s.kernel.theorems t.kernel.theorems grown.kernel.theorems
+      (record { hyps = []; concl = Bound 0 }) e.th h.th in
       let a = origin-kept e.theorem h.theorem in
       let b = origin-kept e.list h.list in
       let c = origin-kept e.term h.term in
@@ -173,7 +204,8 @@ module _ (s t : Session) (run : IsRun s) (grown : Grows s t) where
       λ i. a i ∷ b i
 
   -- the steps of the run
-  pub givens-kept : (qs : List (Sequent Name)) (is : List ℕ) → All (λ i. i < length s.trace) is → givens_of t qs is ≡ givens_of s qs is
+  pub givens-kept : (qs : List (Sequent Name)) (is : List ℕ) → All (λ i. i < length s.trace) is
+      → givens_of t qs is ≡ givens_of s qs is
   givens-kept [] is h = refl
   givens-kept (q ∷ qs) [] h = refl
   givens-kept (q ∷ qs) (j ∷ is) h =
@@ -181,7 +213,8 @@ module _ (s t : Session) (run : IsRun s) (grown : Grows s t) where
       let b = givens-kept qs is (All-tail (λ i. i < length s.trace) j is h) in
       λ i. record { sequent = q; origin = a i } ∷ b i
 
-  pub made-kept : (ds : List (Definition Name)) (is : List ℕ) → All (λ i. i < length s.trace) is → made_of t ds is ≡ made_of s ds is
+  pub made-kept : (ds : List (Definition Name)) (is : List ℕ) → All (λ i. i < length s.trace) is
+      → made_of t ds is ≡ made_of s ds is
   made-kept [] is h = refl
   made-kept (d ∷ ds) [] h = refl
   made-kept (d ∷ ds) (j ∷ is) h =
@@ -190,40 +223,53 @@ module _ (s t : Session) (run : IsRun s) (grown : Grows s t) where
       λ i. record { definition = d; origin = a i } ∷ b i
 
 -- ---- dictionaries by what they give
-find-entry : (s : Session) (cs : List Objects) (es : List (ℤ × code_entry.Entry)) (q : ℤ) → find int_cmp q (map (λ e. (e.0, entry_of s cs e.1)) es) ≡ option_map (entry_of s cs) (lookup (int_eq q) es)
+find-entry : (s : Session) (cs : List Objects) (es : List (ℤ × code_entry.Entry)) (q : ℤ)
+    → find int_cmp q (map (λ e. (e.0, entry_of s cs e.1)) es) ≡ option_map (entry_of s cs) (lookup (int_eq q) es)
 find-entry s cs [] q = refl
 find-entry s cs (e ∷ es) q =
-    elim (is_eq (int_cmp q e.0)) as (λ b. cond b (Some (entry_of s cs e.1)) (find int_cmp q (map (λ e. (e.0, entry_of s cs e.1)) es)) ≡ option_map (entry_of s cs) (cond b (Some e.1) (lookup (int_eq q) es))) [
+    elim (is_eq (int_cmp q e.0)) as
+    (λ b. cond b (Some (entry_of s cs e.1)) (find int_cmp q (map (λ e. (e.0, entry_of s cs e.1)) es))
+    ≡ option_map (entry_of s cs) (cond b (Some e.1) (lookup (int_eq q) es))) [
       | true ↦ refl
       | false ↦ find-entry s cs es q
     ]
 
-pub get-dictionary : (s : Session) (cs : List Objects) (es : List (ℤ × code_entry.Entry)) (q : ℤ) → get (dictionary_of s cs es) q ≡ option_map (entry_of s cs) (lookup (int_eq q) es)
+pub get-dictionary : (s : Session) (cs : List Objects) (es : List (ℤ × code_entry.Entry)) (q : ℤ)
+    → get (dictionary_of s cs es) q ≡ option_map (entry_of s cs) (lookup (int_eq q) es)
 get-dictionary s cs es q = get-from_entries int_cmp_total _ q ∙ find-entry s cs es q
 
 -- where each entry that is stored stands for the same, the dictionaries are one
-pub dictionary-same : (s t : Session) (cs ds : List Objects) (es : List (ℤ × code_entry.Entry)) → ((q : ℤ) (e : code_entry.Entry) → lookup (int_eq q) es ≡ Some e → entry_of t ds e ≡ entry_of s cs e) → dictionary_of t ds es ≡ dictionary_of s cs es
-dictionary-same s t cs ds es same = same_map int_cmp_total int_cmp-IsAntisymmetric _ _ (λ q. get-dictionary t ds es q ∙ at q (lookup (int_eq q) es) refl ∙ sym (get-dictionary s cs es q))
+pub dictionary-same : (s t : Session) (cs ds : List Objects) (es : List (ℤ × code_entry.Entry))
+    → ((q : ℤ) (e : code_entry.Entry) → lookup (int_eq q) es ≡ Some e → entry_of t ds e ≡ entry_of s cs e)
+    → dictionary_of t ds es ≡ dictionary_of s cs es
+dictionary-same s t cs ds es same = same_map int_cmp_total int_cmp-IsAntisymmetric _ _
+    (λ q. get-dictionary t ds es q ∙ at q (lookup (int_eq q) es) refl ∙ sym (get-dictionary s cs es q))
   where
-    at : (q : ℤ) (r : Option code_entry.Entry) → lookup (int_eq q) es ≡ r → option_map (entry_of t ds) (lookup (int_eq q) es) ≡ option_map (entry_of s cs) (lookup (int_eq q) es)
+    at : (q : ℤ) (r : Option code_entry.Entry) → lookup (int_eq q) es ≡ r
+        → option_map (entry_of t ds) (lookup (int_eq q) es) ≡ option_map (entry_of s cs) (lookup (int_eq q) es)
     at q None e = rw e refl
     at q (Some o) e = rw e (ap Some (same q o e))
 
 -- the theorems of exports are of the kernel
-pub exported-theorems : (s : Session) (es : List code.Export) → All (IsExportIn s) es → All (λ th. th < length s.kernel.theorems) (map (λ e. e.th) es)
-exported-theorems s es h = All-map (λ th. th < length s.kernel.theorems) (λ (e : code.Export). e.th) es (λ i d p. (h i d p).th)
+pub exported-theorems : (s : Session) (es : List code.Export) → All (IsExportIn s) es
+    → All (λ th. th < length s.kernel.theorems) (map (λ e. e.th) es)
+exported-theorems s es h = All-map (λ th. th < length s.kernel.theorems) (λ (e : code.Export). e.th) es
+    (λ i d p. (h i d p).th)
 
 -- ---- theorems that are found by their conclusions, over a kernel that grew
 module _ (k l : kernel.State) (kept : kernel.Keeps k l) where
   concls-kept : (ths : List ℕ) → All (λ th. th < length k.theorems) ths → concls_of l ths ≡ concls_of k ths
   concls-kept [] h = refl
   concls-kept (th ∷ ths) h =
-      let a = at-Extends k.theorems l.theorems kept.theorems (record { hyps = []; concl = Bound 0 }) th (All-head (λ th. th < length k.theorems) th ths h) in
+      let a = at-Extends k.theorems l.theorems kept.theorems (record { hyps = []; concl = Bound 0 }) th
+      (All-head (λ th. th < length k.theorems) th ths h) in
       let b = concls-kept ths (All-tail (λ th. th < length k.theorems) th ths h) in
       λ i. (a i).concl ∷ b i
 
-  pub places-kept : (ths : List ℕ) → All (λ th. th < length k.theorems) ths → (ps : List (ℕ × ℕ)) → AreFirstPlaces k (concls_of k ths) ps → AreFirstPlaces l (concls_of l ths) ps
-  places-kept ths h ps p = subst (λ cs. AreFirstPlaces l cs ps) (sym (concls-kept ths h)) (record { found = λ j q is. later j q (p.found j q is); within = p.within })
+  pub places-kept : (ths : List ℕ) → All (λ th. th < length k.theorems) ths → (ps : List (ℕ × ℕ))
+      → AreFirstPlaces k (concls_of k ths) ps → AreFirstPlaces l (concls_of l ths) ps
+  places-kept ths h ps p = subst (λ cs. AreFirstPlaces l cs ps) (sym (concls-kept ths h))
+      (record { found = λ j q is. later j q (p.found j q is); within = p.within })
     where
       later : (j : ℕ) (q : Tm Name) → HasPlace k ps j q → HasPlace l ps j q
       later j q x = record {
@@ -231,7 +277,8 @@ module _ (k l : kernel.State) (kept : kernel.Keeps k l) where
         within = omega (arith, x.within, kept.terms.longer);
         class = x.class;
         classed = kept.classes.keeps x.term x.class x.classed;
-        is = ap (nameless names) (at-Extends k.terms l.terms kept.terms (NConst [] (TyVar [])) x.term x.within) ∙ x.is;
+        is = ap (nameless names) (at-Extends k.terms l.terms kept.terms (NConst [] (TyVar [])) x.term x.within)
+            ∙ x.is;
         place = x.place;
         found = x.found;
         first = x.first;
@@ -244,8 +291,12 @@ module _ (s t : Session) (m : Machine) (h : IsOf s m) (grown : Grows s t) where
 
   pub article-kept : article_of t m ≡ article_of s m
   article-kept = λ i. record {
-    stack = (ap (λ cs. map (entry_of t cs) m.stack.items) lists ∙ stack-kept s t h.run grown (lists_of s m) (length m.cells.items) m.stack.items h.stack) i;
-    dictionary = (ap (λ cs. dictionary_of t cs m.dictionary.entries) lists ∙ dictionary-same s t (lists_of s m) (lists_of s m) m.dictionary.entries (λ q e p. entry-kept s t h.run grown (lists_of s m) (length m.cells.items) e (h.dictionary q e p))) i;
+    stack = (ap (λ cs. map (entry_of t cs) m.stack.items) lists
+        ∙ stack-kept s t h.run grown (lists_of s m) (length m.cells.items) m.stack.items h.stack) i;
+    dictionary =
+        (ap (λ cs. dictionary_of t cs m.dictionary.entries) lists
+        ∙ dictionary-same s t (lists_of s m) (lists_of s m) m.dictionary.entries
+        (λ q e p. entry-kept s t h.run grown (lists_of s m) (length m.cells.items) e (h.dictionary q e p))) i;
     exports = exports-kept s t h.run grown m.exports.items h.exports i;
     count = m.count;
     version = version_of m.version;
@@ -262,7 +313,8 @@ module _ (s t : Session) (m : Machine) (h : IsOf s m) (grown : Grows s t) where
       list = omega (arith, x.list, grown.trace.longer);
       term = omega (arith, x.term, grown.trace.longer);
     };
-    placed = places-kept s.kernel t.kernel grown.kernel (map (λ e. e.th) m.exports.items) (exported-theorems s m.exports.items h.exports) m.places h.placed;
+    placed = places-kept s.kernel t.kernel grown.kernel (map (λ e. e.th) m.exports.items)
+        (exported-theorems s m.exports.items h.exports) m.places h.placed;
     cells = cells-of_kept s.kernel t.kernel grown.kernel m.cells.items h.cells;
   }
 
@@ -273,22 +325,35 @@ with_kernel s k = record s { kernel = k }
 kernel-grows : (s : Session) (l : kernel.State) → kernel.Keeps s.kernel l → Grows s (with_kernel s l)
 kernel-grows s l kept = record { kernel = kept; trace = Extends-refl _ }
 
-pub leaves : (s : Session) (l : kernel.State) (m : Machine) → IsOf s m → kernel.Keeps s.kernel l → kernel.SameBasis s.kernel l → Leaves s (with_kernel s l) m
+pub leaves : (s : Session) (l : kernel.State) (m : Machine) → IsOf s m → kernel.Keeps s.kernel l
+    → kernel.SameBasis s.kernel l → Leaves s (with_kernel s l) m
 leaves s l m h kept same =
     let t = with_kernel s l in
     let grown = kernel-grows s l kept in
     let run : IsRun t = record {
-      named = λ i o p. named-more (length s.kernel.names) (length l.names) kept.names.longer (slice_index_or s.trace i o) (h.run.named i o p);
+      named = λ i o p. named-more (length s.kernel.names) (length l.names) kept.names.longer
+          (slice_index_or s.trace i o) (h.run.named i o p);
       assumptions = h.run.assumptions;
       each_assumption = h.run.each_assumption ∙ ap length (sym same.assumptions);
       definitions = h.run.definitions;
       each_definition = h.run.each_definition ∙ ap length (sym same.definitions);
     } in
     record {
-      machine = record { grown = kept; trace = refl; article = article-kept s t m h grown; lists = lists s t m h grown; of = of-kept s t m h grown run };
+      machine =
+          record {
+            grown = kept;
+            trace = refl;
+            article = article-kept s t m h grown;
+            lists = lists s t m h grown;
+            of = of-kept s t m h grown run;
+          };
       run = λ i. record {
-        assumptions = (ap (λ qs. givens_of t qs s.assumption_steps.items) same.assumptions ∙ givens-kept s t h.run grown s.kernel.assumptions s.assumption_steps.items h.run.assumptions) i;
-        definitions = (ap (λ ds. made_of t ds s.definition_steps.items) same.definitions ∙ made-kept s t h.run grown s.kernel.definitions s.definition_steps.items h.run.definitions) i;
+        assumptions =
+            (ap (λ qs. givens_of t qs s.assumption_steps.items) same.assumptions
+            ∙ givens-kept s t h.run grown s.kernel.assumptions s.assumption_steps.items h.run.assumptions) i;
+        definitions =
+            (ap (λ ds. made_of t ds s.definition_steps.items) same.definitions
+            ∙ made-kept s t h.run grown s.kernel.definitions s.definition_steps.items h.run.definitions) i;
       };
     }
 
@@ -301,11 +366,14 @@ pub added-extends : (os ps : List (Origin ℕ)) (o : Origin ℕ) → (ps ≡ os)
 added-extends os ps o (inl e) = subst (λ z. Extends os z) (sym e) (Extends-refl os)
 added-extends os ps o (inr e) = subst (λ z. Extends os z) (sym e) (Extends-append os (o ∷ []))
 
-pub added-named : (n : ℕ) (os ps : List (Origin ℕ)) (o : Origin ℕ) → (ps ≡ os) ⊎ (ps ≡ os ++ o ∷ []) → All (AreNamesBelow n) os → AreNamesBelow n o → All (AreNamesBelow n) ps
+pub added-named : (n : ℕ) (os ps : List (Origin ℕ)) (o : Origin ℕ) → (ps ≡ os) ⊎ (ps ≡ os ++ o ∷ [])
+    → All (AreNamesBelow n) os → AreNamesBelow n o → All (AreNamesBelow n) ps
 added-named n os ps o (inl e) all one = subst (All (AreNamesBelow n)) (sym e) all
-added-named n os ps o (inr e) all one = subst (All (AreNamesBelow n)) (sym e) (All-append (AreNamesBelow n) os (o ∷ []) all (All-cons (AreNamesBelow n) o [] one (All-nil (AreNamesBelow n))))
+added-named n os ps o (inr e) all one = subst (All (AreNamesBelow n)) (sym e)
+    (All-append (AreNamesBelow n) os (o ∷ []) all (All-cons (AreNamesBelow n) o [] one (All-nil (AreNamesBelow n))))
 
-pub traces : (s : Session) (os : List (Origin ℕ)) (m : Machine) → IsOf s m → Extends s.trace os → All (AreNamesBelow (length s.kernel.names)) os → Traces s (with_trace s os) m
+pub traces : (s : Session) (os : List (Origin ℕ)) (m : Machine) → IsOf s m → Extends s.trace os
+    → All (AreNamesBelow (length s.kernel.names)) os → Traces s (with_trace s os) m
 traces s os m h longer named =
     let t = with_trace s os in
     let grown : Grows s t = record { kernel = keeps-same s.kernel; trace = longer } in
@@ -335,4 +403,5 @@ pub trace-same : (os ps : List (Origin ℕ)) → ps ≡ os → Extends os ps
 trace-same os ps e = subst (λ z. Extends os z) (sym e) (Extends-refl os)
 
 pub traces-grow : (s t : Session) (m : Machine) → Traces s t m → Grows s t
-traces-grow s t m traced = record { kernel = subst (kernel.Keeps s.kernel) (sym traced.kernel) (keeps-same s.kernel); trace = traced.grown }
+traces-grow s t m traced =
+    record { kernel = subst (kernel.Keeps s.kernel) (sym traced.kernel) (keeps-same s.kernel); trace = traced.grown }

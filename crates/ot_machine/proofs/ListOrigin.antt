@@ -8,7 +8,8 @@ use Rattle.ot_plain.specs.Answers.{◌>>=◌}
 use Rattle.ot_plain.specs.declared.command.Cmd.{Cmd}
 use Rattle.ot_plain.specs.declared.command.Cmd.TheVariants as words
 use Rattle.ot_trace.specs.Origins.{Origin, Origins, Number, Named, Make, Define, Outcome, NoOrigins, make_two}
-use Rattle.ot_machine.specs.Objects.{Object, Objects, number, name, list, type_op, a_type, constant, variable, term, theorem, no_objects, more_objects, nesting}
+use Rattle.ot_machine.specs.Objects.{Object, Objects, number, name, list, type_op, a_type, constant}
+use Rattle.ot_machine.specs.Objects.{variable, term, theorem, no_objects, more_objects, nesting}
 use Rattle.ot_machine.specs.Places.{as_list}
 use Rattle.ot_machine.specs.Makers.{Read, maker, cons_made}
 use Rattle.ot_machine.specs.Values.{value, values, applied}
@@ -97,10 +98,12 @@ is-list (variable v) os p = absurd (cc)
 is-list (term t) os p = absurd (cc)
 is-list (theorem q) os p = absurd (cc)
 
-cons-parts : (top below : Object) (head : Object) (tail : Objects) → cons_made (Ok top) (Ok below) ≡ Ok (list (more_objects head tail)) → (below ≡ head) × (top ≡ list tail)
+cons-parts : (top below : Object) (head : Object) (tail : Objects) → cons_made (Ok top) (Ok below)
+    ≡ Ok (list (more_objects head tail)) → (below ≡ head) × (top ≡ list tail)
 cons-parts top below head tail p =
     let a = bind-ok (as_list top) _ _ p in
-    let b = parts-of _ _ _ _ (within (nesting (list (more_objects below a.0))) (list (more_objects below a.0)) _ a.2) in
+    let b = parts-of _ _ _ _
+    (within (nesting (list (more_objects below a.0))) (list (more_objects below a.0)) _ a.2) in
     (b.0, is-list top a.0 a.1 ∙ ap list b.1)
 
 cons-no_empty : (top below : Object) → cons_made (Ok top) (Ok below) ≡ Ok (list no_objects) → ⊥
@@ -109,18 +112,28 @@ cons-no_empty top below p =
     let b = within (nesting (list (more_objects below a.0))) (list (more_objects below a.0)) _ a.2 in
     cc
 
-nil-tree : (args : Origins Name) (os : Objects) → (values args >>= applied (maker words.Nil)) ≡ Ok (list os) → IsTreeOf (Make words.Nil args) os
+nil-tree : (args : Origins Name) (os : Objects) → (values args >>= applied (maker words.Nil)) ≡ Ok (list os)
+    → IsTreeOf (Make words.Nil args) os
 nil-tree args no_objects p = ap (Make words.Nil) (no-operands _ args _ p).0
 nil-tree args (more_objects head tail) p = let e = (no-operands (list no_objects) args _ p).1 in absurd (cc)
 
-cons-tree : (args : Origins Name) (os : Objects) → (values args >>= applied (maker words.Cons)) ≡ Ok (list os) → IsTreeOf (Make words.Cons args) os
+cons-tree : (args : Origins Name) (os : Objects) → (values args >>= applied (maker words.Cons)) ≡ Ok (list os)
+    → IsTreeOf (Make words.Cons args) os
 cons-tree args no_objects p = let t = two-operands cons_made args _ p in absurd (cons-no_empty t.top t.below t.made)
 cons-tree args (more_objects head tail) p =
     let t = two-operands cons_made args _ p in
     let e = cons-parts t.top t.below head tail t.made in
-    record { first = t.lower; rest = t.upper; is = ap (Make words.Cons) t.are; head_is = t.lower_is ∙ ap Ok e.0; tail_is = t.upper_is ∙ ap Ok e.1 }
+    record {
+      first = t.lower;
+      rest = t.upper;
+      is = ap (Make words.Cons) t.are;
+      head_is = t.lower_is
+          ∙ ap Ok e.0;
+      tail_is = t.upper_is ∙ ap Ok e.1;
+    }
 
-word-tree : (w : Cmd) (args : Origins Name) (os : Objects) → (values args >>= applied (maker w)) ≡ Ok (list os) → IsTreeOf (Make w args) os
+word-tree : (w : Cmd) (args : Origins Name) (os : Objects) → (values args >>= applied (maker w)) ≡ Ok (list os)
+    → IsTreeOf (Make w args) os
 word-tree words.Nil args os p = nil-tree args os p
 word-tree words.Cons args os p = cons-tree args os p
 word-tree w args os p = absurd (no-list w tt (word-kind w args (list os) p))

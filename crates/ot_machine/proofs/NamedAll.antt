@@ -3,4 +3,5 @@ use Rattle.ot_plain.specs.Names.{Name}
 use Rattle.ot_machine.specs.NamesIn.{HasVersion5}
 
 pub all-named : HasVersion5 (λ (n : Name). Unit {0})
-all-named = record { primitives = record { arrow = tt; bool_name = tt; equals = tt }; a = tt; r = tt; binders = λ k low. tt }
+all-named =
+    record { primitives = record { arrow = tt; bool_name = tt; equals = tt }; a = tt; r = tt; binders = λ k low. tt }

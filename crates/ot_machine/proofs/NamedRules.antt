@@ -1,16 +1,23 @@
 -- The names that rules bring: those of what they are given, and the primitive ones.
-use Rattle.std.specs.Prelude.{◌≡◌, ◌==◌, ◌&&◌, not, ℕ, zero, suc, Bool, true, false, cond, if◌then◌else◌, List, [], ◌∷◌, ◌++◌, map, Option, Some, None, Result, Ok, Err, slice_get}
+use Rattle.std.specs.Prelude.{◌≡◌, ◌==◌, ◌&&◌, not, ℕ, zero, suc, Bool, true, false, cond, if◌then◌else◌}
+use Rattle.std.specs.Prelude.{List, [], ◌∷◌, ◌++◌, map, Option, Some, None, Result, Ok, Err, slice_get}
 use Rattle.std.specs.Option.{unwrap_or}
 use Rattle.std.specs.List.{AllByRecursion, list_all}
 use Rattle.std.proofs.Common.{refl, sym, subst}
 use Rattle.std.proofs.lemmas.Option.{same_Some}
 use Rattle.ot_plain.specs.Names.{Name}
 use Rattle.ot_plain.specs.Naming.{names}
-use Rattle.ot_plain.specs.Trees.{Ty, Tys, TyVar, TyOp, NoTys, MoreTys, Variable, Tm, Free, Con, Bound, App, Abs, Sequent}
-use Rattle.ot_plain.specs.Hol.{fun_ty, bool_ty, as_fun_ty, type_in, type_of, applied, TypeMap, TermMap, type_at, term_at, inst_by, inst_all, inst_var, bind, subst_tm, close_at, open_at, is_shallow, equation, same_tm, same_ty, same_var, is_in, minus, lacking, union, once_each, is_free_in_some, sequent_of}
+use Rattle.ot_plain.specs.Trees.{Ty, Tys, TyVar, TyOp, NoTys, MoreTys, Variable}
+use Rattle.ot_plain.specs.Trees.{Tm, Free, Con, Bound, App, Abs, Sequent}
+use Rattle.ot_plain.specs.Hol.{fun_ty, bool_ty, as_fun_ty, type_in, type_of, applied, TypeMap}
+use Rattle.ot_plain.specs.Hol.{TermMap, type_at, term_at, inst_by, inst_all, inst_var, bind, subst_tm}
+use Rattle.ot_plain.specs.Hol.{close_at, open_at, is_shallow, equation, same_tm, same_ty, same_var}
+use Rattle.ot_plain.specs.Hol.{is_in, minus, lacking, union, once_each, is_free_in_some, sequent_of}
 use Rattle.ot_plain.specs.Faults.{Fault, NotFunction, ArgumentType, NotBool, NotAlphaEqual, VarFreeInHyps, Nesting}
 use Rattle.ot_plain.specs.Answers.{unless, some_or}
-use Rattle.ot_plain.specs.Rules.{has_type, op_rule, app_rule, abs_rule, within_limit, sides, refl_rule, assume_rule, eq_mp_rule, abs_thm_rule, app_thm_rule, deduct_antisym_rule, beta_conv_rule, subst_rule, sym_rule, trans_rule, prove_hyp_rule, proved_hyp}
+use Rattle.ot_plain.specs.Rules.{has_type, op_rule, app_rule, abs_rule, within_limit, sides, refl_rule}
+use Rattle.ot_plain.specs.Rules.{assume_rule, eq_mp_rule, abs_thm_rule, app_thm_rule, deduct_antisym_rule}
+use Rattle.ot_plain.specs.Rules.{beta_conv_rule, subst_rule, sym_rule, trans_rule, prove_hyp_rule, proved_hyp}
 use Rattle.ot_laws.proofs.Tests.{tells_names}
 use Rattle.ot_laws.proofs.Typing.{result_ty-some, abs-some, as_fun_ty-some}
 use Rattle.ot_laws.proofs.Steps.{limit-ok, within_limit-ok, sides-ok, op_rule-ok, app_rule-ok}
@@ -38,7 +45,13 @@ module _ (P : Name → Type 0) (has : HasPrimitives P) where
   bool-named = (has.bool_name, tt)
 
   pub eq-named : (ty : Ty Name) (a b : Tm Name) → T ty → M a → M b → M (equation names ty a b)
-  eq-named ty a b h p q = (((has.equals, fun-named ty (fun_ty names ty (bool_ty names)) h (fun-named ty (bool_ty names) h bool-named)), p), q)
+  eq-named ty a b h p q = (
+    (
+      (has.equals, fun-named ty (fun_ty names ty (bool_ty names)) h (fun-named ty (bool_ty names) h bool-named)),
+      p,
+    ),
+    q,
+  )
 
   pub eq-parts : (ty : Ty Name) (a b : Tm Name) → M (equation names ty a b) → T ty × M a × M b
   eq-parts ty a b h = (h.0.0.1.1.0, h.0.1, h.1)
@@ -54,18 +67,21 @@ module _ (P : Name → Type 0) (has : HasPrimitives P) where
 
   lacking-all : (g h : List (Tm Name)) → Ms h → Ms (lacking names g h)
   lacking-all g [] q = tt
-  lacking-all g (t ∷ h) q = cond-all (is_in names t g) (lacking names g h) (t ∷ lacking names g h) (lacking-all g h q.1) (q.0, lacking-all g h q.1)
+  lacking-all g (t ∷ h) q = cond-all (is_in names t g) (lacking names g h) (t ∷ lacking names g h)
+      (lacking-all g h q.1) (q.0, lacking-all g h q.1)
 
   union-all : (g h : List (Tm Name)) → Ms g → Ms h → Ms (union names g h)
   union-all g h p q = append-all g (lacking names g h) p (lacking-all g h q)
 
   minus-all : (x : Tm Name) (g : List (Tm Name)) → Ms g → Ms (minus names x g)
   minus-all x [] q = tt
-  minus-all x (t ∷ g) q = cond-all (same_tm names t x) (minus names x g) (t ∷ minus names x g) (minus-all x g q.1) (q.0, minus-all x g q.1)
+  minus-all x (t ∷ g) q = cond-all (same_tm names t x) (minus names x g) (t ∷ minus names x g) (minus-all x g q.1)
+      (q.0, minus-all x g q.1)
 
   once-all : (g : List (Tm Name)) → Ms g → Ms (once_each names g)
   once-all [] q = tt
-  once-all (t ∷ g) q = cond-all (is_in names t g) (once_each names g) (t ∷ once_each names g) (once-all g q.1) (q.0, once-all g q.1)
+  once-all (t ∷ g) q = cond-all (is_in names t g) (once_each names g) (t ∷ once_each names g) (once-all g q.1)
+      (q.0, once-all g q.1)
 
   -- ---- closing, opening, substitution
   cond-term : (c : Bool) (a b : Tm Name) → M a → M b → M (cond c a b)
@@ -91,11 +107,13 @@ module _ (P : Name → Type 0) (has : HasPrimitives P) where
     inst-named g s (TyVar n) h = s n h
     inst-named g s (TyOp n ts) h = (h.0, all-named g s ts h.1)
 
-    all-named : (g : Name → Ty Name) → ((n : Name) → P n → T (g n)) → (ts : Tys Name) → TysNamed P ts → TysNamed P (inst_all names g ts)
+    all-named : (g : Name → Ty Name) → ((n : Name) → P n → T (g n)) → (ts : Tys Name) → TysNamed P ts
+        → TysNamed P (inst_all names g ts)
     all-named g s NoTys h = tt
     all-named g s (MoreTys t ts) h = (inst-named g s t h.0, all-named g s ts h.1)
 
-  bind-named : (g : Name → Ty Name) (s : Variable Name → Tm Name) → ((n : Name) → P n → T (g n)) → ((v : Variable Name) → P v.name → T v.ty → M (s v)) → (t : Tm Name) → M t → M (bind names g s t)
+  bind-named : (g : Name → Ty Name) (s : Variable Name → Tm Name) → ((n : Name) → P n → T (g n))
+      → ((v : Variable Name) → P v.name → T v.ty → M (s v)) → (t : Tm Name) → M t → M (bind names g s t)
   bind-named g s p q (Free v) h = q v h.0 h.1
   bind-named g s p q (Con n t) h = (h.0, inst-named g p t h.1)
   bind-named g s p q (Bound k) h = tt
@@ -118,18 +136,26 @@ module _ (P : Name → Type 0) (has : HasPrimitives P) where
 
   term_at-named : (m : TermMap names) → TermsNamed m → (v : Variable Name) → P v.name → T v.ty → M (term_at names m v)
   term_at-named [] h v p q = (p, q)
-  term_at-named (z ∷ m) h v p q = cond-term (same_var names v z.0) z.1 (term_at names m v) h.0 (term_at-named m h.1 v p q)
+  term_at-named (z ∷ m) h v p q =
+      cond-term (same_var names v z.0) z.1 (term_at names m v) h.0 (term_at-named m h.1 v p q)
 
-  pub subst-named : (s : TypeMap names) (m : TermMap names) → TypesNamed s → TermsNamed m → (t : Tm Name) → M t → M (subst_tm names s m t)
-  subst-named s m hs hm t h = bind-named (type_at names s) (λ v. term_at names m (inst_var names s v)) (type_at-named s hs) (λ v p q. term_at-named m hm (inst_var names s v) p (inst-named (type_at names s) (type_at-named s hs) v.ty q)) t h
+  pub subst-named : (s : TypeMap names) (m : TermMap names) → TypesNamed s → TermsNamed m → (t : Tm Name) → M t
+      → M (subst_tm names s m t)
+  subst-named s m hs hm t h = bind-named (type_at names s) (λ v. term_at names m (inst_var names s v))
+      (type_at-named s hs)
+      (λ v p q. term_at-named m hm (inst_var names s v) p (inst-named (type_at names s) (type_at-named s hs) v.ty q))
+      t h
 
-  map-named : (s : TypeMap names) (m : TermMap names) → TypesNamed s → TermsNamed m → (ts : List (Tm Name)) → Ms ts → Ms (map (subst_tm names s m) ts)
+  map-named : (s : TypeMap names) (m : TermMap names) → TypesNamed s → TermsNamed m → (ts : List (Tm Name)) → Ms ts
+      → Ms (map (subst_tm names s m) ts)
   map-named s m hs hm [] h = tt
   map-named s m hs hm (t ∷ ts) h = (subst-named s m hs hm t h.0, map-named s m hs hm ts h.1)
 
   -- ---- the type of a term has its names
-  applied-named : (o u : Option (Ty Name)) (t : Ty Name) → ((s : Ty Name) → o ≡ Some s → T s) → applied names o u ≡ Some t → T t
-  applied-named (Some f) (Some x) t h e = let is = result_ty-some names tells_names f x t e in (subst T is (h f refl)).1.1.0
+  applied-named : (o u : Option (Ty Name)) (t : Ty Name) → ((s : Ty Name) → o ≡ Some s → T s)
+      → applied names o u ≡ Some t → T t
+  applied-named (Some f) (Some x) t h e = let is = result_ty-some names tells_names f x t e in
+      (subst T is (h f refl)).1.1.0
   applied-named (Some f) None t h e = absurd (cc)
   applied-named None u t h e = absurd (cc)
 
@@ -138,11 +164,13 @@ module _ (P : Name → Type 0) (has : HasPrimitives P) where
   slot-named (u ∷ l) zero t h e = subst T (same_Some u t e) h.0
   slot-named (u ∷ l) (suc i) t h e = slot-named l i t h.1 e
 
-  pub type-named : (l : List (Ty Name)) (t : Tm Name) (ty : Ty Name) → AllByRecursion T l → M t → type_in names l t ≡ Some ty → T ty
+  pub type-named : (l : List (Ty Name)) (t : Tm Name) (ty : Ty Name) → AllByRecursion T l → M t
+      → type_in names l t ≡ Some ty → T ty
   type-named l (Free v) ty all h e = subst T (same_Some v.ty ty e) h.1
   type-named l (Con n t) ty all h e = subst T (same_Some t ty e) h.1
   type-named l (Bound i) ty all h e = slot-named l i ty all e
-  type-named l (App f x) ty all h e = applied-named (type_in names l f) (type_in names l x) ty (λ s. type-named l f s all h.0) e
+  type-named l (App f x) ty all h e =
+      applied-named (type_in names l f) (type_in names l x) ty (λ s. type-named l f s all h.0) e
   type-named l (Abs t c) ty all h e =
       let (u, p, q) = abs-some names t (type_in names (t ∷ l) c) ty e in
       subst T (sym q) (fun-named t u h.0 (type-named (t ∷ l) c u (h.0, all) h.1 p))
@@ -174,30 +202,44 @@ module _ (P : Name → Type 0) (has : HasPrimitives P) where
   app-named f x t h k e = subst M (sym (app_rule-ok names tells_names f x t e).0) (h, k)
 
   pub abs-named : (v : Variable Name) (b t : Tm Name) → T v.ty → M b → abs_rule names v b ≡ Ok t → M t
-  abs-named v b t h k e = subst M (limit-ok (is_shallow names (Abs v.ty (close_at names 0 v b))) Nesting (Abs v.ty (close_at names 0 v b)) t e).1 (h, close-named 0 v b k)
+  abs-named v b t h k e =
+      subst M (limit-ok (is_shallow names (Abs v.ty (close_at names 0 v b))) Nesting (Abs v.ty (close_at names 0 v b))
+      t e).1 (h, close-named 0 v b k)
 
   pub op-named : (n : Name) (ts : Tys Name) (t : Ty Name) → P n → TysNamed P ts → op_rule names n ts ≡ Ok t → T t
   op-named n ts t h k e = subst T (sym (op_rule-ok names tells_names n ts t e).0) (h, k)
 
   pub refl-named : (t : Tm Name) (q : Sequent Name) → M t → refl_rule names t ≡ Ok q → S q
-  refl-named t q h e = within (sequent_of names (equation names (type_of names t) t t)) q e (tt, eq-named (type_of names t) t t (type_of-named t h) h h)
+  refl-named t q h e = within (sequent_of names (equation names (type_of names t) t t)) q e
+      (tt, eq-named (type_of names t) t t (type_of-named t h) h h)
 
   pub assume-named : (p : Tm Name) (q : Sequent Name) → M p → assume_rule names p ≡ Ok q → S q
-  assume-named p q h e = subst S (limit-ok (has_type names p (bool_ty names)) NotBool (record { hyps = p ∷ []; concl = p }) q e).1 ((h, tt), h)
+  assume-named p q h e =
+      subst S (limit-ok (has_type names p (bool_ty names)) NotBool (record { hyps = p ∷ []; concl = p }) q e).1
+      ((h, tt), h)
 
   pub eq_mp-named : (l u q : Sequent Name) → S l → S u → eq_mp_rule names l u ≡ Ok q → S q
   eq_mp-named l u q h k e =
       let a = bind-ok (sides names l) _ _ e in
       let b = bind-ok (unless NotAlphaEqual (same_tm names a.0.1 u.concl)) _ _ a.2 in
-      given (record { hyps = union names l.hyps u.hyps; concl = a.0.2 }) q b.2 (union-all l.hyps u.hyps h.0 k.0, (parts-of l a.0 a.1 h).2)
+      given (record { hyps = union names l.hyps u.hyps; concl = a.0.2 }) q b.2
+      (union-all l.hyps u.hyps h.0 k.0, (parts-of l a.0 a.1 h).2)
 
   pub abs_thm-named : (v : Variable Name) (th q : Sequent Name) → T v.ty → S th → abs_thm_rule names v th ≡ Ok q → S q
   abs_thm-named v th q hv h e =
       let a = bind-ok (sides names th) _ _ e in
       let b = bind-ok (unless VarFreeInHyps (not (is_free_in_some names v th.hyps))) _ _ a.2 in
       let (ty, l, r) = parts-of th a.0 a.1 h in
-      within (record { hyps = th.hyps; concl = equation names (fun_ty names v.ty a.0.0) (Abs v.ty (close_at names 0 v a.0.1)) (Abs v.ty (close_at names 0 v a.0.2)) }) q b.2
-      (h.0, eq-named (fun_ty names v.ty a.0.0) (Abs v.ty (close_at names 0 v a.0.1)) (Abs v.ty (close_at names 0 v a.0.2)) (fun-named v.ty a.0.0 hv ty) (hv, close-named 0 v a.0.1 l) (hv, close-named 0 v a.0.2 r))
+      within (record {
+        hyps = th.hyps;
+        concl = equation names (fun_ty names v.ty a.0.0)
+            (Abs v.ty (close_at names 0 v a.0.1)) (Abs v.ty (close_at names 0 v a.0.2));
+      }) q b.2 (
+        h.0,
+        eq-named (fun_ty names v.ty a.0.0) (Abs v.ty (close_at names 0 v a.0.1))
+            (Abs v.ty (close_at names 0 v a.0.2)) (fun-named v.ty a.0.0 hv ty) (hv, close-named 0 v a.0.1 l)
+            (hv, close-named 0 v a.0.2 r),
+      )
 
   pub app_thm-named : (l u q : Sequent Name) → S l → S u → app_thm_rule names l u ≡ Ok q → S q
   app_thm-named l u q h k e =
@@ -207,32 +249,55 @@ module _ (P : Name → Type 0) (has : HasPrimitives P) where
       let d = bind-ok (unless ArgumentType (same_ty names c.0.0 b.0.0)) _ _ c.2 in
       let (ty, f, g) = parts-of l a.0 a.1 h in
       let (uy, x, y) = parts-of u b.0 b.1 k in
-      let is = as_fun_ty-some names tells_names a.0.0 c.0.0 c.0.1 (some_or-ok NotFunction (as_fun_ty names a.0.0) c.0 c.1) in
+      let is = as_fun_ty-some names tells_names a.0.0 c.0.0 c.0.1
+      (some_or-ok NotFunction (as_fun_ty names a.0.0) c.0 c.1) in
       let result : T c.0.1 = (subst T is ty).1.1.0 in
-      within (record { hyps = union names l.hyps u.hyps; concl = equation names c.0.1 (App a.0.1 b.0.1) (App a.0.2 b.0.2) }) q d.2
+      within (record {
+        hyps = union names l.hyps u.hyps;
+        concl = equation names c.0.1 (App a.0.1 b.0.1)
+            (App a.0.2 b.0.2);
+      }) q d.2
       (union-all l.hyps u.hyps h.0 k.0, eq-named c.0.1 (App a.0.1 b.0.1) (App a.0.2 b.0.2) result (f, x) (g, y))
 
   pub deduct-named : (l u q : Sequent Name) → S l → S u → deduct_antisym_rule names l u ≡ Ok q → S q
   deduct-named l u q h k e =
-      within (record { hyps = union names (minus names u.concl l.hyps) (minus names l.concl u.hyps); concl = equation names (bool_ty names) l.concl u.concl }) q e
-      (union-all (minus names u.concl l.hyps) (minus names l.concl u.hyps) (minus-all u.concl l.hyps h.0) (minus-all l.concl u.hyps k.0), eq-named (bool_ty names) l.concl u.concl bool-named h.1 k.1)
+      within (record {
+        hyps = union names (minus names u.concl l.hyps) (minus names l.concl u.hyps);
+        concl = equation names (bool_ty names) l.concl u.concl;
+      }) q e (
+        union-all (minus names u.concl l.hyps) (minus names l.concl u.hyps) (minus-all u.concl l.hyps h.0)
+            (minus-all l.concl u.hyps k.0),
+        eq-named (bool_ty names) l.concl u.concl bool-named h.1 k.1,
+      )
 
   pub beta-named : (t : Tm Name) (q : Sequent Name) → M t → beta_conv_rule names t ≡ Ok q → S q
   beta-named (App (Abs a b) u) q h e =
       let ty = type_of names (App (Abs a b) u) in
-      within (sequent_of names (equation names ty (App (Abs a b) u) (open_at names 0 u b))) q e (tt, eq-named ty (App (Abs a b) u) (open_at names 0 u b) (type_of-named (App (Abs a b) u) h) h (open-named 0 u b h.1 h.0.1))
+      within (sequent_of names (equation names ty (App (Abs a b) u) (open_at names 0 u b))) q e (
+        tt,
+        eq-named ty (App (Abs a b) u) (open_at names 0 u b) (type_of-named (App (Abs a b) u) h) h
+            (open-named 0 u b h.1 h.0.1),
+      )
   beta-named t q h e = absurd (cc)
 
-  pub subst_rule-named : (s : TypeMap names) (m : TermMap names) (th q : Sequent Name) → TypesNamed s → TermsNamed m → S th → subst_rule names s m th ≡ Ok q → S q
+  pub subst_rule-named : (s : TypeMap names) (m : TermMap names) (th q : Sequent Name) → TypesNamed s → TermsNamed m
+      → S th → subst_rule names s m th ≡ Ok q → S q
   subst_rule-named s m th q hs hm h e =
-      within (record { hyps = once_each names (map (subst_tm names s m) th.hyps); concl = subst_tm names s m th.concl }) q e
-      (once-all (map (subst_tm names s m) th.hyps) (map-named s m hs hm th.hyps h.0), subst-named s m hs hm th.concl h.1)
+      within (record {
+        hyps = once_each names (map (subst_tm names s m) th.hyps);
+        concl = subst_tm names s m th.concl;
+      }) q e (
+        once-all (map (subst_tm names s m) th.hyps) (map-named s m hs hm th.hyps h.0),
+        subst-named s m hs hm th.concl
+            h.1,
+      )
 
   pub sym-named : (th q : Sequent Name) → S th → sym_rule names th ≡ Ok q → S q
   sym-named th q h e =
       let a = bind-ok (sides names th) _ _ e in
       let (ty, l, r) = parts-of th a.0 a.1 h in
-      within (record { hyps = th.hyps; concl = equation names a.0.0 a.0.2 a.0.1 }) q a.2 (h.0, eq-named a.0.0 a.0.2 a.0.1 ty r l)
+      within (record { hyps = th.hyps; concl = equation names a.0.0 a.0.2 a.0.1 }) q a.2
+      (h.0, eq-named a.0.0 a.0.2 a.0.1 ty r l)
 
   pub trans-named : (l u q : Sequent Name) → S l → S u → trans_rule names l u ≡ Ok q → S q
   trans-named l u q h k e =
@@ -241,11 +306,15 @@ module _ (P : Name → Type 0) (has : HasPrimitives P) where
       let (ty, x, y) = parts-of l a.0 a.1 h in
       let (uy, v, w) = parts-of u b.0 b.1 k in
       let hyps = union-all l.hyps u.hyps h.0 k.0 in
-      let one : Sequent Name = record { hyps = union names l.hyps u.hyps; concl = equation names a.0.0 a.0.1 b.0.2 } in
-      let two : Sequent Name = record { hyps = union names l.hyps u.hyps; concl = equation names a.0.0 b.0.1 a.0.2 } in
-      go (same_tm names a.0.2 b.0.1) (same_tm names b.0.2 a.0.1) one two q (hyps, eq-named a.0.0 a.0.1 b.0.2 ty x w) (hyps, eq-named a.0.0 b.0.1 a.0.2 ty v y) b.2
+      let one : Sequent Name =
+      record { hyps = union names l.hyps u.hyps; concl = equation names a.0.0 a.0.1 b.0.2 } in
+      let two : Sequent Name =
+      record { hyps = union names l.hyps u.hyps; concl = equation names a.0.0 b.0.1 a.0.2 } in
+      go (same_tm names a.0.2 b.0.1) (same_tm names b.0.2 a.0.1) one two q (hyps, eq-named a.0.0 a.0.1 b.0.2 ty x w)
+      (hyps, eq-named a.0.0 b.0.1 a.0.2 ty v y) b.2
     where
-      go : (c d : Bool) (one two q : Sequent Name) → S one → S two → ◌≡◌ {A = Answer} (if c then Ok one else (if d then Ok two else Err NotAlphaEqual)) (Ok q) → S q
+      go : (c d : Bool) (one two q : Sequent Name) → S one → S two
+          → ◌≡◌ {A = Answer} (if c then Ok one else (if d then Ok two else Err NotAlphaEqual)) (Ok q) → S q
       go true d one two q h k e = given one q e h
       go false true one two q h k e = given two q e k
       go false false one two q h k e = absurd (cc)
@@ -254,13 +323,16 @@ module _ (P : Name → Type 0) (has : HasPrimitives P) where
   proved-named l u h k = (union-all l.hyps (minus names l.concl u.hyps) h.0 (minus-all l.concl u.hyps k.0), k.1)
 
   pub prove_hyp-named : (l u q : Sequent Name) → S l → S u → prove_hyp_rule names l u ≡ Ok q → S q
-  prove_hyp-named l u q h k e = given _ q e (go (not (is_in names u.concl l.hyps) && is_in names l.concl u.hyps) (proved_hyp names l u) (proved_hyp names u l) (proved-named l u h k) (proved-named u l k h))
+  prove_hyp-named l u q h k e =
+      given _ q e (go (not (is_in names u.concl l.hyps) && is_in names l.concl u.hyps) (proved_hyp names l u)
+      (proved_hyp names u l) (proved-named l u h k) (proved-named u l k h))
     where
       go : (c : Bool) (a b : Sequent Name) → S a → S b → S (if c then a else b)
       go true a b h k = h
       go false a b h k = k
 
-  pub axiom-named : (hyps : List (Tm Name)) (p : Tm Name) (q : Sequent Name) → Ms hyps → M p → axiom_rule hyps p ≡ Ok q → S q
+  pub axiom-named : (hyps : List (Tm Name)) (p : Tm Name) (q : Sequent Name) → Ms hyps → M p
+      → axiom_rule hyps p ≡ Ok q → S q
   axiom-named hyps p q h k e =
       let a = bind-ok (unless NotBool (has_type names p (bool_ty names))) _ _ e in
       let b = bind-ok (unless NotBool (list_all (λ h. has_type names h (bool_ty names)) hyps)) _ _ a.2 in

@@ -1,16 +1,21 @@
 -- The names in the value of an origin are names of the origin, or primitive.
-use Rattle.std.specs.Prelude.{◌≡◌, ◌==◌, ◌-◌, nat_lt, nat_le, ℕ, zero, suc, Bool, true, false, if◌then◌else◌, List, [], ◌∷◌, ◌++◌, map, length, Some, Result, Ok, Err, slice_get}
+use Rattle.std.specs.Prelude.{◌≡◌, ◌==◌, ◌-◌, nat_lt, nat_le, ℕ, zero, suc, Bool, true, false, if◌then◌else◌}
+use Rattle.std.specs.Prelude.{List, [], ◌∷◌, ◌++◌, map, length, Some, Result, Ok, Err, slice_get}
 use Rattle.std.specs.List.{AllByRecursion, list_all}
 use Rattle.std.proofs.Common.{subst, arith}
 use Rattle.std.proofs.lemmas.Bool.{eqb-true}
 use Rattle.std.proofs.lemmas.Option.{same_Some}
 use Rattle.ot_plain.specs.Names.{Name}
 use Rattle.ot_plain.specs.Naming.{names}
-use Rattle.ot_plain.specs.Trees.{Ty, TyVar, TyOp, Variable, Tm, Free, Con, Bound, App, Abs, Sequent, Definition, ConDef, ListDef, TyDef}
-use Rattle.ot_plain.specs.Hol.{fun_ty, bool_ty, depth_limit, type_of, TypeMap, TermMap, constants_for, equation, is_shallow_sequent, theorems, theorems_at, tys_of_vars}
+use Rattle.ot_plain.specs.Trees.{Ty, TyVar, TyOp, Variable, Tm, Free, Con, Bound, App}
+use Rattle.ot_plain.specs.Trees.{Abs, Sequent, Definition, ConDef, ListDef, TyDef}
+use Rattle.ot_plain.specs.Hol.{fun_ty, bool_ty, depth_limit, type_of, TypeMap, TermMap, constants_for}
+use Rattle.ot_plain.specs.Hol.{equation, is_shallow_sequent, theorems, theorems_at, tys_of_vars}
 use Rattle.ot_plain.specs.Faults.{Fault, StackEmpty, Nesting, BadSubst, BadDefinitionList}
 use Rattle.ot_plain.specs.Answers.{◌>>=◌, unless, some_or}
-use Rattle.ot_plain.specs.Rules.{op_rule, app_rule, abs_rule, refl_rule, assume_rule, eq_mp_rule, abs_thm_rule, app_thm_rule, deduct_antisym_rule, beta_conv_rule, subst_rule, sym_rule, trans_rule, prove_hyp_rule, has_type}
+use Rattle.ot_plain.specs.Rules.{op_rule, app_rule, abs_rule, refl_rule, assume_rule, eq_mp_rule}
+use Rattle.ot_plain.specs.Rules.{abs_thm_rule, app_thm_rule, deduct_antisym_rule, beta_conv_rule}
+use Rattle.ot_plain.specs.Rules.{subst_rule, sym_rule, trans_rule, prove_hyp_rule, has_type}
 use Rattle.ot_plain.specs.declared.command.Cmd.{Cmd}
 use Rattle.ot_plain.specs.declared.command.Cmd.TheVariants as words
 use Rattle.ot_laws.proofs.Steps.{limit-ok}
@@ -18,17 +23,27 @@ use Rattle.ot_laws.specs.Conditions.{checked_const, checked_list, checked_type}
 use Rattle.ot_kernel.specs.Axioms.{axiom_rule}
 use Rattle.ot_kernel.specs.Defining.{limited_definition, zipped}
 use Rattle.ot_trace.specs.Origins.{Origin, Origins, Number, Named, Make, Define, Outcome, NoOrigins, MoreOrigins}
-use Rattle.ot_machine.specs.Objects.{Object, Objects, number, name, list, type_op, a_type, constant, variable, term, theorem, no_objects, more_objects, nesting}
-use Rattle.ot_machine.specs.Places.{as_name, as_list, as_type_op, as_type, as_constant, as_variable, as_term, as_theorem, as_each, arguments}
+use Rattle.ot_machine.specs.Objects.{Object, Objects, number, name, list, type_op, a_type, constant}
+use Rattle.ot_machine.specs.Objects.{variable, term, theorem, no_objects, more_objects, nesting}
+use Rattle.ot_machine.specs.Places.{as_name, as_list, as_type_op, as_type, as_constant}
+use Rattle.ot_machine.specs.Places.{as_variable, as_term, as_theorem, as_each, arguments}
 use Rattle.ot_machine.specs.Parts.{or_bad, two_of}
 use Rattle.ot_kernel.specs.Pairs.{with_type, with_term}
 use Rattle.ot_machine.specs.Substitutions.{type_pair, term_pair, types_onto, terms_onto, maps_of}
 use Rattle.ot_machine.specs.DefinitionLists.{definition_pair, pairs_of}
-use Rattle.ot_machine.specs.Makers.{Read, Maker, of_none, of_top, of_two, no_maker, maker, cons_made, type_op_made, op_type_made, var_type_made, var_made, var_term_made, const_made, const_term_made, app_term_made, abs_term_made, one_theorem_made, two_theorems_made, abs_thm_made, subst_made, axiom_made}
-use Rattle.ot_machine.specs.Values.{value, values, value_at, applied, definition_of, theorem_of, const_defined, list_defined, type_defined, defined_by, defines, definition_arity}
+use Rattle.ot_machine.specs.Makers.{Read, Maker, of_none, of_top, of_two, no_maker, maker, cons_made}
+use Rattle.ot_machine.specs.Makers.{type_op_made, op_type_made, var_type_made, var_made, var_term_made}
+use Rattle.ot_machine.specs.Makers.{const_made, const_term_made, app_term_made, abs_term_made}
+use Rattle.ot_machine.specs.Makers.{one_theorem_made, two_theorems_made, abs_thm_made, subst_made, axiom_made}
+use Rattle.ot_machine.specs.Values.{value, values, value_at, applied, definition_of, theorem_of, const_defined}
+use Rattle.ot_machine.specs.Values.{list_defined, type_defined, defined_by, defines, definition_arity}
 use Rattle.ot_machine.specs.Lawful.{Basis, RestsOn, AreOn}
-use Rattle.ot_machine.specs.NamesIn.{TyNamed, TysNamed, TmNamed, SequentNamed, ObjectNamed, ObjectsNamed, HasPrimitives}
-use Rattle.ot_machine.proofs.NamedRules.{TypesNamed, TermsNamed, fun-named, bool-named, eq-named, type_of-named, subst-named, op-named, app-named, abs-named, refl-named, assume-named, eq_mp-named, abs_thm-named, app_thm-named, deduct-named, beta-named, subst_rule-named, sym-named, trans-named, prove_hyp-named, axiom-named}
+use Rattle.ot_machine.specs.NamesIn.{TyNamed, TysNamed, TmNamed, SequentNamed}
+use Rattle.ot_machine.specs.NamesIn.{ObjectNamed, ObjectsNamed, HasPrimitives}
+use Rattle.ot_machine.proofs.NamedRules.{TypesNamed, TermsNamed, fun-named, bool-named, eq-named, type_of-named}
+use Rattle.ot_machine.proofs.NamedRules.{subst-named, op-named, app-named, abs-named, refl-named, assume-named}
+use Rattle.ot_machine.proofs.NamedRules.{eq_mp-named, abs_thm-named, app_thm-named, deduct-named, beta-named}
+use Rattle.ot_machine.proofs.NamedRules.{subst_rule-named, sym-named, trans-named, prove_hyp-named, axiom-named}
 use Rattle.ot_plain.proofs.Results.{bind-ok, same_Ok, some_or-ok, unless-ok}
 
 module _ (P : Name → Type 0) (has : HasPrimitives P) where
@@ -140,7 +155,9 @@ module _ (P : Name → Type 0) (has : HasPrimitives P) where
   theorem-held (theorem q) x h e = subst S (same_Ok q x e) h
 
   -- ---- lists of one kind
-  each-held : {A : Type 0} (Q : A → Type 0) (as_one : Object → Result A (Fault Name)) → ((o : Object) (x : A) → O o → as_one o ≡ Ok x → Q x) → (os : Objects) (xs : List A) → Os os → as_each as_one os ≡ Ok xs → AllByRecursion Q xs
+  each-held : {A : Type 0} (Q : A → Type 0) (as_one : Object → Result A (Fault Name))
+      → ((o : Object) (x : A) → O o → as_one o ≡ Ok x → Q x) → (os : Objects) (xs : List A) → Os os
+      → as_each as_one os ≡ Ok xs → AllByRecursion Q xs
   each-held Q as_one one no_objects xs h e = subst (AllByRecursion Q) (same_Ok [] xs e) tt
   each-held Q as_one one (more_objects o os) xs h e =
       let a = bind-ok (as_one o) _ _ e in
@@ -159,7 +176,8 @@ module _ (P : Name → Type 0) (has : HasPrimitives P) where
   two-held : (f : Fault Name) (os : Objects) (p : Object × Object) → Os os → two_of f os ≡ Ok p → O p.0 × O p.1
   two-held f no_objects p h e = absurd (cc)
   two-held f (more_objects o no_objects) p h e = absurd (cc)
-  two-held f (more_objects o (more_objects q no_objects)) p h e = subst (λ (z : Object × Object). O z.0 × O z.1) (same_Ok (o, q) p e) (h.0, h.1.0)
+  two-held f (more_objects o (more_objects q no_objects)) p h e =
+      subst (λ (z : Object × Object). O z.0 × O z.1) (same_Ok (o, q) p e) (h.0, h.1.0)
   two-held f (more_objects o (more_objects q (more_objects r os))) p h e = absurd (cc)
 
   type_pair-held : (o : Object) (p : Name × Ty Name) → O o → type_pair o ≡ Ok p → P p.0 × T p.1
@@ -198,11 +216,13 @@ module _ (P : Name → Type 0) (has : HasPrimitives P) where
       let v = variable-held b.0.1 d.0 y (or_bad-ok BadDefinitionList (as_variable b.0.1) d.0 d.1) in
       subst (λ (z : Name × Variable Name). P z.0 × V z.1) (same_Ok (c.0, d.0) p d.2) (n, v)
 
-  append-held : {A : Type 0} (Q : A → Type 0) (xs ys : List A) → AllByRecursion Q xs → AllByRecursion Q ys → AllByRecursion Q (xs ++ ys)
+  append-held : {A : Type 0} (Q : A → Type 0) (xs ys : List A) → AllByRecursion Q xs → AllByRecursion Q ys
+      → AllByRecursion Q (xs ++ ys)
   append-held Q [] ys h k = k
   append-held Q (x ∷ xs) ys h k = (h.0, append-held Q xs ys h.1 k)
 
-  or-held : {A : Type 0} (Q : A → Type 0) (c : Bool) (xs ys : List A) → AllByRecursion Q xs → AllByRecursion Q ys → AllByRecursion Q (if c then xs else ys)
+  or-held : {A : Type 0} (Q : A → Type 0) (c : Bool) (xs ys : List A) → AllByRecursion Q xs → AllByRecursion Q ys
+      → AllByRecursion Q (if c then xs else ys)
   or-held Q true xs ys h k = h
   or-held Q false xs ys h k = k
 
@@ -212,22 +232,29 @@ module _ (P : Name → Type 0) (has : HasPrimitives P) where
   abbrev HeldTerm : Variable Name × Tm Name → Type 0
   HeldTerm p = M p.1
 
-  types_onto-held : (os : Objects) (s r : TypeMap names) → Os os → TypesNamed P has s → types_onto s os ≡ Ok r → TypesNamed P has r
+  types_onto-held : (os : Objects) (s r : TypeMap names) → Os os → TypesNamed P has s → types_onto s os ≡ Ok r
+      → TypesNamed P has r
   types_onto-held no_objects s r h k e = subst (TypesNamed P has) (same_Ok s r e) k
   types_onto-held (more_objects o os) s r h k e =
       let a = bind-ok (type_pair o) _ _ e in
       let (n, t) = type_pair-held o a.0 h.0 a.1 in
-      types_onto-held os (with_type s a.0.0 a.0.1) r h.1 (or-held HeldType _ s (s ++ (a.0.0, a.0.1) ∷ []) k (append-held HeldType s ((a.0.0, a.0.1) ∷ []) k (t, tt))) a.2
+      types_onto-held os (with_type s a.0.0 a.0.1) r h.1
+      (or-held HeldType _ s (s ++ (a.0.0, a.0.1) ∷ []) k (append-held HeldType s ((a.0.0, a.0.1) ∷ []) k (t, tt)))
+      a.2
 
-  terms_onto-held : (os : Objects) (m r : TermMap names) → Os os → TermsNamed P has m → terms_onto m os ≡ Ok r → TermsNamed P has r
+  terms_onto-held : (os : Objects) (m r : TermMap names) → Os os → TermsNamed P has m → terms_onto m os ≡ Ok r
+      → TermsNamed P has r
   terms_onto-held no_objects m r h k e = subst (TermsNamed P has) (same_Ok m r e) k
   terms_onto-held (more_objects o os) m r h k e =
       let a = bind-ok (term_pair o) _ _ e in
       let b = bind-ok (unless BadSubst (has_type names a.0.1 a.0.0.ty)) _ _ a.2 in
       let (v, t) = term_pair-held o a.0 h.0 a.1 in
-      terms_onto-held os (with_term m a.0.0 a.0.1) r h.1 (or-held HeldTerm _ m (m ++ (a.0.0, a.0.1) ∷ []) k (append-held HeldTerm m ((a.0.0, a.0.1) ∷ []) k (t, tt))) b.2
+      terms_onto-held os (with_term m a.0.0 a.0.1) r h.1
+      (or-held HeldTerm _ m (m ++ (a.0.0, a.0.1) ∷ []) k (append-held HeldTerm m ((a.0.0, a.0.1) ∷ []) k (t, tt)))
+      b.2
 
-  maps-held : (os : Objects) (p : TypeMap names × TermMap names) → Os os → maps_of os ≡ Ok p → TypesNamed P has p.0 × TermsNamed P has p.1
+  maps-held : (os : Objects) (p : TypeMap names × TermMap names) → Os os → maps_of os ≡ Ok p
+      → TypesNamed P has p.0 × TermsNamed P has p.1
   maps-held os p h e =
       let a = bind-ok (two_of BadSubst os) _ _ e in
       let b = bind-ok (or_bad BadSubst (as_list a.0.0)) _ _ a.2 in
@@ -235,9 +262,12 @@ module _ (P : Name → Type 0) (has : HasPrimitives P) where
       let d = bind-ok (types_onto [] b.0) _ _ c.2 in
       let f = bind-ok (terms_onto [] c.0) _ _ d.2 in
       let (x, y) = two-held BadSubst os a.0 h a.1 in
-      let s = types_onto-held b.0 [] d.0 (list-held a.0.0 b.0 x (or_bad-ok BadSubst (as_list a.0.0) b.0 b.1)) tt d.1 in
-      let m = terms_onto-held c.0 [] f.0 (list-held a.0.1 c.0 y (or_bad-ok BadSubst (as_list a.0.1) c.0 c.1)) tt f.1 in
-      subst (λ (z : TypeMap names × TermMap names). TypesNamed P has z.0 × TermsNamed P has z.1) (same_Ok (d.0, f.0) p f.2) (s, m)
+      let s = types_onto-held b.0 [] d.0 (list-held a.0.0 b.0 x (or_bad-ok BadSubst (as_list a.0.0) b.0 b.1)) tt
+      d.1 in
+      let m = terms_onto-held c.0 [] f.0 (list-held a.0.1 c.0 y (or_bad-ok BadSubst (as_list a.0.1) c.0 c.1)) tt
+      f.1 in
+      subst (λ (z : TypeMap names × TermMap names). TypesNamed P has z.0 × TermsNamed P has z.1)
+      (same_Ok (d.0, f.0) p f.2) (s, m)
 
   -- ---- what makers make
   abbrev NamedMaker : Maker → Type 0
@@ -254,7 +284,8 @@ module _ (P : Name → Type 0) (has : HasPrimitives P) where
       let a = bind-ok (as_list top) _ _ e in
       let l = list-held top a.0 h a.1 in
       let m : O (list (more_objects below a.0)) = (k, l) in
-      subst O (limit-ok (nat_le (nesting (list (more_objects below a.0))) depth_limit) Nesting (list (more_objects below a.0)) v a.2).1 m
+      subst O (limit-ok (nat_le (nesting (list (more_objects below a.0))) depth_limit) Nesting
+      (list (more_objects below a.0)) v a.2).1 m
 
   op_type-held : NamedMaker (of_two op_type_made)
   op_type-held top below v h k e =
@@ -263,7 +294,8 @@ module _ (P : Name → Type 0) (has : HasPrimitives P) where
       let b = bind-ok (as_type_op below) _ _ a.2 in
       let c = bind-ok (op_rule names b.0 (arguments a.0)) _ _ b.2 in
       let ts = each-held T as_type type-held l.0 a.0 (list-held top l.0 h l.1) l.2 in
-      held (a_type c.0) v c.2 (op-named P has b.0 (arguments a.0) c.0 (type_op-held below b.0 k b.1) (arguments-named a.0 ts) c.1)
+      held (a_type c.0) v c.2
+      (op-named P has b.0 (arguments a.0) c.0 (type_op-held below b.0 k b.1) (arguments-named a.0 ts) c.1)
 
   var-held : NamedMaker (of_two var_made)
   var-held top below v h k e =
@@ -289,22 +321,27 @@ module _ (P : Name → Type 0) (has : HasPrimitives P) where
       let a = bind-ok (as_term top) _ _ e in
       let b = bind-ok (as_variable below) _ _ a.2 in
       let c = bind-ok (abs_rule names b.0 a.0) _ _ b.2 in
-      held (term c.0) v c.2 (abs-named P has b.0 a.0 c.0 (variable-held below b.0 k b.1).1 (term-held top a.0 h a.1) c.1)
+      held (term c.0) v c.2
+      (abs-named P has b.0 a.0 c.0 (variable-held below b.0 k b.1).1 (term-held top a.0 h a.1) c.1)
 
-  one-held : (rule : Sequent Name → Result (Sequent Name) (Fault Name)) → ((q r : Sequent Name) → S q → rule q ≡ Ok r → S r) → NamedMaker (of_top (one_theorem_made rule))
+  one-held : (rule : Sequent Name → Result (Sequent Name) (Fault Name))
+      → ((q r : Sequent Name) → S q → rule q ≡ Ok r → S r) → NamedMaker (of_top (one_theorem_made rule))
   one-held rule s o v h e =
       let a = bind-ok (as_theorem o) _ _ e in
       let b = bind-ok (rule a.0) _ _ a.2 in
       held (theorem b.0) v b.2 (s a.0 b.0 (theorem-held o a.0 h a.1) b.1)
 
-  both-held : (rule : Sequent Name → Sequent Name → Result (Sequent Name) (Fault Name)) → ((l u r : Sequent Name) → S l → S u → rule l u ≡ Ok r → S r) → NamedMaker (of_two (two_theorems_made rule))
+  both-held : (rule : Sequent Name → Sequent Name → Result (Sequent Name) (Fault Name))
+      → ((l u r : Sequent Name) → S l → S u → rule l u ≡ Ok r → S r) → NamedMaker (of_two (two_theorems_made rule))
   both-held rule s top below v h k e =
       let a = bind-ok (as_theorem top) _ _ e in
       let b = bind-ok (as_theorem below) _ _ a.2 in
       let c = bind-ok (rule b.0 a.0) _ _ b.2 in
       held (theorem c.0) v c.2 (s b.0 a.0 c.0 (theorem-held below b.0 k b.1) (theorem-held top a.0 h a.1) c.1)
 
-  on_term-held : (rule : Tm Name → Result (Sequent Name) (Fault Name)) → ((t : Tm Name) (r : Sequent Name) → M t → rule t ≡ Ok r → S r) → (o v : Object) → O o → (as_term o >>= λ t. rule t >>= λ q. Ok (theorem q)) ≡ Ok v → O v
+  on_term-held : (rule : Tm Name → Result (Sequent Name) (Fault Name))
+      → ((t : Tm Name) (r : Sequent Name) → M t → rule t ≡ Ok r → S r) → (o v : Object) → O o
+      → (as_term o >>= λ t. rule t >>= λ q. Ok (theorem q)) ≡ Ok v → O v
   on_term-held rule s o v h e =
       let a = bind-ok (as_term o) _ _ e in
       let b = bind-ok (rule a.0) _ _ a.2 in
@@ -315,7 +352,8 @@ module _ (P : Name → Type 0) (has : HasPrimitives P) where
       let a = bind-ok (as_theorem top) _ _ e in
       let b = bind-ok (as_variable below) _ _ a.2 in
       let c = bind-ok (abs_thm_rule names b.0 a.0) _ _ b.2 in
-      held (theorem c.0) v c.2 (abs_thm-named P has b.0 a.0 c.0 (variable-held below b.0 k b.1).1 (theorem-held top a.0 h a.1) c.1)
+      held (theorem c.0) v c.2
+      (abs_thm-named P has b.0 a.0 c.0 (variable-held below b.0 k b.1).1 (theorem-held top a.0 h a.1) c.1)
 
   subst-held : NamedMaker (of_two subst_made)
   subst-held top below v h k e =
@@ -345,7 +383,8 @@ module _ (P : Name → Type 0) (has : HasPrimitives P) where
   const-made o v h e = let a = bind-ok (as_name o) _ _ e in held (constant a.0) v a.2 (name-held o a.0 h a.1)
 
   var_term-made : NamedMaker (of_top var_term_made)
-  var_term-made o v h e = let a = bind-ok (as_variable o) _ _ e in held (term (Free a.0)) v a.2 (variable-held o a.0 h a.1)
+  var_term-made o v h e = let a = bind-ok (as_variable o) _ _ e in
+      held (term (Free a.0)) v a.2 (variable-held o a.0 h a.1)
 
   maker-held : (w : Cmd) → NamedMaker (maker w)
   maker-held words.Version = tt
@@ -388,14 +427,17 @@ module _ (P : Name → Type 0) (has : HasPrimitives P) where
   DefNamed d = AllByRecursion S (theorems names d)
 
   limited-held : (d e : Definition Name) → limited_definition names d ≡ Ok e → DefNamed d → DefNamed e
-  limited-held d e p h = let a = bind-ok (unless Nesting (list_all (is_shallow_sequent names) (theorems names d))) _ _ p in subst DefNamed (same_Ok d e a.2) h
+  limited-held d e p h = let a = bind-ok (unless Nesting (list_all (is_shallow_sequent names) (theorems names d))) _ _
+      p in subst DefNamed (same_Ok d e a.2) h
 
-  constants-held : (ns : List Name) (vs : List (Variable Name)) → AllByRecursion P ns → AllByRecursion V vs → TermsNamed P has (constants_for names (zipped names ns vs))
+  constants-held : (ns : List Name) (vs : List (Variable Name)) → AllByRecursion P ns → AllByRecursion V vs
+      → TermsNamed P has (constants_for names (zipped names ns vs))
   constants-held [] vs h k = tt
   constants-held (n ∷ ns) [] h k = tt
   constants-held (n ∷ ns) (v ∷ vs) h k = ((h.0, k.0.1), constants-held ns vs h.1 k.1)
 
-  pairs-held : (ps : List (Name × Variable Name)) → AllByRecursion (λ (p : Name × Variable Name). P p.0 × V p.1) ps → AllByRecursion P (map (λ p. p.0) ps) × AllByRecursion V (map (λ p. p.1) ps)
+  pairs-held : (ps : List (Name × Variable Name)) → AllByRecursion (λ (p : Name × Variable Name). P p.0 × V p.1) ps
+      → AllByRecursion P (map (λ p. p.0) ps) × AllByRecursion V (map (λ p. p.1) ps)
   pairs-held [] h = (tt, tt)
   pairs-held (p ∷ ps) h = let (a, b) = pairs-held ps h.1 in ((h.0.0, a), (h.0.1, b))
 
@@ -403,7 +445,8 @@ module _ (P : Name → Type 0) (has : HasPrimitives P) where
   type_vars-held [] h = tt
   type_vars-held (v ∷ vs) h = (h.0, type_vars-held vs h.1)
 
-  type_theorems-held : (n abs rep : Name) (vs : List Name) (t : Tm Name) → P n → P abs → P rep → AllByRecursion P vs → M t → AllByRecursion S (theorems_at names n abs rep vs t)
+  type_theorems-held : (n abs rep : Name) (vs : List Name) (t : Tm Name) → P n → P abs → P rep → AllByRecursion P vs
+      → M t → AllByRecursion S (theorems_at names n abs rep vs t)
   type_theorems-held n abs rep vs (App p t) hn ha hr hv h =
       let ty = TyOp n (tys_of_vars names vs) in
       let u = type_of names t in
@@ -413,16 +456,30 @@ module _ (P : Name → Type 0) (has : HasPrimitives P) where
       let from : M (Con rep (fun_ty names ty u)) = (hr, fun-named P has ty u new old) in
       let c = Con abs (fun_ty names u ty) in
       let r = Con rep (fun_ty names ty u) in
-      let test : M (equation names u (App r (App c (Bound 0))) (Bound 0)) = eq-named P has u (App r (App c (Bound 0))) (Bound 0) old (from, (to, tt)) tt in (
-        (tt, eq-named P has (fun_ty names ty ty) (Abs ty (App c (App r (Bound 0)))) (Abs ty (Bound 0)) (fun-named P has ty ty new new) (new, (to, (from, tt))) (new, tt)),
-        ((tt, eq-named P has (fun_ty names u (bool_ty names)) (Abs u (equation names u (App r (App c (Bound 0))) (Bound 0))) (Abs u (App p (Bound 0))) (fun-named P has u (bool_ty names) old (bool-named P has)) (old, test) (old, (h.0, tt))), tt),
+      let test : M (equation names u (App r (App c (Bound 0))) (Bound 0)) =
+      eq-named P has u (App r (App c (Bound 0))) (Bound 0) old (from, (to, tt)) tt in (
+        (
+          tt,
+          eq-named P has (fun_ty names ty ty) (Abs ty (App c (App r (Bound 0)))) (Abs ty (Bound 0))
+              (fun-named P has ty ty new new) (new, (to, (from, tt))) (new, tt),
+        ),
+        (
+          (
+            tt,
+            eq-named P has (fun_ty names u (bool_ty names))
+                (Abs u (equation names u (App r (App c (Bound 0))) (Bound 0))) (Abs u (App p (Bound 0)))
+                (fun-named P has u (bool_ty names) old (bool-named P has)) (old, test) (old, (h.0, tt)),
+          ),
+          tt,
+        ),
       )
   type_theorems-held n abs rep vs (Free v) hn ha hr hv h = tt
   type_theorems-held n abs rep vs (Con m t) hn ha hr hv h = tt
   type_theorems-held n abs rep vs (Bound k) hn ha hr hv h = tt
   type_theorems-held n abs rep vs (Abs t c) hn ha hr hv h = tt
 
-  get-held : {A : Type 0} (Q : A → Type 0) (xs : List A) (i : ℕ) (x : A) → AllByRecursion Q xs → slice_get xs i ≡ Some x → Q x
+  get-held : {A : Type 0} (Q : A → Type 0) (xs : List A) (i : ℕ) (x : A) → AllByRecursion Q xs
+      → slice_get xs i ≡ Some x → Q x
   get-held Q [] i x h e = absurd (cc)
   get-held Q (y ∷ xs) zero x h e = subst Q (same_Some y x e) h.0
   get-held Q (y ∷ xs) (suc i) x h e = get-held Q xs i x h.1 e
@@ -433,11 +490,13 @@ module _ (P : Name → Type 0) (has : HasPrimitives P) where
   at-held : (n : ℕ) (vs : List Object) (o : Object) → Vs vs → value_at n vs ≡ Ok o → O o
   at-held n vs o h e = go (nat_lt n (length vs)) e
     where
-      go : (c : Bool) → ◌≡◌ {A = Read} (if c then some_or StackEmpty (slice_get vs (length vs - suc n)) else Err StackEmpty) (Ok o) → O o
+      go : (c : Bool) → ◌≡◌ {A = Read}
+          (if c then some_or StackEmpty (slice_get vs (length vs - suc n)) else Err StackEmpty) (Ok o) → O o
       go true p = get-held O vs (length vs - suc n) o h (some_or-ok StackEmpty (slice_get vs (length vs - suc n)) o p)
       go false p = absurd (cc)
 
-  const-held : (vs : List Object) (d : Definition Name) → Vs vs → const_defined [] (λ n. value_at n vs) ≡ Ok d → DefNamed d
+  const-held : (vs : List Object) (d : Definition Name) → Vs vs → const_defined [] (λ n. value_at n vs) ≡ Ok d
+      → DefNamed d
   const-held vs d h e =
       let a = bind-ok (value_at 0 vs >>= as_term) _ _ e in
       let x = bind-ok (value_at 0 vs) as_term _ a.1 in
@@ -447,9 +506,11 @@ module _ (P : Name → Type 0) (has : HasPrimitives P) where
       let t = term-held x.0 a.0 (at-held 0 vs x.0 h x.1) x.2 in
       let n = name-held y.0 b.0 (at-held 1 vs y.0 h y.1) y.2 in
       let ty = type_of names a.0 in
-      limited-held (ConDef b.0 a.0) d c.2 ((tt, eq-named P has ty (Con b.0 ty) a.0 (type_of-named P has a.0 t) (n, type_of-named P has a.0 t) t), tt)
+      limited-held (ConDef b.0 a.0) d c.2
+      ((tt, eq-named P has ty (Con b.0 ty) a.0 (type_of-named P has a.0 t) (n, type_of-named P has a.0 t) t), tt)
 
-  list_definition-held : (vs : List Object) (d : Definition Name) → Vs vs → list_defined [] (λ n. value_at n vs) ≡ Ok d → DefNamed d
+  list_definition-held : (vs : List Object) (d : Definition Name) → Vs vs → list_defined [] (λ n. value_at n vs)
+      ≡ Ok d → DefNamed d
   list_definition-held vs d h e =
       let a = bind-ok (value_at 0 vs >>= as_theorem) _ _ e in
       let x = bind-ok (value_at 0 vs) as_theorem _ a.1 in
@@ -460,11 +521,20 @@ module _ (P : Name → Type 0) (has : HasPrimitives P) where
       let ws = map (λ p. p.1) c.0 in
       let g = bind-ok (checked_list names [] [] ns ws a.0) _ _ c.2 in
       let q = theorem-held x.0 a.0 (at-held 0 vs x.0 h x.1) x.2 in
-      let ps = each-held (λ (p : Name × Variable Name). P p.0 × V p.1) definition_pair definition_pair-held b.0 c.0 (list-held y.0 b.0 (at-held 1 vs y.0 h y.1) y.2) c.1 in
+      let ps = each-held (λ (p : Name × Variable Name). P p.0 × V p.1) definition_pair definition_pair-held b.0 c.0
+      (list-held y.0 b.0 (at-held 1 vs y.0 h y.1) y.2) c.1 in
       let (l, r) = pairs-held c.0 ps in
-      subst DefNamed (same_Ok (ListDef (zipped names ns ws) a.0) d g.2) ((tt, subst-named P has [] (constants_for names (zipped names ns ws)) tt (constants-held ns ws l r) a.0.concl q.1), tt)
+      subst DefNamed (same_Ok (ListDef (zipped names ns ws) a.0) d g.2) (
+        (
+          tt,
+          subst-named P has [] (constants_for names (zipped names ns ws)) tt (constants-held ns ws l r)
+              a.0.concl q.1,
+        ),
+        tt,
+      )
 
-  type_definition-held : (vs : List Object) (d : Definition Name) → Vs vs → type_defined [] (λ n. value_at n vs) ≡ Ok d → DefNamed d
+  type_definition-held : (vs : List Object) (d : Definition Name) → Vs vs → type_defined [] (λ n. value_at n vs)
+      ≡ Ok d → DefNamed d
   type_definition-held vs d h e =
       let a = bind-ok (value_at 0 vs >>= as_theorem) _ _ e in
       let x = bind-ok (value_at 0 vs) as_theorem _ a.1 in
@@ -485,7 +555,8 @@ module _ (P : Name → Type 0) (has : HasPrimitives P) where
       let n = name-held g'.0 g.0 (at-held 4 vs g'.0 h g'.1) g'.2 in
       limited-held (TyDef g.0 f.0 c.0 b.0 a.0) d k.2 (type_theorems-held g.0 f.0 c.0 b.0 a.0.concl n abs rep ns q.1)
 
-  defined_by-held : (w : Cmd) (vs : List Object) (d : Definition Name) → Vs vs → defined_by w [] (λ n. value_at n vs) ≡ Ok d → DefNamed d
+  defined_by-held : (w : Cmd) (vs : List Object) (d : Definition Name) → Vs vs → defined_by w [] (λ n. value_at n vs)
+      ≡ Ok d → DefNamed d
   defined_by-held words.Version vs d h e = absurd (cc)
   defined_by-held words.Nil vs d h e = absurd (cc)
   defined_by-held words.Cons vs d h e = absurd (cc)
@@ -528,20 +599,23 @@ module _ (P : Name → Type 0) (has : HasPrimitives P) where
   applied-held (of_top f) s (x ∷ []) v h e = s x v h.0 e
   applied-held (of_top f) s (x ∷ y ∷ vs) v h e =
       let a = bind-ok (unless StackEmpty (length (x ∷ y ∷ vs) == 1)) _ _ e in
-      absurd (let n = eqb-true (length (x ∷ y ∷ vs)) 1 (unless-ok StackEmpty (length (x ∷ y ∷ vs) == 1) a.0 a.1) in omega (arith, n))
+      absurd (let n = eqb-true (length (x ∷ y ∷ vs)) 1 (unless-ok StackEmpty (length (x ∷ y ∷ vs) == 1) a.0 a.1) in
+      omega (arith, n))
   applied-held (of_two f) s [] v h e = absurd (cc)
   applied-held (of_two f) s (x ∷ []) v h e = absurd (cc)
   applied-held (of_two f) s (x ∷ y ∷ []) v h e = s y x v h.1.0 h.0 e
   applied-held (of_two f) s (x ∷ y ∷ z ∷ vs) v h e =
       let a = bind-ok (unless StackEmpty (length (x ∷ y ∷ z ∷ vs) == 2)) _ _ e in
-      absurd (let n = eqb-true (length (x ∷ y ∷ z ∷ vs)) 2 (unless-ok StackEmpty (length (x ∷ y ∷ z ∷ vs) == 2) a.0 a.1) in omega (arith, n))
+      absurd (let n = eqb-true (length (x ∷ y ∷ z ∷ vs)) 2
+      (unless-ok StackEmpty (length (x ∷ y ∷ z ∷ vs) == 2) a.0 a.1) in omega (arith, n))
   applied-held no_maker s vs v h e = let a = bind-ok (unless StackEmpty (length vs == 0)) _ _ e in absurd (cc)
 
   theorem_of-held : (j : ℕ) (d : Definition Name) (v : Object) → DefNamed d → theorem_of j d ≡ Ok v → O v
   theorem_of-held zero d v h e = absurd (cc)
   theorem_of-held (suc j) d v h e =
       let a = bind-ok (some_or StackEmpty (slice_get (theorems names d) j)) _ _ e in
-      held (theorem a.0) v a.2 (get-held S (theorems names d) j a.0 h (some_or-ok StackEmpty (slice_get (theorems names d) j) a.0 a.1))
+      held (theorem a.0) v a.2
+      (get-held S (theorems names d) j a.0 h (some_or-ok StackEmpty (slice_get (theorems names d) j) a.0 a.1))
 
 module _ (b : Basis) (has : HasPrimitives b.IsNamed) where
   mutual
@@ -557,14 +631,17 @@ module _ (b : Basis) (has : HasPrimitives b.IsNamed) where
         let a = bind-ok (definition_of [] d) (theorem_of j) v e in
         theorem_of-held b.IsNamed has j a.0 v (definition-named d a.0 h.1 a.1) a.2
 
-    values-named : (os : Origins Name) (vs : List Object) → AreOn b os → values os ≡ Ok vs → AllByRecursion (ObjectNamed b.IsNamed) vs
+    values-named : (os : Origins Name) (vs : List Object) → AreOn b os → values os ≡ Ok vs
+        → AllByRecursion (ObjectNamed b.IsNamed) vs
     values-named NoOrigins vs h e = subst (AllByRecursion (ObjectNamed b.IsNamed)) (same_Ok [] vs e) tt
     values-named (MoreOrigins o os) vs h e =
         let a = bind-ok (value o) _ _ e in
         let c = bind-ok (values os) _ _ a.2 in
-        subst (AllByRecursion (ObjectNamed b.IsNamed)) (same_Ok (a.0 ∷ c.0) vs c.2) (value-named o a.0 h.0 a.1, values-named os c.0 h.1 c.1)
+        subst (AllByRecursion (ObjectNamed b.IsNamed)) (same_Ok (a.0 ∷ c.0) vs c.2)
+        (value-named o a.0 h.0 a.1, values-named os c.0 h.1 c.1)
 
-    definition-named : (o : Origin Name) (d : Definition Name) → RestsOn b o → definition_of [] o ≡ Ok d → DefNamed b.IsNamed has d
+    definition-named : (o : Origin Name) (d : Definition Name) → RestsOn b o → definition_of [] o ≡ Ok d
+        → DefNamed b.IsNamed has d
     definition-named (Number k) d h e = absurd (cc)
     definition-named (Named n) d h e = absurd (cc)
     definition-named (Make w os) d h e = absurd (cc)

@@ -23,20 +23,24 @@ module _ (v : Variable Name) where
   pub free-constant : (n : Name) → Decides false (IsFreeIn names v (NConst n (TyVar n)))
   free-constant n = ((λ p. cc), λ p. absurd p)
 
-  pub free-function : (f x : Named Name) (b : Bool) → Decides b (IsFreeIn names v f) → b ≡ true → Decides true (IsFreeIn names v (NApp f x))
+  pub free-function : (f x : Named Name) (b : Bool) → Decides b (IsFreeIn names v f) → b ≡ true
+      → Decides true (IsFreeIn names v (NApp f x))
   free-function f x b d e = ((λ p. inl (d.0 e)), λ p. refl)
 
-  pub free-argument : (f x : Named Name) (b c : Bool) → Decides b (IsFreeIn names v f) → b ≡ false → Decides c (IsFreeIn names v x) → Decides c (IsFreeIn names v (NApp f x))
+  pub free-argument : (f x : Named Name) (b c : Bool) → Decides b (IsFreeIn names v f) → b ≡ false
+      → Decides c (IsFreeIn names v x) → Decides c (IsFreeIn names v (NApp f x))
   free-argument f x true c d e g = cc
   free-argument f x false c d e g = ((λ p. inr (g.0 p)), λ p. elim p [ inl q ↦ absurd (no (d.1 q)) | inr q ↦ g.1 q ])
     where
       no : false ≡ true → ⊥
       no p = cc
 
-  pub free-bound : (w : Variable Name) (t : Named Name) → same_var names w v ≡ true → Decides false (IsFreeIn names v (NAbs w t))
+  pub free-bound : (w : Variable Name) (t : Named Name) → same_var names w v ≡ true
+      → Decides false (IsFreeIn names v (NAbs w t))
   free-bound w t e = ((λ p. cc), λ p. absurd (p.0 ((same_var-is names tells_names w v).0 e)))
 
-  pub free-body : (w : Variable Name) (t : Named Name) (b : Bool) → same_var names w v ≡ false → Decides b (IsFreeIn names v t) → Decides b (IsFreeIn names v (NAbs w t))
+  pub free-body : (w : Variable Name) (t : Named Name) (b : Bool) → same_var names w v ≡ false
+      → Decides b (IsFreeIn names v t) → Decides b (IsFreeIn names v (NAbs w t))
   free-body w t b e d = ((λ p. (other, d.0 p)), λ p. d.1 p.1)
     where
       no : (c : Bool) → c ≡ false → c ≡ true → ⊥
@@ -49,32 +53,42 @@ module _ (v : Variable Name) where
 -- ---- one more
 occurrence-same : (o p : Occurrence) → same_occurrence o p ≡ true → o ≡ p
 occurrence-same o p h =
-    let a = and_parts (nat_eq o.term p.term) (nat_eq o.variable.name p.variable.name && nat_eq o.variable.ty p.variable.ty) h in
+    let a = and_parts (nat_eq o.term p.term)
+    (nat_eq o.variable.name p.variable.name && nat_eq o.variable.ty p.variable.ty) h in
     let b = and_parts (nat_eq o.variable.name p.variable.name) (nat_eq o.variable.ty p.variable.ty) a.1 in
     let t = eqb-true o.term p.term a.0 in
     let n = eqb-true o.variable.name p.variable.name b.0 in
     let y = eqb-true o.variable.ty p.variable.ty b.1 in
     λ i. record { term = t i; variable = record { name = n i; ty = y i } }
 
-pub occurrences-insert : (k : State) (old new : List (Occurrence × Bool)) (o : Occurrence) (b : Bool) → AreOccurrences k old → IsOccurrence k o b
-    → ((p : Occurrence) → lookup (same_occurrence p) new ≡ cond (same_occurrence o p) (Some b) (lookup (same_occurrence p) old)) → AreOccurrences k new
-occurrences-insert k old new o b h here after = record { known = λ p c known. by p c (same_occurrence o p) refl (sym (after p) ∙ known) }
+pub occurrences-insert : (k : State) (old new : List (Occurrence × Bool)) (o : Occurrence) (b : Bool)
+    → AreOccurrences k old → IsOccurrence k o b
+    → ((p : Occurrence) → lookup (same_occurrence p) new ≡ cond (same_occurrence o p) (Some b)
+    (lookup (same_occurrence p) old)) → AreOccurrences k new
+occurrences-insert k old new o b h here after =
+    record { known = λ p c known. by p c (same_occurrence o p) refl (sym (after p) ∙ known) }
   where
-    by : (p : Occurrence) (c d : Bool) → same_occurrence o p ≡ d → cond (same_occurrence o p) (Some b) (lookup (same_occurrence p) old) ≡ Some c → IsOccurrence k p c
+    by : (p : Occurrence) (c d : Bool) → same_occurrence o p ≡ d
+        → cond (same_occurrence o p) (Some b) (lookup (same_occurrence p) old) ≡ Some c → IsOccurrence k p c
     by p c true e known =
-        let value : b ≡ c = same_Some b c (sym (ap (λ x. cond x (Some b) (lookup (same_occurrence p) old)) e) ∙ known) in
+        let value : b ≡ c =
+        same_Some b c (sym (ap (λ x. cond x (Some b) (lookup (same_occurrence p) old)) e) ∙ known) in
         subst (λ x. IsOccurrence k p x) value (subst (λ x. IsOccurrence k x b) (occurrence-same o p e) here)
     by p c false e known = h.known p c (sym (ap (λ x. cond x (Some b) (lookup (same_occurrence p) old)) e) ∙ known)
 
 -- ---- a kernel that grew
-pub occurrences-later : (k l : State) → Keeps k l → (es : List (Occurrence × Bool)) → AreOccurrences k es → AreOccurrences l es
+pub occurrences-later : (k l : State) → Keeps k l → (es : List (Occurrence × Bool)) → AreOccurrences k es
+    → AreOccurrences l es
 occurrences-later k l kept es h = record { known = λ o b p. later o b (h.known o b p) }
   where
     later : (o : Occurrence) (b : Bool) → IsOccurrence k o b → IsOccurrence l o b
     later o b x =
-        let n : name_at l o.variable.name ≡ name_at k o.variable.name = at-Extends k.names l.names kept.names [] o.variable.name x.variable.0 in
-        let y : type_at l o.variable.ty ≡ type_at k o.variable.ty = at-Extends k.types l.types kept.types (TyVar []) o.variable.ty x.variable.1 in
-        let t : named_at l.terms o.term ≡ named_at k.terms o.term = at-Extends k.terms l.terms kept.terms (NConst [] (TyVar [])) o.term x.term in
+        let n : name_at l o.variable.name ≡ name_at k o.variable.name =
+        at-Extends k.names l.names kept.names [] o.variable.name x.variable.0 in
+        let y : type_at l o.variable.ty ≡ type_at k o.variable.ty =
+        at-Extends k.types l.types kept.types (TyVar []) o.variable.ty x.variable.1 in
+        let t : named_at l.terms o.term ≡ named_at k.terms o.term =
+        at-Extends k.terms l.terms kept.terms (NConst [] (TyVar [])) o.term x.term in
         record {
           term = omega (arith, x.term, kept.terms.longer);
           variable = (omega (arith, x.variable.0, kept.names.longer), omega (arith, x.variable.1, kept.types.longer));

@@ -1,5 +1,6 @@
 -- What the kernel's open definition of a type operator gives is what the row of version 5 states.
-use Rattle.std.specs.Prelude.{◌≡◌, ◌<◌, ◌++◌, ◌⊎◌, ℕ, suc, Bool, true, false, List, [], ◌∷◌, length, map, Result, Ok, Err}
+use Rattle.std.specs.Prelude.{◌≡◌, ◌<◌, ◌++◌, ◌⊎◌, ℕ, suc, Bool, true, false}
+use Rattle.std.specs.Prelude.{List, [], ◌∷◌, length, map, Result, Ok, Err}
 use Rattle.std.specs.List.{All}
 use Rattle.std.proofs.Common.{refl, sym, ap, ◌∙◌, inl, inr, arith, length-append}
 use Rattle.ot_plain.specs.Names.{Name}
@@ -30,7 +31,8 @@ never : {X E : Type 0} (r : Result (Unit {0}) E) (f : E) (x : X) → (r >>= λ _
 never (Ok u) f x e = cc
 never (Err g) f x e = cc
 
-module _ (dl : List (Definition Name)) (n abs rep : Name) (vars : List Name) (hyps : List (Tm Name)) (d : Origin Name) where
+module _ (dl : List (Definition Name)) (n abs rep : Name) (vars : List Name) (hyps : List (Tm Name))
+    (d : Origin Name) where
   abbrev premise : Tm Name → Sequent Name
   premise c = record { hyps = hyps; concl = c }
 
@@ -53,9 +55,11 @@ module _ (dl : List (Definition Name)) (n abs rep : Name) (vars : List Name) (hy
     pub second : Sequent Name
     pub are : opened_by e ≡ first ∷ second ∷ []
     pub two : length (theorems names e) ≡ 2
-    pub stated : open_theorems abs rep new c (theorem_entries d 0 (theorems names e)) ≡ Ok (open_entries (first_origin d abs rep new c) (second_origin d abs rep new c) first second)
+    pub stated : open_theorems abs rep new c (theorem_entries d 0 (theorems names e))
+        ≡ Ok (open_entries (first_origin d abs rep new c) (second_origin d abs rep new c) first second)
 
-  application : (p t : Tm Name) (e : Definition Name) → HasType names (App p t) (bool_ty names) → opening (App p t) ≡ Ok e → IsAccepted (App p t) e
+  application : (p t : Tm Name) (e : Definition Name) → HasType names (App p t) (bool_ty names)
+      → opening (App p t) ≡ Ok e → IsAccepted (App p t) e
   application p t e typed h =
       let a = bind-ok (closed (App p t)) _ _ h in
       let b = bind-ok (unless Nesting (low (App p t))) _ _ a.2 in
@@ -69,10 +73,13 @@ module _ (dl : List (Definition Name)) (n abs rep : Name) (vars : List Name) (hy
         second = _;
         are = ap opened_by (sym (made ∙ same));
         two = ap (λ e. length (theorems names e)) (sym (made ∙ same));
-        stated = (λ i. open_theorems abs rep new (App p t) (theorem_entries d 0 (theorems names (sym (made ∙ same) i)))) ∙ open-pushed dl n abs rep vars hyps p t d typed here k;
+        stated = (λ i. open_theorems abs rep new (App p t)
+            (theorem_entries d 0 (theorems names (sym (made ∙ same) i))))
+            ∙ open-pushed dl n abs rep vars hyps p t d typed here k;
       }
 
-  pub is-accepted : (c : Tm Name) (e : Definition Name) → HasType names c (bool_ty names) → opening c ≡ Ok e → IsAccepted c e
+  pub is-accepted : (c : Tm Name) (e : Definition Name) → HasType names c (bool_ty names) → opening c ≡ Ok e
+      → IsAccepted c e
   is-accepted (App p t) e typed h = application p t e typed h
   is-accepted (Free v) e typed h = absurd (never _ _ _ (first-ok _ _ _ (bind-ok (closed (Free v)) _ _ h).1))
   is-accepted (Con m u) e typed h = absurd (never _ _ _ (first-ok _ _ _ (bind-ok (closed (Con m u)) _ _ h).1))
@@ -80,27 +87,42 @@ module _ (dl : List (Definition Name)) (n abs rep : Name) (vars : List Name) (hy
   is-accepted (Abs u b) e typed h = absurd (never _ _ _ (first-ok _ _ _ (bind-ok (closed (Abs u b)) _ _ h).1))
 
   -- refused: by the definition, or by its open theorems
-  past : (p t : Tm Name) (e : Definition Name) (f : Fault Name) → HasType names (App p t) (bool_ty names) → closed (App p t) ≡ Ok e → opening (App p t) ≡ Err f → open_theorems abs rep new (App p t) (theorem_entries d 0 (theorems names e)) ≡ Err f
+  past : (p t : Tm Name) (e : Definition Name) (f : Fault Name) → HasType names (App p t) (bool_ty names)
+      → closed (App p t) ≡ Ok e → opening (App p t) ≡ Err f
+      → open_theorems abs rep new (App p t) (theorem_entries d 0 (theorems names e)) ≡ Err f
   past p t e f typed a h =
       let made : TyDef n abs rep vars (premise (App p t)) ≡ e = twice-ok _ _ _ _ a in
       let here : closed (App p t) ≡ Ok (TyDef n abs rep vars (premise (App p t))) = a ∙ ap Ok (sym made) in
-      (λ i. open_theorems abs rep new (App p t) (theorem_entries d 0 (theorems names (sym made i)))) ∙ by here (low (App p t)) refl (sym (ap (λ r. r >>= λ e. unless Nesting (low (App p t)) >>= λ _. Ok e) a) ∙ h)
+      (λ i. open_theorems abs rep new (App p t) (theorem_entries d 0 (theorems names (sym made i))))
+      ∙ by here (low (App p t)) refl (sym (ap (λ r. r >>= λ e. unless Nesting (low (App p t)) >>= λ _. Ok e) a)
+      ∙ h)
     where
       other : ◌≡◌ {A = Result (Definition Name) (Fault Name)} (Ok e) (Err f) → ⊥
       other q = cc
 
-      as-refused : ◌≡◌ {A = Result (Definition Name) (Fault Name)} (Err Nesting) (Err f) → ◌≡◌ {A = Result (List Entry) (Fault Name)} (Err Nesting) (Err f)
+      as-refused : ◌≡◌ {A = Result (Definition Name) (Fault Name)} (Err Nesting) (Err f)
+          → ◌≡◌ {A = Result (List Entry) (Fault Name)} (Err Nesting) (Err f)
       as-refused q = let same : Nesting ≡ f = cc in ap Err same
 
-      by : closed (App p t) ≡ Ok (TyDef n abs rep vars (premise (App p t))) → (b : Bool) → low (App p t) ≡ b → (unless Nesting (low (App p t)) >>= λ _. Ok e) ≡ Err f
-          → open_theorems abs rep new (App p t) (theorem_entries d 0 (theorems names (TyDef n abs rep vars (premise (App p t))))) ≡ Err f
+      by : closed (App p t) ≡ Ok (TyDef n abs rep vars (premise (App p t))) → (b : Bool) → low (App p t) ≡ b
+          → (unless Nesting (low (App p t)) >>= λ _. Ok e) ≡ Err f
+          → open_theorems abs rep new (App p t)
+          (theorem_entries d 0 (theorems names (TyDef n abs rep vars (premise (App p t))))) ≡ Err f
       by here true k q = absurd (other (sym (ap (λ b. unless Nesting b >>= λ _. Ok e) k) ∙ q))
-      by here false k q = open-refused dl n abs rep vars hyps p t d typed here k ∙ as-refused (sym (ap (λ b. unless Nesting b >>= λ _. Ok e) k) ∙ q)
+      by here false k q = open-refused dl n abs rep vars hyps p t d typed here k
+          ∙ as-refused (sym (ap (λ b. unless Nesting b >>= λ _. Ok e) k) ∙ q)
 
-  pub is-refused : (c : Tm Name) (f : Fault Name) → HasType names c (bool_ty names) → opening c ≡ Err f → (closed c ≡ Err f) ⊎ ((e : Definition Name) × (closed c ≡ Ok e) × (open_theorems abs rep new c (theorem_entries d 0 (theorems names e)) ≡ Err f))
+  pub is-refused : (c : Tm Name) (f : Fault Name) → HasType names c (bool_ty names) → opening c ≡ Err f
+      → (closed c ≡ Err f)
+      ⊎ ((e : Definition Name) × (closed c ≡ Ok e)
+      × (open_theorems abs rep new c (theorem_entries d 0 (theorems names e)) ≡ Err f))
   is-refused c f typed h = by c (closed c) refl typed h
     where
-      by : (c : Tm Name) (r : Result (Definition Name) (Fault Name)) → closed c ≡ r → HasType names c (bool_ty names) → opening c ≡ Err f → (closed c ≡ Err f) ⊎ ((e : Definition Name) × (closed c ≡ Ok e) × (open_theorems abs rep new c (theorem_entries d 0 (theorems names e)) ≡ Err f))
+      by : (c : Tm Name) (r : Result (Definition Name) (Fault Name)) → closed c ≡ r → HasType names c (bool_ty names)
+          → opening c ≡ Err f
+          → (closed c ≡ Err f)
+          ⊎ ((e : Definition Name) × (closed c ≡ Ok e)
+          × (open_theorems abs rep new c (theorem_entries d 0 (theorems names e)) ≡ Err f))
       by c (Err g) q typed h = inl (q ∙ sym (ap (λ r. r >>= λ e. unless Nesting (low c) >>= λ _. Ok e) q) ∙ h)
       by (App p t) (Ok e) q typed h = inr (e, q, past p t e f typed q h)
       by (Free v) (Ok e) q typed h = absurd (never _ _ _ (first-ok _ _ _ q))
@@ -129,47 +151,66 @@ module _ (s : Session) (run : IsRun s) (n abs rep : Name) (vars : List Name) (q 
   opened r = r >>= λ made. opening_theorems made.0 >>= λ ths. Ok (ths, made.1)
 
   module _ (typed : HasType names q.concl (bool_ty names)) where
-    pub stated-refused : (f : Fault Name) → open_type_definition names var_r s.kernel.definitions n abs rep vars q ≡ Err f → stated ≡ Err f
+    pub stated-refused : (f : Fault Name) → open_type_definition names var_r s.kernel.definitions n abs rep vars q
+        ≡ Err f → stated ≡ Err f
     stated-refused f h = elim (is-refused s.kernel.definitions n abs rep vars q.hyps d q.concl f typed h) [
       | inl r ↦ ap opened (defined-refused s run rule j f r)
       | inr r ↦
           let e = r.0 in
-          let known : rule (definitions_of (run_of s).definitions) ≡ Ok e = ap rule (definitions_of-made s s.kernel.definitions s.definition_steps.items run.each_definition) ∙ r.1 in
+          let known : rule (definitions_of (run_of s).definitions) ≡ Ok e =
+          ap rule (definitions_of-made s s.kernel.definitions s.definition_steps.items run.each_definition)
+          ∙ r.1 in
           ap (λ a. opened (a >>= after)) known ∙ ap (λ a. a >>= λ ths. Ok (ths, (after-run e))) r.2
     ]
       where
         after-run : Definition Name → RunState
-        after-run e = record (run_of s) { definitions = (run_of s).definitions ++ record { definition = e; origin = origin_of s j } ∷ [] }
+        after-run e =
+            record (run_of s)
+            { definitions = (run_of s).definitions ++ record { definition = e; origin = origin_of s j } ∷ [] }
 
         after : Definition Name → Stated
         after e = Ok (theorem_entries (origin_of s j) 0 (theorems names e), after-run e)
 
     -- the definition was made, and the run has it
-    pub stated-made : (e : Definition Name) (r : RunState) (h : open_type_definition names var_r s.kernel.definitions n abs rep vars q ≡ Ok e) → closed_defined n abs rep vars q d (run_of s) ≡ Ok (theorem_entries d 0 (theorems names e), r)
+    pub stated-made : (e : Definition Name) (r : RunState)
+        (h : open_type_definition names var_r s.kernel.definitions n abs rep vars q ≡ Ok e)
+        → closed_defined n abs rep vars q d (run_of s) ≡ Ok (theorem_entries d 0 (theorems names e), r)
         → stated ≡ Ok (
-          open_entries (first_origin d abs rep (TyOp n (tys_of_vars names vars)) q.concl) (second_origin d abs rep (TyOp n (tys_of_vars names vars)) q.concl)
-              (is-accepted s.kernel.definitions n abs rep vars q.hyps d q.concl e typed h).first (is-accepted s.kernel.definitions n abs rep vars q.hyps d q.concl e typed h).second,
+          open_entries (first_origin d abs rep (TyOp n (tys_of_vars names vars)) q.concl)
+              (second_origin d abs rep (TyOp n (tys_of_vars names vars)) q.concl)
+              (is-accepted s.kernel.definitions n abs rep vars q.hyps d q.concl e typed h).first
+              (is-accepted s.kernel.definitions n abs rep vars q.hyps d q.concl e typed h).second,
           r,
         )
-    stated-made e r h made = ap opened made ∙ ap (λ a. a >>= λ ths. Ok (ths, r)) (is-accepted s.kernel.definitions n abs rep vars q.hyps d q.concl e typed h).stated
+    stated-made e r h made = ap opened made ∙ ap (λ a. a >>= λ ths. Ok (ths, r))
+        (is-accepted s.kernel.definitions n abs rep vars q.hyps d q.concl e typed h).stated
 
 -- the numbers of the open theorems
-pub opened-are : (k l : kernel.State) (e : Definition Name) (p q : Sequent Name) (i j : ℕ) → opened_by e ≡ p ∷ q ∷ [] → length (theorems names e) ≡ 2 → l.theorems ≡ k.theorems ++ theorems names e ++ opened_by e → i ≡ suc (suc (length k.theorems)) → j ≡ suc (suc (suc (length k.theorems)))
+pub opened-are : (k l : kernel.State) (e : Definition Name) (p q : Sequent Name) (i j : ℕ) → opened_by e ≡ p ∷ q ∷ []
+    → length (theorems names e) ≡ 2 → l.theorems ≡ k.theorems ++ theorems names e ++ opened_by e
+    → i ≡ suc (suc (length k.theorems)) → j ≡ suc (suc (suc (length k.theorems)))
     → (p ≡ kernel.theorem_at l i) × (q ≡ kernel.theorem_at l j) × (i < length l.theorems) × (j < length l.theorems)
 opened-are k l e p q i j are two there first second =
     let before : kernel.State = record k { theorems = k.theorems ++ theorems names e } in
     let long = length-append k.theorems (theorems names e) in
-    let d = double before l (opened_by e) p q i j are there (omega (arith, long, two, first)) (omega (arith, long, two, second)) in
-    let same : ◌≡◌ {A = List (Sequent Name)} (p ∷ q ∷ []) (kernel.theorem_at l i ∷ kernel.theorem_at l j ∷ []) = sym are ∙ d.0 in
+    let d = double before l (opened_by e) p q i j are there (omega (arith, long, two, first))
+    (omega (arith, long, two, second)) in
+    let same : ◌≡◌ {A = List (Sequent Name)} (p ∷ q ∷ []) (kernel.theorem_at l i ∷ kernel.theorem_at l j ∷ []) =
+    sym are ∙ d.0 in
     (cc, cc, d.1, d.2)
 
 -- ---- over numbers
-abbrev pub open_stated : kernel.State → (n a r : ℕ) → List ℕ → ℕ → Origin Name → RunState → Result (List Entry × RunState) (Fault Name)
-open_stated k n a r vs th o run = open_defined (kernel.name_at k n) (kernel.name_at k a) (kernel.name_at k r) (map (kernel.name_at k) vs) (kernel.theorem_at k th) o run
+abbrev pub open_stated : kernel.State → (n a r : ℕ) → List ℕ → ℕ → Origin Name → RunState
+    → Result (List Entry × RunState) (Fault Name)
+open_stated k n a r vs th o run = open_defined (kernel.name_at k n) (kernel.name_at k a) (kernel.name_at k r)
+    (map (kernel.name_at k) vs) (kernel.theorem_at k th) o run
 
 -- what the numbers of a session stand for stays as it grows
-module _ (s t : Session) (grown : Grows s t) (n a r : ℕ) (vs : List ℕ) (th : ℕ) (hn : n < length s.kernel.names) (ha : a < length s.kernel.names) (hr : r < length s.kernel.names) (hv : All (λ n. n < length s.kernel.names) vs) (ht : th < length s.kernel.theorems) where
-  pub open-same : (o p : Origin Name) → o ≡ p → run_of t ≡ run_of s → open_stated t.kernel n a r vs th o (run_of t) ≡ open_stated s.kernel n a r vs th p (run_of s)
+module _ (s t : Session) (grown : Grows s t) (n a r : ℕ) (vs : List ℕ) (th : ℕ) (hn : n < length s.kernel.names)
+    (ha : a < length s.kernel.names) (hr : r < length s.kernel.names) (hv : All (λ n. n < length s.kernel.names) vs)
+    (ht : th < length s.kernel.theorems) where
+  pub open-same : (o p : Origin Name) → o ≡ p → run_of t ≡ run_of s → open_stated t.kernel n a r vs th o (run_of t)
+      ≡ open_stated s.kernel n a r vs th p (run_of s)
   open-same o p e f =
       let x = name-later s t grown n hn in
       let y = name-later s t grown a ha in
@@ -178,8 +219,13 @@ module _ (s t : Session) (grown : Grows s t) (n a r : ℕ) (vs : List ℕ) (th :
       let q = theorem-later s t grown th ht in
       λ i. open_defined (x i) (y i) (z i) (v i) (q i) (e i) (f i)
 
-  pub first-same : (o p : Origin Name) → o ≡ p → first_origin o (kernel.name_at t.kernel a) (kernel.name_at t.kernel r) (TyOp (kernel.name_at t.kernel n) (tys_of_vars names (map (kernel.name_at t.kernel) vs))) (kernel.theorem_at t.kernel th).concl
-      ≡ first_origin p (kernel.name_at s.kernel a) (kernel.name_at s.kernel r) (TyOp (kernel.name_at s.kernel n) (tys_of_vars names (map (kernel.name_at s.kernel) vs))) (kernel.theorem_at s.kernel th).concl
+  pub first-same : (o p : Origin Name) → o ≡ p
+      → first_origin o (kernel.name_at t.kernel a) (kernel.name_at t.kernel r)
+      (TyOp (kernel.name_at t.kernel n) (tys_of_vars names (map (kernel.name_at t.kernel) vs)))
+      (kernel.theorem_at t.kernel th).concl
+      ≡ first_origin p (kernel.name_at s.kernel a) (kernel.name_at s.kernel r)
+      (TyOp (kernel.name_at s.kernel n) (tys_of_vars names (map (kernel.name_at s.kernel) vs)))
+      (kernel.theorem_at s.kernel th).concl
   first-same o p e =
       let x = name-later s t grown n hn in
       let y = name-later s t grown a ha in
@@ -188,8 +234,13 @@ module _ (s t : Session) (grown : Grows s t) (n a r : ℕ) (vs : List ℕ) (th :
       let q = theorem-later s t grown th ht in
       λ i. first_origin (e i) (y i) (z i) (TyOp (x i) (tys_of_vars names (v i))) (q i).concl
 
-  pub second-same : (o p : Origin Name) → o ≡ p → second_origin o (kernel.name_at t.kernel a) (kernel.name_at t.kernel r) (TyOp (kernel.name_at t.kernel n) (tys_of_vars names (map (kernel.name_at t.kernel) vs))) (kernel.theorem_at t.kernel th).concl
-      ≡ second_origin p (kernel.name_at s.kernel a) (kernel.name_at s.kernel r) (TyOp (kernel.name_at s.kernel n) (tys_of_vars names (map (kernel.name_at s.kernel) vs))) (kernel.theorem_at s.kernel th).concl
+  pub second-same : (o p : Origin Name) → o ≡ p
+      → second_origin o (kernel.name_at t.kernel a) (kernel.name_at t.kernel r)
+      (TyOp (kernel.name_at t.kernel n) (tys_of_vars names (map (kernel.name_at t.kernel) vs)))
+      (kernel.theorem_at t.kernel th).concl
+      ≡ second_origin p (kernel.name_at s.kernel a) (kernel.name_at s.kernel r)
+      (TyOp (kernel.name_at s.kernel n) (tys_of_vars names (map (kernel.name_at s.kernel) vs)))
+      (kernel.theorem_at s.kernel th).concl
   second-same o p e =
       let x = name-later s t grown n hn in
       let y = name-later s t grown a ha in

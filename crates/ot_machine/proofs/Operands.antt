@@ -29,7 +29,14 @@ first-value (MoreOrigins o os) v vs p =
     let a = bind-ok (value o) _ _ p in
     let b = bind-ok (values os) _ _ a.2 in
     let same = same-ok _ _ _ refl b.2 in
-    record { first = o; rest = os; is = refl; value_is = a.1 ∙ ap Ok (heads _ _ _ _ same).0; values_are = b.1 ∙ ap Ok (heads _ _ _ _ same).1 }
+    record {
+      first = o;
+      rest = os;
+      is = refl;
+      value_is = a.1 ∙ ap Ok (heads _ _ _ _ same).0;
+      values_are = b.1
+          ∙ ap Ok (heads _ _ _ _ same).1;
+    }
 
 no-cons : (ys : List Object) (x : Object) (xs : List Object) → ys ≡ [] → ys ≡ x ∷ xs → ⊥
 no-cons ys x xs p q = cc
@@ -52,13 +59,15 @@ pub record AreTwo (f : Read → Read → Read) (os : Origins Name) (o : Object) 
   pub upper_is : value upper ≡ Ok top
   pub made : f (Ok top) (Ok below) ≡ Ok o
 
-pub two-operands : (f : Read → Read → Read) (os : Origins Name) (o : Object) → (values os >>= applied (of_two f)) ≡ Ok o → AreTwo f os o
+pub two-operands : (f : Read → Read → Read) (os : Origins Name) (o : Object) → (values os >>= applied (of_two f))
+    ≡ Ok o → AreTwo f os o
 two-operands f os o p =
     let a = bind-ok (values os) _ _ p in
     let b = bind-ok (unless StackEmpty (length a.0 == 2)) _ _ a.2 in
     by a.0 a.1 (eqb-true (length a.0) 2 (unless-ok _ _ _ b.1)) b.2
   where
-    by : (vs : List Object) → values os ≡ Ok vs → length vs ≡ 2 → f (value_at 0 vs) (value_at 1 vs) ≡ Ok o → AreTwo f os o
+    by : (vs : List Object) → values os ≡ Ok vs → length vs ≡ 2 → f (value_at 0 vs) (value_at 1 vs) ≡ Ok o
+        → AreTwo f os o
     by [] v e m = absurd (omega (arith, e))
     by (x ∷ []) v e m = absurd (omega (arith, e))
     by (x ∷ y ∷ []) v e m =
@@ -77,7 +86,8 @@ two-operands f os o p =
     by (x ∷ y ∷ z ∷ vs) v e m = absurd (omega (arith, e))
 
 -- no operand
-pub no-operands : (p : Object) (os : Origins Name) (o : Object) → (values os >>= applied (of_none p)) ≡ Ok o → (os ≡ NoOrigins) × (p ≡ o)
+pub no-operands : (p : Object) (os : Origins Name) (o : Object) → (values os >>= applied (of_none p)) ≡ Ok o
+    → (os ≡ NoOrigins) × (p ≡ o)
 no-operands p os o q =
     let a = bind-ok (values os) _ _ q in
     let b = bind-ok (unless StackEmpty (length a.0 == 0)) _ _ a.2 in
@@ -95,7 +105,8 @@ pub record IsOne (f : Read → Read) (os : Origins Name) (o : Object) : Type 0 w
   pub operand_is : value operand ≡ Ok top
   pub made : f (Ok top) ≡ Ok o
 
-pub one-operand : (f : Read → Read) (os : Origins Name) (o : Object) → (values os >>= applied (of_top f)) ≡ Ok o → IsOne f os o
+pub one-operand : (f : Read → Read) (os : Origins Name) (o : Object) → (values os >>= applied (of_top f)) ≡ Ok o
+    → IsOne f os o
 one-operand f os o p =
     let a = bind-ok (values os) _ _ p in
     let b = bind-ok (unless StackEmpty (length a.0 == 1)) _ _ a.2 in
@@ -105,5 +116,11 @@ one-operand f os o p =
     by [] v e m = absurd (omega (arith, e))
     by (x ∷ []) v e m =
         let g = first-value os x [] v in
-        record { operand = g.first; top = x; is = g.is ∙ ap (MoreOrigins g.first) (no-value g.rest g.values_are); operand_is = g.value_is; made = m }
+        record {
+          operand = g.first;
+          top = x;
+          is = g.is ∙ ap (MoreOrigins g.first) (no-value g.rest g.values_are);
+          operand_is = g.value_is;
+          made = m;
+        }
     by (x ∷ y ∷ vs) v e m = absurd (omega (arith, e))

@@ -9,9 +9,11 @@ use Rattle.ot_kernel.specs.State as kernel
 use Rattle.ot_machine.specs.declared.fault.Fault.TheVariants as code
 use Rattle.ot_machine.specs.Answers.{Refuses}
 
-pub no_name : (k : kernel.State) (o : Option Name) → false ≡ is_some o → Refuses k code.BadName (some_or {E = faults.Fault Name} faults.BadName o)
+pub no_name : (k : kernel.State) (o : Option Name) → false ≡ is_some o
+    → Refuses k code.BadName (some_or {E = faults.Fault Name} faults.BadName o)
 no_name k None h = (tt, λ f e. cc)
 no_name k (Some n) h = cc
 
-pub a_name : (o : Option Name) (k : kernel.State) (i : ℕ) (n : Name) → o ≡ Some n → slice_get k.names i ≡ Some n → some_or {E = faults.Fault Name} faults.BadName o ≡ Ok (kernel.name_at k i)
+pub a_name : (o : Option Name) (k : kernel.State) (i : ℕ) (n : Name) → o ≡ Some n → slice_get k.names i ≡ Some n
+    → some_or {E = faults.Fault Name} faults.BadName o ≡ Ok (kernel.name_at k i)
 a_name o k i n p q = ap (some_or faults.BadName) p ∙ ap Ok (sym (get_or_from_slice_get k.names i n [] q))

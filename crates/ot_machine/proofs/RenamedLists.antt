@@ -1,5 +1,6 @@
 -- The list of lists of a definition, along the cons tree of its origin.
-use Rattle.std.specs.Prelude.{◌≡◌, ◌<◌, ◌≤◌, ◌+◌, ℕ, pos, List, [], ◌∷◌, ◌++◌, length, map, take, drop, set, slice_get, slice_index_or, Some}
+use Rattle.std.specs.Prelude.{◌≡◌, ◌<◌, ◌≤◌, ◌+◌, ℕ, pos, List, [], ◌∷◌, ◌++◌, length}
+use Rattle.std.specs.Prelude.{map, take, drop, set, slice_get, slice_index_or, Some}
 use Rattle.std.specs.List.{All}
 use Rattle.std.proofs.Common.{refl, sym, ◌∙◌, ap, subst, arith, length-append}
 use Rattle.std.proofs.lemmas.Option.{get_or_from_slice_get}
@@ -9,7 +10,9 @@ use Rattle.std.proofs.lemmas.Simd.{map-map}
 use Rattle.ot_plain.specs.Names.{Name}
 use Rattle.ot_plain.specs.declared.command.Cmd.TheVariants as words
 use Rattle.ot_kernel.specs.State as kernel
-use Rattle.ot_trace.specs.Origins.{Origin, Origins, Number, Named, Make, Define, Outcome, NoOrigins, MoreOrigins, from_list, make_two, elements, operand, constant_origin, renamed_first, renamed_pairs, map_origin, map_origins}
+use Rattle.ot_trace.specs.Origins.{Origin, Origins, Number, Named, Make, Define, Outcome, NoOrigins}
+use Rattle.ot_trace.specs.Origins.{MoreOrigins, from_list, make_two, elements, operand, constant_origin}
+use Rattle.ot_trace.specs.Origins.{renamed_first, renamed_pairs, map_origin, map_origins}
 use Rattle.ot_trace.specs.Trace.{origins_at, IsBelow}
 use Rattle.ot_trace.specs.Trace as trace
 use Rattle.ot_trace.specs.declared.step.Step.{Step}
@@ -26,7 +29,8 @@ module _ {N : Type 0} where
   elements-onto [] o e = e
   elements-onto (p ∷ ps) o e = ap (λ qs. p ∷ qs) (elements-onto ps o e)
 
-  pub onto-push : (ps : List (Origin N)) (p o : Origin N) → list_onto (ps ++ p ∷ []) o ≡ list_onto ps (make_two words.Cons p o)
+  pub onto-push : (ps : List (Origin N)) (p o : Origin N) → list_onto (ps ++ p ∷ []) o
+      ≡ list_onto ps (make_two words.Cons p o)
   onto-push [] p o = refl
   onto-push (q ∷ ps) p o = ap (make_two words.Cons q) (onto-push ps p o)
 
@@ -66,13 +70,15 @@ pub cons-is : (ts : List (Origin ℕ)) (s : Step) (i : ℕ) (is : List ℕ) → 
 cons-is ts (steps.Make words.Cons ops) i is e = ap (λ js. Make words.Cons (origins_at ts js)) e
 cons-is ts s i is e = absurd (no-elements i is (sym e))
 
-no-two : (ts : List (Origin ℕ)) (is : List ℕ) → (length is ≡ 2 → ⊥) → elements (Make words.Cons (origins_at ts is)) ≡ []
+no-two : (ts : List (Origin ℕ)) (is : List ℕ) → (length is ≡ 2 → ⊥) → elements (Make words.Cons (origins_at ts is))
+    ≡ []
 no-two ts [] other = refl
 no-two ts (i ∷ []) other = refl
 no-two ts (i ∷ j ∷ []) other = absurd (other refl)
 no-two ts (i ∷ j ∷ k ∷ is) other = refl
 
-pub end-step : (ts : List (Origin ℕ)) (s : Step) → (length (cons_numbers s) ≡ 2 → ⊥) → elements (trace.origin_of ts s) ≡ []
+pub end-step : (ts : List (Origin ℕ)) (s : Step) → (length (cons_numbers s) ≡ 2 → ⊥) → elements (trace.origin_of ts s)
+    ≡ []
 end-step ts (steps.Make words.Cons ops) other = no-two ts ops.items other
 end-step ts s other = refl
 
@@ -105,7 +111,8 @@ pub none-of : (is js : List ℕ) → js ≡ is → length js ≡ 0 → is ≡ []
 none-of [] js e len = refl
 none-of (i ∷ is) js e len = absurd (omega (arith, ap length e, len))
 
-pub both-of : (is : List ℕ) (i j : ℕ) → length is ≡ 2 → i ≡ slice_index_or is 0 i → j ≡ slice_index_or is 1 j → is ≡ i ∷ j ∷ []
+pub both-of : (is : List ℕ) (i j : ℕ) → length is ≡ 2 → i ≡ slice_index_or is 0 i → j ≡ slice_index_or is 1 j
+    → is ≡ i ∷ j ∷ []
 both-of [] i j len e f = absurd (omega (arith, len))
 both-of (a ∷ []) i j len e f = absurd (omega (arith, len))
 both-of (a ∷ b ∷ []) i j len e f = λ k. sym e k ∷ sym f k ∷ []
@@ -201,7 +208,8 @@ module _ (s t : Session) (m : Machine) (h : IsOf s m) (traced : Traces s t m) wh
 pub list-renamed : (s : Session) (f : Name → Name) (list end : ℕ) (found : List ℕ)
     → trace.origin_at s.trace list ≡ list_onto (map (trace.origin_at s.trace) found) (trace.origin_at s.trace end)
     → elements (trace.origin_at s.trace end) ≡ []
-    → renamed_pairs f (origin_of s list) ≡ list_onto (map (λ i. renamed_first f (origin_of s i)) found) (origin_of s end)
+    → renamed_pairs f (origin_of s list) ≡ list_onto (map (λ i. renamed_first f (origin_of s i)) found)
+    (origin_of s end)
 list-renamed s f list end found read ends =
     let at = trace.origin_at s.trace in
     let g = kernel.name_at s.kernel in
@@ -246,7 +254,8 @@ module _ (s t : Session) (m : Machine) (h : IsOf s m) (traced : Traces s t m) (p
   pub begun-some : 0 < length (cons_numbers r)
   begun-some = subst (λ (is : List ℕ). 0 < length is) (sym numbers-begun.are) (omega arith)
 
-  pub begun-made : (is : List ℕ) (begin : ℕ) (name : Name) → origin_of t begin ≡ Named name → is ≡ set (cons_numbers r) 0 begin
+  pub begun-made : (is : List ℕ) (begin : ℕ) (name : Name) → origin_of t begin ≡ Named name
+      → is ≡ set (cons_numbers r) 0 begin
       → Make words.Cons (from_list (map (origin_of t) is)) ≡ renamed_first (λ x. name) (origin_of s pair)
   begun-made is begin name e set_is =
       let b = numbers-begun in
@@ -272,7 +281,8 @@ pub All-last : (P : ℕ → Type 0) (xs : List ℕ) (x : ℕ) → All P (xs ++ x
 All-last P xs x all = subst P (get_or-append-add xs (x ∷ []) 0 x)
     (all (length xs + 0) x (omega (arith, length-append xs (x ∷ []))))
 
-pub item-inside : (P : ℕ → Type 0) (xs : List ℕ) (i x : ℕ) → All P xs → i < length xs → x ≡ slice_index_or xs i x → P x
+pub item-inside : (P : ℕ → Type 0) (xs : List ℕ) (i x : ℕ) → All P xs → i < length xs → x ≡ slice_index_or xs i x
+    → P x
 item-inside P xs i x all lt is = subst P (sym is) (all i x lt)
 
 pub one-more : {Y : Type 0} (read f : ℕ → Y) (ys zs : List ℕ) (y : ℕ) (xs : List ℕ) (i x : ℕ) → i < length xs

@@ -1,10 +1,12 @@
 -- A name that a line spells can be said by a line.
-use Rattle.std.proofs.Common.{◌≡◌, ℕ, ◌<◌, ◌≤◌, ◌⊎◌, inl, inr, List, [], ◌∷◌, ◌++◌, length, map, refl, sym, ap, subst, arith, length-append}
+use Rattle.std.proofs.Common.{◌≡◌, ℕ, ◌<◌, ◌≤◌, ◌⊎◌, inl, inr, List, [], ◌∷◌, ◌++◌}
+use Rattle.std.proofs.Common.{length, map, refl, sym, ap, subst, arith, length-append}
 use Rattle.std.specs.List.{flat_map, AllByRecursion}
 use Rattle.std.proofs.lemmas.Bool.Decides.{eqb_tells}
 use Rattle.std.proofs.lemmas.List.{length-map}
 use Rattle.ot_plain.specs.Lists.{IsMember}
-use Rattle.ot_plain.specs.Names.{Name, Spells, Item, Plain, Escaped, item_text, item_byte, item_of, IsItem, joined, spelled}
+use Rattle.ot_plain.specs.Names.{Name, Spells, Item, Plain, Escaped, item_text}
+use Rattle.ot_plain.specs.Names.{item_byte, item_of, IsItem, joined, spelled}
 use Rattle.ot_scan.specs.Lines.{IsLineText}
 use Rattle.ot_machine.specs.Writable.{IsWritable}
 use Rattle.ot_plain.proofs.Members.{IsMember-cases, IsMember-left, IsMember-right}
@@ -49,7 +51,8 @@ item-broken (Escaped b) h m = elim (of-cases b) [
 abbrev respelled : List Item → List Item
 respelled is = map item_of (map item_byte is)
 
-part-short : (is : List Item) → AllByRecursion IsItem is → length (flat_map item_text (respelled is)) ≤ length (flat_map item_text is)
+part-short : (is : List Item) → AllByRecursion IsItem is → length (flat_map item_text (respelled is))
+    ≤ length (flat_map item_text is)
 part-short [] h = omega arith
 part-short (i ∷ is) h =
     let a = item-short i h.0 in
@@ -58,7 +61,8 @@ part-short (i ∷ is) h =
     let d = length-append (item_text i) (flat_map item_text is) in
     omega arith
 
-part-broken : (is : List Item) → AllByRecursion IsItem is → IsMember 10 (flat_map item_text (respelled is)) → IsMember 10 (flat_map item_text is)
+part-broken : (is : List Item) → AllByRecursion IsItem is → IsMember 10 (flat_map item_text (respelled is))
+    → IsMember 10 (flat_map item_text is)
 part-broken [] h m = elim m [ ]
 part-broken (i ∷ is) h m = elim (IsMember-cases 10 (item_text (again i)) (flat_map item_text (respelled is)) m) [
   | inl a ↦ IsMember-left 10 (item_text i) (flat_map item_text is) (item-broken i h.0 a)
@@ -68,7 +72,8 @@ part-broken (i ∷ is) h m = elim (IsMember-cases 10 (item_text (again i)) (flat
 abbrev names_of : List (List Item) → List (List Item)
 names_of cs = map (map item_of) (map (map item_byte) cs)
 
-joined-short : (cs : List (List Item)) → AllByRecursion (AllByRecursion IsItem) cs → length (joined (names_of cs)) ≤ length (joined cs)
+joined-short : (cs : List (List Item)) → AllByRecursion (AllByRecursion IsItem) cs → length (joined (names_of cs))
+    ≤ length (joined cs)
 joined-short [] h = omega arith
 joined-short (c ∷ []) h = part-short c h.0
 joined-short (c ∷ d ∷ cs) h =
@@ -78,13 +83,16 @@ joined-short (c ∷ d ∷ cs) h =
     let f = length-append (flat_map item_text c) (46 ∷ joined (d ∷ cs)) in
     omega arith
 
-joined-broken : (cs : List (List Item)) → AllByRecursion (AllByRecursion IsItem) cs → IsMember 10 (joined (names_of cs)) → IsMember 10 (joined cs)
+joined-broken : (cs : List (List Item)) → AllByRecursion (AllByRecursion IsItem) cs
+    → IsMember 10 (joined (names_of cs)) → IsMember 10 (joined cs)
 joined-broken [] h m = elim m [ ]
 joined-broken (c ∷ []) h m = part-broken c h.0 m
-joined-broken (c ∷ d ∷ cs) h m = elim (IsMember-cases 10 (flat_map item_text (respelled c)) (46 ∷ joined (names_of (d ∷ cs))) m) [
-  | inl a ↦ IsMember-left 10 (flat_map item_text c) (46 ∷ joined (d ∷ cs)) (part-broken c h.0 a)
-  | inr b ↦ IsMember-right 10 (flat_map item_text c) (46 ∷ joined (d ∷ cs)) (elim b [ inl e ↦ inl e | inr n ↦ inr (joined-broken (d ∷ cs) h.1 n) ])
-]
+joined-broken (c ∷ d ∷ cs) h m =
+    elim (IsMember-cases 10 (flat_map item_text (respelled c)) (46 ∷ joined (names_of (d ∷ cs))) m) [
+      | inl a ↦ IsMember-left 10 (flat_map item_text c) (46 ∷ joined (d ∷ cs)) (part-broken c h.0 a)
+      | inr b ↦ IsMember-right 10 (flat_map item_text c) (46 ∷ joined (d ∷ cs))
+          (elim b [ inl e ↦ inl e | inr n ↦ inr (joined-broken (d ∷ cs) h.1 n) ])
+    ]
 
 pub name-of-line : (text : List ℕ) (n : Name) → Spells text n → IsLineText text → IsWritable n
 name-of-line text n s line =
@@ -103,11 +111,13 @@ name-of-line text n s line =
       named = omega arith;
       line = record {
         short = omega arith;
-        one = λ m. line.one (subst (λ l. IsMember 10 l) (sym s.text_is) (back is s.each (subst (λ l. IsMember 10 l) spelling_is m)));
+        one = λ m. line.one
+            (subst (λ l. IsMember 10 l) (sym s.text_is) (back is s.each (subst (λ l. IsMember 10 l) spelling_is m)));
       };
     }
   where
-    back : (is : List (List Item)) → AllByRecursion (AllByRecursion IsItem) is → IsMember 10 (34 ∷ joined (names_of is) ++ 34 ∷ []) → IsMember 10 (34 ∷ joined is ++ 34 ∷ [])
+    back : (is : List (List Item)) → AllByRecursion (AllByRecursion IsItem) is
+        → IsMember 10 (34 ∷ joined (names_of is) ++ 34 ∷ []) → IsMember 10 (34 ∷ joined is ++ 34 ∷ [])
     back is h (inl e) = inl e
     back is h (inr m) = elim (IsMember-cases 10 (joined (names_of is)) (34 ∷ []) m) [
       | inl a ↦ inr (IsMember-left 10 (joined is) (34 ∷ []) (joined-broken is h a))

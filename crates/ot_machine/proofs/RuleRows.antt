@@ -35,7 +35,8 @@ use Rattle.ot_machine.proofs.Turning.{grows-same, stacked, leaves-grow, made-gro
 abbrev Stated : Type 0
 Stated = Result (Sequent Name) (Fault Name)
 
-pub concluded : (id : ℕ) (stated : Stated) (k l : kernel.State) → Concludes (Ok id) stated k l → (stated ≡ Ok (kernel.theorem_at l id)) × (id < length l.theorems)
+pub concluded : (id : ℕ) (stated : Stated) (k l : kernel.State) → Concludes (Ok id) stated k l
+    → (stated ≡ Ok (kernel.theorem_at l id)) × (id < length l.theorems)
 concluded id stated k l h =
     let (q, is, more, last) = h in
     let none : Sequent Name = record { hyps = []; concl = Bound 0 } in
@@ -46,11 +47,13 @@ concluded id stated k l h =
     ∙ get_or_from_slice_get (k.theorems ++ q ∷ []) (length k.theorems) q none (slice_get-last k.theorems q) in
     (is ∙ ap Ok (sym at), omega (arith, longer, last))
 
-pub gives : (r : Result ℕ RuleFault) (stated : Stated) (k l : kernel.State) → Concludes r stated k l → Gives l r stated
+pub gives : (r : Result ℕ RuleFault) (stated : Stated) (k l : kernel.State) → Concludes r stated k l
+    → Gives l r stated
 gives (Ok id) stated k l h = (concluded id stated k l h).0
 gives (Err e) stated k l h = h.1
 
-pub gives-inside : (r : Result ℕ RuleFault) (stated : Stated) (k l : kernel.State) → Concludes r stated k l → IfOk r (λ th. th < length l.theorems)
+pub gives-inside : (r : Result ℕ RuleFault) (stated : Stated) (k l : kernel.State) → Concludes r stated k l
+    → IfOk r (λ th. th < length l.theorems)
 gives-inside (Ok id) stated k l h = (concluded id stated k l h).1
 gives-inside (Err e) stated k l h = tt
 
@@ -59,7 +62,8 @@ abbrev after : ℕ → Cmd → State → Stated → Result State (Fault Name)
 after n w s r = on_stack (concluding n w r) s
 
 module _ (s : Session) (m : Machine) (n : ℕ) (w : Cmd) (stated : Stated) where
-  pub conclude-refused : (e : RuleFault) → IsOf s m → RefusesRule e stated → Turns (Err (rule_fault e)) (on_stack (concluding n w stated)) s m s m
+  pub conclude-refused : (e : RuleFault) → IsOf s m → RefusesRule e stated
+      → Turns (Err (rule_fault e)) (on_stack (concluding n w stated)) s m s m
   conclude-refused e of h =
       let r = refuses-rule s.kernel e stated h in
       record { moves = (refl, (r.0, λ f p. ap (after n w (state_of s m)) (r.1 f p))); grown = grows-same s; of = of }
@@ -71,12 +75,14 @@ made_entry w stack o = record { object = o; origin = Make w (origins_of (top (ar
 abbrev placed : Cmd → List Entry → Read → Row
 placed w stack r = (r >>= λ o. Ok (made_entry w stack o)) >>= λ e. Ok (replaced (arity (maker w)) e stack)
 
-through : (w : Cmd) (stack : List Entry) (r : Stated) → placed w stack (r >>= λ q. Ok (theorem q)) ≡ concluding (arity (maker w)) w r stack
+through : (w : Cmd) (stack : List Entry) (r : Stated) → placed w stack (r >>= λ q. Ok (theorem q))
+    ≡ concluding (arity (maker w)) w r stack
 through w stack (Ok q) = refl
 through w stack (Err e) = refl
 
 -- after a rule that gave what the word makes
-module _ (s t u : Session) (m n : Machine) (w : Cmd) (stated : Stated) (r : Result ℕ RuleFault) (result : Result (Unit {0}) code.Fault) where
+module _ (s t u : Session) (m n : Machine) (w : Cmd) (stated : Stated) (r : Result ℕ RuleFault)
+    (result : Result (Unit {0}) code.Fault) where
   pub by-rule : Leaves s t m → Concludes r stated s.kernel t.kernel
       → made_by (maker w) (λ k. object_at k (article_of s m).stack) ≡ (stated >>= λ q. Ok (theorem q))
       → (Gives t.kernel r stated → Turns result (on_stack (concluding (arity (maker w)) w stated)) t m u n)
@@ -89,9 +95,11 @@ module _ (s t u : Session) (m n : Machine) (w : Cmd) (stated : Stated) (r : Resu
       let row : making w old.article.stack ≡ concluding (arity (maker w)) w stated old.article.stack =
       ap (placed w old.article.stack) made ∙ through w old.article.stack stated in
       let rows : taken old ≡ on_stack (making w) old =
-      ap (λ r. (r >>= λ stack. Ok (record old.article { stack = stack })) >>= λ article. Ok (record old { article = article })) (sym row) in
+      ap (λ r. (r >>= λ stack. Ok (record old.article { stack = stack }))
+      >>= λ article. Ok (record old { article = article })) (sym row) in
       record {
-        moves = subst (λ z. Moves u.kernel result z old (state_of u n)) rows (subst (λ z. Moves u.kernel result (taken z) z (state_of u n)) same x.moves);
+        moves = subst (λ z. Moves u.kernel result z old (state_of u n)) rows
+            (subst (λ z. Moves u.kernel result (taken z) z (state_of u n)) same x.moves);
         grown = grows-on (leaves-grow s t m kept) x.grown;
         of = x.of;
       }
@@ -99,14 +107,19 @@ module _ (s t u : Session) (m n : Machine) (w : Cmd) (stated : Stated) (r : Resu
 -- after the kernel made the object
 pub turned : (s t u : Session) (m n : Machine) (w : Cmd) (o : Object) → Leaves s t m
     → made_by (maker w) (λ k. object_at k (article_of s m).stack) ≡ Ok o
-    → article_of u n ≡ (let a = article_of t m in record a { stack = replaced (arity (maker w)) (made_entry w a.stack o) a.stack })
-    → u.kernel ≡ t.kernel → run_of u ≡ run_of t → Extends t.trace u.trace → IsOf u n → Turns (Ok tt) (on_stack (making w)) s m u n
+    → article_of u n
+    ≡ (let a = article_of t m in record a { stack = replaced (arity (maker w)) (made_entry w a.stack o) a.stack })
+    → u.kernel ≡ t.kernel → run_of u ≡ run_of t → Extends t.trace u.trace → IsOf u n
+    → Turns (Ok tt) (on_stack (making w)) s m u n
 turned s t u m n w o kept made ok same run longer of =
     let stack = (article_of s m).stack in
     record {
-      moves = stacked (making w) (state_of s m) (replaced (arity (maker w)) (made_entry w stack o) stack) (ap (placed w stack) made)
+      moves = stacked (making w) (state_of s m) (replaced (arity (maker w)) (made_entry w stack o) stack)
+          (ap (placed w stack) made)
           ∙ sym (λ i. Ok (record {
-            article = (ok ∙ (λ i. let a = kept.machine.article i in record a { stack = replaced (arity (maker w)) (made_entry w a.stack o) a.stack })) i;
+            article =
+                (ok ∙ (λ i. let a = kept.machine.article i in
+                record a { stack = replaced (arity (maker w)) (made_entry w a.stack o) a.stack })) i;
             run = (run ∙ kept.run) i;
           }));
       grown = grows-on (leaves-grow s t m kept) (made-grow t u same longer);

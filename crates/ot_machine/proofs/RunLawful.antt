@@ -14,11 +14,13 @@ use Rattle.ot_machine.specs.States.{Entry, Given, State, Context, fresh_run}
 use Rattle.ot_machine.specs.Step.{named, command_of, step}
 use Rattle.ot_machine.specs.Run.{line_step, go_on, run}
 use Rattle.ot_machine.specs.Rows.{definitions_of}
-use Rattle.ot_machine.specs.Lawful.{StatesSequent, run_basis, EntryFits, GivenFits, IsAxiom, IsLawfulExport, IsLawfulRun, IsLawful, AreLawfulGivens, IsNaming, Keeps}
+use Rattle.ot_machine.specs.Lawful.{StatesSequent, run_basis, EntryFits, GivenFits, IsAxiom, IsLawfulExport}
+use Rattle.ot_machine.specs.Lawful.{IsLawfulRun, IsLawful, AreLawfulGivens, IsNaming, Keeps}
 use Rattle.ot_machine.specs.NamesIn.{HasVersion5}
 use Rattle.ot_scan.specs.Words.{WordValue, Numeral, Quoted, Order}
 use Rattle.ot_machine.specs.Commanded.{CanBeSaid}
-use Rattle.ot_machine.specs.LawfulLaws.{left, CanBeNamed, AreNamed, FreshIsLawful, LinesAreLawful, LawfulStays, ResultsAreTheorems}
+use Rattle.ot_machine.specs.LawfulLaws.{left, CanBeNamed, AreNamed, FreshIsLawful}
+use Rattle.ot_machine.specs.LawfulLaws.{LinesAreLawful, LawfulStays, ResultsAreTheorems}
 use Rattle.ot_machine.proofs.Commanded.{leads-keeps}
 use Rattle.ot_machine.proofs.Fewer.{none-fewer}
 use Rattle.ot_machine.proofs.DefinitionFewer.{definition-fewer}
@@ -33,15 +35,20 @@ module _ (P : Name → Type 0) (has : HasVersion5 P) where
   kept-on : (s t u : State) → Keeps P s t → Keeps P t u → Keeps P s u
   kept-on s t u k l = (l.0, larger-then _ _ _ k.1 l.1)
 
-  pub run-lawful : (c : Context) (lines : Lines) (s : State) → IsNaming P c → AreNamed P lines → AreLawfulGivens P s.run c.theorems → IsLawful P s → Keeps P s (left (run c lines s))
+  pub run-lawful : (c : Context) (lines : Lines) (s : State) → IsNaming P c → AreNamed P lines
+      → AreLawfulGivens P s.run c.theorems → IsLawful P s → Keeps P s (left (run c lines s))
   run-lawful c Finished s naming held givens h = kept-same s h
   run-lawful c (Broken number fault) s naming held givens h = kept-same s h
-  run-lawful c (Next number text lines) s naming held givens h = by (line_step c s text) refl (λ t g l. run-lawful c lines t naming held.1 g l)
+  run-lawful c (Next number text lines) s naming held givens h =
+      by (line_step c s text) refl (λ t g l. run-lawful c lines t naming held.1 g l)
     where
-      by : (r : Result State (Fault Name)) → line_step c s text ≡ r → ((t : State) → AreLawfulGivens P t.run c.theorems → IsLawful P t → Keeps P t (left (run c lines t))) → Keeps P s (left (go_on number s r (run c lines)))
+      by : (r : Result State (Fault Name)) → line_step c s text ≡ r
+          → ((t : State) → AreLawfulGivens P t.run c.theorems → IsLawful P t → Keeps P t (left (run c lines t)))
+          → Keeps P s (left (go_on number s r (run c lines)))
       by (Ok t) e go =
           let w = bind-ok (word text) (step c s) t e in
-          let k = step-lawful P has c s t w.0 naming (λ n q. held.0 n (ap (λ r. r >>= command_of) w.1 ∙ q)) givens h w.2 in
+          let k = step-lawful P has c s t w.0 naming (λ n q. held.0 n (ap (λ r. r >>= command_of) w.1 ∙ q)) givens h
+          w.2 in
           kept-on s t _ k (go t (givens-more _ _ k.1 c.theorems givens) k.0)
       by (Err f) e go = kept-same s h
 
@@ -49,7 +56,8 @@ module _ (P : Name → Type 0) (has : HasVersion5 P) where
   abbrev SoFar : Context → State → State → Type 0
   SoFar c s t = Keeps P s t × AreLawfulGivens P t.run c.theorems
 
-  so-far : (c : Context) (s : State) → IsNaming P c → CanBeNamed P → (t u : State) (w : WordValue) → CanBeSaid w → SoFar c s t → step c t w ≡ Ok u → SoFar c s u
+  so-far : (c : Context) (s : State) → IsNaming P c → CanBeNamed P → (t u : State) (w : WordValue) → CanBeSaid w
+      → SoFar c s t → step c t w ≡ Ok u → SoFar c s u
   so-far c s naming names t u w said h e =
       let k = step-lawful P has c t u w naming (λ n q. named-by w n said q) h.1 h.0.0 e in
       (kept-on s t u h.0 k, givens-more _ _ k.1 c.theorems h.1)
@@ -60,7 +68,8 @@ module _ (P : Name → Type 0) (has : HasVersion5 P) where
       named-by (Order v) n said q = absurd (cc)
 
   pub lines-lawful : LinesAreLawful P
-  lines-lawful c s t naming names givens h l = (leads-keeps (SoFar c s) c (so-far c s naming names) s t l (kept-same s h, givens)).0
+  lines-lawful c s t naming names givens h l =
+      (leads-keeps (SoFar c s) c (so-far c s naming names) s t l (kept-same s h, givens)).0
 
 -- a run before its first article, and an article before its first command
 module _ (P : Name → Type 0) where
@@ -79,7 +88,8 @@ module _ (P : Name → Type 0) where
       run = h;
       article = record {
         stack = All-nil (EntryFits (run_basis P run));
-        dictionary = λ k e p. let none : get (empty {X = Entry} {R = int_cmp}) k ≡ None = get-empty int_cmp k in absurd (none-some e (sym none ∙ p));
+        dictionary = λ k e p. let none : get (empty {X = Entry} {R = int_cmp}) k ≡ None = get-empty int_cmp k in
+            absurd (none-some e (sym none ∙ p));
         exports = All-nil (IsLawfulExport (run_basis P run));
         stated = All-nil StatesSequent;
         apart = λ i j x y p q same. absurd (cc);
@@ -93,5 +103,6 @@ module _ (P : Name → Type 0) where
   pub results-are : ResultsAreTheorems P
   results-are run h i m p j q e =
       let d = h.definitions i m p in
-      let first = definition-fewer [] (definitions_of (take i run.definitions)) (none-fewer (definitions_of (take i run.definitions))) m.definition m.origin d.accepted in
+      let first = definition-fewer [] (definitions_of (take i run.definitions))
+      (none-fewer (definitions_of (take i run.definitions))) m.definition m.origin d.accepted in
       rw (first, e) refl

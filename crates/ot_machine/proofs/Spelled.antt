@@ -2,7 +2,8 @@
 use Rattle.std.specs.Prelude.{◌&&◌}
 use Rattle.std.specs.List.{All}
 use mathlib.Core.Path.{PathP}
-use Rattle.std.proofs.Common.{◌≡◌, ℕ, ◌<◌, ◌≤◌, nat_eq, List, [], ◌∷◌, length, slice_get, slice_index_or, Option, Some, refl, sym, ap, ◌∙◌, subst, arith}
+use Rattle.std.proofs.Common.{◌≡◌, ℕ, ◌<◌, ◌≤◌, nat_eq, List, [], ◌∷◌, length, slice_get}
+use Rattle.std.proofs.Common.{slice_index_or, Option, Some, refl, sym, ap, ◌∙◌, subst, arith}
 use Rattle.std.proofs.lemmas.List.Elements.{All-head, All-tail}
 use Rattle.std.proofs.lemmas.Option.{slice_get_within, get_or_from_slice_get}
 use Rattle.ot_plain.specs.Names.{Name}
@@ -51,7 +52,8 @@ module _ (s : State) (t : TermTable) (k : IsSpelled s t) (table : IsNameTable s.
   name_is = name_of-index s.names table
 
   type_is : (i : ℕ) → i < length t.types → map_ty f (types.type_at t.types i) ≡ type_at s i
-  type_is i h = sym (index-map (map_ty f) t.types i (TyVar 0) (TyVar []) h) ∙ ap (λ ts. slice_index_or ts i (TyVar [])) (sym k.types)
+  type_is i h = sym (index-map (map_ty f) t.types i (TyVar 0) (TyVar []) h)
+      ∙ ap (λ ts. slice_index_or ts i (TyVar [])) (sym k.types)
 
   types_are : (is : List ℕ) → All (λ i. i < length t.types) is → map_tys f (types.types_at t.types is) ≡ types_at s is
   types_are [] h = refl
@@ -60,52 +62,66 @@ module _ (s : State) (t : TermTable) (k : IsSpelled s t) (table : IsNameTable s.
       let b = types_are is (All-tail (λ i. i < length t.types) i is h) in
       λ j. MoreTys (a j) (b j)
 
-  variable_is : (v : VarKey) → v.name < length s.names → v.ty < length t.types → map_variable f (terms.variable_of t.types v) ≡ variable_at s v
+  variable_is : (v : VarKey) → v.name < length s.names → v.ty < length t.types
+      → map_variable f (terms.variable_of t.types v) ≡ variable_at s v
   variable_is v h g = let a = name_is v.name h in let b = type_is v.ty g in λ j. record { name = a j; ty = b j }
 
   term_is : (i : ℕ) → i < length t.terms → map_named f (terms.term_at t.terms i) ≡ named_at s.terms i
-  term_is i h = sym (index-map (map_named f) t.terms i (NConst 0 (TyVar 0)) (NConst [] (TyVar [])) h) ∙ ap (λ ts. named_at ts i) (sym k.terms)
+  term_is i h = sym (index-map (map_named f) t.terms i (NConst 0 (TyVar 0)) (NConst [] (TyVar [])) h)
+      ∙ ap (λ ts. named_at ts i) (sym k.terms)
 
   -- ---- types
   type_bound : (id : ℕ) (u : Ty ℕ) → slice_get t.types id ≡ Some u → bound_ty u ≤ length s.names
   type_bound id u p = let w = bound_ty-get t.types id u p in let b = k.bound.0 in omega arith
 
-  pub type_node-inside : (id : ℕ) (n : TypeNode) → slice_get t.types id ≡ Some (types.tree_of t.types n) → types.ArgsBelow id n → IsTypeNode s id n
+  pub type_node-inside : (id : ℕ) (n : TypeNode) → slice_get t.types id ≡ Some (types.tree_of t.types n)
+      → types.ArgsBelow id n → IsTypeNode s id n
   type_node-inside id (type_nodes.Var n) p h = let w = type_bound id _ p in omega arith
   type_node-inside id (type_nodes.Op n args) p h = (let w = type_bound id _ p in omega arith, h)
 
-  node-tree : (n : TypeNode) (id : ℕ) → id ≤ length t.types → IsTypeNode s id n → map_ty f (types.tree_of t.types n) ≡ type_tree s n
+  node-tree : (n : TypeNode) (id : ℕ) → id ≤ length t.types → IsTypeNode s id n → map_ty f (types.tree_of t.types n)
+      ≡ type_tree s n
   node-tree (type_nodes.Var n) id g h = ap TyVar (name_is n h)
   node-tree (type_nodes.Op n args) id g h =
       let a = name_is n h.0 in
       let b = types_are args.items (λ i d l. let w = h.1 i d l in omega arith) in
       λ j. TyOp (a j) (b j)
 
-  pub type_node-tree : (id : ℕ) (n : TypeNode) → slice_get t.types id ≡ Some (types.tree_of t.types n) → types.ArgsBelow id n → type_at s id ≡ type_tree s n
+  pub type_node-tree : (id : ℕ) (n : TypeNode) → slice_get t.types id ≡ Some (types.tree_of t.types n)
+      → types.ArgsBelow id n → type_at s id ≡ type_tree s n
   type_node-tree id n p h =
       let w = slice_get_within t.types id _ p in
-      sym (type_is id w) ∙ ap (map_ty f) (get_or_from_slice_get t.types id _ (TyVar 0) p) ∙ node-tree n id (omega arith) (type_node-inside id n p h)
+      sym (type_is id w) ∙ ap (map_ty f) (get_or_from_slice_get t.types id _ (TyVar 0) p)
+      ∙ node-tree n id (omega arith) (type_node-inside id n p h)
 
   -- ---- terms
   term_bound : (id : ℕ) (u : Named ℕ) → slice_get t.terms id ≡ Some u → bound_named u ≤ length s.names
   term_bound id u p = let w = bound_named-get t.terms id u p in let b = k.bound.1 in omega arith
 
-  pub term_node-inside : (id : ℕ) (n : TermNode) → slice_get t.terms id ≡ Some (terms.term_of t.types t.terms n) → terms.AreBelow (length t.types) id n → IsTermNode s id n
+  pub term_node-inside : (id : ℕ) (n : TermNode) → slice_get t.terms id ≡ Some (terms.term_of t.types t.terms n)
+      → terms.AreBelow (length t.types) id n → IsTermNode s id n
   term_node-inside id (term_nodes.Var v) p h = let w = term_bound id _ p in (omega arith, type_outside v.ty h)
   term_node-inside id (term_nodes.Const n u) p h = let w = term_bound id _ p in (omega arith, type_outside u h)
   term_node-inside id (term_nodes.App g x) p h = h
-  term_node-inside id (term_nodes.Abs v b) p h = let w = term_bound id _ p in ((omega arith, type_outside v.ty h.0), h.1)
+  term_node-inside id (term_nodes.Abs v b) p h = let w = term_bound id _ p in
+      ((omega arith, type_outside v.ty h.0), h.1)
 
-  named-tree : (n : TermNode) (id : ℕ) → id ≤ length t.terms → IsTermNode s id n → map_named f (terms.term_of t.types t.terms n) ≡ term_tree s n
+  named-tree : (n : TermNode) (id : ℕ) → id ≤ length t.terms → IsTermNode s id n
+      → map_named f (terms.term_of t.types t.terms n) ≡ term_tree s n
   named-tree (term_nodes.Var v) id g h = ap NVar (variable_is v h.0 (type_inside v.ty h.1))
-  named-tree (term_nodes.Const n u) id g h = let a = name_is n h.0 in let b = type_is u (type_inside u h.1) in λ j. NConst (a j) (b j)
-  named-tree (term_nodes.App m x) id g h = let a = term_is m (omega (arith, h.0)) in let b = term_is x (omega (arith, h.1)) in λ j. NApp (a j) (b j)
-  named-tree (term_nodes.Abs v b) id g h = let a = variable_is v h.0.0 (type_inside v.ty h.0.1) in let c = term_is b (omega (arith, h.1)) in λ j. NAbs (a j) (c j)
+  named-tree (term_nodes.Const n u) id g h = let a = name_is n h.0 in let b = type_is u (type_inside u h.1) in
+      λ j. NConst (a j) (b j)
+  named-tree (term_nodes.App m x) id g h = let a = term_is m (omega (arith, h.0)) in
+      let b = term_is x (omega (arith, h.1)) in λ j. NApp (a j) (b j)
+  named-tree (term_nodes.Abs v b) id g h = let a = variable_is v h.0.0 (type_inside v.ty h.0.1) in
+      let c = term_is b (omega (arith, h.1)) in λ j. NAbs (a j) (c j)
 
-  pub term_node-tree : (id : ℕ) (n : TermNode) → slice_get t.terms id ≡ Some (terms.term_of t.types t.terms n) → terms.AreBelow (length t.types) id n → named_at s.terms id ≡ term_tree s n
+  pub term_node-tree : (id : ℕ) (n : TermNode) → slice_get t.terms id ≡ Some (terms.term_of t.types t.terms n)
+      → terms.AreBelow (length t.types) id n → named_at s.terms id ≡ term_tree s n
   term_node-tree id n p h =
       let w = slice_get_within t.terms id _ p in
-      sym (term_is id w) ∙ ap (map_named f) (get_or_from_slice_get t.terms id _ (NConst 0 (TyVar 0)) p) ∙ named-tree n id (omega arith) (term_node-inside id n p h)
+      sym (term_is id w) ∙ ap (map_named f) (get_or_from_slice_get t.terms id _ (NConst 0 (TyVar 0)) p)
+      ∙ named-tree n id (omega arith) (term_node-inside id n p h)
 
   -- ---- from numbers to names
   abbrev lettered : IsLettering f numbers names
@@ -114,23 +130,30 @@ module _ (s : State) (t : TermTable) (k : IsSpelled s t) (table : IsNameTable s.
   abbrev alphabet_at : (i : 𝕀) → Alphabet (Line (naming s.names) i)
   alphabet_at i = letters (naming s.names) numbers names lettered i
 
-  same_numbers : (a b : ℕ) → a < length t.types → b < length t.types → nat_eq a b ≡ same_ty numbers (types.type_at t.types a) (types.type_at t.types b)
+  same_numbers : (a b : ℕ) → a < length t.types → b < length t.types
+      → nat_eq a b ≡ same_ty numbers (types.type_at t.types a) (types.type_at t.types b)
   same_numbers a b h g = same_type t.types a b k.table.types h g
 
-  pub same_keys : (v w : VarKey) → IsKey s v → IsKey s w → (nat_eq v.name w.name && nat_eq v.ty w.ty) ≡ same_var names (variable_at s v) (variable_at s w)
+  pub same_keys : (v w : VarKey) → IsKey s v → IsKey s w → (nat_eq v.name w.name && nat_eq v.ty w.ty)
+      ≡ same_var names (variable_at s v) (variable_at s w)
   same_keys v w h g =
       let a = type_inside v.ty h.1 in
       let b = type_inside w.ty g.1 in
       let x = variable_is v h.0 a in
       let y = variable_is w g.0 b in
       ap (λ c. nat_eq v.name w.name && c) (same_numbers v.ty w.ty a b)
-      ∙ (λ i. same_var (alphabet_at i) (over_variable (naming s.names) (terms.variable_of t.types v) i) (over_variable (naming s.names) (terms.variable_of t.types w) i))
+      ∙ (λ i. same_var (alphabet_at i) (over_variable (naming s.names) (terms.variable_of t.types v) i)
+      (over_variable (naming s.names) (terms.variable_of t.types w) i))
       ∙ (λ j. same_var names (x j) (y j))
 
-  pub typed_as : (id ty : ℕ) → id < length s.terms → ty < length t.types → named_type numbers (terms.term_at t.terms id) ≡ Some (types.type_at t.types ty) → named_type names (named_at s.terms id) ≡ Some (type_at s ty)
+  pub typed_as : (id ty : ℕ) → id < length s.terms → ty < length t.types
+      → named_type numbers (terms.term_at t.terms id) ≡ Some (types.type_at t.types ty)
+      → named_type names (named_at s.terms id) ≡ Some (type_at s ty)
   typed_as id ty h g e =
       let L : 𝕀 → Type 0 = λ i. Option (Ty (Line (naming s.names) i)) in
       ap (named_type names) (sym (term_is id (term_inside id h)))
       ∙ one_end L (λ i. named_type (alphabet_at i) (over_named (naming s.names) (terms.term_at t.terms id) i))
-      (subst (λ o. PathP L o (Some (map_ty f (types.type_at t.types ty)))) (sym e) (over_option (λ i. Ty (Line (naming s.names) i)) (map_ty f) (over_ty (naming s.names)) (Some (types.type_at t.types ty))))
+      (subst (λ o. PathP L o (Some (map_ty f (types.type_at t.types ty)))) (sym e)
+      (over_option (λ i. Ty (Line (naming s.names) i)) (map_ty f) (over_ty (naming s.names))
+      (Some (types.type_at t.types ty))))
       ∙ ap Some (type_is ty g)

@@ -1,6 +1,7 @@
 -- A session whose kernel grew, with the steps of its assumptions and definitions.
 use Rattle.std.specs.Global.{Global}
-use Rattle.std.specs.Prelude.{◌≡◌, ◌<◌, ◌-◌, ℕ, List, [], ◌∷◌, ◌++◌, length, take, slice_index_or, Vec, Result, Ok, Err}
+use Rattle.std.specs.Prelude.{◌≡◌, ◌<◌, ◌-◌, ℕ, List, [], ◌∷◌, ◌++◌, length}
+use Rattle.std.specs.Prelude.{take, slice_index_or, Vec, Result, Ok, Err}
 use Rattle.std.specs.List.{All}
 use Rattle.std.proofs.Common.{refl, sym, ap, ◌∙◌, subst, arith, length-append}
 use Rattle.std.proofs.Math.Seq.{take-append_seam}
@@ -24,11 +25,15 @@ use Rattle.ot_machine.proofs.Kept.{named-more, origin-kept, givens-kept, made-ke
 
 -- ---- lists of steps
 -- a step more
-pub push-inside : (n : ℕ) (xs ys : List ℕ) (j : ℕ) → ys ≡ xs ++ j ∷ [] → j < n → All (λ i. i < n) xs → All (λ i. i < n) ys
-push-inside n xs ys j e lt all = subst (All (λ i. i < n)) (sym e) (All-append (λ i. i < n) xs (j ∷ []) all (All-cons (λ i. i < n) j [] lt (All-nil (λ i. i < n))))
+pub push-inside : (n : ℕ) (xs ys : List ℕ) (j : ℕ) → ys ≡ xs ++ j ∷ [] → j < n → All (λ i. i < n) xs
+    → All (λ i. i < n) ys
+push-inside n xs ys j e lt all = subst (All (λ i. i < n)) (sym e)
+    (All-append (λ i. i < n) xs (j ∷ []) all (All-cons (λ i. i < n) j [] lt (All-nil (λ i. i < n))))
 
-pub push-length : {X : Type 0} (xs ys : List ℕ) (j : ℕ) (qs rs : List X) (q : X) → ys ≡ xs ++ j ∷ [] → rs ≡ qs ++ q ∷ [] → length xs ≡ length qs → length ys ≡ length rs
-push-length xs ys j qs rs q e f same = omega (arith, ap length e, ap length f, length-append xs (j ∷ []), length-append qs (q ∷ []), same)
+pub push-length : {X : Type 0} (xs ys : List ℕ) (j : ℕ) (qs rs : List X) (q : X) → ys ≡ xs ++ j ∷ []
+    → rs ≡ qs ++ q ∷ [] → length xs ≡ length qs → length ys ≡ length rs
+push-length xs ys j qs rs q e f same =
+    omega (arith, ap length e, ap length f, length-append xs (j ∷ []), length-append qs (q ∷ []), same)
 
 -- the last step was taken off again
 pub popped : (xs ys zs : List ℕ) (j n : ℕ) → ys ≡ xs ++ j ∷ [] → n ≡ length ys → zs ≡ take (n - 1) ys → zs ≡ xs
@@ -37,26 +42,34 @@ popped xs ys zs j n e len rest =
     rest ∙ (λ i. take (place i) (e i)) ∙ take-append_seam xs (j ∷ [])
 
 -- ---- one more at the end
-pub givens-push : (s : Session) (qs : List (Sequent Name)) (is : List ℕ) (q : Sequent Name) (i : ℕ) → length is ≡ length qs → givens_of s (qs ++ q ∷ []) (is ++ i ∷ []) ≡ givens_of s qs is ++ record { sequent = q; origin = origin_of s i } ∷ []
+pub givens-push : (s : Session) (qs : List (Sequent Name)) (is : List ℕ) (q : Sequent Name) (i : ℕ)
+    → length is ≡ length qs → givens_of s (qs ++ q ∷ []) (is ++ i ∷ []) ≡ givens_of s qs is
+    ++ record { sequent = q; origin = origin_of s i } ∷ []
 givens-push s [] [] q i e = refl
 givens-push s [] (j ∷ is) q i e = absurd (omega (arith, e))
 givens-push s (r ∷ qs) [] q i e = absurd (omega (arith, e))
-givens-push s (r ∷ qs) (j ∷ is) q i e = ap (λ gs. record { sequent = r; origin = origin_of s j } ∷ gs) (givens-push s qs is q i (omega (arith, e)))
+givens-push s (r ∷ qs) (j ∷ is) q i e =
+    ap (λ gs. record { sequent = r; origin = origin_of s j } ∷ gs) (givens-push s qs is q i (omega (arith, e)))
 
-pub made-push : (s : Session) (ds : List (Definition Name)) (is : List ℕ) (d : Definition Name) (i : ℕ) → length is ≡ length ds → made_of s (ds ++ d ∷ []) (is ++ i ∷ []) ≡ made_of s ds is ++ record { definition = d; origin = origin_of s i } ∷ []
+pub made-push : (s : Session) (ds : List (Definition Name)) (is : List ℕ) (d : Definition Name) (i : ℕ)
+    → length is ≡ length ds → made_of s (ds ++ d ∷ []) (is ++ i ∷ []) ≡ made_of s ds is
+    ++ record { definition = d; origin = origin_of s i } ∷ []
 made-push s [] [] d i e = refl
 made-push s [] (j ∷ is) d i e = absurd (omega (arith, e))
 made-push s (c ∷ ds) [] d i e = absurd (omega (arith, e))
-made-push s (c ∷ ds) (j ∷ is) d i e = ap (λ ms. record { definition = c; origin = origin_of s j } ∷ ms) (made-push s ds is d i (omega (arith, e)))
+made-push s (c ∷ ds) (j ∷ is) d i e = ap (λ ms. record { definition = c; origin = origin_of s j } ∷ ms)
+    (made-push s ds is d i (omega (arith, e)))
 
-pub definitions_of-made : (s : Session) (ds : List (Definition Name)) (is : List ℕ) → length is ≡ length ds → definitions_of (made_of s ds is) ≡ ds
+pub definitions_of-made : (s : Session) (ds : List (Definition Name)) (is : List ℕ) → length is ≡ length ds
+    → definitions_of (made_of s ds is) ≡ ds
 definitions_of-made s [] [] e = refl
 definitions_of-made s [] (j ∷ is) e = refl
 definitions_of-made s (d ∷ ds) [] e = absurd (omega (arith, e))
 definitions_of-made s (d ∷ ds) (j ∷ is) e = ap (λ rest. d ∷ rest) (definitions_of-made s ds is (omega (arith, e)))
 
 -- ---- the session
-module _ (s : Session) (l : kernel.State) (a d : Vec StepId Global) (m : Machine) (h : IsOf s m) (kept : kernel.Keeps s.kernel l) where
+module _ (s : Session) (l : kernel.State) (a d : Vec StepId Global) (m : Machine) (h : IsOf s m)
+    (kept : kernel.Keeps s.kernel l) where
   abbrev pub with_steps : Session
   with_steps = record s { kernel = l; assumption_steps = a; definition_steps = d }
 
@@ -67,9 +80,11 @@ module _ (s : Session) (l : kernel.State) (a d : Vec StepId Global) (m : Machine
   article-with = article-kept s with_steps m h steps-grow
 
   -- steps of the trace, as many as there are assumptions and definitions
-  pub of-with : All (λ i. i < length s.trace) a.items → length a.items ≡ length l.assumptions → All (λ i. i < length s.trace) d.items → length d.items ≡ length l.definitions → IsOf with_steps m
+  pub of-with : All (λ i. i < length s.trace) a.items → length a.items ≡ length l.assumptions
+      → All (λ i. i < length s.trace) d.items → length d.items ≡ length l.definitions → IsOf with_steps m
   of-with ai al di dl = of-kept s with_steps m h steps-grow (record {
-    named = λ i o p. named-more (length s.kernel.names) (length l.names) kept.names.longer (slice_index_or s.trace i o) (h.run.named i o p);
+    named = λ i o p. named-more (length s.kernel.names) (length l.names) kept.names.longer
+        (slice_index_or s.trace i o) (h.run.named i o p);
     assumptions = ai;
     each_assumption = al;
     definitions = di;
@@ -77,50 +92,86 @@ module _ (s : Session) (l : kernel.State) (a d : Vec StepId Global) (m : Machine
   })
 
   -- the assumptions that stood
-  pub assumptions-same : l.assumptions ≡ s.kernel.assumptions → a.items ≡ s.assumption_steps.items → givens_of with_steps l.assumptions a.items ≡ (run_of s).assumptions
-  assumptions-same same items = (λ i. givens_of with_steps (same i) (items i)) ∙ givens-kept s with_steps h.run steps-grow s.kernel.assumptions s.assumption_steps.items h.run.assumptions
+  pub assumptions-same : l.assumptions ≡ s.kernel.assumptions → a.items ≡ s.assumption_steps.items
+      → givens_of with_steps l.assumptions a.items ≡ (run_of s).assumptions
+  assumptions-same same items = (λ i. givens_of with_steps (same i) (items i))
+      ∙ givens-kept s with_steps h.run steps-grow s.kernel.assumptions s.assumption_steps.items h.run.assumptions
 
-  pub definitions-same : l.definitions ≡ s.kernel.definitions → d.items ≡ s.definition_steps.items → made_of with_steps l.definitions d.items ≡ (run_of s).definitions
-  definitions-same same items = (λ i. made_of with_steps (same i) (items i)) ∙ made-kept s with_steps h.run steps-grow s.kernel.definitions s.definition_steps.items h.run.definitions
+  pub definitions-same : l.definitions ≡ s.kernel.definitions → d.items ≡ s.definition_steps.items
+      → made_of with_steps l.definitions d.items ≡ (run_of s).definitions
+  definitions-same same items = (λ i. made_of with_steps (same i) (items i))
+      ∙ made-kept s with_steps h.run steps-grow s.kernel.definitions s.definition_steps.items h.run.definitions
 
   -- nothing more
-  pub run-same : kernel.SameBasis s.kernel l → a.items ≡ s.assumption_steps.items → d.items ≡ s.definition_steps.items → run_of with_steps ≡ run_of s
-  run-same same ai di = λ i. record { assumptions = assumptions-same same.assumptions ai i; definitions = definitions-same same.definitions di i }
+  pub run-same : kernel.SameBasis s.kernel l → a.items ≡ s.assumption_steps.items → d.items ≡ s.definition_steps.items
+      → run_of with_steps ≡ run_of s
+  run-same same ai di =
+      λ i. record {
+        assumptions = assumptions-same same.assumptions ai i;
+        definitions = definitions-same same.definitions di i;
+      }
 
-  pub of-same : kernel.SameBasis s.kernel l → a.items ≡ s.assumption_steps.items → d.items ≡ s.definition_steps.items → IsOf with_steps m
+  pub of-same : kernel.SameBasis s.kernel l → a.items ≡ s.assumption_steps.items → d.items ≡ s.definition_steps.items
+      → IsOf with_steps m
   of-same same ai di =
-      of-with (subst (All (λ i. i < length s.trace)) (sym ai) h.run.assumptions) (ap length ai ∙ h.run.each_assumption ∙ ap length (sym same.assumptions))
-      (subst (All (λ i. i < length s.trace)) (sym di) h.run.definitions) (ap length di ∙ h.run.each_definition ∙ ap length (sym same.definitions))
+      of-with (subst (All (λ i. i < length s.trace)) (sym ai) h.run.assumptions)
+      (ap length ai ∙ h.run.each_assumption ∙ ap length (sym same.assumptions))
+      (subst (All (λ i. i < length s.trace)) (sym di) h.run.definitions)
+      (ap length di ∙ h.run.each_definition ∙ ap length (sym same.definitions))
 
   -- a definition more
-  module _ (c : Definition Name) (j : ℕ) (inside : j < length s.trace) (more : l.definitions ≡ s.kernel.definitions ++ c ∷ []) (same : l.assumptions ≡ s.kernel.assumptions) (ai : a.items ≡ s.assumption_steps.items) (di : d.items ≡ s.definition_steps.items ++ j ∷ []) where
+  module _ (c : Definition Name) (j : ℕ) (inside : j < length s.trace)
+      (more : l.definitions ≡ s.kernel.definitions ++ c ∷ []) (same : l.assumptions ≡ s.kernel.assumptions)
+      (ai : a.items ≡ s.assumption_steps.items) (di : d.items ≡ s.definition_steps.items ++ j ∷ []) where
     pub defined-of : IsOf with_steps m
     defined-of =
-        of-with (subst (All (λ i. i < length s.trace)) (sym ai) h.run.assumptions) (ap length ai ∙ h.run.each_assumption ∙ ap length (sym same))
-        (push-inside (length s.trace) s.definition_steps.items d.items j di inside h.run.definitions) (push-length s.definition_steps.items d.items j s.kernel.definitions l.definitions c di more h.run.each_definition)
+        of-with (subst (All (λ i. i < length s.trace)) (sym ai) h.run.assumptions)
+        (ap length ai ∙ h.run.each_assumption ∙ ap length (sym same))
+        (push-inside (length s.trace) s.definition_steps.items d.items j di inside h.run.definitions)
+        (push-length s.definition_steps.items d.items j s.kernel.definitions l.definitions c di more
+        h.run.each_definition)
 
-    pub defined-run : run_of with_steps ≡ (let r = run_of s in record r { definitions = r.definitions ++ record { definition = c; origin = origin_of s j } ∷ [] })
+    pub defined-run : run_of with_steps
+        ≡ (let r = run_of s in
+        record r { definitions = r.definitions ++ record { definition = c; origin = origin_of s j } ∷ [] })
     defined-run =
         let t = with_steps in
         let old = made-kept s t h.run steps-grow s.kernel.definitions s.definition_steps.items h.run.definitions in
         let new = origin-kept s t h.run steps-grow j inside in
-        let all = (λ k. made_of t (more k) (di k)) ∙ made-push t s.kernel.definitions s.definition_steps.items c j h.run.each_definition ∙ (λ k. old k ++ record { definition = c; origin = new k } ∷ []) in
+        let all = (λ k. made_of t (more k) (di k)) ∙ made-push t s.kernel.definitions s.definition_steps.items c j
+        h.run.each_definition ∙ (λ k. old k ++ record { definition = c; origin = new k } ∷ []) in
         λ i. record { assumptions = assumptions-same same ai i; definitions = all i }
 
     -- the kernel's definition is the stated one
-    pub defined-is : (rule : List (Definition Name) → Defining names) (qs : List (Sequent Name)) → rule s.kernel.definitions ≡ Ok c → theorems names c ≡ qs → defined rule (origin_of s j) (run_of s) ≡ Ok (theorem_entries (origin_of s j) 0 qs, run_of with_steps)
+    pub defined-is : (rule : List (Definition Name) → Defining names) (qs : List (Sequent Name))
+        → rule s.kernel.definitions ≡ Ok c → theorems names c ≡ qs → defined rule (origin_of s j) (run_of s)
+        ≡ Ok (theorem_entries (origin_of s j) 0 qs, run_of with_steps)
     defined-is rule qs given are =
-        ap (λ dl. rule dl >>= after) (definitions_of-made s s.kernel.definitions s.definition_steps.items h.run.each_definition)
+        ap (λ dl. rule dl >>= after)
+        (definitions_of-made s s.kernel.definitions s.definition_steps.items h.run.each_definition)
         ∙ ap (λ r. r >>= after) given
         ∙ (λ i. Ok (theorem_entries (origin_of s j) 0 (are i), sym defined-run i))
       where
         after : Definition Name → Result (List Entry × RunState) (Fault Name)
-        after e = Ok (theorem_entries (origin_of s j) 0 (theorems names e), record (run_of s) { definitions = (run_of s).definitions ++ record { definition = e; origin = origin_of s j } ∷ [] })
+        after e =
+            Ok (
+              theorem_entries (origin_of s j) 0 (theorems names e),
+              record (run_of s)
+                  { definitions = (run_of s).definitions ++ record { definition = e; origin = origin_of s j } ∷ [] },
+            )
 
 -- and so is its refusal
-pub defined-refused : (s : Session) (run : IsRun s) (rule : List (Definition Name) → Defining names) (j : ℕ) (f : Fault Name) → rule s.kernel.definitions ≡ Err f → defined rule (origin_of s j) (run_of s) ≡ Err f
+pub defined-refused : (s : Session) (run : IsRun s) (rule : List (Definition Name) → Defining names) (j : ℕ)
+    (f : Fault Name) → rule s.kernel.definitions ≡ Err f → defined rule (origin_of s j) (run_of s) ≡ Err f
 defined-refused s run rule j f refused =
-    ap (λ dl. rule dl >>= after) (definitions_of-made s s.kernel.definitions s.definition_steps.items run.each_definition) ∙ ap (λ r. r >>= after) refused
+    ap (λ dl. rule dl >>= after)
+    (definitions_of-made s s.kernel.definitions s.definition_steps.items run.each_definition)
+    ∙ ap (λ r. r >>= after) refused
   where
     after : Definition Name → Result (List Entry × RunState) (Fault Name)
-    after e = Ok (theorem_entries (origin_of s j) 0 (theorems names e), record (run_of s) { definitions = (run_of s).definitions ++ record { definition = e; origin = origin_of s j } ∷ [] })
+    after e =
+        Ok (
+          theorem_entries (origin_of s j) 0 (theorems names e),
+          record (run_of s)
+              { definitions = (run_of s).definitions ++ record { definition = e; origin = origin_of s j } ∷ [] },
+        )

@@ -13,7 +13,8 @@ use Rattle.ot_machine.proofs.Tops.{no-ok}
 abbrev pub IsStrict : Maker → Type 0
 IsStrict (of_none o) = Unit {0}
 IsStrict (of_top f) = (e : Fault Name) (o : Object) → f (Err e) ≡ Ok o → ⊥
-IsStrict (of_two f) = ((e : Fault Name) (r : Read) (o : Object) → f (Err e) r ≡ Ok o → ⊥) × ((x : Object) (e : Fault Name) (o : Object) → f (Ok x) (Err e) ≡ Ok o → ⊥)
+IsStrict (of_two f) = ((e : Fault Name) (r : Read) (o : Object) → f (Err e) r ≡ Ok o → ⊥)
+    × ((x : Object) (e : Fault Name) (o : Object) → f (Ok x) (Err e) ≡ Ok o → ⊥)
 IsStrict no_maker = Unit {0}
 
 pub strict : (w : Cmd) → IsStrict (maker w)

@@ -20,25 +20,33 @@ no-ok (Err f) e y p = cc
 
 module _ (P : Entry → Type 0) where
   -- what stands at a place inside is one of the stack
-  pub at-place : (n : ℕ) (stack : List Entry) → All P stack → n < length stack → (e : Entry) × (entry_at n stack ≡ Ok e) × P e × (drop (length stack - suc n) stack ≡ e ∷ drop (length stack - n) stack)
+  pub at-place : (n : ℕ) (stack : List Entry) → All P stack → n < length stack → (e : Entry)
+      × (entry_at n stack ≡ Ok e) × P e × (drop (length stack - suc n) stack ≡ e ∷ drop (length stack - n) stack)
   at-place n [] all lt = absurd (omega (arith, lt))
   at-place n (x ∷ xs) all lt =
       let stack = x ∷ xs in
       let i = length stack - suc n in
       let inside : i < length stack = omega (arith, lt) in
       let e = get_or stack i x in
-      let next : suc i ≡ length stack - n = omega (arith, lt) in
-      (e, rw (lt-ltb n (length stack) lt, slice_get-get_or stack i x inside) refl, all i x inside, drop-cons stack i x inside ∙ ap (λ j. e ∷ drop j stack) next)
+      let next : suc i ≡ length stack - n = omega (arith, lt) in (
+        e,
+        rw (lt-ltb n (length stack) lt, slice_get-get_or stack i x inside) refl,
+        all i x inside,
+        drop-cons stack i x
+            inside ∙ ap (λ j. e ∷ drop j stack) next,
+      )
 
   pub top-none : (stack : List Entry) → top 0 stack ≡ []
   top-none stack = ap (λ j. drop j stack) (omega arith) ∙ drop_all (length stack) stack (omega arith)
 
-  pub top-one : (stack : List Entry) → All P stack → 1 ≤ length stack → (e : Entry) × (entry_at 0 stack ≡ Ok e) × P e × (top 1 stack ≡ e ∷ [])
+  pub top-one : (stack : List Entry) → All P stack → 1 ≤ length stack → (e : Entry) × (entry_at 0 stack ≡ Ok e) × P e
+      × (top 1 stack ≡ e ∷ [])
   top-one stack all le =
       let a = at-place 0 stack all (omega (arith, le)) in
       (a.0, a.1, a.2, a.3 ∙ ap (λ z. a.0 ∷ z) (top-none stack))
 
-  pub top-two : (stack : List Entry) → All P stack → 2 ≤ length stack → (e f : Entry) × (entry_at 0 stack ≡ Ok e) × (entry_at 1 stack ≡ Ok f) × P e × P f × (top 2 stack ≡ f ∷ e ∷ [])
+  pub top-two : (stack : List Entry) → All P stack → 2 ≤ length stack → (e f : Entry) × (entry_at 0 stack ≡ Ok e)
+      × (entry_at 1 stack ≡ Ok f) × P e × P f × (top 2 stack ≡ f ∷ e ∷ [])
   top-two stack all le =
       let a = top-one stack all (omega (arith, le)) in
       let b = at-place 1 stack all (omega (arith, le)) in

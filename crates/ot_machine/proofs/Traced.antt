@@ -1,5 +1,6 @@
 -- What the calls of the trace make.
-use Rattle.std.specs.Prelude.{◌≡◌, ◌<◌, ◌≤◌, ◌⊎◌, ◌++◌, ◌∷◌, [], ℕ, zero, suc, ℤ, pos, List, length, map, slice_get, Option, Some, None, Ok}
+use Rattle.std.specs.Prelude.{◌≡◌, ◌<◌, ◌≤◌, ◌⊎◌, ◌++◌, ◌∷◌, [], ℕ, zero, suc, ℤ, pos}
+use Rattle.std.specs.Prelude.{List, length, map, slice_get, Option, Some, None, Ok}
 use Rattle.std.specs.List.{All}
 use Rattle.std.proofs.Common.{refl, sym, ◌∙◌, ap, subst}
 use Rattle.std.proofs.lemmas.Option.{get_or_from_slice_get}
@@ -8,7 +9,8 @@ use Rattle.ot_plain.specs.Names.{Name}
 use Rattle.ot_plain.specs.declared.command.Cmd.{Cmd}
 use Rattle.ot_plain.proofs.TableLemmas.{Extends-refl, Extends-trans}
 use Rattle.ot_kernel.specs.State as kernel
-use Rattle.ot_trace.specs.Origins.{Origin, Origins, Number, Named, Make, Define, Outcome, NoOrigins, MoreOrigins, listed, from_list, at_or, operand, map_origin, map_origins}
+use Rattle.ot_trace.specs.Origins.{Origin, Origins, Number, Named, Make, Define, Outcome, NoOrigins}
+use Rattle.ot_trace.specs.Origins.{MoreOrigins, listed, from_list, at_or, operand, map_origin, map_origins}
 use Rattle.ot_trace.specs.Trace.{origins_at}
 use Rattle.ot_trace.specs.Trace as trace
 use Rattle.ot_machine.specs.Objects.{Objects}
@@ -20,26 +22,36 @@ use Rattle.ot_machine.specs.declared.object.Object.TheVariants as objects
 use Rattle.ot_machine.specs.declared.object.Entry as code_entry
 use Rattle.ot_machine.specs.declared.machine.Machine.{Machine}
 use Rattle.ot_machine.specs.declared.session.Session.{Session}
-use Rattle.ot_machine.specs.Meaning.{object_of, cells_of, origin_of, origin_or, AreNamesBelow, AreAllNamesBelow, entry_of, lists_of, article_of, IsNumber, HasStep, IsOf, Traces}
+use Rattle.ot_machine.specs.Meaning.{object_of, cells_of, origin_of, origin_or, AreNamesBelow, AreAllNamesBelow}
+use Rattle.ot_machine.specs.Meaning.{entry_of, lists_of, article_of, IsNumber, HasStep, IsOf, Traces}
 use Rattle.ot_machine.proofs.Tops.{top-one, top-two}
-use Rattle.ot_machine.proofs.Kept.{at-Extends, origin-kept, traces-grow, with_trace, added-extends, added-named, traces}
+use Rattle.ot_machine.proofs.Kept.{at-Extends, origin-kept, traces-grow}
+use Rattle.ot_machine.proofs.Kept.{with_trace, added-extends, added-named, traces}
 
 -- the operands of a word have names of the kernel
-pub operands-named : (n : ℕ) (os : List (Origin ℕ)) (is : List ℕ) → All (AreNamesBelow n) os → All (λ i. i < length os) is → AreAllNamesBelow n (origins_at os is)
+pub operands-named : (n : ℕ) (os : List (Origin ℕ)) (is : List ℕ) → All (AreNamesBelow n) os
+    → All (λ i. i < length os) is → AreAllNamesBelow n (origins_at os is)
 operands-named n os [] named h = tt
-operands-named n os (j ∷ is) named h =
-    (named j (Number (pos 0)) (All-head (λ i. i < length os) j is h), operands-named n os is named (All-tail (λ i. i < length os) j is h))
+operands-named n os (j ∷ is) named h = (
+  named j (Number (pos 0)) (All-head (λ i. i < length os) j is h),
+  operands-named n os is named
+      (All-tail (λ i. i < length os) j is h),
+)
 
-pub operands-read : (f : ℕ → Name) (os : List (Origin ℕ)) (is : List ℕ) → map_origins f (origins_at os is) ≡ from_list (map (λ i. map_origin f (trace.origin_at os i)) is)
+pub operands-read : (f : ℕ → Name) (os : List (Origin ℕ)) (is : List ℕ) → map_origins f (origins_at os is)
+    ≡ from_list (map (λ i. map_origin f (trace.origin_at os i)) is)
 operands-read f os [] = refl
 operands-read f os (j ∷ is) = ap (MoreOrigins (map_origin f (trace.origin_at os j))) (operands-read f os is)
 
 -- ---- an origin that was added
 module _ (s : Session) (m : Machine) (o : Origin ℕ) (os : List (Origin ℕ)) where
-  pub traces-added : IsOf s m → AreNamesBelow (length s.kernel.names) o → (os ≡ s.trace) ⊎ (os ≡ s.trace ++ o ∷ []) → Traces s (with_trace s os) m
-  traces-added h named grown = traces s os m h (added-extends s.trace os o grown) (added-named (length s.kernel.names) s.trace os o grown h.run.named named)
+  pub traces-added : IsOf s m → AreNamesBelow (length s.kernel.names) o → (os ≡ s.trace) ⊎ (os ≡ s.trace ++ o ∷ [])
+      → Traces s (with_trace s os) m
+  traces-added h named grown = traces s os m h (added-extends s.trace os o grown)
+      (added-named (length s.kernel.names) s.trace os o grown h.run.named named)
 
-  pub origin-added : (i : ℕ) → slice_get os i ≡ Some o → origin_of (with_trace s os) i ≡ map_origin (kernel.name_at s.kernel) o
+  pub origin-added : (i : ℕ) → slice_get os i ≡ Some o → origin_of (with_trace s os) i
+      ≡ map_origin (kernel.name_at s.kernel) o
   origin-added i e = ap (map_origin (kernel.name_at s.kernel)) (get_or_from_slice_get os i o (Number (pos 0)) e)
 
 -- what a word makes
@@ -47,10 +59,13 @@ module _ (s : Session) (m : Machine) (word : Cmd) (is : List ℕ) (os : List (Or
   abbrev new : Origin ℕ
   new = Make word (origins_at s.trace is)
 
-  pub traces-made : IsOf s m → All (λ i. i < length s.trace) is → (os ≡ s.trace) ⊎ (os ≡ s.trace ++ new ∷ []) → Traces s (with_trace s os) m
-  traces-made h inside = traces-added s m new os h (operands-named (length s.kernel.names) s.trace is h.run.named inside)
+  pub traces-made : IsOf s m → All (λ i. i < length s.trace) is → (os ≡ s.trace) ⊎ (os ≡ s.trace ++ new ∷ [])
+      → Traces s (with_trace s os) m
+  traces-made h inside =
+      traces-added s m new os h (operands-named (length s.kernel.names) s.trace is h.run.named inside)
 
-  pub origin-made : (i : ℕ) → slice_get os i ≡ Some new → origin_of (with_trace s os) i ≡ Make word (from_list (map (origin_of s) is))
+  pub origin-made : (i : ℕ) → slice_get os i ≡ Some new → origin_of (with_trace s os) i
+      ≡ Make word (from_list (map (origin_of s) is))
   origin-made i e = origin-added s m new os i e ∙ ap (Make word) (operands-read (kernel.name_at s.kernel) s.trace is)
 
 -- what a word defines
@@ -58,11 +73,15 @@ module _ (s : Session) (m : Machine) (word : Cmd) (is : List ℕ) (os : List (Or
   abbrev defining : Origin ℕ
   defining = Define word (origins_at s.trace is)
 
-  pub traces-defined : IsOf s m → All (λ i. i < length s.trace) is → (os ≡ s.trace) ⊎ (os ≡ s.trace ++ defining ∷ []) → Traces s (with_trace s os) m
-  traces-defined h inside = traces-added s m defining os h (operands-named (length s.kernel.names) s.trace is h.run.named inside)
+  pub traces-defined : IsOf s m → All (λ i. i < length s.trace) is → (os ≡ s.trace) ⊎ (os ≡ s.trace ++ defining ∷ [])
+      → Traces s (with_trace s os) m
+  traces-defined h inside =
+      traces-added s m defining os h (operands-named (length s.kernel.names) s.trace is h.run.named inside)
 
-  pub origin-defined : (i : ℕ) → slice_get os i ≡ Some defining → origin_of (with_trace s os) i ≡ Define word (from_list (map (origin_of s) is))
-  origin-defined i e = origin-added s m defining os i e ∙ ap (Define word) (operands-read (kernel.name_at s.kernel) s.trace is)
+  pub origin-defined : (i : ℕ) → slice_get os i ≡ Some defining → origin_of (with_trace s os) i
+      ≡ Define word (from_list (map (origin_of s) is))
+  origin-defined i e = origin-added s m defining os i e
+      ∙ ap (Define word) (operands-read (kernel.name_at s.kernel) s.trace is)
 
 -- nothing was added
 pub traces-none : (s : Session) (m : Machine) → IsOf s m → Traces s s m
@@ -70,37 +89,65 @@ traces-none s m h = record { kernel = refl; grown = Extends-refl s.trace; articl
 
 -- ---- two after one another
 pub traces-on : (s t u : Session) (m : Machine) → Traces s t m → Traces t u m → Traces s u m
-traces-on s t u m p q = record { kernel = q.kernel ∙ p.kernel; grown = Extends-trans p.grown q.grown; article = q.article ∙ p.article; run = q.run ∙ p.run; of = q.of }
+traces-on s t u m p q =
+    record {
+      kernel = q.kernel ∙ p.kernel;
+      grown = Extends-trans p.grown q.grown;
+      article = q.article
+          ∙ p.article;
+      run = q.run ∙ p.run;
+      of = q.of;
+    }
 
 -- an origin of the trace, after more were added
-pub traced-origin : (s t : Session) (m : Machine) → IsOf s m → Traces s t m → (i : ℕ) → i < length s.trace → origin_of t i ≡ origin_of s i
+pub traced-origin : (s t : Session) (m : Machine) → IsOf s m → Traces s t m → (i : ℕ) → i < length s.trace
+    → origin_of t i ≡ origin_of s i
 traced-origin s t m h traced i lt = origin-kept s t h.run (traces-grow s t m traced) i lt
 
 -- over numbers of names
-pub number-later : (s t : Session) (m : Machine) → Traces s t m → (i : ℕ) → i < length s.trace → trace.origin_at t.trace i ≡ trace.origin_at s.trace i
+pub number-later : (s t : Session) (m : Machine) → Traces s t m → (i : ℕ) → i < length s.trace
+    → trace.origin_at t.trace i ≡ trace.origin_at s.trace i
 number-later s t m traced i lt = at-Extends s.trace t.trace traced.grown (Number (pos 0)) i lt
 
 -- by the names of the numbers
-pub origin-number : (s t : Session) (m : Machine) → Traces s t m → (i : ℕ) (o : Origin ℕ) → trace.origin_at t.trace i ≡ o → origin_of t i ≡ map_origin (kernel.name_at s.kernel) o
-origin-number s t m traced i o e = ap (map_origin (kernel.name_at t.kernel)) e ∙ ap (λ k. map_origin (kernel.name_at k) o) traced.kernel
+pub origin-number : (s t : Session) (m : Machine) → Traces s t m → (i : ℕ) (o : Origin ℕ) → trace.origin_at t.trace i
+    ≡ o → origin_of t i ≡ map_origin (kernel.name_at s.kernel) o
+origin-number s t m traced i o e = ap (map_origin (kernel.name_at t.kernel)) e
+    ∙ ap (λ k. map_origin (kernel.name_at k) o) traced.kernel
 
 -- ---- an object that was made, with its step
-entry-made : (s t : Session) (m : Machine) (o : object.Object) (i : ℕ) (p : Origin Name) → t.kernel ≡ s.kernel → origin_of t i ≡ p → entry_of t (lists_of t m) (record { object = o; step = Some i }) ≡ record { object = object_of s.kernel (lists_of s m) o; origin = p }
+entry-made : (s t : Session) (m : Machine) (o : object.Object) (i : ℕ) (p : Origin Name) → t.kernel ≡ s.kernel
+    → origin_of t i ≡ p → entry_of t (lists_of t m) (record { object = o; step = Some i })
+    ≡ record { object = object_of s.kernel (lists_of s m) o; origin = p }
 entry-made s t m o i p same is =
-    let a : object_of t.kernel (lists_of t m) o ≡ object_of s.kernel (lists_of s m) o = λ j. object_of (same j) (cells_of (same j) m.cells.items) o in
+    let a : object_of t.kernel (lists_of t m) o ≡ object_of s.kernel (lists_of s m) o =
+    λ j. object_of (same j) (cells_of (same j) m.cells.items) o in
     λ j. record { object = a j; origin = is j }
 
 -- the origins of the top one and of the top two
-pub one-origin : (stack : List Entry) → 1 ≤ length stack → origins_of (top 1 stack) ≡ MoreOrigins (origin_at 0 stack) NoOrigins
+pub one-origin : (stack : List Entry) → 1 ≤ length stack → origins_of (top 1 stack)
+    ≡ MoreOrigins (origin_at 0 stack) NoOrigins
 one-origin stack le = let t = top-one (λ e. Unit {0}) stack (λ i e p. tt) le in rw t.1 (ap origins_of t.3)
 
-pub two-origins : (stack : List Entry) → 2 ≤ length stack → origins_of (top 2 stack) ≡ MoreOrigins (origin_at 1 stack) (MoreOrigins (origin_at 0 stack) NoOrigins)
+pub two-origins : (stack : List Entry) → 2 ≤ length stack → origins_of (top 2 stack) ≡ MoreOrigins (origin_at 1 stack)
+    (MoreOrigins (origin_at 0 stack) NoOrigins)
 two-origins stack le = let t = top-two (λ e. Unit {0}) stack (λ i e p. tt) le in rw (t.2, t.3) (ap origins_of t.6)
 
 -- what a word made, in the place of the top n
-pub article-made : (s t : Session) (m n : Machine) (count : ℕ) (o : object.Object) (i : ℕ) (p q : Origin Name) → Traces s t m → origin_of t i ≡ p → q ≡ p
-    → article_of t n ≡ (let a = article_of t m in record a { stack = replaced count (entry_of t (lists_of t m) (record { object = o; step = Some i })) a.stack })
-    → article_of t n ≡ (let a = article_of s m in record a { stack = replaced count (record { object = object_of s.kernel (lists_of s m) o; origin = q }) a.stack })
+pub article-made : (s t : Session) (m n : Machine) (count : ℕ) (o : object.Object) (i : ℕ) (p q : Origin Name)
+    → Traces s t m → origin_of t i ≡ p → q ≡ p
+    → article_of t n
+    ≡ (let a = article_of t m in
+    record a {
+      stack = replaced count (entry_of t (lists_of t m) (record { object = o; step = Some i }))
+          a.stack;
+    })
+    → article_of t n
+    ≡ (let a = article_of s m in
+    record a {
+      stack = replaced count (record { object = object_of s.kernel (lists_of s m) o; origin = q })
+          a.stack;
+    })
 article-made s t m n count o i p q traced is same changed =
     let e = entry-made s t m o i q traced.kernel (is ∙ sym same) in
     changed ∙ (λ j. let a = traced.article j in record a { stack = replaced count (e j) a.stack })
@@ -118,14 +165,17 @@ is-number (objects.Term m) other h = h
 is-number (objects.Theorem th) other h = h
 
 -- an object that is no number has a step
-pub no-step : (os : List (Origin ℕ)) (o : object.Object) (i : Option ℕ) → HasStep os o i → (IsNumber o → ⊥) → i ≡ None → ⊥
+pub no-step : (os : List (Origin ℕ)) (o : object.Object) (i : Option ℕ) → HasStep os o i → (IsNumber o → ⊥) → i ≡ None
+    → ⊥
 no-step os o (Some i) h made e = cc
 no-step os o None h made e = made h
 
-pub none-other : (os : List (Origin ℕ)) (o : object.Object) (i : Option ℕ) → HasStep os o i → i ≡ None → ((k : ℤ) → o ≡ objects.Number k → ⊥) → ⊥
+pub none-other : (os : List (Origin ℕ)) (o : object.Object) (i : Option ℕ) → HasStep os o i → i ≡ None
+    → ((k : ℤ) → o ≡ objects.Number k → ⊥) → ⊥
 none-other os o i h e other = no-step os o i h (is-number o other) e
 
-module _ (s : Session) (cs : List Objects) (stack : List Entry) (place : ℕ) (e : code_entry.Entry) (at : entry_at place stack ≡ Ok (entry_of s cs e)) where
+module _ (s : Session) (cs : List Objects) (stack : List Entry) (place : ℕ) (e : code_entry.Entry)
+    (at : entry_at place stack ≡ Ok (entry_of s cs e)) where
   pub origin-there : origin_at place stack ≡ origin_or s e.object e.step
   origin-there = rw at refl
 
@@ -135,7 +185,8 @@ module _ (s : Session) (cs : List Objects) (stack : List Entry) (place : ℕ) (e
   pub step-there : (i : ℕ) → e.step ≡ Some i → origin_at place stack ≡ origin_of s i
   step-there i is = origin-there ∙ ap (origin_or s e.object) is
 
-pub step-inside : (os : List (Origin ℕ)) (o : object.Object) (i : Option ℕ) (j : ℕ) → HasStep os o i → i ≡ Some j → j < length os
+pub step-inside : (os : List (Origin ℕ)) (o : object.Object) (i : Option ℕ) (j : ℕ) → HasStep os o i → i ≡ Some j
+    → j < length os
 step-inside os o (Some i) j h e = let same : i ≡ j = cc in subst (λ k. k < length os) same h
 step-inside os o None j h e = cc
 
@@ -145,7 +196,8 @@ module _ {M N : Type 0} (f : M → N) where
   listed-read NoOrigins = refl
   listed-read (MoreOrigins o os) = ap (λ ps. map_origin f o ∷ ps) (listed-read os)
 
-  at-read : (o : Origin M) (n : ℕ) (ps : List (Origin M)) → map_origin f (at_or o n ps) ≡ at_or (map_origin f o) n (map (map_origin f) ps)
+  at-read : (o : Origin M) (n : ℕ) (ps : List (Origin M)) → map_origin f (at_or o n ps)
+      ≡ at_or (map_origin f o) n (map (map_origin f) ps)
   at-read o n [] = refl
   at-read o zero (p ∷ ps) = refl
   at-read o (suc n) (p ∷ ps) = at-read o n ps
@@ -153,6 +205,8 @@ module _ {M N : Type 0} (f : M → N) where
   pub operand-read : (n : ℕ) (o : Origin M) → map_origin f (operand n o) ≡ operand n (map_origin f o)
   operand-read n (Number k) = refl
   operand-read n (Named m) = refl
-  operand-read n (Make w os) = at-read (Make w os) n (listed os) ∙ ap (at_or (Make w (map_origins f os)) n) (sym (listed-read os))
-  operand-read n (Define w os) = at-read (Define w os) n (listed os) ∙ ap (at_or (Define w (map_origins f os)) n) (sym (listed-read os))
+  operand-read n (Make w os) = at-read (Make w os) n (listed os)
+      ∙ ap (at_or (Make w (map_origins f os)) n) (sym (listed-read os))
+  operand-read n (Define w os) = at-read (Define w os) n (listed os)
+      ∙ ap (at_or (Define w (map_origins f os)) n) (sym (listed-read os))
   operand-read n (Outcome j d) = refl

@@ -32,26 +32,37 @@ pub stays-same : (s : Session) (m : Machine) → IsOf s m → Stays s s m
 stays-same s m h = record { grown = grows-same s; article = refl; run = refl; of = h }
 
 pub leaves-stay : {s t : Session} {m : Machine} → Leaves s t m → Stays s t m
-leaves-stay l = record { grown = record { kernel = l.machine.grown; trace = trace-same _ _ l.machine.trace }; article = l.machine.article; run = l.run; of = l.machine.of }
+leaves-stay l = record {
+  grown = record { kernel = l.machine.grown; trace = trace-same _ _ l.machine.trace };
+  article = l.machine.article;
+  run = l.run;
+  of = l.machine.of;
+}
 
 pub traces-stay : {s t : Session} {m : Machine} → Traces s t m → Stays s t m
 traces-stay {s} {t} {m} p = record { grown = traces-grow s t m p; article = p.article; run = p.run; of = p.of }
 
 pub stays-on : {s t u : Session} {m : Machine} → Stays s t m → Stays t u m → Stays s u m
-stays-on p q = record { grown = grows-on p.grown q.grown; article = q.article ∙ p.article; run = q.run ∙ p.run; of = q.of }
+stays-on p q =
+    record { grown = grows-on p.grown q.grown; article = q.article ∙ p.article; run = q.run ∙ p.run; of = q.of }
 
 -- ---- what numbers stand for in them
 module _ (s t : Session) (m : Machine) (h : IsOf s m) (stays : Stays s t m) where
   pub stays-origin : (i : ℕ) → i < length s.trace → origin_of t i ≡ origin_of s i
   stays-origin i lt = origin-kept s t h.run stays.grown i lt
 
-  pub stays-theorem : (i : ℕ) → i < length s.kernel.theorems → kernel.theorem_at t.kernel i ≡ kernel.theorem_at s.kernel i
-  stays-theorem i lt = at-Extends s.kernel.theorems t.kernel.theorems stays.grown.kernel.theorems (record { hyps = []; concl = Bound 0 }) i lt
+  pub stays-theorem : (i : ℕ) → i < length s.kernel.theorems → kernel.theorem_at t.kernel i
+      ≡ kernel.theorem_at s.kernel i
+  stays-theorem i lt = at-Extends s.kernel.theorems t.kernel.theorems stays.grown.kernel.theorems
+      (record { hyps = []; concl = Bound 0 }) i lt
 
   pub stays-term : (i : ℕ) → i < length s.kernel.terms → kernel.term_at t.kernel i ≡ kernel.term_at s.kernel i
-  stays-term i lt = ap (nameless names) (at-Extends s.kernel.terms t.kernel.terms stays.grown.kernel.terms (NConst [] (TyVar [])) i lt)
+  stays-term i lt =
+      ap (nameless names)
+      (at-Extends s.kernel.terms t.kernel.terms stays.grown.kernel.terms (NConst [] (TyVar [])) i lt)
 
-  pub stays-terms : (is : List ℕ) → All (λ i. i < length s.kernel.terms) is → map (kernel.term_at t.kernel) is ≡ map (kernel.term_at s.kernel) is
+  pub stays-terms : (is : List ℕ) → All (λ i. i < length s.kernel.terms) is → map (kernel.term_at t.kernel) is
+      ≡ map (kernel.term_at s.kernel) is
   stays-terms [] all = refl
   stays-terms (i ∷ is) all =
       let a = stays-term i (All-head (λ i. i < length s.kernel.terms) i is all) in
@@ -74,17 +85,21 @@ Rule = Result (Sequent Name) (Fault Name)
 abbrev as_proof : Origin Name → Rule → Result Entry (Fault Name)
 as_proof o r = r >>= λ q. Ok (proof q o)
 
-through : (o : Origin Name) (r : Rule) → ((r >>= λ q. Ok (theorem q)) >>= λ x. Ok (record { object = x; origin = o })) ≡ as_proof o r
+through : (o : Origin Name) (r : Rule) → ((r >>= λ q. Ok (theorem q)) >>= λ x. Ok (record { object = x; origin = o }))
+    ≡ as_proof o r
 through o (Ok q) = refl
 through o (Err f) = refl
 
-made-assume : (p : Tm Name) (o : Origin Name) → made words.Assume (stated p o ∷ []) ≡ as_proof (make_one words.Assume o) (assume_rule names p)
+made-assume : (p : Tm Name) (o : Origin Name) → made words.Assume (stated p o ∷ [])
+    ≡ as_proof (make_one words.Assume o) (assume_rule names p)
 made-assume p o = through (make_one words.Assume o) (assume_rule names p)
 
-made-antisym : (a q : Sequent Name) (o u : Origin Name) → made words.DeductAntisym (proof a o ∷ proof q u ∷ []) ≡ as_proof (make_two words.DeductAntisym o u) (deduct_antisym_rule names a q)
+made-antisym : (a q : Sequent Name) (o u : Origin Name) → made words.DeductAntisym (proof a o ∷ proof q u ∷ [])
+    ≡ as_proof (make_two words.DeductAntisym o u) (deduct_antisym_rule names a q)
 made-antisym a q o u = through (make_two words.DeductAntisym o u) (deduct_antisym_rule names a q)
 
-made-eq_mp : (d a : Sequent Name) (o u : Origin Name) → made words.EqMp (proof d o ∷ proof a u ∷ []) ≡ as_proof (make_two words.EqMp o u) (eq_mp_rule names d a)
+made-eq_mp : (d a : Sequent Name) (o u : Origin Name) → made words.EqMp (proof d o ∷ proof a u ∷ [])
+    ≡ as_proof (make_two words.EqMp o u) (eq_mp_rule names d a)
 made-eq_mp d a o u = through (make_two words.EqMp o u) (eq_mp_rule names d a)
 
 module _ (q : Sequent Name) (o : Origin Name) (p : Tm Name) (u : Origin Name) where
@@ -100,7 +115,8 @@ module _ (q : Sequent Name) (o : Origin Name) (p : Tm Name) (u : Origin Name) wh
   abbrev after : Entry → Result Entry (Fault Name)
   after a = made words.DeductAntisym (a ∷ proof q o ∷ []) >>= λ d. made words.EqMp (d ∷ a ∷ [])
 
-  first-read : (r : Rule) → assume_rule names p ≡ r → adding (proof q o) (stated p u) ≡ (as_proof assumed_origin r >>= after)
+  first-read : (r : Rule) → assume_rule names p ≡ r → adding (proof q o) (stated p u)
+      ≡ (as_proof assumed_origin r >>= after)
   first-read r e = ap (λ x. x >>= after) (made-assume p u ∙ ap (as_proof assumed_origin) e)
 
   pub adding-first : (f : Fault Name) → assume_rule names p ≡ Err f → adding (proof q o) (stated p u) ≡ Err f
@@ -110,34 +126,46 @@ module _ (q : Sequent Name) (o : Origin Name) (p : Tm Name) (u : Origin Name) wh
     abbrev last : Entry → Result Entry (Fault Name)
     last d = made words.EqMp (d ∷ proof a assumed_origin ∷ [])
 
-    second-read : (r : Rule) → deduct_antisym_rule names a q ≡ r → adding (proof q o) (stated p u) ≡ (as_proof equation_origin r >>= last)
-    second-read r e = first-read (Ok a) one ∙ ap (λ x. x >>= last) (made-antisym a q assumed_origin o ∙ ap (as_proof equation_origin) e)
+    second-read : (r : Rule) → deduct_antisym_rule names a q ≡ r → adding (proof q o) (stated p u)
+        ≡ (as_proof equation_origin r >>= last)
+    second-read r e = first-read (Ok a) one
+        ∙ ap (λ x. x >>= last) (made-antisym a q assumed_origin o ∙ ap (as_proof equation_origin) e)
 
-    pub adding-second : (f : Fault Name) → deduct_antisym_rule names a q ≡ Err f → adding (proof q o) (stated p u) ≡ Err f
+    pub adding-second : (f : Fault Name) → deduct_antisym_rule names a q ≡ Err f → adding (proof q o) (stated p u)
+        ≡ Err f
     adding-second f e = second-read (Err f) e
 
     module _ (d : Sequent Name) (two : deduct_antisym_rule names a q ≡ Ok d) where
       third-read : (r : Rule) → eq_mp_rule names d a ≡ r → adding (proof q o) (stated p u) ≡ as_proof added_origin r
-      third-read r e = second-read (Ok d) two ∙ made-eq_mp d a equation_origin assumed_origin ∙ ap (as_proof added_origin) e
+      third-read r e = second-read (Ok d) two ∙ made-eq_mp d a equation_origin assumed_origin
+          ∙ ap (as_proof added_origin) e
 
       pub adding-third : (f : Fault Name) → eq_mp_rule names d a ≡ Err f → adding (proof q o) (stated p u) ≡ Err f
       adding-third f e = third-read (Err f) e
 
-      pub adding-ok : (r : Sequent Name) → eq_mp_rule names d a ≡ Ok r → adding (proof q o) (stated p u) ≡ Ok (proof r added_origin)
+      pub adding-ok : (r : Sequent Name) → eq_mp_rule names d a ≡ Ok r → adding (proof q o) (stated p u)
+          ≡ Ok (proof r added_origin)
       adding-ok r e = third-read (Ok r) e
 
 -- ---- where it is one already
-pub supposing-there : (p : Tm Name) (u : Origin Name) (q : Sequent Name) (o : Origin Name) → is_in names p q.hyps ≡ true → supposing (stated p u) (proof q o) ≡ Ok (proof q o)
+pub supposing-there : (p : Tm Name) (u : Origin Name) (q : Sequent Name) (o : Origin Name)
+    → is_in names p q.hyps ≡ true → supposing (stated p u) (proof q o) ≡ Ok (proof q o)
 supposing-there p u q o e = ap (λ b. if b then Ok (proof q o) else adding (proof q o) (stated p u)) e
 
-pub supposing-lacking : (p : Tm Name) (u : Origin Name) (q : Sequent Name) (o : Origin Name) → is_in names p q.hyps ≡ false → supposing (stated p u) (proof q o) ≡ adding (proof q o) (stated p u)
+pub supposing-lacking : (p : Tm Name) (u : Origin Name) (q : Sequent Name) (o : Origin Name)
+    → is_in names p q.hyps ≡ false → supposing (stated p u) (proof q o) ≡ adding (proof q o) (stated p u)
 supposing-lacking p u q o e = ap (λ b. if b then Ok (proof q o) else adding (proof q o) (stated p u)) e
 
 -- the run beside what was made
-pub with-run : {X Y : Type 0} (k : kernel.State) (view : X → Y) (result : Result X code.Fault) (stated : Result Y (Fault Name)) (run now : RunState) → now ≡ run → Makes k view result stated → Makes {Y = Y × RunState} k (λ x. (view x, now)) result (stated >>= λ e. Ok (e, run))
-with-run k view (Ok x) stated run now same h = ap (λ r. r >>= λ e. Ok (e, run)) h ∙ ap (λ r. Ok (view x, r)) (sym same)
+pub with-run : {X Y : Type 0} (k : kernel.State) (view : X → Y) (result : Result X code.Fault)
+    (stated : Result Y (Fault Name)) (run now : RunState) → now ≡ run → Makes k view result stated
+    → Makes {Y = Y × RunState} k (λ x. (view x, now)) result (stated >>= λ e. Ok (e, run))
+with-run k view (Ok x) stated run now same h = ap (λ r. r >>= λ e. Ok (e, run)) h
+    ∙ ap (λ r. Ok (view x, r)) (sym same)
 with-run k view (Err e) stated run now same h = (h.0, λ f q. ap (λ r. r >>= λ e. Ok (e, run)) (h.1 f q))
 
 -- ---- term after term
-pub weakened-next : (p : Tm Name) (ps : List (Tm Name)) (o : Origin Name) (e : Entry) (x : Result Entry (Fault Name)) → supposing (stated p (operand 0 o)) e ≡ x → weakened (term_entries (p ∷ ps) o) e ≡ (x >>= weakened (term_entries ps (operand 1 o)))
+pub weakened-next : (p : Tm Name) (ps : List (Tm Name)) (o : Origin Name) (e : Entry) (x : Result Entry (Fault Name))
+    → supposing (stated p (operand 0 o)) e ≡ x → weakened (term_entries (p ∷ ps) o) e
+    ≡ (x >>= weakened (term_entries ps (operand 1 o)))
 weakened-next p ps o e x h = ap (λ r. r >>= weakened (term_entries ps (operand 1 o))) h

@@ -1,5 +1,6 @@
 -- Each word makes objects of one kind.
-use Rattle.std.specs.Prelude.{◌≡◌, ℕ, zero, suc, [], Result, Ok, Err, nat_le, if◌then◌else◌, Bool, true, false, slice_get}
+use Rattle.std.specs.Prelude.{◌≡◌, ℕ, zero, suc, [], Result, Ok, Err, nat_le}
+use Rattle.std.specs.Prelude.{if◌then◌else◌, Bool, true, false, slice_get}
 use Rattle.std.proofs.Common.{refl, sym, ap, ◌∙◌}
 use Rattle.ot_plain.specs.Names.{Name}
 use Rattle.ot_plain.specs.Naming.{names}
@@ -12,11 +13,15 @@ use Rattle.ot_plain.specs.declared.command.Cmd.TheVariants as words
 use Rattle.ot_plain.specs.declared.kind.Kind.{Kind}
 use Rattle.ot_plain.specs.declared.kind.Kind.TheVariants as kinds
 use Rattle.ot_trace.specs.Origins.{Origin, Origins, Number, Named, Make, Define, Outcome}
-use Rattle.ot_machine.specs.Objects.{Object, Objects, name, list, type_op, a_type, constant, variable, term, theorem, more_objects, nesting, kind_of}
-use Rattle.ot_machine.specs.Places.{as_name, as_list, as_type_op, as_type, as_constant, as_variable, as_term, as_theorem, as_each, arguments}
+use Rattle.ot_machine.specs.Objects.{Object, Objects, name, list, type_op, a_type, constant}
+use Rattle.ot_machine.specs.Objects.{variable, term, theorem, more_objects, nesting, kind_of}
+use Rattle.ot_machine.specs.Places.{as_name, as_list, as_type_op, as_type, as_constant}
+use Rattle.ot_machine.specs.Places.{as_variable, as_term, as_theorem, as_each, arguments}
 use Rattle.ot_machine.specs.Substitutions.{maps_of}
 use Rattle.ot_kernel.specs.Axioms.{axiom_rule}
-use Rattle.ot_plain.specs.Rules.{op_rule, app_rule, abs_rule, refl_rule, assume_rule, eq_mp_rule, abs_thm_rule, app_thm_rule, deduct_antisym_rule, beta_conv_rule, subst_rule, sym_rule, trans_rule, prove_hyp_rule}
+use Rattle.ot_plain.specs.Rules.{op_rule, app_rule, abs_rule, refl_rule, assume_rule, eq_mp_rule}
+use Rattle.ot_plain.specs.Rules.{abs_thm_rule, app_thm_rule, deduct_antisym_rule, beta_conv_rule}
+use Rattle.ot_plain.specs.Rules.{subst_rule, sym_rule, trans_rule, prove_hyp_rule}
 use Rattle.ot_machine.specs.Makers.{Read, Maker, of_none, of_top, of_two, no_maker, maker}
 use Rattle.ot_machine.specs.Values.{value, values, applied, definition_of, theorem_of}
 use Rattle.ot_machine.proofs.Tops.{same-ok, no-ok}
@@ -73,10 +78,12 @@ kind-is : (p o : Object) → made p ≡ made o → kind_of o ≡ kind_of p
 kind-is p o e = ap kind_of (sym (same-ok (made p) p o refl e))
 
 -- where each step behind the first ends so, the whole does
-ends : {A : Type 0} (k : Kind) (r : Result A (Fault Name)) (f : A → Read) → ((x : A) (o : Object) → f x ≡ made o → kind_of o ≡ k) → (o : Object) → (r >>= f) ≡ made o → kind_of o ≡ k
+ends : {A : Type 0} (k : Kind) (r : Result A (Fault Name)) (f : A → Read)
+    → ((x : A) (o : Object) → f x ≡ made o → kind_of o ≡ k) → (o : Object) → (r >>= f) ≡ made o → kind_of o ≡ k
 ends k r f h o p = let a = bind-ok r f o p in h a.0 o a.2
 
-list-within : (n : ℕ) (os : Objects) (o : Object) → (if nat_le n depth_limit then Ok (list os) else Err Nesting) ≡ made o → kind_of o ≡ kinds.List
+list-within : (n : ℕ) (os : Objects) (o : Object) → (if nat_le n depth_limit then Ok (list os) else Err Nesting)
+    ≡ made o → kind_of o ≡ kinds.List
 list-within n os o p = by (nat_le n depth_limit) p
   where
     by : (b : Bool) → (if b then Ok (list os) else Err Nesting) ≡ made o → kind_of o ≡ kinds.List
@@ -86,7 +93,8 @@ list-within n os o p = by (nat_le n depth_limit) p
 pub makes-kind : (w : Cmd) → HasKind (word_kind w) (maker w)
 makes-kind words.Version = tt
 makes-kind words.Nil = refl
-makes-kind words.Cons = λ r q. ends kinds.List (r >>= as_list) _ (λ z0. ends kinds.List q _ (λ z1 o p. list-within (nesting (list (more_objects z1 z0))) (more_objects z1 z0) o p))
+makes-kind words.Cons = λ r q. ends kinds.List (r >>= as_list) _
+    (λ z0. ends kinds.List q _ (λ z1 o p. list-within (nesting (list (more_objects z1 z0))) (more_objects z1 z0) o p))
 makes-kind words.HdTl = tt
 makes-kind words.Def = tt
 makes-kind words.Ref = tt
@@ -94,32 +102,73 @@ makes-kind words.Remove = tt
 makes-kind words.Pop = tt
 makes-kind words.Pragma = tt
 makes-kind words.TypeOp = λ r. ends kinds.TyOp (r >>= as_name) _ (λ z0 o p. kind-is (type_op z0) o p)
-makes-kind words.OpType = λ r q. ends kinds.Ty (r >>= as_list >>= as_each as_type) _ (λ z0. ends kinds.Ty (q >>= as_type_op) _ (λ z1. ends kinds.Ty (op_rule names z1 (arguments z0)) _ (λ z2 o p. kind-is (a_type z2) o p)))
+makes-kind words.OpType =
+    λ r q. ends kinds.Ty (r >>= as_list >>= as_each as_type) _
+    (λ z0. ends kinds.Ty (q >>= as_type_op) _
+    (λ z1. ends kinds.Ty (op_rule names z1 (arguments z0)) _ (λ z2 o p. kind-is (a_type z2) o p)))
 makes-kind words.VarType = λ r. ends kinds.Ty (r >>= as_name) _ (λ z0 o p. kind-is (a_type (TyVar z0)) o p)
-makes-kind words.Var = λ r q. ends kinds.Var (r >>= as_type) _ (λ z0. ends kinds.Var (q >>= as_name) _ (λ z1 o p. kind-is (variable (record { name = z1; ty = z0 })) o p))
+makes-kind words.Var = λ r q. ends kinds.Var (r >>= as_type) _
+    (λ z0. ends kinds.Var (q >>= as_name) _ (λ z1 o p. kind-is (variable (record { name = z1; ty = z0 })) o p))
 makes-kind words.VarTerm = λ r. ends kinds.Tm (r >>= as_variable) _ (λ z0 o p. kind-is (term (Free z0)) o p)
 makes-kind words.Const = λ r. ends kinds.Con (r >>= as_name) _ (λ z0 o p. kind-is (constant z0) o p)
-makes-kind words.ConstTerm = λ r q. ends kinds.Tm (r >>= as_type) _ (λ z0. ends kinds.Tm (q >>= as_constant) _ (λ z1 o p. kind-is (term (Con z1 z0)) o p))
-makes-kind words.AppTerm = λ r q. ends kinds.Tm (r >>= as_term) _ (λ z0. ends kinds.Tm (q >>= as_term) _ (λ z1. ends kinds.Tm (app_rule names z1 z0) _ (λ z2 o p. kind-is (term z2) o p)))
-makes-kind words.AbsTerm = λ r q. ends kinds.Tm (r >>= as_term) _ (λ z0. ends kinds.Tm (q >>= as_variable) _ (λ z1. ends kinds.Tm (abs_rule names z1 z0) _ (λ z2 o p. kind-is (term z2) o p)))
-makes-kind words.Refl = λ r. ends kinds.Thm (r >>= as_term) _ (λ z0. ends kinds.Thm (refl_rule names z0) _ (λ z1 o p. kind-is (theorem z1) o p))
-makes-kind words.Assume = λ r. ends kinds.Thm (r >>= as_term) _ (λ z0. ends kinds.Thm (assume_rule names z0) _ (λ z1 o p. kind-is (theorem z1) o p))
-makes-kind words.EqMp = λ r q. ends kinds.Thm (r >>= as_theorem) _ (λ z0. ends kinds.Thm (q >>= as_theorem) _ (λ z1. ends kinds.Thm (eq_mp_rule names z1 z0) _ (λ z2 o p. kind-is (theorem z2) o p)))
-makes-kind words.AbsThm = λ r q. ends kinds.Thm (r >>= as_theorem) _ (λ z0. ends kinds.Thm (q >>= as_variable) _ (λ z1. ends kinds.Thm (abs_thm_rule names z1 z0) _ (λ z2 o p. kind-is (theorem z2) o p)))
-makes-kind words.AppThm = λ r q. ends kinds.Thm (r >>= as_theorem) _ (λ z0. ends kinds.Thm (q >>= as_theorem) _ (λ z1. ends kinds.Thm (app_thm_rule names z1 z0) _ (λ z2 o p. kind-is (theorem z2) o p)))
-makes-kind words.DeductAntisym = λ r q. ends kinds.Thm (r >>= as_theorem) _ (λ z0. ends kinds.Thm (q >>= as_theorem) _ (λ z1. ends kinds.Thm (deduct_antisym_rule names z1 z0) _ (λ z2 o p. kind-is (theorem z2) o p)))
-makes-kind words.BetaConv = λ r. ends kinds.Thm (r >>= as_term) _ (λ z0. ends kinds.Thm (beta_conv_rule names z0) _ (λ z1 o p. kind-is (theorem z1) o p))
-makes-kind words.Subst = λ r q. ends kinds.Thm (r >>= as_theorem) _ (λ z0. ends kinds.Thm (q >>= as_list) _ (λ z1. ends kinds.Thm (maps_of z1) _ (λ z2. ends kinds.Thm (subst_rule names z2.0 z2.1 z0) _ (λ z3 o p. kind-is (theorem z3) o p))))
-makes-kind words.Sym = λ r. ends kinds.Thm (r >>= as_theorem) _ (λ z0. ends kinds.Thm (sym_rule names z0) _ (λ z1 o p. kind-is (theorem z1) o p))
-makes-kind words.Trans = λ r q. ends kinds.Thm (r >>= as_theorem) _ (λ z0. ends kinds.Thm (q >>= as_theorem) _ (λ z1. ends kinds.Thm (trans_rule names z1 z0) _ (λ z2 o p. kind-is (theorem z2) o p)))
-makes-kind words.ProveHyp = λ r q. ends kinds.Thm (r >>= as_theorem) _ (λ z0. ends kinds.Thm (q >>= as_theorem) _ (λ z1. ends kinds.Thm (prove_hyp_rule names z1 z0) _ (λ z2 o p. kind-is (theorem z2) o p)))
-makes-kind words.Axiom = λ r q. ends kinds.Thm (r >>= as_term) _ (λ z0. ends kinds.Thm (q >>= as_list >>= as_each as_term) _ (λ z1. ends kinds.Thm (axiom_rule z1 z0) _ (λ z2 o p. kind-is (theorem z2) o p)))
+makes-kind words.ConstTerm = λ r q. ends kinds.Tm (r >>= as_type) _
+    (λ z0. ends kinds.Tm (q >>= as_constant) _ (λ z1 o p. kind-is (term (Con z1 z0)) o p))
+makes-kind words.AppTerm =
+    λ r q. ends kinds.Tm (r >>= as_term) _
+    (λ z0. ends kinds.Tm (q >>= as_term) _
+    (λ z1. ends kinds.Tm (app_rule names z1 z0) _ (λ z2 o p. kind-is (term z2) o p)))
+makes-kind words.AbsTerm =
+    λ r q. ends kinds.Tm (r >>= as_term) _
+    (λ z0. ends kinds.Tm (q >>= as_variable) _
+    (λ z1. ends kinds.Tm (abs_rule names z1 z0) _ (λ z2 o p. kind-is (term z2) o p)))
+makes-kind words.Refl = λ r. ends kinds.Thm (r >>= as_term) _
+    (λ z0. ends kinds.Thm (refl_rule names z0) _ (λ z1 o p. kind-is (theorem z1) o p))
+makes-kind words.Assume = λ r. ends kinds.Thm (r >>= as_term) _
+    (λ z0. ends kinds.Thm (assume_rule names z0) _ (λ z1 o p. kind-is (theorem z1) o p))
+makes-kind words.EqMp =
+    λ r q. ends kinds.Thm (r >>= as_theorem) _
+    (λ z0. ends kinds.Thm (q >>= as_theorem) _
+    (λ z1. ends kinds.Thm (eq_mp_rule names z1 z0) _ (λ z2 o p. kind-is (theorem z2) o p)))
+makes-kind words.AbsThm =
+    λ r q. ends kinds.Thm (r >>= as_theorem) _
+    (λ z0. ends kinds.Thm (q >>= as_variable) _
+    (λ z1. ends kinds.Thm (abs_thm_rule names z1 z0) _ (λ z2 o p. kind-is (theorem z2) o p)))
+makes-kind words.AppThm =
+    λ r q. ends kinds.Thm (r >>= as_theorem) _
+    (λ z0. ends kinds.Thm (q >>= as_theorem) _
+    (λ z1. ends kinds.Thm (app_thm_rule names z1 z0) _ (λ z2 o p. kind-is (theorem z2) o p)))
+makes-kind words.DeductAntisym =
+    λ r q. ends kinds.Thm (r >>= as_theorem) _
+    (λ z0. ends kinds.Thm (q >>= as_theorem) _
+    (λ z1. ends kinds.Thm (deduct_antisym_rule names z1 z0) _ (λ z2 o p. kind-is (theorem z2) o p)))
+makes-kind words.BetaConv = λ r. ends kinds.Thm (r >>= as_term) _
+    (λ z0. ends kinds.Thm (beta_conv_rule names z0) _ (λ z1 o p. kind-is (theorem z1) o p))
+makes-kind words.Subst =
+    λ r q. ends kinds.Thm (r >>= as_theorem) _
+    (λ z0. ends kinds.Thm (q >>= as_list) _
+    (λ z1. ends kinds.Thm (maps_of z1) _
+    (λ z2. ends kinds.Thm (subst_rule names z2.0 z2.1 z0) _ (λ z3 o p. kind-is (theorem z3) o p))))
+makes-kind words.Sym = λ r. ends kinds.Thm (r >>= as_theorem) _
+    (λ z0. ends kinds.Thm (sym_rule names z0) _ (λ z1 o p. kind-is (theorem z1) o p))
+makes-kind words.Trans =
+    λ r q. ends kinds.Thm (r >>= as_theorem) _
+    (λ z0. ends kinds.Thm (q >>= as_theorem) _
+    (λ z1. ends kinds.Thm (trans_rule names z1 z0) _ (λ z2 o p. kind-is (theorem z2) o p)))
+makes-kind words.ProveHyp =
+    λ r q. ends kinds.Thm (r >>= as_theorem) _
+    (λ z0. ends kinds.Thm (q >>= as_theorem) _
+    (λ z1. ends kinds.Thm (prove_hyp_rule names z1 z0) _ (λ z2 o p. kind-is (theorem z2) o p)))
+makes-kind words.Axiom =
+    λ r q. ends kinds.Thm (r >>= as_term) _
+    (λ z0. ends kinds.Thm (q >>= as_list >>= as_each as_term) _
+    (λ z1. ends kinds.Thm (axiom_rule z1 z0) _ (λ z2 o p. kind-is (theorem z2) o p)))
 makes-kind words.Thm = tt
 makes-kind words.DefineConst = tt
 makes-kind words.DefineConstList = tt
 makes-kind words.DefineTypeOp = tt
 
-made-kind : (k : Kind) (m : Maker) (args : Origins Name) (o : Object) → HasKind k m → (values args >>= applied m) ≡ made o → kind_of o ≡ k
+made-kind : (k : Kind) (m : Maker) (args : Origins Name) (o : Object) → HasKind k m → (values args >>= applied m)
+    ≡ made o → kind_of o ≡ k
 made-kind k (of_none q) args o h p = ap kind_of (sym (no-operands q args o p).1) ∙ h
 made-kind k (of_top f) args o h p = h _ o (one-operand f args o p).made
 made-kind k (of_two f) args o h p = h _ _ o (two-operands f args o p).made
@@ -130,7 +179,8 @@ word-kind w args o p = made-kind (word_kind w) (maker w) args o (makes-kind w) p
 
 theorem-kind : (j : ℕ) (d : Definition Name) (o : Object) → theorem_of j d ≡ made o → kind_of o ≡ kinds.Thm
 theorem-kind zero d o p = absurd (cc)
-theorem-kind (suc j) d o p = ends kinds.Thm (some_or StackEmpty (slice_get (theorems names d) j)) _ (λ q o p. kind-is (theorem q) o p) o p
+theorem-kind (suc j) d o p = ends kinds.Thm (some_or StackEmpty (slice_get (theorems names d) j)) _
+    (λ q o p. kind-is (theorem q) o p) o p
 
 pub outcome-kind : (j : ℕ) (d : Origin Name) (o : Object) → value (Outcome j d) ≡ made o → kind_of o ≡ kinds.Thm
 outcome-kind j d o p = ends kinds.Thm (definition_of [] d) _ (λ x o p. theorem-kind j x o p) o p

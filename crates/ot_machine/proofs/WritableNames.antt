@@ -1,5 +1,6 @@
 -- The names of the logic, of articles of version 5 and of lines can be said by a line.
-use Rattle.std.proofs.Common.{◌≡◌, ◌≢◌, ℕ, ◌<◌, ◌≤◌, ◌^◌, ◌==◌, inl, inr, Bool, true, false, List, [], ◌∷◌, ◌++◌, length, map, refl, sym, ap, subst, arith, length-append, lit≤, rules}
+use Rattle.std.proofs.Common.{◌≡◌, ◌≢◌, ℕ, ◌<◌, ◌≤◌, ◌^◌, ◌==◌, inl, inr, Bool, true, false, List, [], ◌∷◌}
+use Rattle.std.proofs.Common.{◌++◌, length, map, refl, sym, ap, subst, arith, length-append, lit≤, rules}
 use Rattle.std.specs.Prelude.{codes, not, ◌&&◌, Result, Ok}
 use Rattle.std.specs.List.{AllByRecursion, flat_map, list_all}
 use Rattle.std.specs.Char.{is_ascii_digit}
@@ -33,7 +34,15 @@ pub record IsLetter (b : ℕ) : Type 0 where
   pub no_newline : b ≢ 10
 
 letter : (b : ℕ) → is_letter b ≡ true → IsLetter b
-letter b h = record { item = ((λ e. grind (arith, nat_tests)), (λ e. grind (arith, nat_tests)), (λ e. grind (arith, nat_tests))); no_newline = λ e. grind (arith, nat_tests) }
+letter b h =
+    record {
+      item = (
+        (λ e. grind (arith, nat_tests)),
+        (λ e. grind (arith, nat_tests)),
+        (λ e. grind (arith, nat_tests)),
+      );
+      no_newline = λ e. grind (arith, nat_tests);
+    }
 
 and-left : (a b : Bool) → (a && b) ≡ true → a ≡ true
 and-left true b h = refl
@@ -45,7 +54,11 @@ and-right false b h = absurd (cc)
 
 letters : (cs : List ℕ) → list_all is_letter cs ≡ true → AllByRecursion IsLetter cs
 letters [] h = tt
-letters (c ∷ cs) h = (letter c (and-left (is_letter c) (list_all is_letter cs) h), letters cs (and-right (is_letter c) (list_all is_letter cs) h))
+letters (c ∷ cs) h = (
+  letter c (and-left (is_letter c) (list_all is_letter cs) h),
+  letters cs
+      (and-right (is_letter c) (list_all is_letter cs) h),
+)
 
 items : (cs : List ℕ) → AllByRecursion IsLetter cs → AllByRecursion IsItem (map Plain cs)
 items [] h = tt
@@ -67,12 +80,20 @@ no-newline (c ∷ cs) h (inr m) = no-newline cs h.1 m
 letters-writable : (cs : List ℕ) → AllByRecursion IsLetter cs → length cs ≤ 65533 → IsWritable (cs ∷ [])
 letters-writable cs h short =
     name-of-line (34 ∷ cs ++ 34 ∷ []) (cs ∷ [])
-    (record { items = map Plain cs ∷ []; some = lit≤ tt; each = (items cs h, tt); text_is = ap (λ l. 34 ∷ l ++ 34 ∷ []) (sym (plain-text cs)); name_is = ap (λ l. l ∷ []) (sym (plain-bytes cs)) })
+    (record {
+      items = map Plain cs ∷ [];
+      some = lit≤ tt;
+      each = (items cs h, tt);
+      text_is = ap
+          (λ l. 34 ∷ l ++ 34 ∷ []) (sym (plain-text cs));
+      name_is = ap (λ l. l ∷ []) (sym (plain-bytes cs));
+    })
     (record { short = (let l = length-append cs (34 ∷ []) in omega arith); one = λ m. unbroken m })
   where
     unbroken : IsMember 10 (34 ∷ cs ++ 34 ∷ []) → ⊥
     unbroken (inl e) = omega (arith, e)
-    unbroken (inr m) = elim (IsMember-cases 10 cs (34 ∷ []) m) [ inl a ↦ no-newline cs h a | inr b ↦ elim b [ inl e ↦ omega (arith, e) | inr n ↦ n ] ]
+    unbroken (inr m) = elim (IsMember-cases 10 cs (34 ∷ []) m)
+        [ inl a ↦ no-newline cs h a | inr b ↦ elim b [ inl e ↦ omega (arith, e) | inr n ↦ n ] ]
 
 -- ---- decimal numerals
 
@@ -80,11 +101,18 @@ digit-letter : (d : ℕ) → is_ascii_digit d ≡ true → IsLetter d
 digit-letter d h =
     let low : 48 ≤ d = grind (arith, nat_tests) in
     let high : d ≤ 57 = grind (arith, nat_tests) in
-    record { item = ((λ e. omega (arith, e, low)), (λ e. omega (arith, e, high)), (λ e. omega (arith, e, low))); no_newline = λ e. omega (arith, e, low) }
+    record {
+      item = ((λ e. omega (arith, e, low)), (λ e. omega (arith, e, high)), (λ e. omega (arith, e, low)));
+      no_newline = λ e. omega (arith, e, low);
+    }
 
 digit-letters : (ds : List ℕ) → list_all is_ascii_digit ds ≡ true → AllByRecursion IsLetter ds
 digit-letters [] h = tt
-digit-letters (d ∷ ds) h = (digit-letter d (and-left (is_ascii_digit d) (list_all is_ascii_digit ds) h), digit-letters ds (and-right (is_ascii_digit d) (list_all is_ascii_digit ds) h))
+digit-letters (d ∷ ds) h = (
+  digit-letter d (and-left (is_ascii_digit d) (list_all is_ascii_digit ds) h),
+  digit-letters ds
+      (and-right (is_ascii_digit d) (list_all is_ascii_digit ds) h),
+)
 
 all_digits : IsNumeralModel (λ ds. list_all is_ascii_digit ds ≡ true) (digits_value 10)
 all_digits = numerals_by_value (λ ds. list_all is_ascii_digit ds ≡ true) (search rules)

@@ -15,7 +15,8 @@ use Rattle.ot_machine.specs.Objects.{no_objects, more_objects}
 use Rattle.ot_machine.specs.declared.object.Object as object
 use Rattle.ot_machine.specs.declared.object.List as items
 use Rattle.ot_machine.specs.declared.object.Cell as cell
-use Rattle.ot_machine.specs.Meaning.{state_of, object_of, list_at, cells_of, length_bound, IsOf, IsIn, IsListIn, Grows}
+use Rattle.ot_machine.specs.Meaning.{state_of, object_of, list_at, cells_of}
+use Rattle.ot_machine.specs.Meaning.{length_bound, IsOf, IsIn, IsListIn, Grows}
 use Rattle.ot_machine.specs.States.{State, Context}
 use Rattle.ot_machine.specs.Run.{Ended, Stopped, run, IsReached}
 
@@ -28,7 +29,8 @@ IsSymbolIn k e = Unit {0}
 
 -- a refusal is the stated one, by the kernel's names; want of memory is free
 abbrev pub Refuses : {X : Type 0} → kernel.State → Fault → Result X (faults.Fault Name) → Type 0
-Refuses k e stated = IsSymbolIn k e × ((f : faults.Fault Name) → fault_of (kernel.name_at k) e ≡ Some f → stated ≡ Err f)
+Refuses k e stated =
+    IsSymbolIn k e × ((f : faults.Fault Name) → fault_of (kernel.name_at k) e ≡ Some f → stated ≡ Err f)
 
 -- what was made is what is stated
 abbrev pub Makes : {X Y : Type 0} → kernel.State → (X → Y) → Result X Fault → Result Y (faults.Fault Name) → Type 0
@@ -41,8 +43,10 @@ Moves k (Ok x) stated old new = stated ≡ Ok new
 Moves k (Err e) stated old new = (new ≡ old) × Refuses k e stated
 
 -- the first object of a list and the rest, where there is one
-pub record IsFirstOf (k : kernel.State) (cells : List cell.Cell) (l : items.List) (o : object.Object) (rest : items.List) : Type 0 where
-  pub list_is : list_at (cells_of k cells) l ≡ more_objects (object_of k (cells_of k cells) o) (list_at (cells_of k cells) rest)
+pub record IsFirstOf (k : kernel.State) (cells : List cell.Cell) (l : items.List) (o : object.Object)
+    (rest : items.List) : Type 0 where
+  pub list_is : list_at (cells_of k cells) l ≡ more_objects (object_of k (cells_of k cells) o)
+      (list_at (cells_of k cells) rest)
   pub head : IsIn k (length cells) o
   pub tail : IsListIn (length cells) rest
   pub shorter : length_bound rest < length_bound l
@@ -54,7 +58,8 @@ IsFirst k cells l (Some p) = IsFirstOf k cells l p.0 p.1
 -- what running the lines answered, by the kernel's names, and the state that it left
 abbrev pub Runs : kernel.State → Result (Unit {0}) ArticleFault → Context → Lines → State → State → Type 0
 Runs k (Ok u) c lines start now = run c lines start ≡ Ended now
-Runs k (Err (article.At line fault)) c lines start now = (f : faults.Fault Name) × (fault_of (kernel.name_at k) fault ≡ Some f) × (run c lines start ≡ Stopped line f now)
+Runs k (Err (article.At line fault)) c lines start now =
+    (f : faults.Fault Name) × (fault_of (kernel.name_at k) fault ≡ Some f) × (run c lines start ≡ Stopped line f now)
 Runs k (Err article.ReadFault) c lines start now = IsReached c lines start now
 Runs k (Err article.Memory) c lines start now = IsReached c lines start now
 
@@ -64,7 +69,8 @@ NamesSymbolIn k (article.At line fault) = IsSymbolIn k fault
 NamesSymbolIn k e = Unit {0}
 
 -- a row was taken: the state moved by it, the session grew, and the machine is still of it
-pub record Turns (result : Result (Unit {0}) Fault) (row : State → Result State (faults.Fault Name)) (s : Session) (m : Machine) (t : Session) (n : Machine) : Type 0 where
+pub record Turns (result : Result (Unit {0}) Fault) (row : State → Result State (faults.Fault Name)) (s : Session)
+    (m : Machine) (t : Session) (n : Machine) : Type 0 where
   pub moves : Moves t.kernel result (row (state_of s m)) (state_of s m) (state_of t n)
   pub grown : Grows s t
   pub of : IsOf t n

@@ -18,8 +18,10 @@ term_entries [] o = []
 term_entries (t ∷ ts) o = record { object = term t; origin = operand 0 o } ∷ term_entries ts (operand 1 o)
 
 -- for hypotheses whose list has the origin o, and a conclusion; os are the operands of the command
-abbrev pub used : Context → List (Tm Name) → Tm Name → Origin Name → Origins Name → RunState → Result (Entry × RunState) (Fault Name)
-used c hyps p o os run = axiom_rule hyps p >>= λ q. discharged c (term_entries hyps o) (record { sequent = q; origin = Make words.Axiom os }) run
+abbrev pub used : Context → List (Tm Name) → Tm Name → Origin Name → Origins Name → RunState
+    → Result (Entry × RunState) (Fault Name)
+used c hyps p o os run = axiom_rule hyps p >>= λ q. discharged c (term_entries hyps o)
+    (record { sequent = q; origin = Make words.Axiom os }) run
 
 -- the theorem e with one hypothesis more, if it lacks it
 abbrev pub supposing : Entry → Entry → Result Entry (Fault Name)
@@ -27,4 +29,10 @@ supposing g e = if is_hypothesis g.object e.object then Ok e else adding e g
 
 -- a new assumption at the end
 abbrev pub assumed_new : List (Tm Name) → Tm Name → Origin Name → RunState → Result (Entry × RunState) (Fault Name)
-assumed_new hyps p o run = axiom_rule hyps p >>= λ q. Ok (theorem_entry (record { sequent = q; origin = o }), record run { assumptions = run.assumptions ++ record { sequent = q; origin = o } ∷ [] })
+assumed_new hyps p o run =
+    axiom_rule hyps p
+    >>= λ q. Ok (
+      theorem_entry (record { sequent = q; origin = o }),
+      record run
+          { assumptions = run.assumptions ++ record { sequent = q; origin = o } ∷ [] },
+    )

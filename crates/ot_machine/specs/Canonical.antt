@@ -53,11 +53,13 @@ pub record Adds (old new : Session) (m : Machine) : Type 0 where
 
 -- each step that is kept is that of its type
 pub record AreTypes (s : Session) (es : List (ℕ × ℕ)) : Type 0 where
-  pub known : (t i : ℕ) → lookup (nat_eq t) es ≡ Some i → (t < length s.kernel.types) × (i < length s.trace) × (origin_of s i ≡ canon_ty (type_at s.kernel t))
+  pub known : (t i : ℕ) → lookup (nat_eq t) es ≡ Some i → (t < length s.kernel.types) × (i < length s.trace)
+      × (origin_of s i ≡ canon_ty (type_at s.kernel t))
 
 -- the tests of keys
 abbrev pub same_binder : Binder → Binder → Bool
-same_binder b c = (nat_eq b.variable.name c.variable.name && nat_eq b.variable.ty c.variable.ty) && nat_eq b.step c.step
+same_binder b c = (nat_eq b.variable.name c.variable.name && nat_eq b.variable.ty c.variable.ty)
+    && nat_eq b.step c.step
 
 abbrev pub same_part : Part → Part → Bool
 same_part p q = nat_eq p.id q.id && (nat_eq p.depth q.depth && pointwise same_binder p.binders.items q.binders.items)

@@ -15,7 +15,10 @@ given_of s g = record { sequent = kernel.theorem_at s.kernel g.th; origin = orig
 
 -- the names, the sequents and the origins that the numbers of a context stand for
 abbrev pub context_of : Session → code.Context → Context
-context_of s c = record { interpretation = map_interpretation (kernel.name_at s.kernel) c.interp.now; theorems = map (given_of s) c.theorems.now }
+context_of s c = record {
+  interpretation = map_interpretation (kernel.name_at s.kernel) c.interp.now;
+  theorems = map (given_of s) c.theorems.now;
+}
 
 -- the numbers of a context are of the session, and its theorems are found by the classes of their conclusions
 pub record IsContextOf (s : Session) (c : code.Context) : Type 0 where

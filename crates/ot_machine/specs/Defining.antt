@@ -20,11 +20,13 @@ use Rattle.ot_machine.specs.declared.session.Session.{Session}
 use Rattle.ot_machine.specs.Meaning.{origin_of}
 
 -- its theorems, and the run with it
-abbrev pub closed_defined : (op abs rep : Name) → List Name → Sequent Name → Origin Name → RunState → Result (List Entry × RunState) (Fault Name)
+abbrev pub closed_defined : (op abs rep : Name) → List Name → Sequent Name → Origin Name → RunState
+    → Result (List Entry × RunState) (Fault Name)
 closed_defined op abs rep vars th origin run = defined (λ ds. type_definition names ds op abs rep vars th) origin run
 
 -- in an article of version 5 the open theorems
-abbrev pub open_defined : (op abs rep : Name) → List Name → Sequent Name → Origin Name → RunState → Result (List Entry × RunState) (Fault Name)
+abbrev pub open_defined : (op abs rep : Name) → List Name → Sequent Name → Origin Name → RunState
+    → Result (List Entry × RunState) (Fault Name)
 open_defined op abs rep vars th origin run =
     closed_defined op abs rep vars th origin run >>= λ made.
     open_theorems abs rep (TyOp op (tys_of_vars names vars)) th.concl made.0 >>= λ ths. Ok (ths, made.1)
@@ -37,12 +39,16 @@ operator_theorems t d =
     ∷ record { object = theorem (theorem_at t.kernel d.rep_abs); origin = origin_of t d.rep_abs_step }
     ∷ []
 
--- the steps of the symbols are those that words make of their names, and that of the definition has these, a list and a theorem
+-- the steps of the symbols are those that words make of their names, and that of the definition has these, a list and
+-- a theorem
 pub record AreOperatorSteps (s t : Session) (n a r list premise : ℕ) (d : OperatorSteps) : Type 0 where
   pub op : origin_of t d.op ≡ type_op_origin (Named (name_at s.kernel n))
   pub abs : origin_of t d.abs ≡ constant_origin (Named (name_at s.kernel a))
   pub rep : origin_of t d.rep ≡ constant_origin (Named (name_at s.kernel r))
-  pub definition : origin_of t d.definition ≡ Define words.DefineTypeOp (from_list (Named (name_at s.kernel n) ∷ Named (name_at s.kernel a) ∷ Named (name_at s.kernel r) ∷ origin_of s list ∷ origin_of s premise ∷ []))
+  pub definition : origin_of t d.definition
+      ≡ Define words.DefineTypeOp
+      (from_list (Named (name_at s.kernel n) ∷ Named (name_at s.kernel a) ∷ Named (name_at s.kernel r)
+      ∷ origin_of s list ∷ origin_of s premise ∷ []))
   pub op_step : d.op < length t.trace
   pub abs_step : d.abs < length t.trace
   pub rep_step : d.rep < length t.trace

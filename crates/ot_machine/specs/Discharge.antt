@@ -43,7 +43,8 @@ given_for q = find (λ g. all_in names g.sequent.hyps q.hyps && same_tm names g.
 -- what is used: the theorem of the context, weakened by the stated terms, or else the assumption
 abbrev pub or_weakened : Option Given → List Entry → Given → RunState → Result (Entry × RunState) (Fault Name)
 or_weakened (Some a) gs g run = weakened gs (theorem_entry a) >>= λ e. Ok (e, run)
-or_weakened None gs g run = let t = or_assumed (given_as g.sequent run.assumptions) g run in Ok (theorem_entry t.0, t.1)
+or_weakened None gs g run = let t = or_assumed (given_as g.sequent run.assumptions) g run in
+    Ok (theorem_entry t.0, t.1)
 
 abbrev pub discharged : Context → List Entry → Given → RunState → Result (Entry × RunState) (Fault Name)
 discharged c gs g run = or_weakened (given_for g.sequent c.theorems) gs g run
@@ -54,5 +55,6 @@ axiom_row c s = do
   l ← list_entry 1 s.article.stack
   hyps ← as_each as_term l.0
   q ← axiom_rule hyps p
-  t ← discharged c (element_entries l.0 l.1) (record { sequent = q; origin = Make words.Axiom (origins_of (top 2 s.article.stack)) }) s.run
+  t ← discharged c (element_entries l.0 l.1)
+      (record { sequent = q; origin = Make words.Axiom (origins_of (top 2 s.article.stack)) }) s.run
   Ok (record { article = record s.article { stack = replaced 2 t.0 s.article.stack }; run = t.1 })

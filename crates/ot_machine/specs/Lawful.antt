@@ -71,12 +71,14 @@ pub record IsLarger (b c : Basis) : Type 0 where
 
 -- the list and the term of an export state its sequent
 abbrev pub StatesSequent : Export → Type 0
-StatesSequent e = (os : Objects) (hyps : List (Tm Name)) (concl : Tm Name) → value e.roots.list ≡ Ok (list os) → as_each as_term os ≡ Ok hyps → value e.roots.term ≡ Ok (term concl)
+StatesSequent e = (os : Objects) (hyps : List (Tm Name)) (concl : Tm Name) → value e.roots.list ≡ Ok (list os)
+    → as_each as_term os ≡ Ok hyps → value e.roots.term ≡ Ok (term concl)
     → same_sequent names e.sequent (record { hyps = hyps; concl = concl }) ≡ true
 
 -- the axioms of these assumptions, and these definitions
 abbrev pub basis_of : (Name → Type 0) → List Given → List Made → Basis
-basis_of IsNamed gs ms = record { axioms = map (λ g. g.origin) gs; definitions = map (λ m. m.origin) ms; IsNamed = IsNamed }
+basis_of IsNamed gs ms =
+    record { axioms = map (λ g. g.origin) gs; definitions = map (λ m. m.origin) ms; IsNamed = IsNamed }
 
 abbrev pub run_basis : (Name → Type 0) → RunState → Basis
 run_basis IsNamed run = basis_of IsNamed run.assumptions run.definitions
@@ -87,7 +89,8 @@ IsAxiom o = (os : Origins Name) × (o ≡ Make words.Axiom os)
 
 -- no sequent stands at two places
 abbrev pub AreApart : {X : Type 0} → (X → Sequent Name) → List X → Type 0
-AreApart {X} sequent xs = (i j : ℕ) (x y : X) → slice_get xs i ≡ Some x → slice_get xs j ≡ Some y → same_sequent names (sequent x) (sequent y) ≡ true → i ≡ j
+AreApart {X} sequent xs = (i j : ℕ) (x y : X) → slice_get xs i ≡ Some x → slice_get xs j ≡ Some y
+    → same_sequent names (sequent x) (sequent y) ≡ true → i ≡ j
 
 module _ (IsNamed : Name → Type 0) where
   -- accepted after the definitions that stand before it, and made of what rests on these
@@ -103,7 +106,8 @@ module _ (IsNamed : Name → Type 0) where
 
   pub record IsLawfulArticle (run : RunState) (s : ArticleState) : Type 0 where
     pub stack : All (EntryFits (run_basis IsNamed run)) s.stack
-    pub dictionary : (k : ℤ) (e : Entry) → dictionaries.get s.dictionary k ≡ Some e → EntryFits (run_basis IsNamed run) e
+    pub dictionary : (k : ℤ) (e : Entry) → dictionaries.get s.dictionary k ≡ Some e
+        → EntryFits (run_basis IsNamed run) e
     pub exports : All (IsLawfulExport (run_basis IsNamed run)) s.exports
     pub stated : All StatesSequent s.exports
     pub apart : AreApart (λ e. e.sequent) s.exports

@@ -48,7 +48,8 @@ abbrev pub mark_of : Result Command (Fault Name) → State → List (Origin Name
 mark_of (Ok command) s = mark command s
 mark_of (Err fault) s = []
 
-abbrev pub marks_after : Result Command (Fault Name) → Result State (Fault Name) → (State → List (Origin Name)) → List (Origin Name)
+abbrev pub marks_after : Result Command (Fault Name) → Result State (Fault Name) → (State → List (Origin Name))
+    → List (Origin Name)
 marks_after command (Ok s) later = mark_of command s ++ later s
 marks_after command (Err fault) later = []
 
@@ -71,4 +72,5 @@ pub record IsLean (max : ℕ) (bytes : List ℕ) : Type 0 where
   pub last : State
   pub ends : run no_context (lines_of max bytes) fresh ≡ Ended last
   pub distinct : AreDistinct (marks_of no_context (lines_of max bytes) fresh)
-  pub needed : (o : Origin Name) → IsMember o (marks_of no_context (lines_of max bytes) fresh) → IsReached (roots_of last.article.exports) (map (λ m. m.origin) last.run.definitions) o
+  pub needed : (o : Origin Name) → IsMember o (marks_of no_context (lines_of max bytes) fresh)
+      → IsReached (roots_of last.article.exports) (map (λ m. m.origin) last.run.definitions) o

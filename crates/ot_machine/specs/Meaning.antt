@@ -1,5 +1,6 @@
 -- What a machine stands for, over its session.
-use Rattle.std.specs.Prelude.{◌≡◌, ◌<◌, ◌≤◌, ℕ, suc, ℤ, pos, List, [], ◌∷◌, ◌++◌, length, map, slice_get, slice_index_or, Option, Some, None}
+use Rattle.std.specs.Prelude.{◌≡◌, ◌<◌, ◌≤◌, ℕ, suc, ℤ, pos, List, [], ◌∷◌, ◌++◌, length}
+use Rattle.std.specs.Prelude.{map, slice_get, slice_index_or, Option, Some, None}
 use Rattle.std.specs.List.{All}
 use Rattle.std.specs.Map.{lookup}
 use Rattle.std.specs.Ordering.{int_cmp, int_eq}
@@ -10,9 +11,12 @@ use Rattle.ot_plain.specs.Names.{Name}
 use Rattle.ot_plain.specs.Trees.{Tm, Sequent, Definition}
 use Rattle.ot_kernel.specs.State as kernel
 use Rattle.ot_kernel.specs.Alike.{AreFirstPlaces}
-use Rattle.ot_machine.specs.Objects.{Object, Objects, number, name, list, type_op, a_type, constant, variable, term, theorem, no_objects, more_objects, nesting}
-use Rattle.ot_machine.specs.States.{Entry, Export, Given, Made, Version, open_version, version_5, version_6, ArticleState, RunState, State}
-use Rattle.ot_trace.specs.Origins.{Origin, Origins, Number, Named, Make, Define, Outcome, NoOrigins, MoreOrigins, map_origin}
+use Rattle.ot_machine.specs.Objects.{Object, Objects, number, name, list, type_op, a_type, constant}
+use Rattle.ot_machine.specs.Objects.{variable, term, theorem, no_objects, more_objects, nesting}
+use Rattle.ot_machine.specs.States.{Entry, Export, Given, Made, Version, open_version}
+use Rattle.ot_machine.specs.States.{version_5, version_6, ArticleState, RunState, State}
+use Rattle.ot_trace.specs.Origins.{Origin, Origins, Number, Named, Make, Define}
+use Rattle.ot_trace.specs.Origins.{Outcome, NoOrigins, MoreOrigins, map_origin}
 use Rattle.ot_trace.specs.Trace as trace
 use Rattle.ot_machine.specs.declared.object.Object as object
 use Rattle.ot_machine.specs.declared.object.Object.TheVariants as objects
@@ -133,7 +137,11 @@ made_of s (d ∷ ds) (i ∷ is) = record { definition = d; origin = origin_of s 
 made_of s _ _ = []
 
 abbrev pub run_of : Session → RunState
-run_of s = record { assumptions = givens_of s s.kernel.assumptions s.assumption_steps.items; definitions = made_of s s.kernel.definitions s.definition_steps.items }
+run_of s =
+    record {
+      assumptions = givens_of s s.kernel.assumptions s.assumption_steps.items;
+      definitions = made_of s s.kernel.definitions s.definition_steps.items;
+    }
 
 -- the trace has names of the kernel alone, and each assumption and each definition has its step
 pub record IsRun (s : Session) : Type 0 where
@@ -216,7 +224,8 @@ concls_of k = map (λ th. (kernel.theorem_at k th).concl)
 pub record IsOf (s : Session) (m : Machine) : Type 0 where
   pub run : IsRun s
   pub stack : All (IsEntryIn s (length m.cells.items)) m.stack.items
-  pub dictionary : (q : ℤ) (e : code_entry.Entry) → lookup (int_eq q) m.dictionary.entries ≡ Some e → IsEntryIn s (length m.cells.items) e
+  pub dictionary : (q : ℤ) (e : code_entry.Entry) → lookup (int_eq q) m.dictionary.entries ≡ Some e
+      → IsEntryIn s (length m.cells.items) e
   pub exports : All (IsExportIn s) m.exports.items
   pub placed : AreFirstPlaces s.kernel (concls_of s.kernel (map (λ e. e.th) m.exports.items)) m.places
   pub cells : AreCells s.kernel m.cells.items

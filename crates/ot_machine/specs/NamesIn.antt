@@ -6,7 +6,8 @@ use Rattle.ot_plain.specs.Names.{Name}
 use Rattle.ot_plain.specs.Naming.{names}
 use Rattle.ot_plain.specs.Hol.{depth_limit}
 use Rattle.ot_plain.specs.Trees.{Ty, Tys, TyVar, TyOp, NoTys, MoreTys, Tm, Free, Con, Bound, App, Abs, Sequent}
-use Rattle.ot_machine.specs.Objects.{Object, Objects, number, name, list, type_op, a_type, constant, variable, term, theorem, no_objects, more_objects}
+use Rattle.ot_machine.specs.Objects.{Object, Objects, number, name, list, type_op, a_type}
+use Rattle.ot_machine.specs.Objects.{constant, variable, term, theorem, no_objects, more_objects}
 
 -- each name that occurs has the property
 module _ (P : Name → Type 0) where

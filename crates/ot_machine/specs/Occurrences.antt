@@ -9,7 +9,8 @@ use Rattle.ot_machine.specs.Nodes.{IsKey}
 use Rattle.ot_machine.specs.declared.makers.occurrences.Occurrence.{Occurrence}
 
 abbrev pub same_occurrence : Occurrence → Occurrence → Bool
-same_occurrence o p = nat_eq o.term p.term && (nat_eq o.variable.name p.variable.name && nat_eq o.variable.ty p.variable.ty)
+same_occurrence o p =
+    nat_eq o.term p.term && (nat_eq o.variable.name p.variable.name && nat_eq o.variable.ty p.variable.ty)
 
 -- the answer is the right one
 pub record IsOccurrence (k : State) (o : Occurrence) (b : Bool) : Type 0 where

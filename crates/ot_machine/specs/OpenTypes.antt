@@ -5,7 +5,8 @@ use Rattle.ot_plain.specs.Naming.{names}
 use Rattle.ot_plain.specs.Trees.{Ty, Tm, App, Sequent}
 use Rattle.ot_plain.specs.Hol.{type_of}
 use Rattle.ot_plain.specs.declared.command.Cmd.TheVariants as words
-use Rattle.ot_trace.specs.Origins.{Origin, Named, Make, Outcome, NoOrigins, make_one, make_two, type_op_origin, constant_origin}
+use Rattle.ot_trace.specs.Origins.{Origin, Named, Make, Outcome, NoOrigins, make_one}
+use Rattle.ot_trace.specs.Origins.{make_two, type_op_origin, constant_origin}
 use Rattle.ot_machine.specs.Objects.{theorem}
 use Rattle.ot_machine.specs.States.{Entry}
 use Rattle.ot_machine.specs.Version5.{app, lam, abs_origin, rep_origin}
@@ -15,7 +16,8 @@ use Rattle.ot_machine.specs.Meaning.{origin_of}
 
 -- ---- origins, over those of their parts
 abbrev pub fun_origin : Origin Name → Origin Name → Origin Name
-fun_origin a b = make_two words.OpType (type_op_origin (Named names.arrow)) (make_two words.Cons a (make_two words.Cons b (Make words.Nil NoOrigins)))
+fun_origin a b = make_two words.OpType (type_op_origin (Named names.arrow))
+    (make_two words.Cons a (make_two words.Cons b (Make words.Nil NoOrigins)))
 
 abbrev pub bool_origin : Origin Name
 bool_origin = make_two words.OpType (type_op_origin (Named names.bool_name)) (Make words.Nil NoOrigins)
@@ -43,7 +45,8 @@ outcome_at j d x = make_two words.AppThm (Outcome j d) (make_one words.Refl x)
 
 -- from an equation of two redexes that of what they come to
 abbrev pub reduced : Origin Name → Origin Name → Origin Name → Origin Name
-reduced e th f = make_two words.Trans (make_two words.Trans (make_one words.Sym (make_one words.BetaConv e)) th) (make_one words.BetaConv f)
+reduced e th f = make_two words.Trans (make_two words.Trans (make_one words.Sym (make_one words.BetaConv e)) th)
+    (make_one words.BetaConv f)
 
 -- abs (rep a) = a, over the constants and the new type
 abbrev pub returned_origin : Origin Name → Origin Name → Origin Name → Origin Name → Origin Name
@@ -53,11 +56,13 @@ returned_origin d abs rep new =
     reduced (redex v (composed abs rep a) a) (outcome_at 1 d a) (redex v a a)
 
 -- p r = (rep (abs r) = r), over the constants, the equality, the predicate and the old type
-abbrev pub opened_origin : Origin Name → Origin Name → Origin Name → Origin Name → Origin Name → Origin Name → Origin Name
+abbrev pub opened_origin : Origin Name → Origin Name → Origin Name → Origin Name → Origin Name → Origin Name
+    → Origin Name
 opened_origin d abs rep equality p old =
     let v = variable_at (codes "r" ∷ []) old in
     let r = term_of v in
-    reduced (redex v (app p r) r) (make_one words.Sym (outcome_at 2 d r)) (redex v (app (app equality (composed rep abs r)) r) r)
+    reduced (redex v (app p r) r) (make_one words.Sym (outcome_at 2 d r))
+    (redex v (app (app equality (composed rep abs r)) r) r)
 
 -- ---- what the calls find
 
@@ -65,7 +70,8 @@ opened_origin d abs rep equality p old =
 pub record AreConstants (s t : Session) (to from : Name) (old new : ℕ) (c : OpenConstants) : Type 0 where
   pub abs : origin_of t c.abs ≡ constant_at to (fun_origin (origin_of s old) (origin_of s new))
   pub rep : origin_of t c.rep ≡ constant_at from (fun_origin (origin_of s new) (origin_of s old))
-  pub equality : origin_of t c.equality ≡ constant_at names.equals (fun_origin (origin_of s old) (fun_origin (origin_of s old) bool_origin))
+  pub equality : origin_of t c.equality
+      ≡ constant_at names.equals (fun_origin (origin_of s old) (fun_origin (origin_of s old) bool_origin))
   pub abs_step : c.abs < length t.trace
   pub rep_step : c.rep < length t.trace
   pub equality_step : c.equality < length t.trace

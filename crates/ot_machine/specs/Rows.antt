@@ -1,5 +1,6 @@
 -- The commands of the article format: one row for each word.
-use Rattle.std.specs.Prelude.{pos, ℕ, suc, List, [], ◌∷◌, ◌++◌, map, find, Option, Some, None, Bool, false, ◌||◌, Result, Ok, Err, cond}
+use Rattle.std.specs.Prelude.{pos, ℕ, suc, List, [], ◌∷◌, ◌++◌, map, find, Option}
+use Rattle.std.specs.Prelude.{Some, None, Bool, false, ◌||◌, Result, Ok, Err, cond}
 use Rattle.std.specs.Ordering.{int_eq}
 use Rattle.std.specs.FinMap as dictionaries
 use Rattle.ot_plain.specs.Names.{Name}
@@ -13,9 +14,11 @@ use Rattle.ot_plain.specs.declared.command.Cmd.TheVariants as words
 use Rattle.ot_kernel.specs.Defining.{Defining, const_definition, list_definition, type_definition}
 use Rattle.ot_interp.specs.Interpretation.{renamed}
 use Rattle.ot_machine.specs.Objects.{Object, Objects, list, type_op, constant, theorem, no_objects, more_objects}
-use Rattle.ot_trace.specs.Origins.{Origin, Number, Named, Make, Define, Outcome, NoOrigins, from_list, operand, make_two, constant_origin, type_op_origin, renamed_pairs}
+use Rattle.ot_trace.specs.Origins.{Origin, Number, Named, Make, Define, Outcome, NoOrigins, from_list}
+use Rattle.ot_trace.specs.Origins.{operand, make_two, constant_origin, type_op_origin, renamed_pairs}
 use Rattle.ot_machine.specs.States.{Entry, Export, Given, Made, ArticleState, RunState, State, Context}
-use Rattle.ot_machine.specs.Places.{entry_at, list_entry, object_at, top, pushed, dropped, replaced, exchanged, origins_of, number_on, name_on, list_on, term_on, theorem_on, terms_on, names_on}
+use Rattle.ot_machine.specs.Places.{entry_at, list_entry, object_at, top, pushed, dropped, replaced, exchanged}
+use Rattle.ot_machine.specs.Places.{origins_of, number_on, name_on, list_on, term_on, theorem_on, terms_on, names_on}
 use Rattle.ot_machine.specs.Makers.{arity, made_by, maker}
 use Rattle.ot_machine.specs.DefinitionLists.{pairs_of}
 
@@ -42,7 +45,8 @@ abbrev pub hd_tl_row : List Entry → Row
 hd_tl_row stack = do
   l ← list_entry 0 stack
   parts ← first_of l.0
-  Ok (exchanged 1 (record { object = parts.0; origin = operand 0 l.1 } ∷ record { object = list parts.1; origin = operand 1 l.1 } ∷ []) stack)
+  Ok (exchanged 1 (record { object = parts.0; origin = operand 0 l.1 }
+      ∷ record { object = list parts.1; origin = operand 1 l.1 } ∷ []) stack)
 
 -- the number 6 alone is a version
 abbrev pub version_row : List Entry → Row
@@ -104,17 +108,24 @@ definitions_of = map (λ d. d.definition)
 -- the theorems of the definition that d defines, from the j-th on
 abbrev pub theorem_entries : Origin Name → ℕ → List (Sequent Name) → List Entry
 theorem_entries d j [] = []
-theorem_entries d j (q ∷ qs) = record { object = theorem q; origin = Outcome (suc j) d } ∷ theorem_entries d (suc j) qs
+theorem_entries d j (q ∷ qs) = record { object = theorem q; origin = Outcome (suc j) d }
+    ∷ theorem_entries d (suc j) qs
 
 -- the theorems of the definition that a rule gives after those of the run, and the run with it at their end
-abbrev pub defined : (List (Definition Name) → Defining names) → Origin Name → RunState → Result (List Entry × RunState) (Fault Name)
+abbrev pub defined : (List (Definition Name) → Defining names) → Origin Name → RunState
+    → Result (List Entry × RunState) (Fault Name)
 defined rule origin run = do
   d ← rule (definitions_of run.definitions)
-  Ok (theorem_entries origin 0 (theorems names d), record run { definitions = run.definitions ++ record { definition = d; origin = origin } ∷ [] })
+  Ok (
+    theorem_entries origin 0 (theorems names d),
+    record run
+        { definitions = run.definitions ++ record { definition = d; origin = origin } ∷ [] },
+  )
 
 -- the symbols that were defined and their theorems, in the place of the top n entries
 abbrev pub with_defined : ℕ → List Entry → List Entry × RunState → State → State
-with_defined n symbols made s = record { article = record s.article { stack = exchanged n (symbols ++ made.0) s.article.stack }; run = made.1 }
+with_defined n symbols made s =
+    record { article = record s.article { stack = exchanged n (symbols ++ made.0) s.article.stack }; run = made.1 }
 
 -- the origin at a place, 0 at the top; some origin where there is none
 abbrev pub origin_at : ℕ → List Entry → Origin Name
@@ -133,11 +144,13 @@ define_const_row c s = do
   t ← term_on 0 s.article.stack
   n ← name_on 1 s.article.stack
   let m = renamed names c.interpretation.constants n in
-      defined (λ ds. const_definition names ds m t) (const_defining m s.article.stack) s.run >>= λ made. Ok (with_defined 2 (constant_entry m ∷ []) made s)
+      defined (λ ds. const_definition names ds m t) (const_defining m s.article.stack) s.run
+      >>= λ made. Ok (with_defined 2 (constant_entry m ∷ []) made s)
 
 -- the origin of a type operator's definition, its names as the context reads them
 abbrev pub type_defining : (op abs rep : Name) → List Entry → Origin Name
-type_defining op abs rep stack = Define words.DefineTypeOp (from_list (Named op ∷ Named abs ∷ Named rep ∷ origin_at 1 stack ∷ origin_at 0 stack ∷ []))
+type_defining op abs rep stack = Define words.DefineTypeOp
+    (from_list (Named op ∷ Named abs ∷ Named rep ∷ origin_at 1 stack ∷ origin_at 0 stack ∷ []))
 
 -- from the top: the theorem, the list of type variables, and the names rep, abs and that of the operator
 abbrev pub define_type_op_row : Context → State → Result State (Fault Name)
@@ -150,7 +163,8 @@ define_type_op_row c s = do
   let op = renamed names c.interpretation.type_ops n in
       let a = renamed names c.interpretation.constants abs in
       let r = renamed names c.interpretation.constants rep in
-      defined (λ ds. type_definition names ds op a r vars th) (type_defining op a r s.article.stack) s.run >>= λ made. Ok (with_defined 5 (type_op_entry op ∷ constant_entry a ∷ constant_entry r ∷ []) made s)
+      defined (λ ds. type_definition names ds op a r vars th) (type_defining op a r s.article.stack) s.run
+      >>= λ made. Ok (with_defined 5 (type_op_entry op ∷ constant_entry a ∷ constant_entry r ∷ []) made s)
 
 -- a list of constants, with the cons tree of their origins
 abbrev pub constants_of : List Name → Objects
@@ -166,7 +180,10 @@ constants_entry ns = record { object = list (constants_of ns); origin = constant
 
 -- the origin of the definition of a list of constants, their names as the context reads them
 abbrev pub list_defining : Context → List Entry → Origin Name
-list_defining c stack = Define words.DefineConstList (from_list (renamed_pairs (renamed names c.interpretation.constants) (origin_at 1 stack) ∷ origin_at 0 stack ∷ []))
+list_defining c stack =
+    Define words.DefineConstList
+    (from_list (renamed_pairs (renamed names c.interpretation.constants) (origin_at 1 stack) ∷ origin_at 0 stack
+    ∷ []))
 
 -- the theorem is on the top, and the list with the names and the variables below it
 abbrev pub define_const_list_row : Context → State → Result State (Fault Name)
@@ -175,7 +192,8 @@ define_const_list_row c s = do
   os ← list_on 1 s.article.stack
   pairs ← pairs_of os
   let ns = map (λ p. renamed names c.interpretation.constants p.0) pairs in
-      defined (λ ds. list_definition names ds ns (map (λ p. p.1) pairs) th) (list_defining c s.article.stack) s.run >>= λ made. Ok (with_defined 2 (constants_entry ns ∷ []) made s)
+      defined (λ ds. list_definition names ds ns (map (λ p. p.1) pairs) th) (list_defining c s.article.stack) s.run
+      >>= λ made. Ok (with_defined 2 (constants_entry ns ∷ []) made s)
 
 -- ---- commands that read or change the dictionary or the exports
 
@@ -214,4 +232,15 @@ thm_row s = do
   hyps ← terms_on 1 s.stack
   q ← theorem_on 2 s.stack
   _ ← unless ExportMismatch (same_sequent names q (record { hyps = hyps; concl = p }))
-  Ok (record s { stack = dropped 3 s.stack; exports = exported (record { sequent = q; roots = record { theorem = origin_at 2 s.stack; list = origin_at 1 s.stack; term = origin_at 0 s.stack } }) s.exports })
+  Ok (record s {
+    stack = dropped 3 s.stack;
+    exports = exported
+        (record {
+          sequent = q;
+          roots = record {
+            theorem = origin_at 2 s.stack;
+            list = origin_at 1 s.stack;
+            term = origin_at 0 s.stack;
+          };
+        }) s.exports;
+  })

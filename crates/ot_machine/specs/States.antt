@@ -34,7 +34,8 @@ pub data Version : Type 0 where
   version_5 : Version
   version_6 : Version
 
--- of one article: a stack, whose top is the end of the list, a dictionary, the exports, a count of commands, and a version
+-- of one article: a stack, whose top is the end of the list, a dictionary, the exports, a count of commands, and a
+-- version
 pub record ArticleState : Type 0 where
   pub stack : List Entry
   pub dictionary : FinMap int_cmp Entry

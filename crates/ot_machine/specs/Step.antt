@@ -11,7 +11,9 @@ use Rattle.ot_machine.specs.Objects.{number, name}
 use Rattle.ot_trace.specs.Origins.{Number, Named}
 use Rattle.ot_machine.specs.States.{Entry, Version, open_version, version_5, version_6, ArticleState, State, Context}
 use Rattle.ot_machine.specs.Places.{pushed}
-use Rattle.ot_machine.specs.Rows.{Row, making, nil_row, hd_tl_row, pop_row, version_row, type_op_row, const_row, define_const_row, define_const_list_row, define_type_op_row, def_row, ref_row, remove_row, thm_row}
+use Rattle.ot_machine.specs.Rows.{Row, making, nil_row, hd_tl_row, pop_row, version_row}
+use Rattle.ot_machine.specs.Rows.{type_op_row, const_row, define_const_row, define_const_list_row}
+use Rattle.ot_machine.specs.Rows.{define_type_op_row, def_row, ref_row, remove_row, thm_row}
 use Rattle.ot_machine.specs.Discharge.{axiom_row}
 use Rattle.ot_machine.specs.Version5.{define_type_op_5_row}
 
@@ -46,7 +48,8 @@ later_version v w = if is_version w then Err VersionLate else Ok v
 
 -- the version behind a command, after so many
 abbrev pub version_rule : Version → ℕ → Command → Result Version (Fault Name)
-version_rule open_version count w = if count == 0 then first_version w else (if count == 1 then Ok (second_version w) else later_version open_version w)
+version_rule open_version count w = if count == 0 then first_version w else
+    (if count == 1 then Ok (second_version w) else later_version open_version w)
 version_rule v count w = later_version v w
 
 -- the article alone changes

@@ -1,5 +1,6 @@
 -- The value of an origin: the object that its commands give when they are applied to the values of the operands.
-use Rattle.std.specs.Prelude.{◌-◌, ◌==◌, ℕ, zero, suc, List, [], ◌∷◌, length, map, Result, Ok, Err, slice_get, nat_lt, if◌then◌else◌}
+use Rattle.std.specs.Prelude.{◌-◌, ◌==◌, ℕ, zero, suc, List, [], ◌∷◌, length, map}
+use Rattle.std.specs.Prelude.{Result, Ok, Err, slice_get, nat_lt, if◌then◌else◌}
 use Rattle.ot_plain.specs.Names.{Name}
 use Rattle.ot_plain.specs.Naming.{names}
 use Rattle.ot_plain.specs.Trees.{Definition}

@@ -10,7 +10,8 @@ use Rattle.ot_plain.specs.Answers.{◌>>=◌}
 use Rattle.ot_plain.specs.declared.command.Cmd.TheVariants as words
 use Rattle.ot_kernel.specs.Defining.{type_definition}
 use Rattle.ot_interp.specs.Interpretation.{renamed}
-use Rattle.ot_trace.specs.Origins.{Origin, Named, Make, NoOrigins, make_one, make_two, constant_origin, type_op_origin}
+use Rattle.ot_trace.specs.Origins.{Origin, Named, Make, NoOrigins, make_one}
+use Rattle.ot_trace.specs.Origins.{make_two, constant_origin, type_op_origin}
 use Rattle.ot_machine.specs.States.{Entry, State, Context}
 use Rattle.ot_machine.specs.Places.{theorem_on, names_on, name_on}
 use Rattle.ot_machine.specs.Rows.{defined, with_defined, type_op_entry, constant_entry, type_defining}
@@ -109,7 +110,9 @@ module _ (abs rep : Name) (new old : Ty Name) (p : Tm Name) where
 
   -- |- abs (rep a) = a, from the definition's first theorem
   abbrev pub abs_origin : Origin Name → Origin Name
-  abs_origin o = make_two words.Trans (make_two words.Trans (make_one words.Sym b1) (make_two words.AppThm o (make_one words.Refl ta))) b2
+  abs_origin o =
+      make_two words.Trans
+      (make_two words.Trans (make_one words.Sym b1) (make_two words.AppThm o (make_one words.Refl ta))) b2
 
   abbrev pub abs_value : Read → Read
   abs_value v =
@@ -118,19 +121,25 @@ module _ (abs rep : Name) (new old : Ty Name) (p : Tm Name) where
 
   -- |- p r = (rep (abs r) = r), from its second
   abbrev pub rep_origin : Origin Name → Origin Name
-  rep_origin o = make_two words.Trans (make_two words.Trans (make_one words.Sym b4) (make_one words.Sym (make_two words.AppThm o (make_one words.Refl tr)))) b3
+  rep_origin o =
+      make_two words.Trans
+      (make_two words.Trans (make_one words.Sym b4)
+      (make_one words.Sym (make_two words.AppThm o (make_one words.Refl tr)))) b3
 
   abbrev pub rep_value : Read → Read
   rep_value v =
       let applied = combined words.AppThm (v ∷ value (make_one words.Refl tr) ∷ []) in
-      combined words.Trans (combined words.Trans (value (make_one words.Sym b4) ∷ combined words.Sym (applied ∷ []) ∷ []) ∷ value b3 ∷ [])
+      combined words.Trans
+      (combined words.Trans (value (make_one words.Sym b4) ∷ combined words.Sym (applied ∷ []) ∷ []) ∷ value b3
+      ∷ [])
 
 -- the two theorems for a premise p t, of those of the definition
 abbrev pub open_theorems : (abs rep : Name) → Ty Name → Tm Name → List Entry → Result (List Entry) (Fault Name)
 open_theorems abs rep new (App p t) (x ∷ y ∷ []) =
     let old = type_of names t in
     abs_value abs rep new old p (Ok x.object) >>= λ first. rep_value abs rep new old p (Ok y.object) >>= λ second.
-    Ok (record { object = first; origin = abs_origin abs rep new old p x.origin } ∷ record { object = second; origin = rep_origin abs rep new old p y.origin } ∷ [])
+    Ok (record { object = first; origin = abs_origin abs rep new old p x.origin }
+    ∷ record { object = second; origin = rep_origin abs rep new old p y.origin } ∷ [])
 open_theorems abs rep new _ _ = Err NotApplication
 
 -- the row in version 5: the definition is that of version 6
@@ -145,4 +154,5 @@ define_type_op_5_row c s = do
       let a = renamed names c.interpretation.constants abs in
       let r = renamed names c.interpretation.constants rep in
       defined (λ ds. type_definition names ds op a r vars th) (type_defining op a r s.article.stack) s.run >>= λ made.
-      open_theorems a r (TyOp op (tys_of_vars names vars)) th.concl made.0 >>= λ ths. Ok (with_defined 5 (type_op_entry op ∷ constant_entry a ∷ constant_entry r ∷ []) (ths, made.1) s)
+      open_theorems a r (TyOp op (tys_of_vars names vars)) th.concl made.0
+      >>= λ ths. Ok (with_defined 5 (type_op_entry op ∷ constant_entry a ∷ constant_entry r ∷ []) (ths, made.1) s)

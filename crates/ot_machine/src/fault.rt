@@ -1,7 +1,7 @@
 ghost use Rattle.std.specs.Prelude.{◌≡◌};
 ghost use Rattle.ot_machine.specs.declared.fault.Fault.TheVariants.{Memory as OutOfMemory};
-ghost use Rattle.ot_machine.specs.Conversions.{table_fault, term_fault, define_fault, rule_fault, word_fault};
-ghost use Rattle.ot_machine.specs.Conversions.{article_fault, refusal};
+ghost use Rattle.ot_machine.specs.Conversions.{table_fault, term_fault, define_fault};
+ghost use Rattle.ot_machine.specs.Conversions.{rule_fault, word_fault, article_fault, refusal};
 
 use ot_define::DefineFault;
 use ot_kernel::RuleFault;

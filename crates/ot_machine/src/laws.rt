@@ -1,7 +1,7 @@
 ghost use Rattle.ot_plain.specs.Names.{Name};
 ghost use Rattle.ot_machine.specs.Writable.{IsWritable};
-ghost use Rattle.ot_machine.specs.LawfulLaws.{CanBeNamed, FreshIsLawful, StepIsLawful, LinesAreLawful, RunIsLawful};
-ghost use Rattle.ot_machine.specs.LawfulLaws.{LawfulStays, ResultsAreTheorems, AxiomGivesItsSequent};
+ghost use Rattle.ot_machine.specs.LawfulLaws.{CanBeNamed, FreshIsLawful, StepIsLawful, LinesAreLawful};
+ghost use Rattle.ot_machine.specs.LawfulLaws.{RunIsLawful, LawfulStays, ResultsAreTheorems, AxiomGivesItsSequent};
 
 /// A run is lawful before its first article, and an article of a lawful run before its first command.
 pub fn fresh_law()

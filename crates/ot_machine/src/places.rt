@@ -1,12 +1,12 @@
 // What stands on the stack of a machine of this session, and of which kind. 0 is the top.
 ghost use Rattle.std.specs.Prelude.{◌≡◌, ◌<◌, length, Ok, IfOk, OnOk, vec_len};
 ghost use Rattle.ot_kernel.specs.State.{name_at, type_at, variable_at, term_at, theorem_at};
-ghost use Rattle.ot_machine.specs.Meaning.{object_of, origin_of, entry_of, list_at, lists_of, article_of, IsNumber};
-ghost use Rattle.ot_machine.specs.Meaning.{IsOf, IsIn, IsEntryIn, IsListIn};
+ghost use Rattle.ot_machine.specs.Meaning.{object_of, origin_of, entry_of, list_at, lists_of};
+ghost use Rattle.ot_machine.specs.Meaning.{article_of, IsNumber, IsOf, IsIn, IsEntryIn, IsListIn};
 ghost use Rattle.ot_machine.specs.Rows.{origin_at};
-ghost use Rattle.ot_machine.specs.Places.{as_term, as_theorem, entry_at, list_entry, object_at, number_on, name_on};
-ghost use Rattle.ot_machine.specs.Places.{list_on, type_op_on, type_on, constant_on, variable_on, term_on};
-ghost use Rattle.ot_machine.specs.Places.{theorem_on};
+ghost use Rattle.ot_machine.specs.Places.{as_term, as_theorem, entry_at, list_entry, object_at};
+ghost use Rattle.ot_machine.specs.Places.{number_on, name_on, list_on, type_op_on, type_on};
+ghost use Rattle.ot_machine.specs.Places.{constant_on, variable_on, term_on, theorem_on};
 ghost use Rattle.ot_machine.specs.Answers.{Makes};
 
 use crate::fault::Fault;

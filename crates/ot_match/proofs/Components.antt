@@ -1,5 +1,6 @@
 -- Names, copied component by component.
-use Rattle.std.specs.Prelude.{◌≡◌, ℕ, zero, suc, ◌+◌, ◌-◌, ◌<◌, ◌≤◌, Bool, true, false, List, [], ◌∷◌, ◌++◌, map, length, take}
+use Rattle.std.specs.Prelude.{◌≡◌, ℕ, zero, suc, ◌+◌, ◌-◌, ◌<◌, ◌≤◌, Bool, true}
+use Rattle.std.specs.Prelude.{false, List, [], ◌∷◌, ◌++◌, map, length, take}
 use Rattle.std.proofs.Common.{refl, sym, ◌∙◌, ap, subst, arith, get_or}
 use Rattle.std.proofs.Math.Seq.{take-suc}
 use Rattle.std.proofs.lemmas.List.{length-map, get_or-map}
@@ -14,7 +15,8 @@ module _ {X : Type 0} (f : X → List ℕ) where
   pub copied-all : (cs ds : List X) (i : ℕ) → map f ds ≡ take i (map f cs) → length cs ≤ i → map f ds ≡ map f cs
   copied-all cs ds i p h = p ∙ take-all (map f cs) i (let n = length-map cs f in omega (arith, n, h))
 
-  pub copied-some : (cs ds : List X) (i : ℕ) → map f ds ≡ take i (map f cs) → length cs ≤ i → 0 < length cs → 0 < length ds
+  pub copied-some : (cs ds : List X) (i : ℕ) → map f ds ≡ take i (map f cs) → length cs ≤ i → 0 < length cs
+      → 0 < length ds
   copied-some cs ds i p h k =
       let e = ap length (copied-all cs ds i p h) in
       let n = length-map cs f in
@@ -25,9 +27,11 @@ module _ {X : Type 0} (f : X → List ℕ) where
   map-push [] x = refl
   map-push (y ∷ xs) x = ap (λ ys. f y ∷ ys) (map-push xs x)
 
-  pub copy-more : (cs ds es : List X) (i : ℕ) (v x : X) → map f ds ≡ take i (map f cs) → i < length cs → x ≡ get_or cs i x → f v ≡ f x → es ≡ ds ++ v ∷ [] → map f es ≡ take (i + 1) (map f cs)
+  pub copy-more : (cs ds es : List X) (i : ℕ) (v x : X) → map f ds ≡ take i (map f cs) → i < length cs
+      → x ≡ get_or cs i x → f v ≡ f x → es ≡ ds ++ v ∷ [] → map f es ≡ take (i + 1) (map f cs)
   copy-more cs ds es i v x p h e q r =
       let k : i + 1 ≡ suc i = omega arith in
       let n = length-map cs f in
       let within : i < length (map f cs) = omega (arith, n, h) in
-      ap (map f) r ∙ map-push ds v ∙ (λ j. p j ++ (q ∙ ap f e ∙ sym (get_or-map f cs i x [] h)) j ∷ []) ∙ sym (take-suc (map f cs) i [] within) ∙ ap (λ m. take m (map f cs)) (sym k)
+      ap (map f) r ∙ map-push ds v ∙ (λ j. p j ++ (q ∙ ap f e ∙ sym (get_or-map f cs i x [] h)) j ∷ [])
+      ∙ sym (take-suc (map f cs) i [] within) ∙ ap (λ m. take m (map f cs)) (sym k)

@@ -1,19 +1,22 @@
 -- Lists with each member once, and maps by their keys.
 use Rattle.std.specs.Prelude.{◌≢◌}
 use Rattle.std.specs.Bool.{Decides}
-use Rattle.std.proofs.Common.{◌≡◌, Bool, true, false, cond, List, [], ◌∷◌, ◌++◌, map, refl, sym, ap, ◌∙◌, inl, inr, ◌⊎◌}
+use Rattle.std.proofs.Common.{◌≡◌, Bool, true, false, cond, List, [], ◌∷◌}
+use Rattle.std.proofs.Common.{◌++◌, map, refl, sym, ap, ◌∙◌, inl, inr, ◌⊎◌}
 use Rattle.ot_plain.specs.Lists.{IsMember, AreDistinct}
 use Rattle.ot_laws.proofs.Tests.{cases_of}
 use Rattle.ot_match.specs.Matching.{without, each_once, same_key, keys}
 use Rattle.ot_plain.proofs.Members.{map_agree}
 
 -- what a function does to a list, when the test goes along with it
-module _ {A B : Type 0} (same : A → A → Bool) (alike : B → B → Bool) (f : A → B) (fits : (x y : A) → alike (f x) (f y) ≡ same x y) where
+module _ {A B : Type 0} (same : A → A → Bool) (alike : B → B → Bool) (f : A → B)
+    (fits : (x y : A) → alike (f x) (f y) ≡ same x y) where
   without-map : (x : A) (ys : List A) → without alike (f x) (map f ys) ≡ map f (without same x ys)
   without-map x [] = refl
   without-map x (y ∷ ys) = go (same y x) refl (without-map x ys)
     where
-      go : (b : Bool) → same y x ≡ b → without alike (f x) (map f ys) ≡ map f (without same x ys) → without alike (f x) (map f (y ∷ ys)) ≡ map f (without same x (y ∷ ys))
+      go : (b : Bool) → same y x ≡ b → without alike (f x) (map f ys) ≡ map f (without same x ys)
+          → without alike (f x) (map f (y ∷ ys)) ≡ map f (without same x (y ∷ ys))
       go true e w = rw (fits y x, e) w
       go false e w = rw (fits y x, e) (ap (λ zs. f y ∷ zs) w)
 
@@ -45,8 +48,11 @@ module _ {A : Type 0} (same : A → A → Bool) (tells : (x y : A) → Decides (
 
   pub each_once-distinct : (xs : List A) → AreDistinct (each_once same xs)
   each_once-distinct [] = tt
-  each_once-distinct (x ∷ xs) =
-      ((λ i. (without-member x x (each_once same xs) i).0 refl), without-distinct x (each_once same xs) (each_once-distinct xs))
+  each_once-distinct (x ∷ xs) = (
+    (λ i. (without-member x x (each_once same xs) i).0 refl),
+    without-distinct x (each_once same xs)
+        (each_once-distinct xs),
+  )
 
   without-kept : (x z : A) (ys : List A) → z ≢ x → IsMember z ys → IsMember z (without same x ys)
   without-kept x z [] n h = absurd h
@@ -72,7 +78,8 @@ agree-map f g (y ∷ xs) h x (inl e) = let k : f y ≡ g y = (cc h) in rw (← e
 agree-map f g (y ∷ xs) h x (inr i) = let k : map f xs ≡ map g xs = (cc h) in agree-map f g xs k x i
 
 -- a map of which the first pair for a key counts
-module _ {K X : Type 0} (same : K → K → Bool) (tells : (x y : K) → Decides (same x y) (x ≡ y)) (at : List (K × X) → K → X) (step : (p : K × X) (m : List (K × X)) (k : K) → at (p ∷ m) k ≡ cond (same k p.0) p.1 (at m k)) where
+module _ {K X : Type 0} (same : K → K → Bool) (tells : (x y : K) → Decides (same x y) (x ≡ y)) (at : List (K × X) → K
+    → X) (step : (p : K × X) (m : List (K × X)) (k : K) → at (p ∷ m) k ≡ cond (same k p.0) p.1 (at m k)) where
   at-here : (p : K × X) (m : List (K × X)) → at (p ∷ m) p.0 ≡ p.1
   at-here p m = elim (cases_of (same p.0 p.0) (tells p.0 p.0)) [
     | inl q ↦ rw (step p m p.0, q.0) refl
@@ -90,7 +97,8 @@ module _ {K X : Type 0} (same : K → K → Bool) (tells : (x y : K) → Decides
   by-keys [] d = refl
   by-keys (p ∷ m) d =
       let q : map (λ k. (k, at (p ∷ m) k)) (keys m) ≡ map (λ k. (k, at m k)) (keys m) =
-      map_agree (λ k. (k, at (p ∷ m) k)) (λ k. (k, at m k)) (keys m) (λ k i. λ j. (k, at-later p m k (λ e. d.0 (rw (← e) i)) j)) in
+      map_agree (λ k. (k, at (p ∷ m) k)) (λ k. (k, at m k)) (keys m)
+      (λ k i. λ j. (k, at-later p m k (λ e. d.0 (rw (← e) i)) j)) in
       λ i. (p.0, at-here p m i) ∷ (q ∙ by-keys m d.1) i
 
   -- a map made from a function has its value at each key

@@ -21,16 +21,20 @@ abbrev answer : Type 0
 answer = Option (TypeMap numbers × TermMap numbers)
 
 -- x = x, of any type, matches J = J at its type
-row-same : ◌≡◌ {A = answer} (matched numbers (equation numbers (TyVar 7) (var 8 (TyVar 7)) (var 8 (TyVar 7))) (equation numbers endo identity identity))
+row-same : ◌≡◌ {A = answer} (matched numbers (equation numbers (TyVar 7) (var 8 (TyVar 7)) (var 8 (TyVar 7)))
+    (equation numbers endo identity identity))
     (Some ((7, endo) ∷ [], (record { name = 8; ty = endo }, identity) ∷ []))
 row-same = refl
 
 -- it takes no two terms for one variable
-row-two : ◌≡◌ {A = answer} (matched numbers (equation numbers (TyVar 7) (var 8 (TyVar 7)) (var 8 (TyVar 7))) (equation numbers endo identity (Abs truth (Abs truth (Bound 0))))) None
+row-two : ◌≡◌ {A = answer} (matched numbers (equation numbers (TyVar 7) (var 8 (TyVar 7)) (var 8 (TyVar 7)))
+    (equation numbers endo identity (Abs truth (Abs truth (Bound 0))))) None
 row-two = refl
 
 -- two variables that the type part makes one take one term
-row-joined : ◌≡◌ {A = answer} (matched numbers (equation numbers truth (App (var 7 (fun_ty numbers (TyVar 8) truth)) (var 9 (TyVar 8))) (App (var 7 (fun_ty numbers truth truth)) (var 9 truth)))
+row-joined : ◌≡◌ {A = answer}
+    (matched numbers (equation numbers truth (App (var 7 (fun_ty numbers (TyVar 8) truth)) (var 9 (TyVar 8)))
+    (App (var 7 (fun_ty numbers truth truth)) (var 9 truth)))
     (equation numbers truth (App identity (var 5 truth)) (App identity (var 6 truth)))) None
 row-joined = refl
 

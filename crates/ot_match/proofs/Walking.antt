@@ -3,22 +3,27 @@ use Rattle.std.specs.Bool.{Decides}
 use Rattle.std.specs.Prelude.{◌≢◌, ◌==◌}
 use Rattle.std.specs.List.{AllByRecursion}
 use Rattle.std.specs.Option.{option_map}
-use Rattle.std.proofs.Common.{◌≡◌, ℕ, Bool, true, false, cond, List, [], ◌∷◌, ◌++◌, map, Option, Some, None, refl, sym, ap, subst, ◌∙◌, inl, inr, ◌⊎◌}
+use Rattle.std.proofs.Common.{◌≡◌, ℕ, Bool, true, false, cond, List, [], ◌∷◌, ◌++◌, map}
+use Rattle.std.proofs.Common.{Option, Some, None, refl, sym, ap, subst, ◌∙◌, inl, inr, ◌⊎◌}
 use Rattle.std.proofs.lemmas.Option.{same_Some}
 use Rattle.std.proofs.lemmas.List.{map-append}
 use Rattle.std.proofs.lemmas.Bool.Decides.{Decides-eqb}
-use Rattle.ot_plain.specs.Trees.{Alphabet, Ty, Tys, TyVar, TyOp, NoTys, MoreTys, Variable, Tm, Free, Con, Bound, App, Abs}
-use Rattle.ot_plain.specs.Hol.{TypeMap, TermMap, type_at, term_at, inst_by, inst_all, inst_var, vars_ty, vars_all, vars_tm, bind, subst_tm, type_in, HasType, IsTyped, same_ty, same_var, same_tm}
+use Rattle.ot_plain.specs.Trees.{Alphabet, Ty, Tys, TyVar, TyOp, NoTys, MoreTys}
+use Rattle.ot_plain.specs.Trees.{Variable, Tm, Free, Con, Bound, App, Abs}
+use Rattle.ot_plain.specs.Hol.{TypeMap, TermMap, type_at, term_at, inst_by, inst_all, inst_var, vars_ty, vars_all}
+use Rattle.ot_plain.specs.Hol.{vars_tm, bind, subst_tm, type_in, HasType, IsTyped, same_ty, same_var, same_tm}
 use Rattle.ot_plain.specs.Lists.{IsMember, AreDistinct}
 use Rattle.ot_laws.proofs.Tests.{Tells, cases_of, same_ty-is, same_var-is, same_tm-is}
 use Rattle.ot_match.specs.Matching.{keys, frees_tm, each_once, IsMatch, matched}
-use Rattle.ot_match.specs.Walk.{◌>>=◌, put, put_type, put_term, walk_type, walk_types, walk_var, walk_in_type, walk_term, Maps, WalkMatches}
+use Rattle.ot_match.specs.Walk.{◌>>=◌, put, put_type, put_term, walk_type, walk_types}
+use Rattle.ot_match.specs.Walk.{walk_var, walk_in_type, walk_term, Maps, WalkMatches}
 use Rattle.ot_match.proofs.Once.{each_once-distinct, by-keys}
 use Rattle.ot_match.proofs.Matches.{any_substitution, matched_is_match}
 use Rattle.ot_match.proofs.Adding.{added, all_added, added-distinct, all_added-append, all_added-each_once}
 use Rattle.ot_laws.proofs.Typed.{term_at-typed}
 
-bind-some : {A B : Type 0} (o : Option A) (f : A → Option B) (y : B) → (o >>= f) ≡ Some y → (x : A) × (o ≡ Some x) × (f x ≡ Some y)
+bind-some : {A B : Type 0} (o : Option A) (f : A → Option B) (y : B) → (o >>= f) ≡ Some y
+    → (x : A) × (o ≡ Some x) × (f x ≡ Some y)
 bind-some None f y e = absurd cc
 bind-some (Some x) f y e = (x, refl, e)
 
@@ -30,9 +35,11 @@ agrees-graph : {K X : Type 0} (f : K → X) (m : List (K × X)) → Agrees f m �
 agrees-graph f [] a = refl
 agrees-graph f (p ∷ m) a = λ i. (p.0, a.0 i) ∷ agrees-graph f m a.1 i
 
-module _ {K X : Type 0} (same : K → K → Bool) (tells : (x y : K) → Decides (same x y) (x ≡ y)) (alike : X → X → Bool) (decides : (x y : X) → Decides (alike x y) (x ≡ y)) where
+module _ {K X : Type 0} (same : K → K → Bool) (tells : (x y : K) → Decides (same x y) (x ≡ y)) (alike : X → X → Bool)
+    (decides : (x y : X) → Decides (alike x y) (x ≡ y)) where
   -- one more pair, where the value is the function's
-  put-forth : (f : K → X) (k : K) (m : List (K × X)) → Agrees f m → (r : List (K × X)) × (put same alike k (f k) m ≡ Some r) × Agrees f r × (keys r ≡ added same k (keys m))
+  put-forth : (f : K → X) (k : K) (m : List (K × X)) → Agrees f m
+      → (r : List (K × X)) × (put same alike k (f k) m ≡ Some r) × Agrees f r × (keys r ≡ added same k (keys m))
   put-forth f k [] a = ((k, f k) ∷ [], refl, (refl, tt), refl)
   put-forth f k (p ∷ m) a = elim (cases_of (same k p.0) (tells k p.0)) [
     | inl q ↦ elim (cases_of (alike (f k) p.1) (decides (f k) p.1)) [
@@ -45,7 +52,8 @@ module _ {K X : Type 0} (same : K → K → Bool) (tells : (x y : K) → Decides
   ]
 
   -- and back
-  put-back : (f : K → X) (k : K) (x : X) (m r : List (K × X)) → put same alike k x m ≡ Some r → Agrees f r → (f k ≡ x) × Agrees f m
+  put-back : (f : K → X) (k : K) (x : X) (m r : List (K × X)) → put same alike k x m ≡ Some r → Agrees f r
+      → (f k ≡ x) × Agrees f m
   put-back f k x [] r e a =
       let b : Agrees f ((k, x) ∷ []) = subst (Agrees f) (sym (same_Some ((k, x) ∷ []) r e)) a in
       (b.0, tt)
@@ -63,7 +71,9 @@ module _ {K X : Type 0} (same : K → K → Bool) (tells : (x y : K) → Decides
         later (put same alike k x m) refl h (λ s g b. put-back f k x m s g b)
   ]
     where
-      later : (o : Option (List (K × X))) → put same alike k x m ≡ o → option_map (λ s. p ∷ s) o ≡ Some r → ((s : List (K × X)) → put same alike k x m ≡ Some s → Agrees f s → (f k ≡ x) × Agrees f m) → (f k ≡ x) × Agrees f (p ∷ m)
+      later : (o : Option (List (K × X))) → put same alike k x m ≡ o → option_map (λ s. p ∷ s) o ≡ Some r
+          → ((s : List (K × X)) → put same alike k x m ≡ Some s → Agrees f s → (f k ≡ x) × Agrees f m)
+          → (f k ≡ x) × Agrees f (p ∷ m)
       later None g h ih = absurd cc
       later (Some s) g h ih =
           let b : Agrees f (p ∷ s) = subst (Agrees f) (sym (same_Some (p ∷ s) r h)) a in
@@ -85,7 +95,9 @@ module _ {K X : Type 0} (same : K → K → Bool) (tells : (x y : K) → Decides
         rw q.0 (later (put same alike k x m) refl h (λ s g. put-keys k x m s g))
   ]
     where
-      later : (o : Option (List (K × X))) → put same alike k x m ≡ o → option_map (λ s. p ∷ s) o ≡ Some r → ((s : List (K × X)) → put same alike k x m ≡ Some s → keys s ≡ added same k (keys m)) → keys r ≡ p.0 ∷ added same k (keys m)
+      later : (o : Option (List (K × X))) → put same alike k x m ≡ o → option_map (λ s. p ∷ s) o ≡ Some r
+          → ((s : List (K × X)) → put same alike k x m ≡ Some s → keys s ≡ added same k (keys m))
+          → keys r ≡ p.0 ∷ added same k (keys m)
       later None g h ih = absurd cc
       later (Some s) g h ih = ap keys (sym (same_Some (p ∷ s) r h)) ∙ ap (λ w. p.0 ∷ w) (ih s g)
 
@@ -94,34 +106,45 @@ module _ {N : Type 0} (alphabet : Alphabet N) (tells : Tells alphabet) where
 
   mutual
     type-forth : (g : N → Ty N) (t : Ty N) (s : TypeMap alphabet) → Agrees g s
-        → (r : TypeMap alphabet) × (walk_type alphabet t (inst_by alphabet g t) s ≡ Some r) × Agrees g r × (keys r ≡ all_added alphabet.same (keys s) (vars_ty alphabet t))
+        → (r : TypeMap alphabet) × (walk_type alphabet t (inst_by alphabet g t) s ≡ Some r) × Agrees g r
+        × (keys r ≡ all_added alphabet.same (keys s) (vars_ty alphabet t))
     type-forth g (TyVar n) s a = put-forth alphabet.same tells (same_ty alphabet) (same_ty-is alphabet tells) g n s a
     type-forth g (TyOp n ts) s a =
         let e : alphabet.same n n ≡ true = (tells n n).1 refl in
         rw e (types-forth g ts s a)
 
     types-forth : (g : N → Ty N) (ts : Tys N) (s : TypeMap alphabet) → Agrees g s
-        → (r : TypeMap alphabet) × (walk_types alphabet ts (inst_all alphabet g ts) s ≡ Some r) × Agrees g r × (keys r ≡ all_added alphabet.same (keys s) (vars_all alphabet ts))
+        → (r : TypeMap alphabet) × (walk_types alphabet ts (inst_all alphabet g ts) s ≡ Some r) × Agrees g r
+        × (keys r ≡ all_added alphabet.same (keys s) (vars_all alphabet ts))
     types-forth g NoTys s a = (s, refl, a, refl)
     types-forth g (MoreTys t ts) s a =
         let (r, e, b, k) = type-forth g t s a in
-        let (q, f, c, l) = types-forth g ts r b in
-        (q, rw e f, c, l ∙ ap (λ w. all_added alphabet.same w (vars_all alphabet ts)) k ∙ sym (all_added-append alphabet.same tells (keys s) (vars_ty alphabet t) (vars_all alphabet ts)))
+        let (q, f, c, l) = types-forth g ts r b in (
+          q,
+          rw e f,
+          c,
+          l ∙ ap (λ w. all_added alphabet.same w (vars_all alphabet ts)) k
+              ∙ sym (all_added-append alphabet.same tells (keys s) (vars_ty alphabet t) (vars_all alphabet ts)),
+        )
 
   -- what a function gives for variables after the type part
   abbrev after : (N → Ty N) → Variable N → Variable N
   after g v = record { name = v.name; ty = inst_by alphabet g v.ty }
 
-  abbrev Reaches : (N → Ty N) → (Variable N → Tm N) → List N → List (Variable N) → Maps alphabet → Option (Maps alphabet) → Type 0
+  abbrev Reaches : (N → Ty N) → (Variable N → Tm N) → List N → List (Variable N) → Maps alphabet
+      → Option (Maps alphabet) → Type 0
   Reaches g h ns vs w o = (r : Maps alphabet) × (o ≡ Some r) × Agrees g r.0 × Agrees h r.1
       × (keys r.0 ≡ all_added alphabet.same (keys w.0) ns) × (keys r.1 ≡ all_added (same_var alphabet) (keys w.1) vs)
 
-  term-forth : (g : N → Ty N) (h : Variable N → Tm N) → ((v : Variable N) → HasType alphabet (h v) v.ty) → (p : Tm N) (w : Maps alphabet) → Agrees g w.0 → Agrees h w.1
-      → Reaches g h (vars_tm alphabet p) (map (after g) (frees_tm alphabet p)) w (walk_term alphabet p (bind alphabet g (λ v. h (after g v)) p) w)
+  term-forth : (g : N → Ty N) (h : Variable N → Tm N) → ((v : Variable N) → HasType alphabet (h v) v.ty)
+      → (p : Tm N) (w : Maps alphabet) → Agrees g w.0 → Agrees h w.1
+      → Reaches g h (vars_tm alphabet p) (map (after g) (frees_tm alphabet p)) w
+      (walk_term alphabet p (bind alphabet g (λ v. h (after g v)) p) w)
   term-forth g h typed (Free v) w a b =
       let t : type_in alphabet [] (h (after g v)) ≡ Some (inst_by alphabet g v.ty) = typed (after g v) in
       let (s, e, c, k) = type-forth g v.ty w.0 a in
-      let (m, f, d, l) = put-forth (same_var alphabet) (same_var-is alphabet tells) (same_tm alphabet) (same_tm-is alphabet tells) h (after g v) w.1 b in
+      let (m, f, d, l) = put-forth (same_var alphabet) (same_var-is alphabet tells) (same_tm alphabet)
+      (same_tm-is alphabet tells) h (after g v) w.1 b in
       rw (t, e, f) ((s, m), refl, c, d, k, l)
   term-forth g h typed (Con n t) w a b =
       let same : alphabet.same n n ≡ true = (tells n n).1 refl in
@@ -137,9 +160,13 @@ module _ {N : Type 0} (alphabet : Alphabet N) (tells : Tells alphabet) where
         rw e i,
         j,
         o,
-        y ∙ ap (λ u. all_added alphabet.same u (vars_tm alphabet x)) k ∙ sym (all_added-append alphabet.same tells (keys w.0) (vars_tm alphabet f) (vars_tm alphabet x)),
-        z ∙ ap (λ u. all_added (same_var alphabet) u (map (after g) (frees_tm alphabet x))) l ∙ sym (all_added-append (same_var alphabet) (same_var-is alphabet tells) (keys w.1) (map (after g) (frees_tm alphabet f)) (map (after g) (frees_tm alphabet x)))
-            ∙ ap (all_added (same_var alphabet) (keys w.1)) (sym (map-append (after g) (frees_tm alphabet f) (frees_tm alphabet x))),
+        y ∙ ap (λ u. all_added alphabet.same u (vars_tm alphabet x)) k
+            ∙ sym (all_added-append alphabet.same tells (keys w.0) (vars_tm alphabet f) (vars_tm alphabet x)),
+        z ∙ ap (λ u. all_added (same_var alphabet) u (map (after g) (frees_tm alphabet x))) l
+            ∙ sym (all_added-append (same_var alphabet) (same_var-is alphabet tells) (keys w.1)
+            (map (after g) (frees_tm alphabet f)) (map (after g) (frees_tm alphabet x)))
+            ∙ ap (all_added (same_var alphabet) (keys w.1))
+            (sym (map-append (after g) (frees_tm alphabet f) (frees_tm alphabet x))),
       )
   term-forth g h typed (Abs t u) w a b =
       let (s, e, c, k) = type-forth g t w.0 a in
@@ -148,15 +175,18 @@ module _ {N : Type 0} (alphabet : Alphabet N) (tells : Tells alphabet) where
         rw e i,
         j,
         o,
-        y ∙ ap (λ v. all_added alphabet.same v (vars_tm alphabet u)) k ∙ sym (all_added-append alphabet.same tells (keys w.0) (vars_ty alphabet t) (vars_tm alphabet u)),
+        y ∙ ap (λ v. all_added alphabet.same v (vars_tm alphabet u)) k
+            ∙ sym (all_added-append alphabet.same tells (keys w.0) (vars_ty alphabet t) (vars_tm alphabet u)),
         z,
       )
 
   -- ---- and back
 
   mutual
-    type-back : (g : N → Ty N) (t u : Ty N) (s r : TypeMap alphabet) → walk_type alphabet t u s ≡ Some r → Agrees g r → (inst_by alphabet g t ≡ u) × Agrees g s
-    type-back g (TyVar n) u s r e a = put-back alphabet.same tells (same_ty alphabet) (same_ty-is alphabet tells) g n u s r e a
+    type-back : (g : N → Ty N) (t u : Ty N) (s r : TypeMap alphabet) → walk_type alphabet t u s ≡ Some r → Agrees g r
+        → (inst_by alphabet g t ≡ u) × Agrees g s
+    type-back g (TyVar n) u s r e a = put-back alphabet.same tells (same_ty alphabet) (same_ty-is alphabet tells) g n
+        u s r e a
     type-back g (TyOp n ts) (TyVar m) s r e a = absurd cc
     type-back g (TyOp n ts) (TyOp m us) s r e a = elim (cases_of (alphabet.same n m) (tells n m)) [
       | inl q ↦
@@ -166,7 +196,8 @@ module _ {N : Type 0} (alphabet : Alphabet N) (tells : Tells alphabet) where
       | inr q ↦ let h : ◌≡◌ {A = Option (TypeMap alphabet)} None (Some r) = rw q.0 at e in absurd cc
     ]
 
-    types-back : (g : N → Ty N) (ts us : Tys N) (s r : TypeMap alphabet) → walk_types alphabet ts us s ≡ Some r → Agrees g r → (inst_all alphabet g ts ≡ us) × Agrees g s
+    types-back : (g : N → Ty N) (ts us : Tys N) (s r : TypeMap alphabet) → walk_types alphabet ts us s ≡ Some r
+        → Agrees g r → (inst_all alphabet g ts ≡ us) × Agrees g s
     types-back g NoTys NoTys s r e a = (refl, subst (Agrees g) (sym (same_Some s r e)) a)
     types-back g NoTys (MoreTys u us) s r e a = absurd cc
     types-back g (MoreTys t ts) NoTys s r e a = absurd cc
@@ -177,15 +208,19 @@ module _ {N : Type 0} (alphabet : Alphabet N) (tells : Tells alphabet) where
         ((λ i. MoreTys (c.0 i) (b.0 i)), c.1)
 
   mutual
-    type-distinct : (t u : Ty N) (s r : TypeMap alphabet) → walk_type alphabet t u s ≡ Some r → AreDistinct (keys s) → AreDistinct (keys r)
-    type-distinct (TyVar n) u s r e d = rw (put-keys alphabet.same tells (same_ty alphabet) (same_ty-is alphabet tells) n u s r e) (added-distinct alphabet.same tells n (keys s) d)
+    type-distinct : (t u : Ty N) (s r : TypeMap alphabet) → walk_type alphabet t u s ≡ Some r → AreDistinct (keys s)
+        → AreDistinct (keys r)
+    type-distinct (TyVar n) u s r e d =
+        rw (put-keys alphabet.same tells (same_ty alphabet) (same_ty-is alphabet tells) n u s r e)
+        (added-distinct alphabet.same tells n (keys s) d)
     type-distinct (TyOp n ts) (TyVar m) s r e d = absurd cc
     type-distinct (TyOp n ts) (TyOp m us) s r e d = elim (cases_of (alphabet.same n m) (tells n m)) [
       | inl q ↦ let h : walk_types alphabet ts us s ≡ Some r = rw q.0 at e in types-distinct ts us s r h d
       | inr q ↦ let h : ◌≡◌ {A = Option (TypeMap alphabet)} None (Some r) = rw q.0 at e in absurd cc
     ]
 
-    types-distinct : (ts us : Tys N) (s r : TypeMap alphabet) → walk_types alphabet ts us s ≡ Some r → AreDistinct (keys s) → AreDistinct (keys r)
+    types-distinct : (ts us : Tys N) (s r : TypeMap alphabet) → walk_types alphabet ts us s ≡ Some r
+        → AreDistinct (keys s) → AreDistinct (keys r)
     types-distinct NoTys NoTys s r e d = subst (λ z. AreDistinct (keys z)) (same_Some s r e) d
     types-distinct NoTys (MoreTys u us) s r e d = absurd cc
     types-distinct (MoreTys t ts) NoTys s r e d = absurd cc
@@ -199,7 +234,8 @@ module _ {N : Type 0} (alphabet : Alphabet N) (tells : Tells alphabet) where
     vars : AreDistinct (keys w.1)
     typed : IsTyped alphabet w.1
 
-  put-typed : (v : Variable N) (c : Tm N) (m r : TermMap alphabet) → put_term alphabet v c m ≡ Some r → HasType alphabet c v.ty → IsTyped alphabet m → IsTyped alphabet r
+  put-typed : (v : Variable N) (c : Tm N) (m r : TermMap alphabet) → put_term alphabet v c m ≡ Some r
+      → HasType alphabet c v.ty → IsTyped alphabet m → IsTyped alphabet r
   put-typed v c [] r e t h = subst (IsTyped alphabet) (same_Some ((v, c) ∷ []) r e) (t, tt)
   put-typed v c (p ∷ m) r e t h = elim (cases_of (same_var alphabet v p.0) (same_var-is alphabet tells v p.0)) [
     | inl q ↦ elim (cases_of (same_tm alphabet c p.1) (same_tm-is alphabet tells c p.1)) [
@@ -213,24 +249,31 @@ module _ {N : Type 0} (alphabet : Alphabet N) (tells : Tells alphabet) where
         later (put_term alphabet v c m) refl k (λ s g. put-typed v c m s g t h.1)
   ]
     where
-      later : (o : Option (TermMap alphabet)) → put_term alphabet v c m ≡ o → option_map (λ s. p ∷ s) o ≡ Some r → ((s : TermMap alphabet) → put_term alphabet v c m ≡ Some s → IsTyped alphabet s) → IsTyped alphabet r
+      later : (o : Option (TermMap alphabet)) → put_term alphabet v c m ≡ o → option_map (λ s. p ∷ s) o ≡ Some r
+          → ((s : TermMap alphabet) → put_term alphabet v c m ≡ Some s → IsTyped alphabet s) → IsTyped alphabet r
       later None g k ih = absurd cc
       later (Some s) g k ih = subst (IsTyped alphabet) (same_Some (p ∷ s) r k) (h.0, ih s g)
 
-  in_type-fine : (t u : Ty N) (w r : Maps alphabet) → walk_in_type alphabet t u w ≡ Some r → IsFineMaps w → IsFineMaps r
+  in_type-fine : (t u : Ty N) (w r : Maps alphabet) → walk_in_type alphabet t u w ≡ Some r → IsFineMaps w
+      → IsFineMaps r
   in_type-fine t u w r e f =
       let (s, h, k) = bind-some (walk_type alphabet t u w.0) (λ s. Some (s, w.1)) r e in
-      subst IsFineMaps (same_Some (s, w.1) r k) (record { types = type-distinct t u w.0 s h f.types; vars = f.vars; typed = f.typed })
+      subst IsFineMaps (same_Some (s, w.1) r k)
+      (record { types = type-distinct t u w.0 s h f.types; vars = f.vars; typed = f.typed })
 
-  var-fine : (v : Variable N) (o : Option (Ty N)) (c : Tm N) (w r : Maps alphabet) → type_in alphabet [] c ≡ o → walk_var alphabet v o c w ≡ Some r → IsFineMaps w → IsFineMaps r
+  var-fine : (v : Variable N) (o : Option (Ty N)) (c : Tm N) (w r : Maps alphabet) → type_in alphabet [] c ≡ o
+      → walk_var alphabet v o c w ≡ Some r → IsFineMaps w → IsFineMaps r
   var-fine v None c w r t e f = absurd cc
   var-fine v (Some u) c w r t e f =
       let x : Variable N = record { name = v.name; ty = u } in
-      let (s, h, k) = bind-some (walk_type alphabet v.ty u w.0) (λ s. put_term alphabet x c w.1 >>= λ m. Some (s, m)) r e in
+      let (s, h, k) = bind-some (walk_type alphabet v.ty u w.0) (λ s. put_term alphabet x c w.1 >>= λ m. Some (s, m))
+      r e in
       let (m, i, j) = bind-some (put_term alphabet x c w.1) (λ m. Some (s, m)) r k in
       subst IsFineMaps (same_Some (s, m) r j) (record {
         types = type-distinct v.ty u w.0 s h f.types;
-        vars = rw (put-keys (same_var alphabet) (same_var-is alphabet tells) (same_tm alphabet) (same_tm-is alphabet tells) x c w.1 m i) (added-distinct (same_var alphabet) (same_var-is alphabet tells) x (keys w.1) f.vars);
+        vars = rw
+            (put-keys (same_var alphabet) (same_var-is alphabet tells) (same_tm alphabet) (same_tm-is alphabet tells)
+            x c w.1 m i) (added-distinct (same_var alphabet) (same_var-is alphabet tells) x (keys w.1) f.vars);
         typed = put-typed x c w.1 m i t f.typed;
       })
 
@@ -241,7 +284,8 @@ module _ {N : Type 0} (alphabet : Alphabet N) (tells : Tells alphabet) where
     | inr q ↦ let h : ◌≡◌ {A = Option (Maps alphabet)} None (Some r) = rw q.0 at e in absurd cc
   ]
   term-fine (Bound j) (Bound k) w r e f = elim (cases_of (j == k) (Decides-eqb j k)) [
-    | inl q ↦ let h : ◌≡◌ {A = Option (Maps alphabet)} (Some w) (Some r) = rw q.0 at e in subst IsFineMaps (same_Some w r h) f
+    | inl q ↦ let h : ◌≡◌ {A = Option (Maps alphabet)} (Some w) (Some r) = rw q.0 at e in
+        subst IsFineMaps (same_Some w r h) f
     | inr q ↦ let h : ◌≡◌ {A = Option (Maps alphabet)} None (Some r) = rw q.0 at e in absurd cc
   ]
   term-fine (App a x) (App b y) w r e f =
@@ -253,25 +297,31 @@ module _ {N : Type 0} (alphabet : Alphabet N) (tells : Tells alphabet) where
   term-fine _ _ w r e f = absurd cc
 
   -- functions that agree with the maps at the end agree with those at the begin, and give the term
-  var-back : (g : N → Ty N) (h : Variable N → Tm N) (v : Variable N) (o : Option (Ty N)) (c : Tm N) (w r : Maps alphabet) → walk_var alphabet v o c w ≡ Some r → Agrees g r.0 → Agrees h r.1 → (h (after g v) ≡ c) × Agrees g w.0 × Agrees h w.1
+  var-back : (g : N → Ty N) (h : Variable N → Tm N) (v : Variable N) (o : Option (Ty N)) (c : Tm N)
+      (w r : Maps alphabet) → walk_var alphabet v o c w ≡ Some r → Agrees g r.0 → Agrees h r.1
+      → (h (after g v) ≡ c) × Agrees g w.0 × Agrees h w.1
   var-back g h v None c w r e a b = absurd cc
   var-back g h v (Some u) c w r e a b =
       let x : Variable N = record { name = v.name; ty = u } in
-      let (s, i, k) = bind-some (walk_type alphabet v.ty u w.0) (λ s. put_term alphabet x c w.1 >>= λ m. Some (s, m)) r e in
+      let (s, i, k) = bind-some (walk_type alphabet v.ty u w.0) (λ s. put_term alphabet x c w.1 >>= λ m. Some (s, m))
+      r e in
       let (m, j, l) = bind-some (put_term alphabet x c w.1) (λ m. Some (s, m)) r k in
       let q = same_Some (s, m) r l in
       let y = type-back g v.ty u w.0 s i (subst (λ z. Agrees g z.0) (sym q) a) in
-      let z = put-back (same_var alphabet) (same_var-is alphabet tells) (same_tm alphabet) (same_tm-is alphabet tells) h x c w.1 m j (subst (λ z. Agrees h z.1) (sym q) b) in
+      let z = put-back (same_var alphabet) (same_var-is alphabet tells) (same_tm alphabet) (same_tm-is alphabet tells)
+      h x c w.1 m j (subst (λ z. Agrees h z.1) (sym q) b) in
       (ap (λ t. h (record { name = v.name; ty = t })) y.0 ∙ z.0, y.1, z.1)
 
-  in_type-back : (g : N → Ty N) (h : Variable N → Tm N) (t u : Ty N) (w r : Maps alphabet) → walk_in_type alphabet t u w ≡ Some r → Agrees g r.0 → Agrees h r.1 → (inst_by alphabet g t ≡ u) × Agrees g w.0 × Agrees h w.1
+  in_type-back : (g : N → Ty N) (h : Variable N → Tm N) (t u : Ty N) (w r : Maps alphabet) → walk_in_type alphabet t u
+      w ≡ Some r → Agrees g r.0 → Agrees h r.1 → (inst_by alphabet g t ≡ u) × Agrees g w.0 × Agrees h w.1
   in_type-back g h t u w r e a b =
       let (s, i, k) = bind-some (walk_type alphabet t u w.0) (λ s. Some (s, w.1)) r e in
       let q = same_Some (s, w.1) r k in
       let y = type-back g t u w.0 s i (subst (λ z. Agrees g z.0) (sym q) a) in
       (y.0, y.1, subst (λ z. Agrees h z.1) (sym q) b)
 
-  term-back : (g : N → Ty N) (h : Variable N → Tm N) (p c : Tm N) (w r : Maps alphabet) → walk_term alphabet p c w ≡ Some r → Agrees g r.0 → Agrees h r.1
+  term-back : (g : N → Ty N) (h : Variable N → Tm N) (p c : Tm N) (w r : Maps alphabet) → walk_term alphabet p c w
+      ≡ Some r → Agrees g r.0 → Agrees h r.1
       → (bind alphabet g (λ v. h (after g v)) p ≡ c) × Agrees g w.0 × Agrees h w.1
   term-back g h (Free v) c w r e a b = var-back g h v (type_in alphabet [] c) c w r e a b
   term-back g h (Con n t) (Con m u) w r e a b = elim (cases_of (alphabet.same n m) (tells n m)) [
@@ -306,21 +356,35 @@ module _ {N : Type 0} (alphabet : Alphabet N) (tells : Tells alphabet) where
   graph-agrees f [] e = tt
   graph-agrees f (p ∷ m) e = ((let h : (p.0, f p.0) ≡ p = cc in ap (λ z. z.1) h), graph-agrees f m cc)
 
-  walk_found : (p c : Tm N) (s : TypeMap alphabet) (m : TermMap alphabet) → IsMatch alphabet p c s m → walk_term alphabet p c ([], []) ≡ Some (s, m)
+  walk_found : (p c : Tm N) (s : TypeMap alphabet) (m : TermMap alphabet) → IsMatch alphabet p c s m
+      → walk_term alphabet p c ([], []) ≡ Some (s, m)
   walk_found p c s m i =
-      let (r, e, a, b, k, l) = term-forth (type_at alphabet s) (term_at alphabet m) (λ v. term_at-typed alphabet tells m v i.typed) p ([], []) tt tt in
-      let types : keys r.0 ≡ keys s = k ∙ all_added-each_once alphabet.same tells (vars_tm alphabet p) ∙ sym i.types in
-      let vars : keys r.1 ≡ keys m = l ∙ all_added-each_once (same_var alphabet) (same_var-is alphabet tells) (map (inst_var alphabet s) (frees_tm alphabet p)) ∙ sym i.vars in
-      let first : r.0 ≡ s = sym (agrees-graph (type_at alphabet s) r.0 a) ∙ ap (map (λ n. (n, type_at alphabet s n))) types ∙ by-keys alphabet.same tells (type_at alphabet) (λ q x n. refl) s (rw i.types (each_once-distinct alphabet.same tells (vars_tm alphabet p))) in
-      let second : r.1 ≡ m = sym (agrees-graph (term_at alphabet m) r.1 b) ∙ ap (map (λ w. (w, term_at alphabet m w))) vars ∙ by-keys (same_var alphabet) (same_var-is alphabet tells) (term_at alphabet) (λ q x w. refl) m (rw i.vars (each_once-distinct (same_var alphabet) (same_var-is alphabet tells) (map (inst_var alphabet s) (frees_tm alphabet p)))) in
+      let (r, e, a, b, k, l) = term-forth (type_at alphabet s) (term_at alphabet m)
+      (λ v. term_at-typed alphabet tells m v i.typed) p ([], []) tt tt in
+      let types : keys r.0 ≡ keys s = k ∙ all_added-each_once alphabet.same tells (vars_tm alphabet p)
+      ∙ sym i.types in
+      let vars : keys r.1 ≡ keys m = l ∙ all_added-each_once (same_var alphabet) (same_var-is alphabet tells)
+      (map (inst_var alphabet s) (frees_tm alphabet p)) ∙ sym i.vars in
+      let first : r.0 ≡ s = sym (agrees-graph (type_at alphabet s) r.0 a)
+      ∙ ap (map (λ n. (n, type_at alphabet s n))) types ∙ by-keys alphabet.same tells (type_at alphabet)
+      (λ q x n. refl) s (rw i.types (each_once-distinct alphabet.same tells (vars_tm alphabet p))) in
+      let second : r.1 ≡ m = sym (agrees-graph (term_at alphabet m) r.1 b)
+      ∙ ap (map (λ w. (w, term_at alphabet m w))) vars ∙ by-keys (same_var alphabet) (same_var-is alphabet tells)
+      (term_at alphabet) (λ q x w. refl) m
+      (rw i.vars (each_once-distinct (same_var alphabet) (same_var-is alphabet tells)
+      (map (inst_var alphabet s) (frees_tm alphabet p)))) in
       ap (λ z. walk_term alphabet p z ([], [])) (sym i.gives) ∙ e ∙ (λ j. Some (first j, second j))
 
-  walk_match : (p c : Tm N) (s : TypeMap alphabet) (m : TermMap alphabet) → walk_term alphabet p c ([], []) ≡ Some (s, m) → IsMatch alphabet p c s m
+  walk_match : (p c : Tm N) (s : TypeMap alphabet) (m : TermMap alphabet) → walk_term alphabet p c ([], [])
+      ≡ Some (s, m) → IsMatch alphabet p c s m
   walk_match p c s m e =
       let f = term-fine p c ([], []) (s, m) e (record { types = tt; vars = tt; typed = tt }) in
-      let a = graph-agrees (type_at alphabet s) s (by-keys alphabet.same tells (type_at alphabet) (λ q x n. refl) s f.types) in
-      let b = graph-agrees (term_at alphabet m) m (by-keys (same_var alphabet) (same_var-is alphabet tells) (term_at alphabet) (λ q x w. refl) m f.vars) in
-      let gives : subst_tm alphabet s m p ≡ c = (term-back (type_at alphabet s) (term_at alphabet m) p c ([], []) (s, m) e a b).0 in
+      let a = graph-agrees (type_at alphabet s) s
+      (by-keys alphabet.same tells (type_at alphabet) (λ q x n. refl) s f.types) in
+      let b = graph-agrees (term_at alphabet m) m
+      (by-keys (same_var alphabet) (same_var-is alphabet tells) (term_at alphabet) (λ q x w. refl) m f.vars) in
+      let gives : subst_tm alphabet s m p ≡ c =
+      (term-back (type_at alphabet s) (term_at alphabet m) p c ([], []) (s, m) e a b).0 in
       let (r, k, i, x, y) = any_substitution alphabet tells p c s m f.typed gives in
       let same : (r, k) ≡ (s, m) = same_Some (r, k) (s, m) (sym (walk_found p c r k i) ∙ e) in
       subst (λ z. IsMatch alphabet p c z.0 z.1) same i
@@ -328,7 +392,9 @@ module _ {N : Type 0} (alphabet : Alphabet N) (tells : Tells alphabet) where
   pub walk_matches : WalkMatches alphabet
   walk_matches p c = go (matched alphabet p c) refl (walk_term alphabet p c ([], [])) refl
     where
-      go : (o : Option (Maps alphabet)) → matched alphabet p c ≡ o → (x : Option (Maps alphabet)) → walk_term alphabet p c ([], []) ≡ x → x ≡ o
+      go : (o : Option (Maps alphabet)) → matched alphabet p c ≡ o → (x : Option (Maps alphabet))
+          → walk_term alphabet p c ([], []) ≡ x → x ≡ o
       go (Some (s, m)) e x f = sym f ∙ walk_found p c s m ((matched_is_match alphabet tells p c s m).0 e)
       go None e None f = refl
-      go None e (Some (s, m)) f = let i = (matched_is_match alphabet tells p c s m).1 (walk_match p c s m f) in let k : ◌≡◌ {A = Option (Maps alphabet)} None (Some (s, m)) = sym e ∙ i in absurd cc
+      go None e (Some (s, m)) f = let i = (matched_is_match alphabet tells p c s m).1 (walk_match p c s m f) in
+          let k : ◌≡◌ {A = Option (Maps alphabet)} None (Some (s, m)) = sym e ∙ i in absurd cc

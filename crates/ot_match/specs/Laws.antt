@@ -13,16 +13,20 @@ module _ {N : Type 0} (alphabet : Alphabet N) where
 
   -- none are computed exactly where none match
   abbrev pub NoneMatch : Type 0
-  NoneMatch = (p c : Tm N) → (matched alphabet p c ≡ None) ↔ ((s : TypeMap alphabet) (m : TermMap alphabet) → ¬ (IsMatch alphabet p c s m))
+  NoneMatch = (p c : Tm N) → (matched alphabet p c ≡ None)
+      ↔ ((s : TypeMap alphabet) (m : TermMap alphabet) → ¬ (IsMatch alphabet p c s m))
 
   -- there is at most one pair of maps
   abbrev pub OneMatch : Type 0
   OneMatch = (p c : Tm N) (s r : TypeMap alphabet) (m k : TermMap alphabet)
       → IsMatch alphabet p c s m → IsMatch alphabet p c r k → (s ≡ r) × (m ≡ k)
 
-  -- the keys don't limit what matches: any substitution by terms of their variables' types is that one on the variables of p
+  -- the keys don't limit what matches: any substitution by terms of their variables' types is that one on the
+  -- variables of p
   abbrev pub AnySubstitution : Type 0
-  AnySubstitution = (p c : Tm N) (r : TypeMap alphabet) (k : TermMap alphabet) → IsTyped alphabet k → subst_tm alphabet r k p ≡ c
+  AnySubstitution = (p c : Tm N) (r : TypeMap alphabet) (k : TermMap alphabet) → IsTyped alphabet k
+      → subst_tm alphabet r k p ≡ c
       → (s : TypeMap alphabet) × (m : TermMap alphabet) × IsMatch alphabet p c s m
       × ((n : N) → IsMember n (vars_tm alphabet p) → type_at alphabet r n ≡ type_at alphabet s n)
-      × ((v : Variable N) → IsFree alphabet v p → term_at alphabet k (inst_var alphabet r v) ≡ term_at alphabet m (inst_var alphabet s v))
+      × ((v : Variable N) → IsFree alphabet v p → term_at alphabet k (inst_var alphabet r v)
+      ≡ term_at alphabet m (inst_var alphabet s v))

@@ -6,8 +6,8 @@ ghost use Rattle.ot_plain.specs.Naming.{names};
 ghost use Rattle.ot_plain.specs.Trees.{Variable, NApp, NAbs};
 ghost use Rattle.ot_plain.specs.Hol.{same_ty, same_tm, same_var, named_type, IsFreeIn};
 ghost use Rattle.ot_kernel.specs.State.{name_at, type_at, variable_at, named_at, term_at};
-ghost use Rattle.ot_match.specs.Nodes.{type_tree, IsTypeNode, term_tree, IsTermNode, IsKey, AreKeysIn};
-ghost use Rattle.ot_match.specs.Nodes.{IsNoApplication, IsNoAbstraction};
+ghost use Rattle.ot_match.specs.Nodes.{type_tree, IsTypeNode, term_tree, IsTermNode};
+ghost use Rattle.ot_match.specs.Nodes.{IsKey, AreKeysIn, IsNoApplication, IsNoAbstraction};
 
 use crate::names::is_same_name;
 use ot_alpha::alpha_eq;

@@ -21,7 +21,8 @@ use Rattle.ot_write.specs.Bytes.{AreRootsInside, article_bytes, roots_at}
 use Rattle.ot_minimise.specs.Minimised.{minimised, roots_in, same}
 
 module _ (s : Session) (run : IsRun s) where
-  pub roots-inside : (es : List code.Export) → All (IsExportIn s) es → All (AreRootsInside (length s.trace)) (map roots_in es)
+  pub roots-inside : (es : List code.Export) → All (IsExportIn s) es
+      → All (AreRootsInside (length s.trace)) (map roots_in es)
   roots-inside [] h k d l = absurd (omega arith)
   roots-inside (e ∷ es) h zero d l = let x = h 0 e (omega arith) in (x.theorem, x.list, x.term)
   roots-inside (e ∷ es) h (suc k) d l = roots-inside es (λ j c m. h (suc j) c (omega arith)) k d (omega arith)
@@ -31,9 +32,11 @@ module _ (s : Session) (run : IsRun s) where
     naming = name_of s.kernel.names
 
     origin-is : (i : ℕ) → i < length s.trace → map_origin naming (origin_at s.trace i) ≡ origin_of s i
-    origin-is i h = origin-agree naming (name_at s.kernel) (length s.kernel.names) (name_of-index s.kernel.names table) (origin_at s.trace i) (run.named i (Number (pos 0)) h)
+    origin-is i h = origin-agree naming (name_at s.kernel) (length s.kernel.names)
+        (name_of-index s.kernel.names table) (origin_at s.trace i) (run.named i (Number (pos 0)) h)
 
-    definitions-are : (ds : List (Definition Name)) (is : List ℕ) → All (λ i. i < length s.trace) is → length is ≡ length ds
+    definitions-are : (ds : List (Definition Name)) (is : List ℕ) → All (λ i. i < length s.trace) is
+        → length is ≡ length ds
         → map (map_origin naming) (map (origin_at s.trace) is) ≡ origins_made (made_of s ds is)
     definitions-are [] [] h e = refl
     definitions-are [] (i ∷ is) h e = absurd (omega arith)
@@ -43,7 +46,8 @@ module _ (s : Session) (run : IsRun s) where
         let more = definitions-are ds is (λ k n l. h (suc k) n (omega arith)) (omega arith) in
         λ z. here z ∷ more z
 
-    exports-are : (es : List code.Export) → All (IsExportIn s) es → map (roots_with naming) (map (roots_at s.trace) (map roots_in es)) ≡ map (λ e. e.roots) (map (export_of s) es)
+    exports-are : (es : List code.Export) → All (IsExportIn s) es → map (roots_with naming)
+        (map (roots_at s.trace) (map roots_in es)) ≡ map (λ e. e.roots) (map (export_of s) es)
     exports-are [] h = refl
     exports-are (e ∷ es) h =
         let x = h 0 e (omega arith) in
@@ -53,7 +57,8 @@ module _ (s : Session) (run : IsRun s) where
         let more = exports-are es (λ k n l. h (suc k) n (omega arith)) in
         λ z. record { theorem = a z; list = b z; term = c z } ∷ more z
 
-    pub bytes-are : (es : List code.Export) → All (IsExportIn s) es → article_bytes s.kernel.names s.trace s.definition_steps.items (map roots_in es) ≡ minimised (run_of s) (map (export_of s) es)
+    pub bytes-are : (es : List code.Export) → All (IsExportIn s) es → article_bytes s.kernel.names s.trace
+        s.definition_steps.items (map roots_in es) ≡ minimised (run_of s) (map (export_of s) es)
     bytes-are es h =
         let ds = definitions-are s.kernel.definitions s.definition_steps.items run.definitions run.each_definition in
         let roots = exports-are es h in

@@ -6,7 +6,8 @@ use Rattle.std.proofs.lemmas.List.Elements.{All-head, All-tail}
 use Rattle.ot_plain.specs.Names.{Name}
 use Rattle.ot_plain.specs.Trees.{Ty, Tm}
 use Rattle.ot_plain.specs.Table.{Extends, IsInjective}
-use Rattle.ot_nodes.specs.Items.{Item, NameItem, TypeItem, TermItem, as_name, as_type, as_term, IsName, IsType, IsTerm, HasName, HasType, HasTerm, name_at, type_at, term_at, types_at}
+use Rattle.ot_nodes.specs.Items.{Item, NameItem, TypeItem, TermItem, as_name, as_type, as_term, IsName, IsType}
+use Rattle.ot_nodes.specs.Items.{IsTerm, HasName, HasType, HasTerm, name_at, type_at, term_at, types_at}
 
 -- the name, the type, the term of a number
 pub name-is : (ts : List Item) (i : ℕ) (n : Name) → IsName ts i n → name_at ts i ≡ n
@@ -78,7 +79,8 @@ module _ (ts : List Item) (one : IsInjective ts) where
   pub term-one : (i j : ℕ) → HasTerm ts i → HasTerm ts j → term_at ts i ≡ term_at ts j → i ≡ j
   term-one i j g h e = one.same i j _ g (h ∙ ap (λ n. Some (TermItem n)) (sym e))
 
-  pub types-one : (is js : List ℕ) → All (HasType ts) is → All (HasType ts) js → types_at ts is ≡ types_at ts js → is ≡ js
+  pub types-one : (is js : List ℕ) → All (HasType ts) is → All (HasType ts) js → types_at ts is ≡ types_at ts js
+      → is ≡ js
   types-one [] [] g h p = refl
   types-one [] (j ∷ js) g h p = cc
   types-one (i ∷ is) [] g h p = cc

@@ -5,7 +5,8 @@ use Rattle.std.specs.Bool.{OnTrue}
 use Rattle.std.proofs.lemmas.Bool.{leb-true}
 use Rattle.ot_records.specs.Walks.{loose, has_free}
 use Rattle.ot_records.proofs.Walking.{open-kept, close-kept}
-use Rattle.std.proofs.Common.{◌≡◌, ◌≤◌, ℕ, Bool, true, false, ◌&&◌, cond, nat_eq, eqb-true, eq-eqb, true≢false, List, [], ◌∷◌, map, slice_get, Option, None, Some, refl, sym, ap, subst, ◌∙◌, arith}
+use Rattle.std.proofs.Common.{◌≡◌, ◌≤◌, ℕ, Bool, true, false, ◌&&◌, cond, nat_eq, eqb-true, eq-eqb, true≢false}
+use Rattle.std.proofs.Common.{List, [], ◌∷◌, map, slice_get, Option, None, Some, refl, sym, ap, subst, ◌∙◌, arith}
 use Rattle.std.specs.List.{All}
 use Rattle.std.specs.Bool.{Decides}
 use Rattle.std.proofs.lemmas.List.Elements.{All-head, All-tail}
@@ -16,14 +17,18 @@ use Rattle.ot_plain.specs.Table.{Extends, IsInjective}
 use Rattle.ot_plain.specs.Trees.{Ty, TyVar, Variable, Tm, Free}
 use Rattle.ot_plain.specs.Hol.{TypeMap, TermMap, inst, same_ty, same_var, type_at as image_of, term_at as image_at}
 use Rattle.ot_laws.proofs.Tests.{tells_names, same_ty-is}
-use Rattle.ot_nodes.specs.Items.{Item, TypeItem, TermItem, IsType, IsTerm, HasName, HasType, HasTerm, name_at, type_at, term_at}
-use Rattle.ot_nodes.specs.Changing.{Changing, Closing, Opening, Putting, changed, variable_at, type_map, term_map, changing, HasVariable, HasTypes, HasTerms, HasChange, same_place, AreInstances, AreChanged, AreRetyped, IsDone}
+use Rattle.ot_nodes.specs.Items.{Item, TypeItem, TermItem, IsType, IsTerm, HasName}
+use Rattle.ot_nodes.specs.Items.{HasType, HasTerm, name_at, type_at, term_at}
+use Rattle.ot_nodes.specs.Changing.{Changing, Closing, Opening, Putting, changed, variable_at, type_map}
+use Rattle.ot_nodes.specs.Changing.{term_map, changing, HasVariable, HasTypes, HasTerms, HasChange}
+use Rattle.ot_nodes.specs.Changing.{same_place, AreInstances, AreChanged, AreRetyped, IsDone}
 use Rattle.ot_nodes.specs.declared.node.VariableNode.{VariableNode}
 use Rattle.ot_nodes.specs.declared.table.change.Change.{Change}
 use Rattle.ot_nodes.specs.declared.table.change.Change.TheVariants as change
 use Rattle.ot_nodes.specs.declared.table.change.Place.{Place}
 use Rattle.ot_nodes.specs.declared.table.change.Done.{Done}
-use Rattle.ot_nodes.proofs.ItemLemmas.{name-stays, type-stays, term-stays, still-name, still-type, still-term, name-one, type-one, has-type}
+use Rattle.ot_nodes.proofs.ItemLemmas.{name-stays, type-stays, term-stays, still-name}
+use Rattle.ot_nodes.proofs.ItemLemmas.{still-type, still-term, name-one, type-one, has-type}
 
 module _ (ts us : List Item) (e : Extends ts us) where
   pub variable-stays : (v : VariableNode) → HasVariable ts v → variable_at us v ≡ variable_at ts v
@@ -77,8 +82,11 @@ module _ (ts us : List Item) (e : Extends ts us) where
   pub instances-grown : (s : TypeMap names) (es : List (ℕ × ℕ)) → AreInstances ts s es → AreInstances us s es
   instances-grown s es h = record {
     known = λ k v p.
-        let r = h.known k v p in
-        (still-type ts us e k r.0, e.keeps v _ r.1 ∙ ap (λ t. Some (TypeItem (inst names s t))) (sym (type-stays ts us e k r.0)));
+        let r = h.known k v p in (
+          still-type ts us e k r.0,
+          e.keeps v _ r.1
+              ∙ ap (λ t. Some (TypeItem (inst names s t))) (sym (type-stays ts us e k r.0)),
+        );
   }
 
   pub retyped-grown : (c : Changing) (es : List (ℕ × ℕ)) → AreRetyped ts c es → AreRetyped us c es
@@ -89,23 +97,33 @@ module _ (ts us : List Item) (e : Extends ts us) where
   pub changed-grown : (c : Changing) (es : List (Place × ℕ)) → AreChanged ts c es → AreChanged us c es
   changed-grown c es h = record {
     known = λ p r q.
-        let k = h.known p r q in
-        (still-term ts us e p.id k.0, e.keeps r _ k.1 ∙ ap (λ t. Some (TermItem (changed c p.depth t))) (sym (term-stays ts us e p.id k.0)));
+        let k = h.known p r q in (
+          still-term ts us e p.id k.0,
+          e.keeps r _ k.1
+              ∙ ap (λ t. Some (TermItem (changed c p.depth t))) (sym (term-stays ts us e p.id k.0)),
+        );
   }
 
   pub done-grown : (c : Changing) (d : Done) → IsDone ts c d → IsDone us c d
-  done-grown c d h = record { types = retyped-grown c d.types.entries h.types; terms = changed-grown c d.terms.entries h.terms }
+  done-grown c d h =
+      record { types = retyped-grown c d.types.entries h.types; terms = changed-grown c d.terms.entries h.terms }
 
 -- one instance more
-pub instances-insert : (ts : List Item) (s : TypeMap names) (old new : List (ℕ × ℕ)) (k v : ℕ) → AreInstances ts s old → HasType ts k → IsType ts v (inst names s (type_at ts k))
+pub instances-insert : (ts : List Item) (s : TypeMap names) (old new : List (ℕ × ℕ)) (k v : ℕ) → AreInstances ts s old
+    → HasType ts k → IsType ts v (inst names s (type_at ts k))
     → ((q : ℕ) → lookup (nat_eq q) new ≡ cond (nat_eq k q) (Some v) (lookup (nat_eq q) old)) → AreInstances ts s new
-instances-insert ts s old new k v h here is after = record { known = λ q w p. by q w (nat_eq k q) refl (sym (after q) ∙ p) }
+instances-insert ts s old new k v h here is after =
+    record { known = λ q w p. by q w (nat_eq k q) refl (sym (after q) ∙ p) }
   where
-    by : (q w : ℕ) (b : Bool) → nat_eq k q ≡ b → cond (nat_eq k q) (Some v) (lookup (nat_eq q) old) ≡ Some w → HasType ts q × IsType ts w (inst names s (type_at ts q))
+    by : (q w : ℕ) (b : Bool) → nat_eq k q ≡ b → cond (nat_eq k q) (Some v) (lookup (nat_eq q) old) ≡ Some w
+        → HasType ts q × IsType ts w (inst names s (type_at ts q))
     by q w true e p =
         let same : k ≡ q = eqb-true k q e in
-        let value : v ≡ w = same_Some v w (sym (ap (λ b. cond b (Some v) (lookup (nat_eq q) old)) e) ∙ p) in
-        (subst (HasType ts) same here, subst (λ w. IsType ts w (inst names s (type_at ts q))) value (subst (λ q. IsType ts v (inst names s (type_at ts q))) same is))
+        let value : v ≡ w = same_Some v w (sym (ap (λ b. cond b (Some v) (lookup (nat_eq q) old)) e) ∙ p) in (
+          subst (HasType ts) same here,
+          subst (λ w. IsType ts w (inst names s (type_at ts q))) value
+              (subst (λ q. IsType ts v (inst names s (type_at ts q))) same is),
+        )
     by q w false e p = h.known q w (sym (ap (λ b. cond b (Some v) (lookup (nat_eq q) old)) e) ∙ p)
 
 both : (a b : Bool) → (a && b) ≡ true → (a ≡ true) × (b ≡ true)
@@ -114,17 +132,24 @@ both true false p = absurd (true≢false (sym p))
 both false b p = absurd (true≢false (sym p))
 
 -- one changed term more
-pub changed-insert : (ts : List Item) (c : Changing) (old new : List (Place × ℕ)) (p : Place) (r : ℕ) → AreChanged ts c old → HasTerm ts p.id → IsTerm ts r (changed c p.depth (term_at ts p.id))
-    → ((q : Place) → lookup (same_place q) new ≡ cond (same_place p q) (Some r) (lookup (same_place q) old)) → AreChanged ts c new
-changed-insert ts c old new p r h here is after = record { known = λ q s known. by q s (same_place p q) refl (sym (after q) ∙ known) }
+pub changed-insert : (ts : List Item) (c : Changing) (old new : List (Place × ℕ)) (p : Place) (r : ℕ)
+    → AreChanged ts c old → HasTerm ts p.id → IsTerm ts r (changed c p.depth (term_at ts p.id))
+    → ((q : Place) → lookup (same_place q) new ≡ cond (same_place p q) (Some r) (lookup (same_place q) old))
+    → AreChanged ts c new
+changed-insert ts c old new p r h here is after =
+    record { known = λ q s known. by q s (same_place p q) refl (sym (after q) ∙ known) }
   where
-    by : (q : Place) (s : ℕ) (b : Bool) → same_place p q ≡ b → cond (same_place p q) (Some r) (lookup (same_place q) old) ≡ Some s → HasTerm ts q.id × IsTerm ts s (changed c q.depth (term_at ts q.id))
+    by : (q : Place) (s : ℕ) (b : Bool) → same_place p q ≡ b → cond (same_place p q) (Some r)
+        (lookup (same_place q) old) ≡ Some s → HasTerm ts q.id × IsTerm ts s (changed c q.depth (term_at ts q.id))
     by q s true e known =
         let parts = both (nat_eq p.depth q.depth) (nat_eq p.id q.id) e in
         let depth : p.depth ≡ q.depth = eqb-true p.depth q.depth parts.0 in
         let id : p.id ≡ q.id = eqb-true p.id q.id parts.1 in
-        let value : r ≡ s = same_Some r s (sym (ap (λ b. cond b (Some r) (lookup (same_place q) old)) e) ∙ known) in
-        (subst (HasTerm ts) id here, subst (λ s. IsTerm ts s (changed c q.depth (term_at ts q.id))) value (is ∙ (λ j. Some (TermItem (changed c (depth j) (term_at ts (id j)))))))
+        let value : r ≡ s = same_Some r s (sym (ap (λ b. cond b (Some r) (lookup (same_place q) old)) e) ∙ known) in (
+          subst (HasTerm ts) id here,
+          subst (λ s. IsTerm ts s (changed c q.depth (term_at ts q.id))) value
+              (is ∙ (λ j. Some (TermItem (changed c (depth j) (term_at ts (id j)))))),
+        )
     by q s false e known = h.known q s (sym (ap (λ b. cond b (Some r) (lookup (same_place q) old)) e) ∙ known)
 
 -- the test of variables
@@ -142,10 +167,14 @@ module _ (ts : List Item) (one : IsInjective ts) where
       by false e = other (same_name (name_at ts i) (name_at ts j)) refl
         where
           other : (b : Bool) → same_name (name_at ts i) (name_at ts j) ≡ b → b ≡ false
-          other true p = absurd (true≢false (sym (eq-eqb i j (name-one ts one i j g h ((same_name-Decides (name_at ts i) (name_at ts j)).0 p))) ∙ e))
+          other true p =
+              absurd (true≢false
+              (sym (eq-eqb i j (name-one ts one i j g h ((same_name-Decides (name_at ts i) (name_at ts j)).0 p)))
+              ∙ e))
           other false p = refl
 
-  pub image-none : (n : ℕ) (es : List (ℕ × ℕ)) → HasName ts n → HasTypes ts es → lookup (nat_eq n) es ≡ None → image_of names (type_map ts es) (name_at ts n) ≡ TyVar (name_at ts n)
+  pub image-none : (n : ℕ) (es : List (ℕ × ℕ)) → HasName ts n → HasTypes ts es → lookup (nat_eq n) es ≡ None
+      → image_of names (type_map ts es) (name_at ts n) ≡ TyVar (name_at ts n)
   image-none n [] g h p = refl
   image-none n (e ∷ es) g h p =
       by (nat_eq n e.0) refl p (image-none n es g (All-tail (λ p. HasName ts p.0 × HasType ts p.1) e es h))
@@ -154,13 +183,17 @@ module _ (ts : List Item) (one : IsInjective ts) where
       head = All-head (λ p. HasName ts p.0 × HasType ts p.1) e es h
 
       by : (b : Bool) → nat_eq n e.0 ≡ b → cond (nat_eq n e.0) (Some e.1) (lookup (nat_eq n) es) ≡ None
-          → (lookup (nat_eq n) es ≡ None → image_of names (type_map ts es) (name_at ts n) ≡ TyVar (name_at ts n)) → image_of names (type_map ts (e ∷ es)) (name_at ts n) ≡ TyVar (name_at ts n)
-      by true t p rest = let impossible : Some e.1 ≡ None = sym (ap (λ b. cond b (Some e.1) (lookup (nat_eq n) es)) t) ∙ p in cc
+          → (lookup (nat_eq n) es ≡ None → image_of names (type_map ts es) (name_at ts n) ≡ TyVar (name_at ts n))
+          → image_of names (type_map ts (e ∷ es)) (name_at ts n) ≡ TyVar (name_at ts n)
+      by true t p rest = let impossible : Some e.1 ≡ None = sym (ap (λ b. cond b (Some e.1) (lookup (nat_eq n) es)) t)
+          ∙ p in cc
       by false t p rest =
-          ap (λ b. cond b (type_at ts e.1) (image_of names (type_map ts es) (name_at ts n))) (same-names n e.0 g head.0 ∙ t)
+          ap (λ b. cond b (type_at ts e.1) (image_of names (type_map ts es) (name_at ts n)))
+          (same-names n e.0 g head.0 ∙ t)
           ∙ rest (sym (ap (λ b. cond b (Some e.1) (lookup (nat_eq n) es)) t) ∙ p)
 
-  pub image-some : (n r : ℕ) (es : List (ℕ × ℕ)) → HasName ts n → HasTypes ts es → lookup (nat_eq n) es ≡ Some r → (HasType ts r) × (image_of names (type_map ts es) (name_at ts n) ≡ type_at ts r)
+  pub image-some : (n r : ℕ) (es : List (ℕ × ℕ)) → HasName ts n → HasTypes ts es → lookup (nat_eq n) es ≡ Some r
+      → (HasType ts r) × (image_of names (type_map ts es) (name_at ts n) ≡ type_at ts r)
   image-some n r [] g h p = cc
   image-some n r (e ∷ es) g h p =
       by (nat_eq n e.0) refl p (image-some n r es g (All-tail (λ p. HasName ts p.0 × HasType ts p.1) e es h))
@@ -169,13 +202,22 @@ module _ (ts : List Item) (one : IsInjective ts) where
       head = All-head (λ p. HasName ts p.0 × HasType ts p.1) e es h
 
       by : (b : Bool) → nat_eq n e.0 ≡ b → cond (nat_eq n e.0) (Some e.1) (lookup (nat_eq n) es) ≡ Some r
-          → (lookup (nat_eq n) es ≡ Some r → (HasType ts r) × (image_of names (type_map ts es) (name_at ts n) ≡ type_at ts r)) → (HasType ts r) × (image_of names (type_map ts (e ∷ es)) (name_at ts n) ≡ type_at ts r)
+          → (lookup (nat_eq n) es ≡ Some r
+          → (HasType ts r) × (image_of names (type_map ts es) (name_at ts n) ≡ type_at ts r))
+          → (HasType ts r) × (image_of names (type_map ts (e ∷ es)) (name_at ts n) ≡ type_at ts r)
       by true t p rest =
-          let value : e.1 ≡ r = same_Some e.1 r (sym (ap (λ b. cond b (Some e.1) (lookup (nat_eq n) es)) t) ∙ p) in
-          (subst (HasType ts) value head.1, ap (λ b. cond b (type_at ts e.1) (image_of names (type_map ts es) (name_at ts n))) (same-names n e.0 g head.0 ∙ t) ∙ ap (type_at ts) value)
+          let value : e.1 ≡ r = same_Some e.1 r (sym (ap (λ b. cond b (Some e.1) (lookup (nat_eq n) es)) t) ∙ p) in (
+            subst (HasType ts) value head.1,
+            ap
+                (λ b. cond b (type_at ts e.1) (image_of names (type_map ts es) (name_at ts n)))
+                (same-names n e.0 g head.0 ∙ t) ∙ ap (type_at ts) value,
+          )
       by false t p rest =
-          let r = rest (sym (ap (λ b. cond b (Some e.1) (lookup (nat_eq n) es)) t) ∙ p) in
-          (r.0, ap (λ b. cond b (type_at ts e.1) (image_of names (type_map ts es) (name_at ts n))) (same-names n e.0 g head.0 ∙ t) ∙ r.1)
+          let r = rest (sym (ap (λ b. cond b (Some e.1) (lookup (nat_eq n) es)) t) ∙ p) in (
+            r.0,
+            ap (λ b. cond b (type_at ts e.1) (image_of names (type_map ts es) (name_at ts n)))
+                (same-names n e.0 g head.0 ∙ t) ∙ r.1,
+          )
 
   pub same-types : (i j : ℕ) → HasType ts i → HasType ts j → same_ty names (type_at ts i) (type_at ts j) ≡ nat_eq i j
   same-types i j g h = by (nat_eq i j) refl
@@ -185,13 +227,19 @@ module _ (ts : List Item) (one : IsInjective ts) where
       by false e = other (same_ty names (type_at ts i) (type_at ts j)) refl
         where
           other : (b : Bool) → same_ty names (type_at ts i) (type_at ts j) ≡ b → b ≡ false
-          other true p = absurd (true≢false (sym (eq-eqb i j (type-one ts one i j g h ((same_ty-is names tells_names (type_at ts i) (type_at ts j)).0 p))) ∙ e))
+          other true p =
+              absurd (true≢false
+              (sym (eq-eqb i j
+              (type-one ts one i j g h ((same_ty-is names tells_names (type_at ts i) (type_at ts j)).0 p))) ∙ e))
           other false p = refl
 
-  pub same-variables : (v w : VariableNode) → HasVariable ts v → HasVariable ts w → same_var names (variable_at ts v) (variable_at ts w) ≡ variable_eq v w
+  pub same-variables : (v w : VariableNode) → HasVariable ts v → HasVariable ts w
+      → same_var names (variable_at ts v) (variable_at ts w) ≡ variable_eq v w
   same-variables v w g h = λ i. same-names v.name w.name g.0 h.0 i && same-types v.ty w.ty g.1 h.1 i
 
-  pub term-none : (v : VariableNode) (es : List (VariableNode × ℕ)) → HasVariable ts v → HasTerms ts es → lookup (variable_eq v) es ≡ None → image_at names (term_map ts es) (variable_at ts v) ≡ Free (variable_at ts v)
+  pub term-none : (v : VariableNode) (es : List (VariableNode × ℕ)) → HasVariable ts v → HasTerms ts es
+      → lookup (variable_eq v) es ≡ None → image_at names (term_map ts es) (variable_at ts v)
+      ≡ Free (variable_at ts v)
   term-none v [] g h p = refl
   term-none v (e ∷ es) g h p =
       by (variable_eq v e.0) refl p (term-none v es g (All-tail (λ p. HasVariable ts p.0 × HasTerm ts p.1) e es h))
@@ -200,13 +248,18 @@ module _ (ts : List Item) (one : IsInjective ts) where
       head = All-head (λ p. HasVariable ts p.0 × HasTerm ts p.1) e es h
 
       by : (b : Bool) → variable_eq v e.0 ≡ b → cond (variable_eq v e.0) (Some e.1) (lookup (variable_eq v) es) ≡ None
-          → (lookup (variable_eq v) es ≡ None → image_at names (term_map ts es) (variable_at ts v) ≡ Free (variable_at ts v)) → image_at names (term_map ts (e ∷ es)) (variable_at ts v) ≡ Free (variable_at ts v)
-      by true t p rest = let impossible : Some e.1 ≡ None = sym (ap (λ b. cond b (Some e.1) (lookup (variable_eq v) es)) t) ∙ p in cc
+          → (lookup (variable_eq v) es ≡ None → image_at names (term_map ts es) (variable_at ts v) ≡ Free
+          (variable_at ts v)) → image_at names (term_map ts (e ∷ es)) (variable_at ts v) ≡ Free (variable_at ts v)
+      by true t p rest = let impossible : Some e.1 ≡ None =
+          sym (ap (λ b. cond b (Some e.1) (lookup (variable_eq v) es)) t) ∙ p in cc
       by false t p rest =
-          ap (λ b. cond b (term_at ts e.1) (image_at names (term_map ts es) (variable_at ts v))) (same-variables v e.0 g head.0 ∙ t)
+          ap (λ b. cond b (term_at ts e.1) (image_at names (term_map ts es) (variable_at ts v)))
+          (same-variables v e.0 g head.0 ∙ t)
           ∙ rest (sym (ap (λ b. cond b (Some e.1) (lookup (variable_eq v) es)) t) ∙ p)
 
-  pub term-some : (v : VariableNode) (r : ℕ) (es : List (VariableNode × ℕ)) → HasVariable ts v → HasTerms ts es → lookup (variable_eq v) es ≡ Some r → (HasTerm ts r) × (image_at names (term_map ts es) (variable_at ts v) ≡ term_at ts r)
+  pub term-some : (v : VariableNode) (r : ℕ) (es : List (VariableNode × ℕ)) → HasVariable ts v → HasTerms ts es
+      → lookup (variable_eq v) es ≡ Some r
+      → (HasTerm ts r) × (image_at names (term_map ts es) (variable_at ts v) ≡ term_at ts r)
   term-some v r [] g h p = cc
   term-some v r (e ∷ es) g h p =
       by (variable_eq v e.0) refl p (term-some v r es g (All-tail (λ p. HasVariable ts p.0 × HasTerm ts p.1) e es h))
@@ -214,29 +267,45 @@ module _ (ts : List Item) (one : IsInjective ts) where
       head : HasVariable ts e.0 × HasTerm ts e.1
       head = All-head (λ p. HasVariable ts p.0 × HasTerm ts p.1) e es h
 
-      by : (b : Bool) → variable_eq v e.0 ≡ b → cond (variable_eq v e.0) (Some e.1) (lookup (variable_eq v) es) ≡ Some r
-          → (lookup (variable_eq v) es ≡ Some r → (HasTerm ts r) × (image_at names (term_map ts es) (variable_at ts v) ≡ term_at ts r)) → (HasTerm ts r) × (image_at names (term_map ts (e ∷ es)) (variable_at ts v) ≡ term_at ts r)
+      by : (b : Bool) → variable_eq v e.0 ≡ b → cond (variable_eq v e.0) (Some e.1) (lookup (variable_eq v) es)
+          ≡ Some r
+          → (lookup (variable_eq v) es ≡ Some r
+          → (HasTerm ts r) × (image_at names (term_map ts es) (variable_at ts v) ≡ term_at ts r))
+          → (HasTerm ts r) × (image_at names (term_map ts (e ∷ es)) (variable_at ts v) ≡ term_at ts r)
       by true t p rest =
-          let value : e.1 ≡ r = same_Some e.1 r (sym (ap (λ b. cond b (Some e.1) (lookup (variable_eq v) es)) t) ∙ p) in
-          (subst (HasTerm ts) value head.1, ap (λ b. cond b (term_at ts e.1) (image_at names (term_map ts es) (variable_at ts v))) (same-variables v e.0 g head.0 ∙ t) ∙ ap (term_at ts) value)
+          let value : e.1 ≡ r =
+          same_Some e.1 r (sym (ap (λ b. cond b (Some e.1) (lookup (variable_eq v) es)) t) ∙ p) in (
+            subst (HasTerm ts) value head.1,
+            ap
+                (λ b. cond b (term_at ts e.1) (image_at names (term_map ts es) (variable_at ts v)))
+                (same-variables v e.0 g head.0 ∙ t) ∙ ap (term_at ts) value,
+          )
       by false t p rest =
-          let r = rest (sym (ap (λ b. cond b (Some e.1) (lookup (variable_eq v) es)) t) ∙ p) in
-          (r.0, ap (λ b. cond b (term_at ts e.1) (image_at names (term_map ts es) (variable_at ts v))) (same-variables v e.0 g head.0 ∙ t) ∙ r.1)
+          let r = rest (sym (ap (λ b. cond b (Some e.1) (lookup (variable_eq v) es)) t) ∙ p) in (
+            r.0,
+            ap (λ b. cond b (term_at ts e.1) (image_at names (term_map ts es) (variable_at ts v)))
+                (same-variables v e.0 g head.0 ∙ t) ∙ r.1,
+          )
 
 -- ---- parts that a change leaves as they are
-pub close-stays : (ts : List Item) (c : Change) (v : VariableNode) (k : ℕ) (t : Tm Name) (b : Bool) → c ≡ change.Close v → b ≡ has_free t → OnTrue (not b) (changed (changing ts c) k t ≡ t)
+pub close-stays : (ts : List Item) (c : Change) (v : VariableNode) (k : ℕ) (t : Tm Name) (b : Bool)
+    → c ≡ change.Close v → b ≡ has_free t → OnTrue (not b) (changed (changing ts c) k t ≡ t)
 close-stays ts c v k t true is e = tt
-close-stays ts c v k t false is e = ap (λ c. changed (changing ts c) k t) is ∙ close-kept names (variable_at ts v) k t (sym e)
+close-stays ts c v k t false is e = ap (λ c. changed (changing ts c) k t) is
+    ∙ close-kept names (variable_at ts v) k t (sym e)
 
-pub open-stays : (ts : List Item) (c : Change) (u k n : ℕ) (t : Tm Name) → c ≡ change.Open u → n ≡ loose t → OnTrue (nat_le n k) (changed (changing ts c) k t ≡ t)
+pub open-stays : (ts : List Item) (c : Change) (u k n : ℕ) (t : Tm Name) → c ≡ change.Open u → n ≡ loose t
+    → OnTrue (nat_le n k) (changed (changing ts c) k t ≡ t)
 open-stays ts c u k n t is e = by (nat_le n k) refl
   where
     by : (b : Bool) → nat_le n k ≡ b → OnTrue b (changed (changing ts c) k t ≡ t)
-    by true p = let le = leb-true n k p in ap (λ c. changed (changing ts c) k t) is ∙ open-kept names (term_at ts u) k t (omega (arith, e, le))
+    by true p = let le = leb-true n k p in
+        ap (λ c. changed (changing ts c) k t) is ∙ open-kept names (term_at ts u) k t (omega (arith, e, le))
     by false p = tt
 
 -- ---- nothing was worked on
-pub done-nothing : (ts : List Item) (c : Changing) (d : Done) → d.types.entries ≡ [] → d.terms.entries ≡ [] → IsDone ts c d
+pub done-nothing : (ts : List Item) (c : Changing) (d : Done) → d.types.entries ≡ [] → d.terms.entries ≡ []
+    → IsDone ts c d
 done-nothing ts c d types terms = record {
   types = by c;
   terms = record { known = λ p r h. absurd (none-some r (sym (ap (lookup (same_place p)) terms) ∙ h)) };
@@ -248,9 +317,13 @@ done-nothing ts c d types terms = record {
     by (Putting s m) = record { known = λ k v h. absurd (none-some v (sym (ap (lookup (nat_eq k)) types) ∙ h)) }
 
 -- what is remembered of types, by the table now
-pub instances-now : (ts us : List Item) (e : Extends ts us) (es done : List (ℕ × ℕ)) → HasTypes ts es → AreInstances ts (type_map ts es) done → AreInstances us (type_map us es) done
-instances-now ts us e es done pairs h = subst (λ s. AreInstances us s done) (sym (type_map-stays ts us e es pairs)) (instances-grown ts us e (type_map ts es) done h)
+pub instances-now : (ts us : List Item) (e : Extends ts us) (es done : List (ℕ × ℕ)) → HasTypes ts es
+    → AreInstances ts (type_map ts es) done → AreInstances us (type_map us es) done
+instances-now ts us e es done pairs h = subst (λ s. AreInstances us s done) (sym (type_map-stays ts us e es pairs))
+    (instances-grown ts us e (type_map ts es) done h)
 
 -- and of a change
-pub done-now : (ts us : List Item) (e : Extends ts us) (c : Change) (d : Done) → HasChange ts c → IsDone ts (changing ts c) d → IsDone us (changing us c) d
-done-now ts us e c d has h = subst (λ w. IsDone us w d) (sym (changing-stays ts us e c has)) (done-grown ts us e (changing ts c) d h)
+pub done-now : (ts us : List Item) (e : Extends ts us) (c : Change) (d : Done) → HasChange ts c
+    → IsDone ts (changing ts c) d → IsDone us (changing us c) d
+done-now ts us e c d has h =
+    subst (λ w. IsDone us w d) (sym (changing-stays ts us e c has)) (done-grown ts us e (changing ts c) d h)

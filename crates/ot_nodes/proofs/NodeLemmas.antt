@@ -1,5 +1,6 @@
 -- The table's nodes meet the laws of nodes.
-use Rattle.std.proofs.Common.{◌≡◌, ℕ, ◌<◌, ◌≤◌, Bool, true, false, ◌&&◌, List, [], ◌∷◌, length, slice_get, Some, None, position, ◌++◌, nat_eq, eq-eqb, eqb-true, true≢false, refl, sym, ap, subst, ◌∙◌, arith}
+use Rattle.std.proofs.Common.{◌≡◌, ℕ, ◌<◌, ◌≤◌, Bool, true, false, ◌&&◌, List, [], ◌∷◌, length, slice_get, Some, None}
+use Rattle.std.proofs.Common.{position, ◌++◌, nat_eq, eq-eqb, eqb-true, true≢false, refl, sym, ap, subst, ◌∙◌, arith}
 use Rattle.std.specs.Prelude.{IsTrue, ◌↔◌}
 use Rattle.std.specs.List.{All}
 use Rattle.std.specs.Cmp.Lexicographic.{pointwise}
@@ -19,9 +20,11 @@ use Rattle.ot_plain.proofs.InternedLemmas.{pushed, Pushed}
 use Rattle.std.specs.Map.{keys_of, lookup}
 use Rattle.indexmap.specs.IndexMap.{IndexMap, keys, insert_entry}
 use Rattle.indexmap.proofs.CallerLemmas.{insert_entry-new}
-use Rattle.ot_nodes.specs.Items.{Item, NameItem, TypeItem, TermItem, as_name, as_type, as_term, HasName, HasType, HasTerm, name_at, type_at, term_at, types_at, first_items}
+use Rattle.ot_nodes.specs.Items.{Item, NameItem, TypeItem, TermItem, as_name, as_type, as_term, HasName}
+use Rattle.ot_nodes.specs.Items.{HasType, HasTerm, name_at, type_at, term_at, types_at, first_items}
 use Rattle.ot_nodes.specs.Below.{AreTypesBelow, AreTermsBelow, AreBelow, is_name_node, is_type_node, is_term_node}
-use Rattle.ot_nodes.specs.Table.{type_tree, term_tree, tree_of, HasTypeParts, HasTermParts, HasParts, IsBeside, IsTermBeside, Fits, items_of, IsTable}
+use Rattle.ot_nodes.specs.Table.{type_tree, term_tree, tree_of, HasTypeParts, HasTermParts}
+use Rattle.ot_nodes.specs.Table.{HasParts, IsBeside, IsTermBeside, Fits, items_of, IsTable}
 use Rattle.ot_nodes.specs.declared.node.TypeNode.{TypeNode}
 use Rattle.ot_nodes.specs.declared.node.TypeNode.TheVariants as ty
 use Rattle.ot_nodes.specs.declared.node.TermNode.{TermNode}
@@ -32,7 +35,9 @@ use Rattle.ot_nodes.specs.declared.table.Beside.{Beside}
 use Rattle.ot_nodes.specs.contracts.node.NodePartialEq.TheImpl as derived
 use Rattle.ot_nodes.specs.contracts.node.TypeNodePartialEq.TheImpl as derived_type
 use Rattle.ot_nodes.specs.contracts.node.TermNodePartialEq.TheImpl as derived_term
-use Rattle.ot_nodes.proofs.ItemLemmas.{has-name, has-type, has-term, name-within, type-within, term-within, still-name, still-type, still-term, still-types, name-one, type-one, term-one, types-one}
+use Rattle.ot_nodes.proofs.ItemLemmas.{has-name, has-type, has-term, name-within, type-within}
+use Rattle.ot_nodes.proofs.ItemLemmas.{term-within, still-name, still-type, still-term}
+use Rattle.ot_nodes.proofs.ItemLemmas.{still-types, name-one, type-one, term-one, types-one}
 
 -- the derived tests
 abbrev pub node_eq : Node → Node → Bool
@@ -178,21 +183,25 @@ variable_type (Free v) = v.ty
 variable_type _ = TyVar []
 
 module _ (ts : List Item) (one : IsInjective ts) where
-  same_type : (m n : TypeNode) → HasTypeParts ts m → HasTypeParts ts n → type_tree ts m ≡ type_tree ts n → type_eq m n ≡ true
+  same_type : (m n : TypeNode) → HasTypeParts ts m → HasTypeParts ts n → type_tree ts m ≡ type_tree ts n
+      → type_eq m n ≡ true
   same_type (ty.Var m) (ty.Var n) g h p =
       let e : name_at ts m ≡ name_at ts n = cc in
       eq-eqb m n (name-one ts one m n g h e)
   same_type (ty.Op m xs) (ty.Op n ys) g h p =
       let name : name_at ts m ≡ name_at ts n = cc in
       let args : types_at ts xs.items ≡ types_at ts ys.items = cc in
-      both_true (eq-eqb m n (name-one ts one m n g.0 h.0 name)) ((bytes_eq-Decides xs.items ys.items).1 (types-one ts one xs.items ys.items g.1 h.1 args))
+      both_true (eq-eqb m n (name-one ts one m n g.0 h.0 name))
+      ((bytes_eq-Decides xs.items ys.items).1 (types-one ts one xs.items ys.items g.1 h.1 args))
   same_type _ _ g h p = cc
 
-  same_term : (m n : TermNode) → HasTermParts ts m → HasTermParts ts n → term_tree ts m ≡ term_tree ts n → term_eq m n ≡ true
+  same_term : (m n : TermNode) → HasTermParts ts m → HasTermParts ts n → term_tree ts m ≡ term_tree ts n
+      → term_eq m n ≡ true
   same_term (tm.Free v) (tm.Free w) g h p =
       let name : name_at ts v.name ≡ name_at ts w.name = ap variable_name p in
       let type : type_at ts v.ty ≡ type_at ts w.ty = ap variable_type p in
-      both_true (eq-eqb v.name w.name (name-one ts one v.name w.name g.0 h.0 name)) (eq-eqb v.ty w.ty (type-one ts one v.ty w.ty g.1 h.1 type))
+      both_true (eq-eqb v.name w.name (name-one ts one v.name w.name g.0 h.0 name))
+      (eq-eqb v.ty w.ty (type-one ts one v.ty w.ty g.1 h.1 type))
   same_term (tm.Const n t) (tm.Const m u) g h p =
       let name : name_at ts n ≡ name_at ts m = cc in
       let type : type_at ts t ≡ type_at ts u = cc in
@@ -227,7 +236,9 @@ pub laws : NodeLaws tree_of AreBelow Fits node_eq
 laws = record {
   more_below = more_below;
   tree_stays = tree_stays;
-  fits_stays = λ ts us e n d below h. (parts_stay ts us e n h.0, subst (λ x. IsBeside x d) (sym (tree_stays ts us e n below)) h.1);
+  fits_stays =
+      λ ts us e n d below h.
+      (parts_stay ts us e n h.0, subst (λ x. IsBeside x d) (sym (tree_stays ts us e n below)) h.1);
   tree_same = tree_same;
   same_tree = λ ts one m n d e below above fits also same. same_tree ts one m n fits.0 also.0 same;
 }
@@ -300,23 +311,51 @@ module _ (ts : List Item) (i : ℕ) (n : Node) (b : Beside) (e : IsEntry tree_of
 
 -- ---- the table of the three primitive names
 module _ {S : Type 0} (a b c d : IndexMap Node Beside S) (n : Beside) where
-  one-more : (m o : IndexMap Node Beside S) (x : Name) (ts : List Item) → items_of m.entries ≡ ts → IsSound tree_of AreBelow Fits m.entries (items_of m.entries) → lookup (node_eq (node.Name x)) m.entries ≡ None
+  one-more : (m o : IndexMap Node Beside S) (x : Name) (ts : List Item) → items_of m.entries ≡ ts
+      → IsSound tree_of AreBelow Fits m.entries (items_of m.entries) → lookup (node_eq (node.Name x)) m.entries ≡ None
       → position (node_eq (node.Name x)) (keys m) ≡ None → o.entries ≡ insert_entry node_eq m.entries (node.Name x) n
-      → Pushed tree_of AreBelow Fits node_eq laws m.entries ts (node.Name x) o.entries × (o.entries ≡ m.entries ++ (node.Name x, n) ∷ [])
-  one-more m o x ts view sound none absent inserted =
-      (pushed tree_of AreBelow Fits node_eq laws m ts view sound (node.Name x) n tt (tt, tt) absent o.entries inserted, inserted ∙ insert_entry-new node_eq m (node.Name x) n none)
+      → Pushed tree_of AreBelow Fits node_eq laws m.entries ts (node.Name x) o.entries
+      × (o.entries ≡ m.entries ++ (node.Name x, n) ∷ [])
+  one-more m o x ts view sound none absent inserted = (
+    pushed tree_of AreBelow Fits node_eq laws m ts view sound (node.Name x) n tt (tt, tt) absent o.entries
+        inserted,
+    inserted ∙ insert_entry-new node_eq m (node.Name x) n none,
+  )
 
   nothing-sound : IsSound tree_of AreBelow Fits [] []
-  nothing-sound = record { same_length = refl; entries = λ i m e p. absurd (none-some _ p); injective = record { same = λ i j x p q. absurd (none-some _ p) } }
+  nothing-sound =
+      record {
+        same_length = refl;
+        entries = λ i m e p. absurd (none-some _ p);
+        injective = record { same = λ i j x p q. absurd (none-some _ p) };
+      }
 
-  pub new-table : (x y z : Name) → a.entries ≡ [] → x ≡ names.arrow → b.entries ≡ insert_entry node_eq a.entries (node.Name x) n → y ≡ names.bool_name → c.entries ≡ insert_entry node_eq b.entries (node.Name y) n
-      → z ≡ names.equals → d.entries ≡ insert_entry node_eq c.entries (node.Name z) n → IsTable d.entries (items_of d.entries) × (items_of d.entries ≡ first_items)
+  pub new-table : (x y z : Name) → a.entries ≡ [] → x ≡ names.arrow → b.entries ≡ insert_entry node_eq a.entries
+      (node.Name x) n → y ≡ names.bool_name → c.entries ≡ insert_entry node_eq b.entries (node.Name y) n
+      → z ≡ names.equals → d.entries ≡ insert_entry node_eq c.entries (node.Name z) n
+      → IsTable d.entries (items_of d.entries) × (items_of d.entries ≡ first_items)
   new-table x y z empty is_x add_x is_y add_y is_z add_z =
       let view : items_of a.entries ≡ [] = ap items_of empty in
       let sound = subst (λ es. IsSound tree_of AreBelow Fits es (items_of es)) (sym empty) nothing-sound in
-      let one = one-more a b names.arrow [] view sound (ap (lookup (node_eq (node.Name names.arrow))) empty) (ap (λ (es : List (Node × Beside)). position (node_eq (node.Name names.arrow)) (keys_of es)) empty) (add_x ∙ ap (λ x. insert_entry node_eq a.entries (node.Name x) n) is_x) in
-      let first : b.entries ≡ (node.Name names.arrow, n) ∷ [] = one.1 ∙ ap (λ es. es ++ (node.Name names.arrow, n) ∷ []) empty in
-      let two = one-more b c names.bool_name (NameItem names.arrow ∷ []) one.0.trees one.0.sound (ap (lookup (node_eq (node.Name names.bool_name))) first) (ap (λ (es : List (Node × Beside)). position (node_eq (node.Name names.bool_name)) (keys_of es)) first) (add_y ∙ ap (λ y. insert_entry node_eq b.entries (node.Name y) n) is_y) in
-      let second : c.entries ≡ (node.Name names.arrow, n) ∷ (node.Name names.bool_name, n) ∷ [] = two.1 ∙ ap (λ es. es ++ (node.Name names.bool_name, n) ∷ []) first in
-      let three = one-more c d names.equals (NameItem names.arrow ∷ NameItem names.bool_name ∷ []) two.0.trees two.0.sound (ap (lookup (node_eq (node.Name names.equals))) second) (ap (λ (es : List (Node × Beside)). position (node_eq (node.Name names.equals)) (keys_of es)) second) (add_z ∙ ap (λ z. insert_entry node_eq c.entries (node.Name z) n) is_z) in
-      (record { nodes = three.0.sound; first = subst (Extends first_items) (sym three.0.trees) (Extends-refl first_items) }, three.0.trees)
+      let one = one-more a b names.arrow [] view sound (ap (lookup (node_eq (node.Name names.arrow))) empty)
+      (ap (λ (es : List (Node × Beside)). position (node_eq (node.Name names.arrow)) (keys_of es)) empty)
+      (add_x ∙ ap (λ x. insert_entry node_eq a.entries (node.Name x) n) is_x) in
+      let first : b.entries ≡ (node.Name names.arrow, n) ∷ [] =
+      one.1 ∙ ap (λ es. es ++ (node.Name names.arrow, n) ∷ []) empty in
+      let two = one-more b c names.bool_name (NameItem names.arrow ∷ []) one.0.trees one.0.sound
+      (ap (lookup (node_eq (node.Name names.bool_name))) first)
+      (ap (λ (es : List (Node × Beside)). position (node_eq (node.Name names.bool_name)) (keys_of es)) first)
+      (add_y ∙ ap (λ y. insert_entry node_eq b.entries (node.Name y) n) is_y) in
+      let second : c.entries ≡ (node.Name names.arrow, n) ∷ (node.Name names.bool_name, n) ∷ [] =
+      two.1 ∙ ap (λ es. es ++ (node.Name names.bool_name, n) ∷ []) first in
+      let three = one-more c d names.equals (NameItem names.arrow ∷ NameItem names.bool_name ∷ []) two.0.trees
+      two.0.sound (ap (lookup (node_eq (node.Name names.equals))) second)
+      (ap (λ (es : List (Node × Beside)). position (node_eq (node.Name names.equals)) (keys_of es)) second)
+      (add_z ∙ ap (λ z. insert_entry node_eq c.entries (node.Name z) n) is_z) in (
+        record {
+          nodes = three.0.sound;
+          first = subst (Extends first_items) (sym three.0.trees)
+              (Extends-refl first_items);
+        },
+        three.0.trees,
+      )

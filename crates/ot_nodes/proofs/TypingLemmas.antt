@@ -4,7 +4,9 @@ use Rattle.std.specs.Map.{lookup}
 use Rattle.std.specs.Option.{option_map, ForSome}
 use Rattle.std.specs.Cmp.Lexicographic.{pointwise}
 use Rattle.std.proofs.lemmas.Slice.Eq.{bytes_eq-Decides}
-use Rattle.std.proofs.Common.{◌≡◌, ℕ, zero, suc, ◌<◌, ◌≤◌, Bool, true, false, ◌&&◌, cond, nat_eq, eqb-true, eq-eqb, true≢false, List, [], ◌∷◌, map, take, length, slice_get, Option, None, Some, refl, sym, ap, subst, ◌∙◌, arith}
+use Rattle.std.proofs.Common.{◌≡◌, ℕ, zero, suc, ◌<◌, ◌≤◌, Bool, true, false, ◌&&◌, cond, nat_eq}
+use Rattle.std.proofs.Common.{eqb-true, eq-eqb, true≢false, List, [], ◌∷◌, map, take, length}
+use Rattle.std.proofs.Common.{slice_get, Option, None, Some, refl, sym, ap, subst, ◌∙◌, arith}
 use Rattle.std.specs.List.{All}
 use Rattle.std.proofs.lemmas.List.Elements.{All-head, All-tail}
 use Rattle.std.proofs.lemmas.Option.{same_Some, none-some}
@@ -22,7 +24,8 @@ use Rattle.ot_nodes.specs.Shapes.{IsFunction}
 use Rattle.ot_nodes.specs.Typing.{binders_at, HasTyping, IsTyping, IsTyped, IsCut, same_scope, AreTypings}
 use Rattle.ot_nodes.specs.declared.table.typing.Typed.{Typed}
 use Rattle.ot_nodes.specs.declared.table.typing.Scope.{Scope}
-use Rattle.ot_nodes.proofs.ItemLemmas.{type-is, has-type, type-stays, term-stays, still-type, still-types, still-term, type-one}
+use Rattle.ot_nodes.proofs.ItemLemmas.{type-is, has-type, type-stays, term-stays}
+use Rattle.ot_nodes.proofs.ItemLemmas.{still-type, still-types, still-term, type-one}
 
 -- ---- a table that grows
 module _ (ts us : List Item) (e : Extends ts us) where
@@ -49,7 +52,9 @@ module _ (ts us : List Item) (e : Extends ts us) where
         let term = term-stays ts us e s.id k.0 in (
           still-term ts us e s.id k.0,
           still-types ts us e s.binders.items k.1,
-          subst (λ l. IsTyping us l (term_at us s.id) r) (sym binders) (subst (λ t. IsTyping us (binders_at ts s.binders.items) t r) (sym term) (typing-grown (binders_at ts s.binders.items) (term_at ts s.id) r k.2)),
+          subst (λ l. IsTyping us l (term_at us s.id) r) (sym binders)
+              (subst (λ t. IsTyping us (binders_at ts s.binders.items) t r) (sym term)
+              (typing-grown (binders_at ts s.binders.items) (term_at ts s.id) r k.2)),
         );
   }
 
@@ -59,19 +64,28 @@ both true false p = absurd (true≢false (sym p))
 both false b p = absurd (true≢false (sym p))
 
 -- one typing more
-pub typings-insert : (ts : List Item) (old new : List (Scope × Option Typed)) (s : Scope) (r : Option Typed) → AreTypings ts old → HasTerm ts s.id → All (HasType ts) s.binders.items → IsTyping ts (binders_at ts s.binders.items) (term_at ts s.id) r
-    → ((q : Scope) → lookup (same_scope q) new ≡ cond (same_scope s q) (Some r) (lookup (same_scope q) old)) → AreTypings ts new
-typings-insert ts old new s r h term binders is after = record { known = λ q w p. by q w (same_scope s q) refl (sym (after q) ∙ p) }
+pub typings-insert : (ts : List Item) (old new : List (Scope × Option Typed)) (s : Scope) (r : Option Typed)
+    → AreTypings ts old → HasTerm ts s.id → All (HasType ts) s.binders.items
+    → IsTyping ts (binders_at ts s.binders.items) (term_at ts s.id) r
+    → ((q : Scope) → lookup (same_scope q) new ≡ cond (same_scope s q) (Some r) (lookup (same_scope q) old))
+    → AreTypings ts new
+typings-insert ts old new s r h term binders is after =
+    record { known = λ q w p. by q w (same_scope s q) refl (sym (after q) ∙ p) }
   where
-    by : (q : Scope) (w : Option Typed) (b : Bool) → same_scope s q ≡ b → cond (same_scope s q) (Some r) (lookup (same_scope q) old) ≡ Some w → HasTerm ts q.id × All (HasType ts) q.binders.items × IsTyping ts (binders_at ts q.binders.items) (term_at ts q.id) w
+    by : (q : Scope) (w : Option Typed) (b : Bool) → same_scope s q ≡ b
+        → cond (same_scope s q) (Some r) (lookup (same_scope q) old) ≡ Some w → HasTerm ts q.id
+        × All (HasType ts) q.binders.items × IsTyping ts (binders_at ts q.binders.items) (term_at ts q.id) w
     by q w true e p =
         let parts = both (nat_eq s.id q.id) (pointwise nat_eq s.binders.items q.binders.items) e in
         let id : s.id ≡ q.id = eqb-true s.id q.id parts.0 in
-        let items : s.binders.items ≡ q.binders.items = (bytes_eq-Decides s.binders.items q.binders.items).0 parts.1 in
+        let items : s.binders.items ≡ q.binders.items =
+        (bytes_eq-Decides s.binders.items q.binders.items).0 parts.1 in
         let value : r ≡ w = same_Some r w (sym (ap (λ b. cond b (Some r) (lookup (same_scope q) old)) e) ∙ p) in (
           subst (HasTerm ts) id term,
           subst (All (HasType ts)) items binders,
-          subst (λ w. IsTyping ts (binders_at ts q.binders.items) (term_at ts q.id) w) value (subst (λ is. IsTyping ts (binders_at ts is) (term_at ts q.id) r) items (subst (λ i. IsTyping ts (binders_at ts s.binders.items) (term_at ts i) r) id is)),
+          subst (λ w. IsTyping ts (binders_at ts q.binders.items) (term_at ts q.id) w) value
+              (subst (λ is. IsTyping ts (binders_at ts is) (term_at ts q.id) r) items
+              (subst (λ i. IsTyping ts (binders_at ts s.binders.items) (term_at ts i) r) id is)),
         )
     by q w false e p = h.known q w (sym (ap (λ b. cond b (Some r) (lookup (same_scope q) old)) e) ∙ p)
 
@@ -97,9 +111,11 @@ cut-taken ts t is =
     }
 
 -- the typing under the binders that count is that under all
-pub typing-cut : (ts us : List Item) (l : List (Ty Name)) (t : Tm Name) (is : List ℕ) (r : Option Typed) → IsCut ts l t is → IsTyping us (binders_at ts is) t r → IsTyping us l t r
+pub typing-cut : (ts us : List Item) (l : List (Ty Name)) (t : Tm Name) (is : List ℕ) (r : Option Typed)
+    → IsCut ts l t is → IsTyping us (binders_at ts is) t r → IsTyping us l t r
 typing-cut ts us l t is None c h = sym c.type ∙ h
-typing-cut ts us l t is (Some r) c h = record { number = h.number; type = sym c.type ∙ h.type; parts = h.parts ∙ c.parts }
+typing-cut ts us l t is (Some r) c h =
+    record { number = h.number; type = sym c.type ∙ h.type; parts = h.parts ∙ c.parts }
 
 -- ---- each node
 and-true : (b : Bool) → (b && true) ≡ b
@@ -108,11 +124,14 @@ and-true false = refl
 
 module _ (ts : List Item) (l : List (Ty Name)) where
   -- a leaf of this type
-  pub typing-leaf : (t : Tm Name) (ty : ℕ) (r : Typed) → HasType ts ty → type_in names l t ≡ Some (type_at ts ty) → has_types_within names l t ≡ is_within_type names (type_in names l t) → IsTyped ts ty true r → HasTyping ts l t r
+  pub typing-leaf : (t : Tm Name) (ty : ℕ) (r : Typed) → HasType ts ty → type_in names l t ≡ Some (type_at ts ty)
+      → has_types_within names l t ≡ is_within_type names (type_in names l t) → IsTyped ts ty true r
+      → HasTyping ts l t r
   typing-leaf t ty r here type parts typed = record {
     number = subst (HasType ts) (sym typed.number) here;
     type = type ∙ ap (λ i. Some (type_at ts i)) (sym typed.number);
-    parts = typed.all ∙ and-true (nat_le (depth_ty names (type_at ts ty)) log_depth) ∙ sym (parts ∙ ap (is_within_type names) type);
+    parts = typed.all ∙ and-true (nat_le (depth_ty names (type_at ts ty)) log_depth)
+        ∙ sym (parts ∙ ap (is_within_type names) type);
   }
 
   -- an application
@@ -126,42 +145,55 @@ module _ (ts : List Item) (l : List (Ty Name)) where
     result-none (TyOp n (MoreTys a NoTys)) y p = refl
     result-none (TyOp n (MoreTys a (MoreTys b NoTys))) y p = by (same_name n names.arrow) refl
       where
-        by : (q : Bool) → same_name n names.arrow ≡ q → cond (same_name n names.arrow && same_ty names a y) (Some b) None ≡ None
+        by : (q : Bool) → same_name n names.arrow ≡ q
+            → cond (same_name n names.arrow && same_ty names a y) (Some b) None ≡ None
         by true e = let impossible : Some (a, b) ≡ None = sym (ap (λ q. cond q (Some (a, b)) None) e) ∙ p in cc
         by false e = ap (λ q. cond (q && same_ty names a y) (Some b) None) e
     result-none (TyOp n (MoreTys a (MoreTys b (MoreTys c ds)))) y p = refl
 
-    result-some : (a b c y : Ty Name) → as_fun_ty names a ≡ Some (b, c) → result_ty names a y ≡ cond (same_ty names b y) (Some c) None
+    result-some : (a b c y : Ty Name) → as_fun_ty names a ≡ Some (b, c)
+        → result_ty names a y ≡ cond (same_ty names b y) (Some c) None
     result-some (TyVar n) b c y p = cc
     result-some (TyOp n NoTys) b c y p = cc
     result-some (TyOp n (MoreTys a NoTys)) b c y p = cc
     result-some (TyOp n (MoreTys a (MoreTys d NoTys))) b c y p = by (same_name n names.arrow) refl
       where
-        by : (q : Bool) → same_name n names.arrow ≡ q → cond (same_name n names.arrow && same_ty names a y) (Some d) None ≡ cond (same_ty names b y) (Some c) None
+        by : (q : Bool) → same_name n names.arrow ≡ q → cond (same_name n names.arrow && same_ty names a y)
+            (Some d) None ≡ cond (same_ty names b y) (Some c) None
         by true e =
             let pair : (a, d) ≡ (b, c) = same_Some (a, d) (b, c) (sym (ap (λ q. cond q (Some (a, d)) None) e) ∙ p) in
             let from : a ≡ b = ap (λ (z : Ty Name × Ty Name). z.0) pair in
             let to : d ≡ c = ap (λ (z : Ty Name × Ty Name). z.1) pair in
-            ap (λ q. cond (q && same_ty names a y) (Some d) None) e ∙ (λ i. cond (same_ty names (from i) y) (Some (to i)) None)
+            ap (λ q. cond (q && same_ty names a y) (Some d) None) e
+            ∙ (λ i. cond (same_ty names (from i) y) (Some (to i)) None)
         by false e = let impossible : None ≡ Some (b, c) = sym (ap (λ q. cond q (Some (a, d)) None) e) ∙ p in cc
     result-some (TyOp n (MoreTys a (MoreTys d (MoreTys g ds)))) b c y p = cc
 
     pub typing-no_function : as_fun_ty names (type_at ts f.ty) ≡ None → type_in names l (App t u) ≡ None
     typing-no_function none = whole ∙ result-none (type_at ts f.ty) (type_at ts x.ty) none
 
-    pub typing-other : (one : IsInjective ts) (a b : ℕ) → IsFunction ts f.ty a b → (a ≡ x.ty → ⊥) → type_in names l (App t u) ≡ None
+    pub typing-other : (one : IsInjective ts) (a b : ℕ) → IsFunction ts f.ty a b → (a ≡ x.ty → ⊥)
+        → type_in names l (App t u) ≡ None
     typing-other one a b fun apart =
-        whole ∙ result-some (type_at ts f.ty) (type_at ts a) (type_at ts b) (type_at ts x.ty) fun.is ∙ by (same_ty names (type_at ts a) (type_at ts x.ty)) refl
+        whole ∙ result-some (type_at ts f.ty) (type_at ts a) (type_at ts b) (type_at ts x.ty) fun.is
+        ∙ by (same_ty names (type_at ts a) (type_at ts x.ty)) refl
       where
-        by : (q : Bool) → same_ty names (type_at ts a) (type_at ts x.ty) ≡ q → cond q (Some (type_at ts b)) None ≡ None
-        by true e = absurd (apart (type-one ts one a x.ty fun.from right.number ((same_ty-is names tells_names (type_at ts a) (type_at ts x.ty)).0 e)))
+        by : (q : Bool) → same_ty names (type_at ts a) (type_at ts x.ty) ≡ q → cond q (Some (type_at ts b)) None
+            ≡ None
+        by true e =
+            absurd (apart
+            (type-one ts one a x.ty fun.from right.number
+            ((same_ty-is names tells_names (type_at ts a) (type_at ts x.ty)).0 e)))
         by false e = refl
 
-    pub typing-application : (a b : ℕ) (r : Typed) → IsFunction ts f.ty a b → a ≡ x.ty → IsTyped ts b (f.within && x.within) r → HasTyping ts l (App t u) r
+    pub typing-application : (a b : ℕ) (r : Typed) → IsFunction ts f.ty a b → a ≡ x.ty
+        → IsTyped ts b (f.within && x.within) r → HasTyping ts l (App t u) r
     typing-application a b r fun same typed =
-        let equal : same_ty names (type_at ts a) (type_at ts x.ty) ≡ true = (same_ty-is names tells_names (type_at ts a) (type_at ts x.ty)).1 (ap (type_at ts) same) in
+        let equal : same_ty names (type_at ts a) (type_at ts x.ty) ≡ true =
+        (same_ty-is names tells_names (type_at ts a) (type_at ts x.ty)).1 (ap (type_at ts) same) in
         let type : type_in names l (App t u) ≡ Some (type_at ts b) =
-        whole ∙ result-some (type_at ts f.ty) (type_at ts a) (type_at ts b) (type_at ts x.ty) fun.is ∙ ap (λ q. cond q (Some (type_at ts b)) None) equal in
+        whole ∙ result-some (type_at ts f.ty) (type_at ts a) (type_at ts b) (type_at ts x.ty) fun.is
+        ∙ ap (λ q. cond q (Some (type_at ts b)) None) equal in
         record {
           number = subst (HasType ts) (sym typed.number) fun.to;
           type = type ∙ ap (λ i. Some (type_at ts i)) (sym typed.number);
@@ -183,17 +215,21 @@ module _ (ts : List Item) (l : List (Ty Name)) where
       nothing (Some y) = refl
 
 -- an abstraction
-pub typing-abstraction : (ts us : List Item) (l : List (Ty Name)) (ty : ℕ) (b : Tm Name) (body : Typed) (fun : ℕ) (r : Typed) → Extends ts us → HasTyping ts (type_at ts ty ∷ l) b body
-    → IsType us fun (fun_ty names (type_at ts ty) (type_at ts body.ty)) → IsTyped us fun body.within r → HasTyping us l (Abs (type_at ts ty) b) r
+pub typing-abstraction : (ts us : List Item) (l : List (Ty Name)) (ty : ℕ) (b : Tm Name) (body : Typed) (fun : ℕ)
+    (r : Typed) → Extends ts us → HasTyping ts (type_at ts ty ∷ l) b body
+    → IsType us fun (fun_ty names (type_at ts ty) (type_at ts body.ty)) → IsTyped us fun body.within r
+    → HasTyping us l (Abs (type_at ts ty) b) r
 typing-abstraction ts us l ty b body fun r e h is typed =
-    let type : type_in names l (Abs (type_at ts ty) b) ≡ Some (type_at us fun) = ap (option_map (fun_ty names (type_at ts ty))) h.type ∙ ap Some (sym (type-is us fun _ is)) in
+    let type : type_in names l (Abs (type_at ts ty) b) ≡ Some (type_at us fun) =
+    ap (option_map (fun_ty names (type_at ts ty))) h.type ∙ ap Some (sym (type-is us fun _ is)) in
     record {
       number = subst (HasType us) (sym typed.number) (has-type us fun _ is);
       type = type ∙ ap (λ i. Some (type_at us i)) (sym typed.number);
       parts = typed.all ∙ (λ i. is_within_type names (sym type i) && h.parts i);
     }
 
-pub typing-no_abstraction : (l : List (Ty Name)) (t : Ty Name) (b : Tm Name) → type_in names (t ∷ l) b ≡ None → type_in names l (Abs t b) ≡ None
+pub typing-no_abstraction : (l : List (Ty Name)) (t : Ty Name) (b : Tm Name) → type_in names (t ∷ l) b ≡ None
+    → type_in names l (Abs t b) ≡ None
 typing-no_abstraction l t b h = ap (option_map (fun_ty names t)) h
 
 -- nothing is known
@@ -201,5 +237,6 @@ pub typings-nothing : (ts : List Item) → AreTypings ts []
 typings-nothing ts = record { known = λ s r h. absurd (none-some r h) }
 
 -- a typing has the number of a type
-pub typing-number : (ts : List Item) (l : List (Ty Name)) (t : Tm Name) (r : Option Typed) → IsTyping ts l t r → ForSome r (λ x. HasType ts x.ty)
+pub typing-number : (ts : List Item) (l : List (Ty Name)) (t : Tm Name) (r : Option Typed) → IsTyping ts l t r
+    → ForSome r (λ x. HasType ts x.ty)
 typing-number ts l t r h = λ x e. let here : HasTyping ts l t x = subst (IsTyping ts l t) e h in here.number

@@ -1,5 +1,5 @@
--- What is done to a nameless term throughout: a variable closed, a place opened, or a substitution; and what is remembered
--- of the parts that were worked on.
+-- What is done to a nameless term throughout: a variable closed, a place opened, or a substitution; and what is
+-- remembered of the parts that were worked on.
 use Rattle.std.specs.Prelude.{◌≡◌, ◌&&◌, ℕ, suc, Bool, ◌==◌, if◌then◌else◌, nat_eq, List, map, Some}
 use Rattle.std.specs.Map.{lookup}
 use Rattle.std.specs.List.{All}
@@ -14,8 +14,8 @@ use Rattle.ot_nodes.specs.declared.table.change.Change.TheVariants as change
 use Rattle.ot_nodes.specs.declared.table.change.Place.{Place}
 use Rattle.ot_nodes.specs.declared.table.change.Done.{Done}
 
--- the variable becomes the place of an abstraction around; the term takes such a place; or types and terms take the places
--- of type variables and variables
+-- the variable becomes the place of an abstraction around; the term takes such a place; or types and terms take the
+-- places of type variables and variables
 pub data Changing : Type 0 where
   Closing : Variable Name → Changing
   Opening : Tm Name → Changing
@@ -99,7 +99,8 @@ pub record HasInstances (ts us : List Item) (s : TypeMap names) (ids found : Lis
 
 -- each term that is kept is its place's term, changed
 pub record AreChanged (ts : List Item) (c : Changing) (es : List (Place × ℕ)) : Type 0 where
-  pub known : (p : Place) (r : ℕ) → lookup (same_place p) es ≡ Some r → HasTerm ts p.id × IsTerm ts r (changed c p.depth (term_at ts p.id))
+  pub known : (p : Place) (r : ℕ) → lookup (same_place p) es ≡ Some r
+      → HasTerm ts p.id × IsTerm ts r (changed c p.depth (term_at ts p.id))
 
 -- the types of a substitution alone are kept
 abbrev pub AreRetyped : List Item → Changing → List (ℕ × ℕ) → Type 0

@@ -33,7 +33,8 @@ item_of-parts_of (TypeItem t) = refl
 item_of-parts_of (TermItem t) = refl
 
 abbrev pub coded_item : Coded Item
-coded_item = code_by Parts (coded⊎ coded_name (coded⊎ (coded_ty coded_name) (coded_tm coded_name))) parts_of item_of item_of-parts_of
+coded_item = code_by Parts (coded⊎ coded_name (coded⊎ (coded_ty coded_name) (coded_tm coded_name))) parts_of item_of
+    item_of-parts_of
 
 -- ---- what a number stands for
 

@@ -8,7 +8,8 @@ use Rattle.ot_plain.specs.Hol.{depth_ty, depth_tm}
 use Rattle.ot_plain.specs.Table.{Extends}
 use Rattle.ot_plain.specs.Interned.{trees_of, IsSound}
 use Rattle.ot_records.specs.Walks.{loose, has_free}
-use Rattle.ot_nodes.specs.Items.{Item, NameItem, TypeItem, TermItem, name_at, type_at, types_at, term_at, HasName, HasType, HasTerm, first_items}
+use Rattle.ot_nodes.specs.Items.{Item, NameItem, TypeItem, TermItem, name_at, type_at}
+use Rattle.ot_nodes.specs.Items.{types_at, term_at, HasName, HasType, HasTerm, first_items}
 use Rattle.ot_nodes.specs.Below.{AreBelow}
 use Rattle.ot_nodes.specs.declared.node.TypeNode.{TypeNode}
 use Rattle.ot_nodes.specs.declared.node.TypeNode.TheVariants as ty

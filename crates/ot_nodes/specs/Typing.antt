@@ -44,4 +44,5 @@ same_scope s r = nat_eq s.id r.id && pointwise nat_eq s.binders.items r.binders.
 -- each typing that is kept is that of its term
 pub record AreTypings (ts : List Item) (es : List (Scope × Option Typed)) : Type 0 where
   pub known : (s : Scope) (r : Option Typed) → lookup (same_scope s) es ≡ Some r
-      → HasTerm ts s.id × All (HasType ts) s.binders.items × IsTyping ts (binders_at ts s.binders.items) (term_at ts s.id) r
+      → HasTerm ts s.id × All (HasType ts) s.binders.items × IsTyping ts (binders_at ts s.binders.items)
+      (term_at ts s.id) r

@@ -1,5 +1,6 @@
 -- The texts of types and terms by their parts.
-use Rattle.std.specs.Prelude.{◌≡◌, ℕ, zero, suc, ◌-◌, ◌<◌, ◌≤◌, Bool, true, false, cond, List, [], ◌∷◌, ◌++◌, length, codes, None}
+use Rattle.std.specs.Prelude.{◌≡◌, ℕ, zero, suc, ◌-◌, ◌<◌, ◌≤◌, Bool, true, false}
+use Rattle.std.specs.Prelude.{cond, List, [], ◌∷◌, ◌++◌, length, codes, None}
 use Rattle.std.proofs.Math.ListN.{drop_of_length-le}
 use Rattle.std.proofs.Math.Seq.{drop-cons}
 use Rattle.std.proofs.Common.{refl, sym, ◌∙◌, ap, arith, append_assoc, length-append, get_or, drop}
@@ -33,7 +34,8 @@ pub no-types : (ts : List Item) (is : List ℕ) (n : ℕ) → length is ≤ n �
 no-types ts is n h = ap (λ js. spaced_text (types_at ts js)) (sym (drop_of_length-le is h))
 
 pub spaced-back : (ts : List Item) (is : List ℕ) (j i : ℕ) → 0 < j → j ≤ length is → i ≡ get_or is (j - 1) i
-    → codes " " ++ (ty_text (type_at ts i) ++ spaced_text (types_at ts (drop j is))) ≡ spaced_text (types_at ts (drop (j - 1) is))
+    → codes " " ++ (ty_text (type_at ts i) ++ spaced_text (types_at ts (drop j is)))
+    ≡ spaced_text (types_at ts (drop (j - 1) is))
 spaced-back ts is j i lt le e =
     let one : j ≡ suc (j - 1) = omega arith in
     ap (λ n. codes " " ++ (ty_text (type_at ts i) ++ spaced_text (types_at ts (drop n is)))) one
@@ -53,7 +55,8 @@ some-of false x y p q = q
 pub some-type : (t : Ty Name) → 0 < length (ty_text t)
 some-type (TyVar n) = omega arith
 some-type (TyOp n NoTys) = some-name n
-some-type (TyOp n (MoreTys a ts)) = some-of (is_function names (TyOp n (MoreTys a ts))) _ _ (omega arith) (omega arith)
+some-type (TyOp n (MoreTys a ts)) = some-of (is_function names (TyOp n (MoreTys a ts))) _ _ (omega arith)
+    (omega arith)
 
 pub some-term : (t : Tm Name) → 0 < length (tm_text t)
 some-term (Free v) =

@@ -21,7 +21,8 @@ use Rattle.ot_order.specs.Places.{text_at, AreAscending}
 abbrev Ascend : List (List ℕ) → Type 0
 Ascend = IsStrictlySortedBy order
 
-all-with : (P : List ℕ → Type 0) (t : Tm Name) (us : List (Tm Name)) → P (tm_text t) → AllByRecursion P (map tm_text us)
+all-with : (P : List ℕ → Type 0) (t : Tm Name) (us : List (Tm Name)) → P (tm_text t)
+    → AllByRecursion P (map tm_text us)
     → AllByRecursion P (map tm_text (with_term t us))
 all-with P t [] p a = (p, tt)
 all-with P t (u ∷ us) p a = go (order (tm_text t) (tm_text u)) (all-with P t us p a.1) where
@@ -55,7 +56,8 @@ map-map : (ts : List Item) (is : List ℕ) → map tm_text (map (term_at ts) is)
 map-map ts [] = refl
 map-map ts (i ∷ is) = ap (λ xs. text_at ts i ∷ xs) (map-map ts is)
 
-pub sorted-ascends : (ts : List Item) (is : List ℕ) (us : List (Tm Name)) → map (term_at ts) is ≡ by_text us → AreAscending ts is
+pub sorted-ascends : (ts : List Item) (is : List ℕ) (us : List (Tm Name)) → map (term_at ts) is ≡ by_text us
+    → AreAscending ts is
 sorted-ascends ts is us e = subst Ascend (ap (map tm_text) (sym e) ∙ map-map ts is) (by_text-ascends us)
 
 -- ---- halving
@@ -69,7 +71,8 @@ ascending-less ts is j k a lt h =
     let n = length-map is (text_at ts) in
     let left = get_or-map (text_at ts) is j 0 [] (omega arith) in
     let right = get_or-map (text_at ts) is k 0 [] h in
-    (λ i. order (sym left i) (sym right i)) ∙ Less-from_sorted order (map (text_at ts) is) j k [] a lt (omega (arith, n))
+    (λ i. order (sym left i) (sym right i)) ∙ Less-from_sorted order (map (text_at ts) is) j k [] a lt
+    (omega (arith, n))
 
 less-back : (x y : List ℕ) → order y x ≡ Less → order x y ≡ Greater
 less-back x y h = nat_list_cmp_total.antisymm x y ∙ ap ordering_reverse h
@@ -86,14 +89,16 @@ at-high ts is t low high p q h =
     let e : high ≡ low = omega arith in
     subst (λ i. i < length is → order (text_at ts t) (text_at ts (get_or is i 0)) ≡ Less) e h
 
-pub before-greater : (ts : List Item) (is : List ℕ) (t m k : ℕ) → AreAscending ts is → m < length is → k ≡ get_or is m 0
+pub before-greater : (ts : List Item) (is : List ℕ) (t m k : ℕ) → AreAscending ts is → m < length is
+    → k ≡ get_or is m 0
     → order (text_at ts t) (text_at ts k) ≡ Greater → AreBefore ts is t (m + 1)
 before-greater ts is t m k a h e g =
     let here = ap (λ z. order (text_at ts t) (text_at ts z)) (sym e) ∙ g in
     let back = order-back (text_at ts t) (text_at ts (get_or is m 0)) here in
     below_more (λ j. order (text_at ts t) (text_at ts (get_or is j 0)) ≡ Greater) m
     (λ j lt. less-back (text_at ts t) (text_at ts (get_or is j 0))
-    (order-trans (text_at ts (get_or is j 0)) (text_at ts (get_or is m 0)) (text_at ts t) (ascending-less ts is j m a lt h) back))
+    (order-trans (text_at ts (get_or is j 0)) (text_at ts (get_or is m 0)) (text_at ts t)
+    (ascending-less ts is j m a lt h) back))
     here
 
 pub before-equal : (ts : List Item) (is : List ℕ) (t m k : ℕ) → AreAscending ts is → m < length is → k ≡ get_or is m 0
@@ -114,7 +119,8 @@ place-some ts [] t zero h b l = refl
 place-some ts [] t (suc i) h b l = absurd (omega arith)
 place-some ts (u ∷ us) t zero h b l = ap (put_at ts t u us) (sym (l (omega arith)))
 place-some ts (u ∷ us) t (suc i) h b l =
-    ap (λ xs. term_at ts u ∷ xs) (place-some ts us t i (omega arith) (λ j lt. b (suc j) (omega arith)) (λ lt. l (omega arith)))
+    ap (λ xs. term_at ts u ∷ xs)
+    (place-some ts us t i (omega arith) (λ j lt. b (suc j) (omega arith)) (λ lt. l (omega arith)))
     ∙ ap (put_at ts t u us) (sym (b 0 (omega arith)))
 
 none-at : (ts : List Item) (is : List ℕ) (t i : ℕ) → i < length is → AreBefore ts is t i

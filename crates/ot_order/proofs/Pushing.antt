@@ -1,5 +1,6 @@
 -- Pieces that are put before what is left.
-use Rattle.std.specs.Prelude.{◌≡◌, ℕ, zero, suc, ◌+◌, ◌-◌, ◌*◌, ◌<◌, ◌≤◌, List, [], ◌∷◌, ◌++◌, length, Result, Ok, Err, OnOk}
+use Rattle.std.specs.Prelude.{◌≡◌, ℕ, zero, suc, ◌+◌, ◌-◌, ◌*◌, ◌<◌, ◌≤◌, List}
+use Rattle.std.specs.Prelude.{[], ◌∷◌, ◌++◌, length, Result, Ok, Err, OnOk}
 use Rattle.std.specs.List.{All}
 use Rattle.std.proofs.lemmas.List.Elements.{All-push}
 use Rattle.std.proofs.lemmas.List.Sums.{sum_by-append}
@@ -11,10 +12,12 @@ use Rattle.ot_order.specs.declared.pieces.Piece.{Piece}
 use Rattle.ot_order.specs.declared.pieces.Piece.TheVariants as piece
 use Rattle.ot_order.specs.Pieces.{piece_text, HasPiece, text_of, work, work_of, Puts, Opens}
 
-pub text-push : (ts : List Item) (ps : List Piece) (p : Piece) → text_of ts (ps ++ p ∷ []) ≡ piece_text ts p ++ text_of ts ps
+pub text-push : (ts : List Item) (ps : List Piece) (p : Piece) → text_of ts (ps ++ p ∷ []) ≡ piece_text ts p
+    ++ text_of ts ps
 text-push ts [] p = sym (append-nil (piece_text ts p))
 text-push ts (q ∷ ps) p =
-    ap (λ z. z ++ piece_text ts q) (text-push ts ps p) ∙ append_assoc (piece_text ts p) (text_of ts ps) (piece_text ts q)
+    ap (λ z. z ++ piece_text ts q) (text-push ts ps p)
+    ∙ append_assoc (piece_text ts p) (text_of ts ps) (piece_text ts q)
 
 pub work-push : (ts : List Item) (ps : List Piece) (p : Piece) → work_of ts (ps ++ p ∷ []) ≡ work_of ts ps + work ts p
 work-push ts ps p = omega (arith, sum_by-append (work ts) ps (p ∷ []))
@@ -42,7 +45,8 @@ pushed ts p old new h e = record {
 pub reads : {ts : List Item} {x y : List ℕ} {old new : List Piece} → x ≡ y → Puts ts x old new → Puts ts y old new
 reads {ts} {x} {y} {old} {new} e p = subst (λ z. Puts ts z old new) e p
 
-pub opens-as : {ts : List Item} {x y : List ℕ} {old new : List Piece} → x ≡ y → Opens ts x old new → Opens ts y old new
+pub opens-as : {ts : List Item} {x y : List ℕ} {old new : List Piece} → x ≡ y → Opens ts x old new
+    → Opens ts y old new
 opens-as {ts} {x} {y} {old} {new} e p = subst (λ z. Opens ts z old new) e p
 
 -- the later one comes first in the text
@@ -74,9 +78,11 @@ pub record Bytes (ts : List Item) (x : List ℕ) (old new : List Piece) : Type 0
 
 pub no-bytes : (ts : List Item) (bs : List ℕ) (n : ℕ) (ps : List Piece) → length bs ≤ n → Bytes ts (drop n bs) ps ps
 no-bytes ts bs n ps h =
-    subst (λ x. Bytes ts x ps ps) (sym (drop_of_length-le bs h)) (record { text = refl; has = λ all. all; work = omega arith })
+    subst (λ x. Bytes ts x ps ps) (sym (drop_of_length-le bs h))
+    (record { text = refl; has = λ all. all; work = omega arith })
 
-byte-more : (ts : List Item) (b : ℕ) (x : List ℕ) (old mid new : List Piece) → Bytes ts x old mid → new ≡ mid ++ piece.Byte b ∷ []
+byte-more : (ts : List Item) (b : ℕ) (x : List ℕ) (old mid new : List Piece) → Bytes ts x old mid
+    → new ≡ mid ++ piece.Byte b ∷ []
     → Bytes ts (b ∷ x) old new
 byte-more ts b x old mid new p e = record {
   text = ap (text_of ts) e ∙ text-push ts mid (piece.Byte b) ∙ ap (λ z. b ∷ z) p.text;
@@ -85,11 +91,13 @@ byte-more ts b x old mid new p e = record {
 }
 
 pub byte-back : (ts : List Item) (bs : List ℕ) (j : ℕ) (old mid new : List Piece) → 0 < j → j ≤ length bs
-    → Bytes ts (drop j bs) old mid → new ≡ mid ++ piece.Byte (get_or bs (j - 1) 0) ∷ [] → Bytes ts (drop (j - 1) bs) old new
+    → Bytes ts (drop j bs) old mid → new ≡ mid ++ piece.Byte (get_or bs (j - 1) 0) ∷ []
+    → Bytes ts (drop (j - 1) bs) old new
 byte-back ts bs j old mid new lt le p q =
     let e : j ≡ suc (j - 1) = omega arith in
     subst (λ x. Bytes ts x old new) (sym (drop-cons bs (j - 1) 0 (omega arith)))
-    (byte-more ts (get_or bs (j - 1) 0) (drop (suc (j - 1)) bs) old mid new (subst (λ n. Bytes ts (drop n bs) old mid) e p) q)
+    (byte-more ts (get_or bs (j - 1) 0) (drop (suc (j - 1)) bs) old mid new
+    (subst (λ n. Bytes ts (drop n bs) old mid) e p) q)
 
 pub all-bytes : (ts : List Item) (bs : List ℕ) (j : ℕ) (old new : List Piece) → j ≤ 0 → Bytes ts (drop j bs) old new
     → Bytes ts bs old new
@@ -99,5 +107,6 @@ all-bytes ts bs (suc j) old new h p = absurd (omega arith)
 pub bytes-put : {ts : List Item} {x : List ℕ} {old new : List Piece} → Bytes ts x old new → Puts ts x old new
 bytes-put p = record { text = p.text; has = p.has; most = omega (arith, p.work) }
 
-pub bytes-open : {ts : List Item} {x : List ℕ} {old new : List Piece} → 0 < length x → Bytes ts x old new → Opens ts x old new
+pub bytes-open : {ts : List Item} {x : List ℕ} {old new : List Piece} → 0 < length x → Bytes ts x old new
+    → Opens ts x old new
 bytes-open h p = record { text = p.text; has = p.has; less = omega (arith, p.work) }

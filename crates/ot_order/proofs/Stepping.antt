@@ -52,7 +52,8 @@ one-text ts (piece.Type a) (piece.Term b) h = cc
 one-text ts (piece.Term a) (piece.Byte b) h = cc
 one-text ts (piece.Term a) (piece.Type b) h = cc
 
-pub passed : (ts : List Item) (l r : List Piece) (x y : Piece) → same_piece x y ≡ true → Goes ts (l ++ x ∷ []) (r ++ y ∷ []) l r
+pub passed : (ts : List Item) (l r : List Piece) (x y : Piece) → same_piece x y ≡ true
+    → Goes ts (l ++ x ∷ []) (r ++ y ∷ []) l r
 passed ts l r x y h = record {
   same =
       order-both ts l r x y
@@ -67,16 +68,19 @@ passed ts l r x y h = record {
 compared : (ts : List Item) (l r : List Piece) (a b : ℕ) (o : Ordering) → o ≡ nat_cmp a b
     → Finds ts o (l ++ piece.Byte a ∷ []) (r ++ piece.Byte b ∷ []) l r
 compared ts l r a b Less e =
-    order-both ts l r (piece.Byte a) (piece.Byte b) ∙ ap (λ o. ordering_then o (order (text_of ts l) (text_of ts r))) (sym e)
+    order-both ts l r (piece.Byte a) (piece.Byte b) ∙ ap (λ o. ordering_then o (order (text_of ts l) (text_of ts r)))
+    (sym e)
 compared ts l r a b Equal e = record {
   same =
-      order-both ts l r (piece.Byte a) (piece.Byte b) ∙ ap (λ o. ordering_then o (order (text_of ts l) (text_of ts r))) (sym e);
+      order-both ts l r (piece.Byte a) (piece.Byte b)
+      ∙ ap (λ o. ordering_then o (order (text_of ts l) (text_of ts r))) (sym e);
   left = all-front (HasPiece ts) l (piece.Byte a);
   right = all-front (HasPiece ts) r (piece.Byte b);
   less = omega (arith, work-push ts l (piece.Byte a), work-push ts r (piece.Byte b));
 }
 compared ts l r a b Greater e =
-    order-both ts l r (piece.Byte a) (piece.Byte b) ∙ ap (λ o. ordering_then o (order (text_of ts l) (text_of ts r))) (sym e)
+    order-both ts l r (piece.Byte a) (piece.Byte b) ∙ ap (λ o. ordering_then o (order (text_of ts l) (text_of ts r)))
+    (sym e)
 
 pub compared-bytes : (ts : List Item) (l r : List Piece) (x y : Piece) (a b : ℕ) (o : Ordering) → x ≡ piece.Byte a
     → y ≡ piece.Byte b → o ≡ nat_cmp a b
@@ -86,7 +90,8 @@ compared-bytes ts l r x y a b o p q e =
     (subst (λ z. Finds ts o (l ++ z ∷ []) (r ++ piece.Byte b ∷ []) l r) (sym p) (compared ts l r a b o e))
 
 -- ---- one of the two is opened
-opened-work : (ts : List Item) (x : Piece) → ((b : ℕ) → x ≡ piece.Byte b → ⊥) → work ts x ≡ 2 * length (piece_text ts x)
+opened-work : (ts : List Item) (x : Piece) → ((b : ℕ) → x ≡ piece.Byte b → ⊥)
+    → work ts x ≡ 2 * length (piece_text ts x)
 opened-work ts (piece.Byte b) h = absurd (h b refl)
 opened-work ts (piece.Type i) h = refl
 opened-work ts (piece.Term i) h = refl
@@ -124,16 +129,19 @@ some-left : (ts : List Item) (ps : List Piece) → 0 < length ps → 0 < length 
 some-left ts [] h = absurd (omega arith)
 some-left ts (p ∷ ps) h = omega (arith, length-append (text_of ts ps) (piece_text ts p), some-piece ts p)
 
-pub both-end : (ts : List Item) (l r : List Piece) → length l ≡ 0 → length r ≡ 0 → order (text_of ts l) (text_of ts r) ≡ Equal
+pub both-end : (ts : List Item) (l r : List Piece) → length l ≡ 0 → length r ≡ 0 → order (text_of ts l) (text_of ts r)
+    ≡ Equal
 both-end ts [] [] e h = refl
 both-end ts (p ∷ ps) r e h = absurd (omega arith)
 both-end ts [] (p ∷ ps) e h = absurd (omega arith)
 
-pub left-ends : (ts : List Item) (l r : List Piece) → length l ≡ 0 → 0 < length r → order (text_of ts l) (text_of ts r) ≡ Less
+pub left-ends : (ts : List Item) (l r : List Piece) → length l ≡ 0 → 0 < length r
+    → order (text_of ts l) (text_of ts r) ≡ Less
 left-ends ts [] r e h = shorter (text_of ts r) (some-left ts r h)
 left-ends ts (p ∷ ps) r e h = absurd (omega arith)
 
-pub right-ends : (ts : List Item) (l r : List Piece) → 0 < length l → length r ≡ 0 → order (text_of ts l) (text_of ts r) ≡ Greater
+pub right-ends : (ts : List Item) (l r : List Piece) → 0 < length l → length r ≡ 0
+    → order (text_of ts l) (text_of ts r) ≡ Greater
 right-ends ts l [] h e = longer (text_of ts l) (some-left ts l h)
 right-ends ts l (p ∷ ps) h e = absurd (omega arith)
 

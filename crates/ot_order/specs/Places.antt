@@ -16,5 +16,6 @@ AreAscending ts is = IsStrictlySortedBy order (map (text_at ts) is)
 
 -- the place at which a term comes in, none where its text is there
 abbrev pub IsPlace : List Item → List ℕ → ℕ → Option ℕ → Type 0
-IsPlace ts is t (Some i) = (i ≤ length is) × (map (term_at ts) (insert is i t) ≡ with_term (term_at ts t) (map (term_at ts) is))
+IsPlace ts is t (Some i) =
+    (i ≤ length is) × (map (term_at ts) (insert is i t) ≡ with_term (term_at ts t) (map (term_at ts) is))
 IsPlace ts is t None = map (term_at ts) is ≡ with_term (term_at ts t) (map (term_at ts) is)

@@ -1,12 +1,14 @@
 -- Hidden symbols that are looked up by their names and base names.
-use Rattle.std.specs.Prelude.{◌≡◌, ◌<◌, ◌≤◌, ℕ, zero, suc, Bool, true, false, cond, not, ◌&&◌, ◌||◌, ◌==◌, nat_le, List, [], ◌∷◌, ◌++◌, map, drop, length, Option, Some, None}
+use Rattle.std.specs.Prelude.{◌≡◌, ◌<◌, ◌≤◌, ℕ, zero, suc, Bool, true, false, cond, not, ◌&&◌, ◌||◌}
+use Rattle.std.specs.Prelude.{◌==◌, nat_le, List, [], ◌∷◌, ◌++◌, map, drop, length, Option, Some, None}
 use Rattle.std.specs.List.{list_any, list_all}
 use Rattle.std.specs.Option.{unwrap_or}
 use Rattle.std.proofs.Common.{◌+◌, refl, sym, ◌∙◌, ap, arith, get_or, append_assoc}
 use Rattle.std.proofs.lemmas.Bool.{and_parts}
 use Rattle.ot_plain.specs.Names.{Name, same_name}
 use Rattle.ot_plain.specs.Trees.{Symbol, ConSymbol, OpSymbol}
-use Rattle.ot_forms.specs.Words.{IsNotation, is_letter, is_inner, is_sign, is_part, is_operator, is_bare, is_short, dotted, base, symbol_name, same_kind, same_text, is_hidden, is_taken}
+use Rattle.ot_forms.specs.Words.{IsNotation, is_letter, is_inner, is_sign, is_part, is_operator, is_bare}
+use Rattle.ot_forms.specs.Words.{is_short, dotted, base, symbol_name, same_kind, same_text, is_hidden, is_taken}
 use Rattle.ot_forms.specs.Reading.{with_base, settled, operators, ended}
 use Rattle.ot_forms.proofs.Hiding.{taken-base}
 use Rattle.ot_parse.specs.declared.notation.WordKind.{WordKind}
@@ -15,27 +17,41 @@ use Rattle.ot_parse.specs.Symbols.{symbol_of, has_base, operator_base}
 use Rattle.ot_plain.proofs.Elements.{drop-item}
 
 -- the kind alone counts
-pub taken-kind : (h : List (Symbol Name)) (k : WordKind) (n m : Name) (x : List ℕ) → is_taken h (symbol_of (k, n)) x ≡ is_taken h (symbol_of (k, m)) x
+pub taken-kind : (h : List (Symbol Name)) (k : WordKind) (n m : Name) (x : List ℕ) → is_taken h (symbol_of (k, n)) x
+    ≡ is_taken h (symbol_of (k, m)) x
 taken-kind [] k n m x = refl
-taken-kind (t ∷ h) kinds.Con n m x = ap (λ b. (same_kind (ConSymbol n) t && same_text x (base (symbol_name t))) || b) (taken-kind h kinds.Con n m x) ∙ ap (λ b. (b && same_text x (base (symbol_name t))) || is_taken h (ConSymbol m) x) (same t) where
-  same : (t : Symbol Name) → same_kind (ConSymbol n) t ≡ same_kind (ConSymbol m) t
-  same (ConSymbol j) = refl
-  same (OpSymbol j) = refl
-taken-kind (t ∷ h) kinds.TyOp n m x = ap (λ b. (same_kind (OpSymbol n) t && same_text x (base (symbol_name t))) || b) (taken-kind h kinds.TyOp n m x) ∙ ap (λ b. (b && same_text x (base (symbol_name t))) || is_taken h (OpSymbol m) x) (same t) where
-  same : (t : Symbol Name) → same_kind (OpSymbol n) t ≡ same_kind (OpSymbol m) t
-  same (ConSymbol j) = refl
-  same (OpSymbol j) = refl
+taken-kind (t ∷ h) kinds.Con n m x = ap (λ b. (same_kind (ConSymbol n) t && same_text x (base (symbol_name t))) || b)
+    (taken-kind h kinds.Con n m x) ∙ ap (λ b. (b && same_text x (base (symbol_name t))) || is_taken h (ConSymbol m) x)
+    (same t) where
+      same : (t : Symbol Name) → same_kind (ConSymbol n) t ≡ same_kind (ConSymbol m) t
+      same (ConSymbol j) = refl
+      same (OpSymbol j) = refl
+taken-kind (t ∷ h) kinds.TyOp n m x = ap (λ b. (same_kind (OpSymbol n) t && same_text x (base (symbol_name t))) || b)
+    (taken-kind h kinds.TyOp n m x) ∙ ap (λ b. (b && same_text x (base (symbol_name t))) || is_taken h (OpSymbol m) x)
+    (same t) where
+      same : (t : Symbol Name) → same_kind (OpSymbol n) t ≡ same_kind (OpSymbol m) t
+      same (ConSymbol j) = refl
+      same (OpSymbol j) = refl
 
-pub based-kind : (h : List (Symbol Name)) (k : WordKind) (n m : Name) (x : List ℕ) → with_base h (symbol_of (k, n)) x ≡ with_base h (symbol_of (k, m)) x
+pub based-kind : (h : List (Symbol Name)) (k : WordKind) (n m : Name) (x : List ℕ) → with_base h (symbol_of (k, n)) x
+    ≡ with_base h (symbol_of (k, m)) x
 based-kind [] k n m x = refl
-based-kind (t ∷ h) kinds.Con n m x = ap (λ o. cond (same_kind (ConSymbol n) t && same_text x (base (symbol_name t))) (Some (symbol_name t)) o) (based-kind h kinds.Con n m x) ∙ ap (λ b. cond (b && same_text x (base (symbol_name t))) (Some (symbol_name t)) (with_base h (ConSymbol m) x)) (same t) where
-  same : (t : Symbol Name) → same_kind (ConSymbol n) t ≡ same_kind (ConSymbol m) t
-  same (ConSymbol j) = refl
-  same (OpSymbol j) = refl
-based-kind (t ∷ h) kinds.TyOp n m x = ap (λ o. cond (same_kind (OpSymbol n) t && same_text x (base (symbol_name t))) (Some (symbol_name t)) o) (based-kind h kinds.TyOp n m x) ∙ ap (λ b. cond (b && same_text x (base (symbol_name t))) (Some (symbol_name t)) (with_base h (OpSymbol m) x)) (same t) where
-  same : (t : Symbol Name) → same_kind (OpSymbol n) t ≡ same_kind (OpSymbol m) t
-  same (ConSymbol j) = refl
-  same (OpSymbol j) = refl
+based-kind (t ∷ h) kinds.Con n m x =
+    ap (λ o. cond (same_kind (ConSymbol n) t && same_text x (base (symbol_name t))) (Some (symbol_name t)) o)
+    (based-kind h kinds.Con n m x)
+    ∙ ap (λ b. cond (b && same_text x (base (symbol_name t))) (Some (symbol_name t)) (with_base h (ConSymbol m) x))
+    (same t) where
+      same : (t : Symbol Name) → same_kind (ConSymbol n) t ≡ same_kind (ConSymbol m) t
+      same (ConSymbol j) = refl
+      same (OpSymbol j) = refl
+based-kind (t ∷ h) kinds.TyOp n m x =
+    ap (λ o. cond (same_kind (OpSymbol n) t && same_text x (base (symbol_name t))) (Some (symbol_name t)) o)
+    (based-kind h kinds.TyOp n m x)
+    ∙ ap (λ b. cond (b && same_text x (base (symbol_name t))) (Some (symbol_name t)) (with_base h (OpSymbol m) x))
+    (same t) where
+      same : (t : Symbol Name) → same_kind (OpSymbol n) t ≡ same_kind (OpSymbol m) t
+      same (ConSymbol j) = refl
+      same (OpSymbol j) = refl
 
 -- ---- a bare word of two parts or more is no base name
 all-left : (p : ℕ → Bool) (x y : List ℕ) → list_all p (x ++ y) ≡ true → list_all p y ≡ true
@@ -53,7 +69,8 @@ no-part c x h = let e = all-left is_inner c (46 ∷ x) (part-inner (c ++ 46 ∷ 
 
 no-signs : (c x : List ℕ) → is_operator (c ++ 46 ∷ x) ≡ true → ⊥
 no-signs [] x h = cc
-no-signs (b ∷ c) x h = let e = all-left is_sign (b ∷ c) (46 ∷ x) (and_parts (list_all is_sign (b ∷ (c ++ 46 ∷ x))) _ h).0 in cc
+no-signs (b ∷ c) x h = let e =
+    all-left is_sign (b ∷ c) (46 ∷ x) (and_parts (list_all is_sign (b ∷ (c ++ 46 ∷ x))) _ h).0 in cc
 
 no-short : (t : Symbol Name) (c x : List ℕ) → base (symbol_name t) ≡ c ++ 46 ∷ x → is_short t ≡ true → ⊥
 no-short (ConSymbol n) c x e h = go (is_part (base n)) refl h where
@@ -62,62 +79,81 @@ no-short (ConSymbol n) c x e h = go (is_part (base n)) refl h where
   go false p k = no-signs c x (ap is_operator (sym e) ∙ k)
 no-short (OpSymbol n) c x e h = no-part c x (ap is_part (sym e) ∙ h)
 
-pub not-taken : (h : List (Symbol Name)) → IsNotation h → (s : Symbol Name) (c d : List ℕ) (ds : Name) → is_taken h s (dotted (c ∷ d ∷ ds)) ≡ false
+pub not-taken : (h : List (Symbol Name)) → IsNotation h → (s : Symbol Name) (c d : List ℕ) (ds : Name)
+    → is_taken h s (dotted (c ∷ d ∷ ds)) ≡ false
 not-taken h nt s c d ds = go (is_taken h s (dotted (c ∷ d ∷ ds))) refl where
   go : (b : Bool) → is_taken h s (dotted (c ∷ d ∷ ds)) ≡ b → b ≡ false
-  go true e = let w = taken-base h s (dotted (c ∷ d ∷ ds)) e in absurd (no-short w.symbol c (dotted (d ∷ ds)) (sym w.base_is) (nt.short w.symbol w.hides))
+  go true e = let w = taken-base h s (dotted (c ∷ d ∷ ds)) e in
+      absurd (no-short w.symbol c (dotted (d ∷ ds)) (sym w.base_is) (nt.short w.symbol w.hides))
   go false e = refl
 
 -- no name of one component, as the code sees it
-pub several-taken : {X : Type 0} (f : X → List ℕ) (h : List (Symbol Name)) → IsNotation h → (s : Symbol Name) (n : Name) (xs : List X) → map f xs ≡ n → 0 < length xs → ((x : X) → xs ≡ x ∷ [] → ⊥) → is_taken h s (dotted n) ≡ false
+pub several-taken : {X : Type 0} (f : X → List ℕ) (h : List (Symbol Name)) → IsNotation h
+    → (s : Symbol Name) (n : Name) (xs : List X) → map f xs ≡ n → 0 < length xs → ((x : X) → xs ≡ x ∷ [] → ⊥)
+    → is_taken h s (dotted n) ≡ false
 several-taken f h nt s n [] e k w = absurd (omega arith)
 several-taken f h nt s n (x ∷ []) e k w = absurd (w x refl)
-several-taken f h nt s n (x ∷ y ∷ xs) e k w = ap (λ z. is_taken h s (dotted z)) (sym e) ∙ not-taken h nt s (f x) (f y) (map f xs)
+several-taken f h nt s n (x ∷ y ∷ xs) e k w = ap (λ z. is_taken h s (dotted z)) (sym e)
+    ∙ not-taken h nt s (f x) (f y) (map f xs)
 
-pub several-settled : {X : Type 0} (f : X → List ℕ) (h : List (Symbol Name)) (k : Name → Symbol Name) (n : Name) (xs : List X) → map f xs ≡ n → ((x : X) → xs ≡ x ∷ [] → ⊥) → n ≡ settled h k n
+pub several-settled : {X : Type 0} (f : X → List ℕ) (h : List (Symbol Name)) (k : Name → Symbol Name) (n : Name)
+    (xs : List X) → map f xs ≡ n → ((x : X) → xs ≡ x ∷ [] → ⊥) → n ≡ settled h k n
 several-settled f h k n [] e w = ap (λ z. z) (sym e) ∙ ap (settled h k) e
 several-settled f h k n (x ∷ []) e w = absurd (w x refl)
 several-settled f h k n (x ∷ y ∷ xs) e w = sym e ∙ ap (settled h k) e
 
-pub any-map : {X Y : Type 0} (p : Y → Bool) (f : X → Y) (xs : List X) → list_any (λ x. p (f x)) xs ≡ list_any p (map f xs)
+pub any-map : {X Y : Type 0} (p : Y → Bool) (f : X → Y) (xs : List X) → list_any (λ x. p (f x)) xs
+    ≡ list_any p (map f xs)
 any-map p f [] = refl
 any-map p f (x ∷ xs) = ap (λ b. p (f x) || b) (any-map p f xs)
 
 -- ---- over the code's list, from the front
 
-pub with-other : (t : Symbol Name) (h : List (Symbol Name)) (s : Symbol Name) (x : List ℕ) → has_base s x t ≡ false → with_base (t ∷ h) s x ≡ with_base h s x
+pub with-other : (t : Symbol Name) (h : List (Symbol Name)) (s : Symbol Name) (x : List ℕ) → has_base s x t ≡ false
+    → with_base (t ∷ h) s x ≡ with_base h s x
 with-other t h s x e = ap (λ b. cond b (Some (symbol_name t)) (with_base h s x)) e
 
-pub with-this : (t : Symbol Name) (h : List (Symbol Name)) (s : Symbol Name) (x : List ℕ) → has_base s x t ≡ true → with_base (t ∷ h) s x ≡ Some (symbol_name t)
+pub with-this : (t : Symbol Name) (h : List (Symbol Name)) (s : Symbol Name) (x : List ℕ) → has_base s x t ≡ true
+    → with_base (t ∷ h) s x ≡ Some (symbol_name t)
 with-this t h s x e = ap (λ b. cond b (Some (symbol_name t)) (with_base h s x)) e
 
 pub name-of : (k : WordKind) (n : Name) → symbol_name (symbol_of (k, n)) ≡ n
 name-of kinds.Con n = refl
 name-of kinds.TyOp n = refl
 
-pub push-operator : (t : Symbol Name) (ws : List (List ℕ × Name)) (h : List (Symbol Name)) (w : List ℕ) → operator_base t ≡ Some w → ws ++ operators (t ∷ h) ≡ (ws ++ (w, symbol_name t) ∷ []) ++ operators h
+pub push-operator : (t : Symbol Name) (ws : List (List ℕ × Name)) (h : List (Symbol Name)) (w : List ℕ)
+    → operator_base t ≡ Some w → ws ++ operators (t ∷ h) ≡ (ws ++ (w, symbol_name t) ∷ []) ++ operators h
 push-operator (OpSymbol n) ws h w e = cc
 push-operator (ConSymbol n) ws h w e = go (is_operator (base n)) e where
-  go : (b : Bool) → ◌≡◌ {A = Option (List ℕ)} (cond b (Some (base n)) None) (Some w) → ws ++ cond b ((base n, n) ∷ operators h) (operators h) ≡ (ws ++ (w, n) ∷ []) ++ operators h
-  go true k = let p : base n ≡ w = cc in (λ i. ws ++ (p i, n) ∷ operators h) ∙ sym (append_assoc ws ((w, n) ∷ []) (operators h))
+  go : (b : Bool) → ◌≡◌ {A = Option (List ℕ)} (cond b (Some (base n)) None) (Some w)
+      → ws ++ cond b ((base n, n) ∷ operators h) (operators h) ≡ (ws ++ (w, n) ∷ []) ++ operators h
+  go true k = let p : base n ≡ w = cc in
+      (λ i. ws ++ (p i, n) ∷ operators h) ∙ sym (append_assoc ws ((w, n) ∷ []) (operators h))
   go false k = cc
 
-pub skip-operator : (t : Symbol Name) (h : List (Symbol Name)) → operator_base t ≡ None → operators (t ∷ h) ≡ operators h
+pub skip-operator : (t : Symbol Name) (h : List (Symbol Name)) → operator_base t ≡ None
+    → operators (t ∷ h) ≡ operators h
 skip-operator (OpSymbol n) h e = refl
 skip-operator (ConSymbol n) h e = go (is_operator (base n)) e where
-  go : (b : Bool) → ◌≡◌ {A = Option (List ℕ)} (cond b (Some (base n)) None) None → cond b ((base n, n) ∷ operators h) (operators h) ≡ operators h
+  go : (b : Bool) → ◌≡◌ {A = Option (List ℕ)} (cond b (Some (base n)) None) None
+      → cond b ((base n, n) ∷ operators h) (operators h) ≡ operators h
   go true k = cc
   go false k = refl
 
 -- ---- a text of one component is looked up
-pub single-taken : {X : Type 0} (f : X → List ℕ) (h : List (Symbol Name)) (k : WordKind) (n : Name) (x : X) → map f (x ∷ []) ≡ n → is_taken h (symbol_of (k, [])) (f x) ≡ is_taken h (symbol_of (k, n)) (dotted n)
+pub single-taken : {X : Type 0} (f : X → List ℕ) (h : List (Symbol Name)) (k : WordKind) (n : Name) (x : X)
+    → map f (x ∷ []) ≡ n → is_taken h (symbol_of (k, [])) (f x) ≡ is_taken h (symbol_of (k, n)) (dotted n)
 single-taken f h k n x e = taken-kind h k [] (f x ∷ []) (f x) ∙ ap (λ m. is_taken h (symbol_of (k, m)) (dotted m)) e
 
-pub single-settled : {X : Type 0} (f : X → List ℕ) (h : List (Symbol Name)) (k : WordKind) (n m : Name) (x : X) → map f (x ∷ []) ≡ n → with_base h (symbol_of (k, [])) (f x) ≡ Some m → m ≡ settled h (λ j. symbol_of (k, j)) n
-single-settled f h k n m x e w = sym (ap (λ o. unwrap_or o (f x ∷ [])) (based-kind h k (f x ∷ []) [] (f x) ∙ w)) ∙ ap (settled h (λ j. symbol_of (k, j))) e
+pub single-settled : {X : Type 0} (f : X → List ℕ) (h : List (Symbol Name)) (k : WordKind) (n m : Name) (x : X)
+    → map f (x ∷ []) ≡ n → with_base h (symbol_of (k, [])) (f x) ≡ Some m → m ≡ settled h (λ j. symbol_of (k, j)) n
+single-settled f h k n m x e w = sym (ap (λ o. unwrap_or o (f x ∷ [])) (based-kind h k (f x ∷ []) [] (f x) ∙ w))
+    ∙ ap (settled h (λ j. symbol_of (k, j))) e
 
-pub single-kept : {X : Type 0} (f : X → List ℕ) (h : List (Symbol Name)) (k : WordKind) (n : Name) (x : X) → map f (x ∷ []) ≡ n → with_base h (symbol_of (k, [])) (f x) ≡ None → n ≡ settled h (λ j. symbol_of (k, j)) n
-single-kept f h k n x e w = sym e ∙ sym (ap (λ o. unwrap_or o (f x ∷ [])) (based-kind h k (f x ∷ []) [] (f x) ∙ w)) ∙ ap (settled h (λ j. symbol_of (k, j))) e
+pub single-kept : {X : Type 0} (f : X → List ℕ) (h : List (Symbol Name)) (k : WordKind) (n : Name) (x : X)
+    → map f (x ∷ []) ≡ n → with_base h (symbol_of (k, [])) (f x) ≡ None → n ≡ settled h (λ j. symbol_of (k, j)) n
+single-kept f h k n x e w = sym e ∙ sym (ap (λ o. unwrap_or o (f x ∷ [])) (based-kind h k (f x ∷ []) [] (f x) ∙ w))
+    ∙ ap (settled h (λ j. symbol_of (k, j))) e
 
 pub drop-none : {X : Type 0} (xs : List X) (i : ℕ) → length xs ≤ i → drop i xs ≡ []
 drop-none [] zero h = refl

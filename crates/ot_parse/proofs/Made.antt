@@ -1,5 +1,6 @@
 -- What the code makes of values that fit.
-use Rattle.std.specs.Prelude.{◌≡◌, ◌&&◌, ◌||◌, not, ℕ, suc, min, Bool, true, false, cond, nat_le, List, [], ◌∷◌, Option, Some, None, Result, Ok, Err}
+use Rattle.std.specs.Prelude.{◌≡◌, ◌&&◌, ◌||◌, not, ℕ, suc, min, Bool, true, false, cond}
+use Rattle.std.specs.Prelude.{nat_le, List, [], ◌∷◌, Option, Some, None, Result, Ok, Err}
 use Rattle.std.specs.Option.{option_map, unwrap_or}
 use Rattle.std.proofs.Common.{refl, sym, ◌∙◌, ap, subst, arith}
 use Rattle.ot_plain.specs.Answers.{◌>>=◌, some_or}
@@ -9,19 +10,23 @@ use Rattle.ot_plain.specs.Trees.{Ty, TyVar, TyOp, NoTys, MoreTys, Tys, Tm, Con, 
 use Rattle.ot_plain.specs.Hol.{fun_ty, bool_ty, same_ty, type_in, applied, result_ty, depth_limit}
 use Rattle.ot_plain.specs.declared.memory.Memory.{Memory}
 use Rattle.ot_forms.specs.declared.fault.TextFault.TheVariants.{BadTypes, TooDeep, UnknownOperator}
-use Rattle.ot_forms.specs.Meaning.{Around, types_around, constant_of, has_type, is_typed, fits, whole, relation_ty, equated, are_alike}
+use Rattle.ot_forms.specs.Meaning.{Around, types_around, constant_of, has_type, is_typed}
+use Rattle.ot_forms.specs.Meaning.{fits, whole, relation_ty, equated, are_alike}
 use Rattle.ot_parse.specs.declared.values.Value.{Value}
 use Rattle.ot_parse.specs.declared.values.Meant.{Meant as Part}
 use Rattle.ot_parse.specs.declared.values.Meant.TheVariants as parts
 use Rattle.ot_plain.specs.PlainTrees.{type_of_tree, term_of_tree}
 use Rattle.ot_parse.specs.Meant.{Meaning, wholly, equal_of, infix_of, apply_of, abstracted, relation_of, related_at}
 use Rattle.ot_parse.specs.Values.{IsValue, IsMeant, Means, meant_of, IsWholly, IsMade, IsRelated}
-use Rattle.ot_parse.proofs.ValueLaws.{typed-test, fits-test, not-wanted, too-deep, is-whole, applied-right, applied-wrong, alike-typed, equated-is, equal-right, equal-wrong}
+use Rattle.ot_parse.proofs.ValueLaws.{typed-test, fits-test, not-wanted, too-deep, is-whole, applied-right}
+use Rattle.ot_parse.proofs.ValueLaws.{applied-wrong, alike-typed, equated-is, equal-right, equal-wrong}
 
 -- ---- whole parts
-pub wrong-type : (l : Around) (k : ℕ) (v : Value) (w b : Bool) → IsValue l v → b ≡ same_ty names (type_of_tree v.ty) (bool_ty names) → w ≡ true → b ≡ false → IsWholly l w k (Ok (term_of_tree v.term)) (parts.Wrong k BadTypes)
+pub wrong-type : (l : Around) (k : ℕ) (v : Value) (w b : Bool) → IsValue l v → b ≡ same_ty names (type_of_tree v.ty)
+    (bool_ty names) → w ≡ true → b ≡ false → IsWholly l w k (Ok (term_of_tree v.term)) (parts.Wrong k BadTypes)
 wrong-type l k v w b h e d c = record {
-  means = sym (ap (λ x. whole l x k (term_of_tree v.term)) d ∙ not-wanted l k (term_of_tree v.term) (typed-test l (term_of_tree v.term) (type_of_tree v.ty) (bool_ty names) h.typed ∙ sym e ∙ c));
+  means = sym (ap (λ x. whole l x k (term_of_tree v.term)) d ∙ not-wanted l k (term_of_tree v.term)
+      (typed-test l (term_of_tree v.term) (type_of_tree v.ty) (bool_ty names) h.typed ∙ sym e ∙ c));
   kept = tt;
 }
 
@@ -29,73 +34,102 @@ wrong-type l k v w b h e d c = record {
 abbrev pub IsWanted : Around → Bool → Value → Type 0
 IsWanted l w v = (not w || has_type l (term_of_tree v.term) (bool_ty names)) ≡ true
 
-pub wanted : (l : Around) (v : Value) (w b : Bool) → IsValue l v → b ≡ same_ty names (type_of_tree v.ty) (bool_ty names) → (w ≡ true → b ≡ true) → IsWanted l w v
-wanted l v true b h e d = typed-test l (term_of_tree v.term) (type_of_tree v.ty) (bool_ty names) h.typed ∙ sym e ∙ d refl
+pub wanted : (l : Around) (v : Value) (w b : Bool) → IsValue l v
+    → b ≡ same_ty names (type_of_tree v.ty) (bool_ty names) → (w ≡ true → b ≡ true) → IsWanted l w v
+wanted l v true b h e d = typed-test l (term_of_tree v.term) (type_of_tree v.ty) (bool_ty names) h.typed ∙ sym e
+    ∙ d refl
 wanted l v false b h e d = refl
 
-pub deep : (l : Around) (k : ℕ) (v : Value) (w b : Bool) → IsWanted l w v → b ≡ fits l (term_of_tree v.term) → b ≡ false → IsWholly l w k (Ok (term_of_tree v.term)) (parts.Wrong k TooDeep)
+pub deep : (l : Around) (k : ℕ) (v : Value) (w b : Bool) → IsWanted l w v → b ≡ fits l (term_of_tree v.term)
+    → b ≡ false → IsWholly l w k (Ok (term_of_tree v.term)) (parts.Wrong k TooDeep)
 deep l k v w b h e d = record { means = sym (too-deep l w k (term_of_tree v.term) h (sym e ∙ d)); kept = tt }
 
-pub whole-value : (l : Around) (k : ℕ) (v : Value) (w b : Bool) → IsValue l v → IsWanted l w v → b ≡ fits l (term_of_tree v.term) → b ≡ true → IsWholly l w k (Ok (term_of_tree v.term)) (parts.Value v)
+pub whole-value : (l : Around) (k : ℕ) (v : Value) (w b : Bool) → IsValue l v → IsWanted l w v
+    → b ≡ fits l (term_of_tree v.term) → b ≡ true → IsWholly l w k (Ok (term_of_tree v.term)) (parts.Value v)
 whole-value l k v w b h g e d = record { means = sym (is-whole l w k (term_of_tree v.term) g (sym e ∙ d)); kept = h }
 
 -- ---- applications
-pub apply-made : (l : Around) (k : ℕ) (f x v : Value) → IsRelated l (App (term_of_tree f.term) (term_of_tree x.term)) (Ok (Some v)) → Means l (apply_of l k (Ok (term_of_tree f.term)) (Ok (term_of_tree x.term))) (parts.Value v)
+pub apply-made : (l : Around) (k : ℕ) (f x v : Value) → IsRelated l (App (term_of_tree f.term) (term_of_tree x.term))
+    (Ok (Some v)) → Means l (apply_of l k (Ok (term_of_tree f.term)) (Ok (term_of_tree x.term))) (parts.Value v)
 apply-made l k f x v h = record {
-  means = ap Ok h.0 ∙ sym (applied-right l k (term_of_tree f.term) (term_of_tree x.term) (type_of_tree v.ty) (ap (type_in names (types_around l)) (sym h.0) ∙ h.1.typed));
+  means = ap Ok h.0
+      ∙ sym (applied-right l k (term_of_tree f.term) (term_of_tree x.term) (type_of_tree v.ty)
+      (ap (type_in names (types_around l)) (sym h.0) ∙ h.1.typed));
   kept = h.1;
 }
 
-pub apply-wrong : (l : Around) (k : ℕ) (f x : Value) → is_typed l (App (term_of_tree f.term) (term_of_tree x.term)) ≡ false → Means l (apply_of l k (Ok (term_of_tree f.term)) (Ok (term_of_tree x.term))) (parts.Wrong k BadTypes)
-apply-wrong l k f x e = record { means = sym (applied-wrong l k (term_of_tree f.term) (term_of_tree x.term) e); kept = tt }
+pub apply-wrong : (l : Around) (k : ℕ) (f x : Value) → is_typed l (App (term_of_tree f.term) (term_of_tree x.term))
+    ≡ false → Means l (apply_of l k (Ok (term_of_tree f.term)) (Ok (term_of_tree x.term))) (parts.Wrong k BadTypes)
+apply-wrong l k f x e =
+    record { means = sym (applied-wrong l k (term_of_tree f.term) (term_of_tree x.term) e); kept = tt }
 
 -- ---- relations
-pub half-untyped : (l : Around) (f a b : Tm Name) → is_typed l (App f a) ≡ false → is_typed l (App (App f a) b) ≡ false
+pub half-untyped : (l : Around) (f a b : Tm Name) → is_typed l (App f a) ≡ false → is_typed l (App (App f a) b)
+    ≡ false
 half-untyped l f a b e = go (type_in names (types_around l) (App f a)) (type_in names (types_around l) b) e where
-  go : (o p : Option (Ty Name)) → (elim o as (λ _. Bool) [ None ↦ false | Some t ↦ true ]) ≡ false → (elim (applied names o p) as (λ _. Bool) [ None ↦ false | Some t ↦ true ]) ≡ false
+  go : (o p : Option (Ty Name)) → (elim o as (λ _. Bool) [ None ↦ false | Some t ↦ true ]) ≡ false
+      → (elim (applied names o p) as (λ _. Bool) [ None ↦ false | Some t ↦ true ]) ≡ false
   go None p e = refl
   go (Some t) p e = cc
 
 -- a half that was made, at its second term
-pub at-second : (l : Around) (n : Name) (t : Ty Name) (a b f : Tm Name) (r : Result (Option Value) Memory) → f ≡ App (Con n (relation_of t)) a → IsRelated l (App f b) r → IsRelated l (related_at n t a b) r
+pub at-second : (l : Around) (n : Name) (t : Ty Name) (a b f : Tm Name) (r : Result (Option Value) Memory)
+    → f ≡ App (Con n (relation_of t)) a → IsRelated l (App f b) r → IsRelated l (related_at n t a b) r
 at-second l n t a b f r e h = subst (λ g. IsRelated l (App g b) r) e h
 
-pub at-first : (l : Around) (c a : Tm Name) (n : Name) (t : Ty Name) (r : Result (Option Value) Memory) → c ≡ Con n t → IsRelated l (App c a) r → IsRelated l (App (Con n t) a) r
+pub at-first : (l : Around) (c a : Tm Name) (n : Name) (t : Ty Name) (r : Result (Option Value) Memory) → c ≡ Con n t
+    → IsRelated l (App c a) r → IsRelated l (App (Con n t) a) r
 at-first l c a n t r e h = subst (λ g. IsRelated l (App g a) r) e h
 
 -- a term that fits
-pub relation-made : (l : Around) (t : Tm Name) (v : Value) → IsRelated l t (Ok (Some v)) → Means l (Ok t) (parts.Value v)
+pub relation-made : (l : Around) (t : Tm Name) (v : Value) → IsRelated l t (Ok (Some v))
+    → Means l (Ok t) (parts.Value v)
 relation-made l t v h = record { means = ap Ok h.0; kept = h.1 }
 
 -- ---- equations
-module _ (l : Around) (k : ℕ) (n : Name) (t : Ty Name) (x y : Value) (hx : IsValue l x) (hy : IsValue l y) (en : n ≡ names.equals) (et : t ≡ type_of_tree x.ty) where
-  alike : is_typed l (related_at n t (term_of_tree x.term) (term_of_tree y.term)) ≡ are_alike l (term_of_tree x.term) (term_of_tree y.term)
-  alike = ap (λ u. is_typed l (related_at n u (term_of_tree x.term) (term_of_tree y.term))) et ∙ alike-typed l n (term_of_tree x.term) (term_of_tree y.term) (type_of_tree x.ty) (type_of_tree y.ty) hx.typed hy.typed
+module _ (l : Around) (k : ℕ) (n : Name) (t : Ty Name) (x y : Value) (hx : IsValue l x) (hy : IsValue l y)
+    (en : n ≡ names.equals) (et : t ≡ type_of_tree x.ty) where
+  alike : is_typed l (related_at n t (term_of_tree x.term) (term_of_tree y.term)) ≡ are_alike l (term_of_tree x.term)
+      (term_of_tree y.term)
+  alike = ap (λ u. is_typed l (related_at n u (term_of_tree x.term) (term_of_tree y.term))) et ∙ alike-typed l n
+      (term_of_tree x.term) (term_of_tree y.term) (type_of_tree x.ty) (type_of_tree y.ty) hx.typed hy.typed
 
-  same : related_at n t (term_of_tree x.term) (term_of_tree y.term) ≡ equated l (term_of_tree x.term) (term_of_tree y.term)
-  same = (λ i. related_at (en i) (et i) (term_of_tree x.term) (term_of_tree y.term)) ∙ equated-is l (term_of_tree x.term) (term_of_tree y.term) (type_of_tree x.ty) hx.typed
+  same : related_at n t (term_of_tree x.term) (term_of_tree y.term) ≡ equated l (term_of_tree x.term)
+      (term_of_tree y.term)
+  same = (λ i. related_at (en i) (et i) (term_of_tree x.term) (term_of_tree y.term))
+      ∙ equated-is l (term_of_tree x.term) (term_of_tree y.term) (type_of_tree x.ty) hx.typed
 
   some-typed : (u : Tm Name) (ty : Ty Name) → type_in names (types_around l) u ≡ Some ty → is_typed l u ≡ true
   some-typed u ty e = ap (λ o. elim o as (λ _. Bool) [ None ↦ false | Some v ↦ true ]) e
 
-  pub equal-made : (v : Value) → IsRelated l (related_at n t (term_of_tree x.term) (term_of_tree y.term)) (Ok (Some v)) → Means l (equal_of l k (Ok (term_of_tree x.term)) (Ok (term_of_tree y.term))) (parts.Value v)
+  pub equal-made : (v : Value) → IsRelated l (related_at n t (term_of_tree x.term) (term_of_tree y.term))
+      (Ok (Some v)) → Means l (equal_of l k (Ok (term_of_tree x.term)) (Ok (term_of_tree y.term))) (parts.Value v)
   equal-made v h = record {
     means = ap Ok (h.0 ∙ same) ∙ sym (equal-right l k (term_of_tree x.term) (term_of_tree y.term)
         (sym alike ∙ ap (is_typed l) (sym h.0) ∙ some-typed (term_of_tree v.term) (type_of_tree v.ty) h.1.typed));
     kept = h.1;
   }
 
-  pub equal-none : is_typed l (related_at n t (term_of_tree x.term) (term_of_tree y.term)) ≡ false → Means l (equal_of l k (Ok (term_of_tree x.term)) (Ok (term_of_tree y.term))) (parts.Wrong k BadTypes)
-  equal-none e = record { means = sym (equal-wrong l k (term_of_tree x.term) (term_of_tree y.term) (sym alike ∙ e)); kept = tt }
+  pub equal-none : is_typed l (related_at n t (term_of_tree x.term) (term_of_tree y.term)) ≡ false
+      → Means l (equal_of l k (Ok (term_of_tree x.term)) (Ok (term_of_tree y.term))) (parts.Wrong k BadTypes)
+  equal-none e =
+      record { means = sym (equal-wrong l k (term_of_tree x.term) (term_of_tree y.term) (sym alike ∙ e)); kept = tt }
 
 -- ---- operators
 module _ (hidden : List (Symbol Name)) (l : Around) (k : ℕ) (o : List ℕ) (a b : Tm Name) where
-  pub operator-made : (n : Name) (r : Result Part Memory) → constant_of hidden o ≡ Some n → IsMade l (Ok (related_at n (bool_ty names) a b)) r
+  pub operator-made : (n : Name) (r : Result Part Memory) → constant_of hidden o ≡ Some n
+      → IsMade l (Ok (related_at n (bool_ty names) a b)) r
       → IsMade l (infix_of hidden l k o (Ok a) (Ok b)) r
   operator-made n r e h =
       let same : infix_of hidden l k o (Ok a) (Ok b) ≡ Ok (related_at n (bool_ty names) a b) =
       ap (λ c. some_or (k, UnknownOperator) c >>= (λ n. Ok (App (App (Con n relation_ty) a) b))) e in
       subst (λ m. IsMade l m r) (sym same) h
 
-  pub no-operator : constant_of hidden o ≡ None → Means l (infix_of hidden l k o (Ok a) (Ok b)) (parts.Wrong k UnknownOperator)
-  no-operator e = record { means = sym (ap (λ c. some_or (k, UnknownOperator) c >>= (λ n. Ok (App (App (Con n relation_ty) a) b))) e); kept = tt }
+  pub no-operator : constant_of hidden o ≡ None
+      → Means l (infix_of hidden l k o (Ok a) (Ok b)) (parts.Wrong k UnknownOperator)
+  no-operator e =
+      record {
+        means = sym
+            (ap (λ c. some_or (k, UnknownOperator) c >>= (λ n. Ok (App (App (Con n relation_ty) a) b))) e);
+        kept = tt;
+      }

@@ -28,29 +28,38 @@ module _ (shown : List Name) (k : WordKind) (n : Name) where
     abbrev alone : Bool
     alone = list_all (is_no_rival shown (symbol_of (k, n))) ss
 
-    parts : is_hidden_in shown ss (symbol_of (k, n)) ≡ (list_any (same_name (namespace n)) shown && (is_short (symbol_of (k, n)) && alone))
+    parts : is_hidden_in shown ss (symbol_of (k, n))
+        ≡ (list_any (same_name (namespace n)) shown && (is_short (symbol_of (k, n)) && alone))
     parts = λ i. shown-is i && (is_short (symbol_of (k, n)) && alone)
 
     and-false : (e : Bool) → false ≡ (e && false)
     and-false true = refl
     and-false false = refl
 
-    pub not-shown : list_any (same_name (namespace n)) shown ≡ false → false ≡ is_hidden_in shown ss (symbol_of (k, n))
+    pub not-shown : list_any (same_name (namespace n)) shown ≡ false
+        → false ≡ is_hidden_in shown ss (symbol_of (k, n))
     not-shown h = ap (λ e. e && (is_short (symbol_of (k, n)) && alone)) (sym h) ∙ sym parts
 
     pub not-short : is_short (symbol_of (k, n)) ≡ false → false ≡ is_hidden_in shown ss (symbol_of (k, n))
-    not-short h = and-false (list_any (same_name (namespace n)) shown) ∙ ap (λ e. list_any (same_name (namespace n)) shown && (e && alone)) (sym h) ∙ sym parts
+    not-short h = and-false (list_any (same_name (namespace n)) shown)
+        ∙ ap (λ e. list_any (same_name (namespace n)) shown && (e && alone)) (sym h) ∙ sym parts
 
-    pub if-alone : list_any (same_name (namespace n)) shown ≡ true → is_short (symbol_of (k, n)) ≡ true → alone ≡ is_hidden_in shown ss (symbol_of (k, n))
+    pub if-alone : list_any (same_name (namespace n)) shown ≡ true → is_short (symbol_of (k, n)) ≡ true
+        → alone ≡ is_hidden_in shown ss (symbol_of (k, n))
     if-alone h g = (λ i. sym h i && (sym g i && alone)) ∙ sym parts
 
 -- ---- a symbol more
-map-push : (xs : List (WordKind × Name)) (x : WordKind × Name) → map symbol_of (xs ++ x ∷ []) ≡ map symbol_of xs ++ symbol_of x ∷ []
+map-push : (xs : List (WordKind × Name)) (x : WordKind × Name) → map symbol_of (xs ++ x ∷ []) ≡ map symbol_of xs
+    ++ symbol_of x ∷ []
 map-push [] x = refl
 map-push (y ∷ xs) x = ap (λ ys. symbol_of y ∷ ys) (map-push xs x)
 
-pub fails : (p : Symbol Name → Bool) (s : Symbol Name) (ss : List (Symbol Name)) → p s ≡ false → ss ≡ with_passing p s ss
+pub fails : (p : Symbol Name → Bool) (s : Symbol Name) (ss : List (Symbol Name)) → p s ≡ false
+    → ss ≡ with_passing p s ss
 fails p s ss h = ap (λ e. cond e (ss ++ s ∷ []) ss) (sym h)
 
-pub passes : (p : Symbol Name → Bool) (s : WordKind × Name) (hs gs : List (WordKind × Name)) (v : WordKind × Name) → p (symbol_of s) ≡ true → v ≡ s → gs ≡ hs ++ v ∷ [] → map symbol_of gs ≡ with_passing p (symbol_of s) (map symbol_of hs)
-passes p s hs gs v h e q = ap (map symbol_of) q ∙ map-push hs v ∙ ap (λ z. map symbol_of hs ++ symbol_of z ∷ []) e ∙ ap (λ z. cond z (map symbol_of hs ++ symbol_of s ∷ []) (map symbol_of hs)) (sym h)
+pub passes : (p : Symbol Name → Bool) (s : WordKind × Name) (hs gs : List (WordKind × Name)) (v : WordKind × Name)
+    → p (symbol_of s) ≡ true → v ≡ s → gs ≡ hs ++ v ∷ []
+    → map symbol_of gs ≡ with_passing p (symbol_of s) (map symbol_of hs)
+passes p s hs gs v h e q = ap (map symbol_of) q ∙ map-push hs v ∙ ap (λ z. map symbol_of hs ++ symbol_of z ∷ []) e
+    ∙ ap (λ z. cond z (map symbol_of hs ++ symbol_of s ∷ []) (map symbol_of hs)) (sym h)

@@ -1,5 +1,6 @@
 -- The texts of plain trees, piece by piece.
-use Rattle.std.specs.Prelude.{◌≡◌, ℕ, suc, ◌+◌, ◌<◌, ◌==◌, ◌&&◌, Bool, true, false, cond, List, [], ◌∷◌, ◌++◌, map, length, is_some, Some, None, codes, nat_eq}
+use Rattle.std.specs.Prelude.{◌≡◌, ℕ, suc, ◌+◌, ◌<◌, ◌==◌, ◌&&◌, Bool, true, false, cond, List}
+use Rattle.std.specs.Prelude.{[], ◌∷◌, ◌++◌, map, length, is_some, Some, None, codes, nat_eq}
 use Rattle.std.proofs.Common.{refl, sym, ◌∙◌, ap, arith, append_assoc, append-nil, get_or}
 use Rattle.std.proofs.lemmas.Bool.Decides.{nat_tests}
 use Rattle.std.proofs.lemmas.List.{length-map}
@@ -21,14 +22,16 @@ abbrev pub text_of : terms.Tm → List ℕ
 text_of t = tm_text (term_of_tree t)
 
 -- a name has a component, and so its spelling is its text
-pub name-spelled : {X : Type 0} (f : X → List ℕ) (n : Name) (cs : List X) → map f cs ≡ n → 0 < length cs → spelled n ≡ name_text n
+pub name-spelled : {X : Type 0} (f : X → List ℕ) (n : Name) (cs : List X) → map f cs ≡ n → 0 < length cs
+    → spelled n ≡ name_text n
 name-spelled f [] [] p h = absurd (omega arith)
 name-spelled f [] (c ∷ cs) p h = cc
 name-spelled f (c ∷ n) cs p h = refl
 
 -- ---- types
 -- two arguments make a function type where the name is `->`
-pub arrow-pair : (n : Name) (a b : Ty Name) → is_function names (TyOp n (MoreTys a (MoreTys b NoTys))) ≡ same_name n (codes "->" ∷ [])
+pub arrow-pair : (n : Name) (a b : Ty Name) → is_function names (TyOp n (MoreTys a (MoreTys b NoTys)))
+    ≡ same_name n (codes "->" ∷ [])
 arrow-pair n a b = go (same_name n (codes "->" ∷ [])) where
   go : (e : Bool) → is_some {T = Ty Name × Ty Name} (cond e (Some (a, b)) None) ≡ e
   go true = refl
@@ -45,7 +48,8 @@ cond-false : (e : Bool) (x y : List ℕ) → e ≡ false → y ≡ cond e x y
 cond-false true x y p = cc
 cond-false false x y p = refl
 
-arrow-pieces : (x y : List ℕ) → codes "(" ++ x ++ codes " -> " ++ y ++ codes ")" ≡ codes "(" ++ x ++ codes " ->" ++ (codes " " ++ y ++ []) ++ codes ")"
+arrow-pieces : (x y : List ℕ) → codes "(" ++ x ++ codes " -> " ++ y ++ codes ")"
+    ≡ codes "(" ++ x ++ codes " ->" ++ (codes " " ++ y ++ []) ++ codes ")"
 arrow-pieces x y =
     ap (λ z. z ++ codes ")") (
     append_assoc (codes "(" ++ x) (codes " -> ") y
@@ -53,41 +57,49 @@ arrow-pieces x y =
     ∙ sym (append_assoc (codes "(" ++ x) (codes " ->") (codes " " ++ y ++ []))
     )
 
-pub function-pieces : (n : Name) (ts : List (Ty Name)) (a b : Ty Name) → ts ≡ a ∷ b ∷ [] → is_function names (TyOp n (tys_of ts)) ≡ true
+pub function-pieces : (n : Name) (ts : List (Ty Name)) (a b : Ty Name) → ts ≡ a ∷ b ∷ []
+    → is_function names (TyOp n (tys_of ts)) ≡ true
     → codes "(" ++ ty_text a ++ codes " -> " ++ ty_text b ++ codes ")" ≡ ty_text (TyOp n (tys_of ts))
 function-pieces n ts a b p h =
-    let k : is_function names (TyOp n (tys_of (a ∷ b ∷ []))) ≡ true = ap (λ z. is_function names (TyOp n (tys_of z))) (sym p) ∙ h in
+    let k : is_function names (TyOp n (tys_of (a ∷ b ∷ []))) ≡ true =
+    ap (λ z. is_function names (TyOp n (tys_of z))) (sym p) ∙ h in
     arrow-pieces (ty_text a) (ty_text b)
-    ∙ cond-true (is_function names (TyOp n (tys_of (a ∷ b ∷ [])))) _ (codes "(" ++ name_text n ++ spaced_text (tys_of (a ∷ b ∷ [])) ++ codes ")") k
+    ∙ cond-true (is_function names (TyOp n (tys_of (a ∷ b ∷ [])))) _
+    (codes "(" ++ name_text n ++ spaced_text (tys_of (a ∷ b ∷ [])) ++ codes ")") k
     ∙ ap (λ z. ty_text (TyOp n (tys_of z))) (sym p)
 
-pub operator-pieces : (n : Name) (ts : List (Ty Name)) → is_function names (TyOp n (tys_of ts)) ≡ false → 0 < length ts
+pub operator-pieces : (n : Name) (ts : List (Ty Name)) → is_function names (TyOp n (tys_of ts)) ≡ false
+    → 0 < length ts
     → codes "(" ++ name_text n ++ spaced_text (tys_of ts) ++ codes ")" ≡ ty_text (TyOp n (tys_of ts))
 operator-pieces n [] h some = absurd (omega arith)
 operator-pieces n (t ∷ ts) h some = cond-false (is_function names (TyOp n (tys_of (t ∷ ts)))) _ _ h
 
 -- a list of two
-pub two : {X : Type 0} (xs : List X) (x y : X) → length xs ≡ 2 → x ≡ get_or xs 0 x → y ≡ get_or xs 1 y → xs ≡ x ∷ y ∷ []
+pub two : {X : Type 0} (xs : List X) (x y : X) → length xs ≡ 2 → x ≡ get_or xs 0 x → y ≡ get_or xs 1 y
+    → xs ≡ x ∷ y ∷ []
 two [] x y h p q = absurd (omega arith)
 two (a ∷ []) x y h p q = absurd (omega arith)
 two (a ∷ b ∷ []) x y h p q = λ i. sym p i ∷ sym q i ∷ []
 two (a ∷ b ∷ c ∷ xs) x y h p q = absurd (omega arith)
 
 -- `->` with two arguments, by their number
-pub arrow-two : {X : Type 0} (f : X → Ty Name) (n : Name) (xs : List X) → length xs ≡ 2 → same_name n (codes "->" ∷ []) ≡ is_function names (TyOp n (tys_of (map f xs)))
+pub arrow-two : {X : Type 0} (f : X → Ty Name) (n : Name) (xs : List X) → length xs ≡ 2
+    → same_name n (codes "->" ∷ []) ≡ is_function names (TyOp n (tys_of (map f xs)))
 arrow-two f n [] h = absurd (omega arith)
 arrow-two f n (a ∷ []) h = absurd (omega arith)
 arrow-two f n (a ∷ b ∷ []) h = sym (arrow-pair n (f a) (f b))
 arrow-two f n (a ∷ b ∷ c ∷ xs) h = absurd (omega arith)
 
-pub arrow-none : {X : Type 0} (f : X → Ty Name) (n : Name) (xs : List X) → (length xs ≡ 2 → ⊥) → false ≡ is_function names (TyOp n (tys_of (map f xs)))
+pub arrow-none : {X : Type 0} (f : X → Ty Name) (n : Name) (xs : List X) → (length xs ≡ 2 → ⊥)
+    → false ≡ is_function names (TyOp n (tys_of (map f xs)))
 arrow-none f n [] h = refl
 arrow-none f n (a ∷ []) h = refl
 arrow-none f n (a ∷ b ∷ []) h = absurd (h refl)
 arrow-none f n (a ∷ b ∷ c ∷ xs) h = refl
 
 -- the function type of these two
-pub arrow-is : {X : Type 0} (f : X → Ty Name) (n : Name) (xs : List X) (x y : X) → is_function names (TyOp n (tys_of (map f xs))) ≡ true → length xs ≡ 2 → x ≡ get_or xs 0 x → y ≡ get_or xs 1 y
+pub arrow-is : {X : Type 0} (f : X → Ty Name) (n : Name) (xs : List X) (x y : X)
+    → is_function names (TyOp n (tys_of (map f xs))) ≡ true → length xs ≡ 2 → x ≡ get_or xs 0 x → y ≡ get_or xs 1 y
     → TyOp n (tys_of (map f xs)) ≡ fun_ty names (f x) (f y)
 arrow-is f n xs x y k h p q =
     let is_arrow = (same_name-Decides n names.arrow).0 (arrow-two f n xs h ∙ k) in
@@ -97,24 +109,30 @@ pub not-empty : {X Y : Type 0} (f : X → Y) (xs : List X) → 0 < length xs →
 not-empty f xs h = let n = length-map xs f in omega (arith, n, h)
 
 pub spaced-more : (ts : List types.Ty) (k : ℕ) (t : types.Ty) (p0 p q : Printed) → k < length ts → t ≡ get_or ts k t
-    → Puts (λ us. spaced_text (tys_of (map type_of_tree us))) ts k p0 p → IsPut (codes " " ++ ty_text (type_of_tree t)) p q → Puts (λ us. spaced_text (tys_of (map type_of_tree us))) ts (k + 1) p0 q
+    → Puts (λ us. spaced_text (tys_of (map type_of_tree us))) ts k p0 p
+    → IsPut (codes " " ++ ty_text (type_of_tree t)) p q
+    → Puts (λ us. spaced_text (tys_of (map type_of_tree us))) ts (k + 1) p0 q
 spaced-more ts k t p0 p q h e before put =
-    puts-more (λ us. spaced_text (tys_of (map type_of_tree us))) (λ u. codes " " ++ ty_text (type_of_tree u)) (λ x xs. refl) ts k t p0 p q h before
+    puts-more (λ us. spaced_text (tys_of (map type_of_tree us))) (λ u. codes " " ++ ty_text (type_of_tree u))
+    (λ x xs. refl) ts k t p0 p q h before
     (same-text (ap (λ u. codes " " ++ ty_text (type_of_tree u)) e) put)
 
 -- ---- terms
 -- what stands before the argument, and the argument
 pub application-pieces : (f x : Tm Name) → codes "(" ++ front_text f x ++ tm_text x ++ codes ")" ≡ tm_text (App f x)
 application-pieces f x = go (is_equation names (App f x)) where
-  go : (e : Bool) → codes "(" ++ cond e (argument_text f ++ codes " = ") (tm_text f ++ codes " ") ++ tm_text x ++ codes ")"
-      ≡ cond e (codes "(" ++ argument_text f ++ codes " = " ++ tm_text x ++ codes ")") (codes "(" ++ tm_text f ++ codes " " ++ tm_text x ++ codes ")")
+  go : (e : Bool)
+      → codes "(" ++ cond e (argument_text f ++ codes " = ") (tm_text f ++ codes " ") ++ tm_text x ++ codes ")"
+      ≡ cond e (codes "(" ++ argument_text f ++ codes " = " ++ tm_text x ++ codes ")")
+      (codes "(" ++ tm_text f ++ codes " " ++ tm_text x ++ codes ")")
   go true = refl
   go false = refl
 
 pub front-function : (f x : Tm Name) → is_equation names (App f x) ≡ false → tm_text f ++ codes " " ≡ front_text f x
 front-function f x h = cond-false (is_equation names (App f x)) _ _ h
 
-pub front-side : (f x : Tm Name) → is_equation names (App f x) ≡ true → argument_text f ++ codes " = " ≡ front_text f x
+pub front-side : (f x : Tm Name) → is_equation names (App f x) ≡ true → argument_text f ++ codes " = "
+    ≡ front_text f x
 front-side f x h = cond-true (is_equation names (App f x)) _ _ h
 
 and-false : (e : Bool) → false ≡ (e && false)
@@ -122,23 +140,28 @@ and-false true = refl
 and-false false = refl
 
 -- `=` counts at a type a -> (a -> bool)
-pub equality-test : (n : Name) (t : Ty Name) (a b : Tm Name) → is_equation names (App (App (Con n t) a) b) ≡ (same_name n (codes "=" ∷ []) && equality_test t)
+pub equality-test : (n : Name) (t : Ty Name) (a b : Tm Name) → is_equation names (App (App (Con n t) a) b)
+    ≡ (same_name n (codes "=" ∷ []) && equality_test t)
 equality-test n (TyVar v) a b = and-false (same_name n (codes "=" ∷ []))
 equality-test n (TyOp m NoTys) a b = and-false (same_name n (codes "=" ∷ []))
 equality-test n (TyOp m (MoreTys u NoTys)) a b = and-false (same_name n (codes "=" ∷ []))
-equality-test n (TyOp m (MoreTys u (MoreTys v NoTys))) a b = go (same_name n (codes "=" ∷ []) && same_ty names (TyOp m (MoreTys u (MoreTys v NoTys))) (fun_ty names u (fun_ty names u (bool_ty names)))) where
-  go : (e : Bool) → is_some {T = Ty Name × Tm Name × Tm Name} (cond e (Some (u, a, b)) None) ≡ e
-  go true = refl
-  go false = refl
+equality-test n (TyOp m (MoreTys u (MoreTys v NoTys))) a b =
+    go (same_name n (codes "=" ∷ []) && same_ty names (TyOp m (MoreTys u (MoreTys v NoTys)))
+    (fun_ty names u (fun_ty names u (bool_ty names)))) where
+      go : (e : Bool) → is_some {T = Ty Name × Tm Name × Tm Name} (cond e (Some (u, a, b)) None) ≡ e
+      go true = refl
+      go false = refl
 equality-test n (TyOp m (MoreTys u (MoreTys v (MoreTys w ws)))) a b = and-false (same_name n (codes "=" ∷ []))
 
 -- ---- types that are equality's
 -- lists of different lengths
-pub tys-lengths : {X : Type 0} (f : X → Ty Name) (xs ys : List X) → (length xs ≡ length ys → ⊥) → false ≡ same_tys names (tys_of (map f xs)) (tys_of (map f ys))
+pub tys-lengths : {X : Type 0} (f : X → Ty Name) (xs ys : List X) → (length xs ≡ length ys → ⊥)
+    → false ≡ same_tys names (tys_of (map f xs)) (tys_of (map f ys))
 tys-lengths f [] [] h = absurd (h refl)
 tys-lengths f [] (y ∷ ys) h = refl
 tys-lengths f (x ∷ xs) [] h = refl
-tys-lengths f (x ∷ xs) (y ∷ ys) h = and-false (same_ty names (f x) (f y)) ∙ ap (λ e. same_ty names (f x) (f y) && e) (tys-lengths f xs ys (λ e. h (ap (λ n. suc n) e)))
+tys-lengths f (x ∷ xs) (y ∷ ys) h = and-false (same_ty names (f x) (f y))
+    ∙ ap (λ e. same_ty names (f x) (f y) && e) (tys-lengths f xs ys (λ e. h (ap (λ n. suc n) e)))
 
 -- no function type
 pub no-function : (t : Ty Name) → is_function names t ≡ false → false ≡ equality_test t
@@ -147,53 +170,68 @@ no-function (TyOp m NoTys) h = refl
 no-function (TyOp m (MoreTys a NoTys)) h = refl
 no-function (TyOp m (MoreTys a (MoreTys t NoTys))) h =
     let e : same_name m names.arrow ≡ false = sym (arrow-pair m a t) ∙ h in
-    ap (λ z. z && same_tys names (MoreTys a (MoreTys t NoTys)) (MoreTys a (MoreTys (fun_ty names a (bool_ty names)) NoTys))) (sym e)
+    ap (λ z. z && same_tys names (MoreTys a (MoreTys t NoTys))
+    (MoreTys a (MoreTys (fun_ty names a (bool_ty names)) NoTys))) (sym e)
 no-function (TyOp m (MoreTys a (MoreTys t (MoreTys u us)))) h = refl
 
 itself : (t : Ty Name) → same_ty names t t ≡ true
 itself t = (same_ty-is names tells_names t t).1 refl
 
 -- a function type with this result
-with-result : (a r : Ty Name) → equality_test (fun_ty names a r) ≡ (same_ty names r (fun_ty names a (bool_ty names)) && true)
-with-result a r = λ i. same_name-itself i && (itself a i && (same_ty names r (fun_ty names a (bool_ty names)) && true)) where
-  same_name-itself : same_name names.arrow names.arrow ≡ true
-  same_name-itself = (same_name-Decides names.arrow names.arrow).1 refl
+with-result : (a r : Ty Name) → equality_test (fun_ty names a r)
+    ≡ (same_ty names r (fun_ty names a (bool_ty names)) && true)
+with-result a r =
+    λ i. same_name-itself i && (itself a i && (same_ty names r (fun_ty names a (bool_ty names)) && true)) where
+      same_name-itself : same_name names.arrow names.arrow ≡ true
+      same_name-itself = (same_name-Decides names.arrow names.arrow).1 refl
 
 and-true : (e : Bool) → (e && true) ≡ e
 and-true true = refl
 and-true false = refl
 
 pub no-result : (t a r : Ty Name) → t ≡ fun_ty names a r → is_function names r ≡ false → false ≡ equality_test t
-no-result t a r p h = never r h ∙ sym (and-true (same_ty names r (fun_ty names a (bool_ty names)))) ∙ sym (with-result a r) ∙ ap equality_test (sym p) where
-  never : (r : Ty Name) → is_function names r ≡ false → false ≡ same_ty names r (fun_ty names a (bool_ty names))
-  never (TyVar v) h = refl
-  never (TyOp m NoTys) h = and-false (same_name m names.arrow)
-  never (TyOp m (MoreTys b NoTys)) h = and-false (same_name m names.arrow) ∙ ap (λ e. same_name m names.arrow && e) (and-false (same_ty names b a))
-  never (TyOp m (MoreTys b (MoreTys v NoTys))) h =
-      let e : same_name m names.arrow ≡ false = sym (arrow-pair m b v) ∙ h in
-      ap (λ z. z && same_tys names (MoreTys b (MoreTys v NoTys)) (MoreTys a (MoreTys (bool_ty names) NoTys))) (sym e)
-  never (TyOp m (MoreTys b (MoreTys v (MoreTys w ws)))) h =
-      and-false (same_name m names.arrow) ∙ ap (λ e. same_name m names.arrow && e) (and-false (same_ty names b a) ∙ ap (λ e. same_ty names b a && e) (and-false (same_ty names v (bool_ty names))))
+no-result t a r p h = never r h ∙ sym (and-true (same_ty names r (fun_ty names a (bool_ty names))))
+    ∙ sym (with-result a r) ∙ ap equality_test (sym p) where
+      never : (r : Ty Name) → is_function names r ≡ false → false ≡ same_ty names r (fun_ty names a (bool_ty names))
+      never (TyVar v) h = refl
+      never (TyOp m NoTys) h = and-false (same_name m names.arrow)
+      never (TyOp m (MoreTys b NoTys)) h = and-false (same_name m names.arrow)
+          ∙ ap (λ e. same_name m names.arrow && e) (and-false (same_ty names b a))
+      never (TyOp m (MoreTys b (MoreTys v NoTys))) h =
+          let e : same_name m names.arrow ≡ false = sym (arrow-pair m b v) ∙ h in
+          ap (λ z. z && same_tys names (MoreTys b (MoreTys v NoTys)) (MoreTys a (MoreTys (bool_ty names) NoTys))) (sym e)
+      never (TyOp m (MoreTys b (MoreTys v (MoreTys w ws)))) h =
+          and-false (same_name m names.arrow) ∙ ap (λ e. same_name m names.arrow && e) (and-false (same_ty names b a)
+          ∙ ap (λ e. same_ty names b a && e) (and-false (same_ty names v (bool_ty names))))
 
-both-functions : (t a r b v : Ty Name) → t ≡ fun_ty names a r → r ≡ fun_ty names b v → equality_test t ≡ (same_ty names b a && (same_ty names v (bool_ty names) && true))
+both-functions : (t a r b v : Ty Name) → t ≡ fun_ty names a r → r ≡ fun_ty names b v
+    → equality_test t ≡ (same_ty names b a && (same_ty names v (bool_ty names) && true))
 both-functions t a r b v p q =
-    ap equality_test p ∙ with-result a r ∙ and-true (same_ty names r (fun_ty names a (bool_ty names))) ∙ ap (λ z. same_ty names z (fun_ty names a (bool_ty names))) q
-    ∙ (λ i. (same_name-Decides names.arrow names.arrow).1 refl i && (same_ty names b a && (same_ty names v (bool_ty names) && true)))
+    ap equality_test p ∙ with-result a r ∙ and-true (same_ty names r (fun_ty names a (bool_ty names)))
+    ∙ ap (λ z. same_ty names z (fun_ty names a (bool_ty names))) q
+    ∙ (λ i. (same_name-Decides names.arrow names.arrow).1 refl i
+    && (same_ty names b a && (same_ty names v (bool_ty names) && true)))
 
-pub other-argument : (t a r b v : Ty Name) → t ≡ fun_ty names a r → r ≡ fun_ty names b v → same_ty names b a ≡ false → false ≡ equality_test t
-other-argument t a r b v p q h = ap (λ e. e && (same_ty names v (bool_ty names) && true)) (sym h) ∙ sym (both-functions t a r b v p q)
+pub other-argument : (t a r b v : Ty Name) → t ≡ fun_ty names a r → r ≡ fun_ty names b v → same_ty names b a ≡ false
+    → false ≡ equality_test t
+other-argument t a r b v p q h = ap (λ e. e && (same_ty names v (bool_ty names) && true)) (sym h)
+    ∙ sym (both-functions t a r b v p q)
 
-pub bool-result : (t a r b v : Ty Name) → t ≡ fun_ty names a r → r ≡ fun_ty names b v → same_ty names b a ≡ true → same_ty names v (bool_ty names) ≡ equality_test t
-bool-result t a r b v p q h = sym (and-true (same_ty names v (bool_ty names))) ∙ ap (λ e. e && (same_ty names v (bool_ty names) && true)) (sym h) ∙ sym (both-functions t a r b v p q)
+pub bool-result : (t a r b v : Ty Name) → t ≡ fun_ty names a r → r ≡ fun_ty names b v → same_ty names b a ≡ true
+    → same_ty names v (bool_ty names) ≡ equality_test t
+bool-result t a r b v p q h = sym (and-true (same_ty names v (bool_ty names)))
+    ∙ ap (λ e. e && (same_ty names v (bool_ty names) && true)) (sym h) ∙ sym (both-functions t a r b v p q)
 
 -- ---- the type of propositions
 pub bool-name : (n : Name) → same_name n (codes "bool" ∷ []) ≡ same_ty names (TyOp n NoTys) (bool_ty names)
 bool-name n = sym (and-true (same_name n (codes "bool" ∷ [])))
 
-pub bool-some : {X : Type 0} (f : X → Ty Name) (n : Name) (xs : List X) → length xs ≡ 0 → same_name n (codes "bool" ∷ []) ≡ same_ty names (TyOp n (tys_of (map f xs))) (bool_ty names)
+pub bool-some : {X : Type 0} (f : X → Ty Name) (n : Name) (xs : List X) → length xs ≡ 0
+    → same_name n (codes "bool" ∷ []) ≡ same_ty names (TyOp n (tys_of (map f xs))) (bool_ty names)
 bool-some f n [] h = bool-name n
 bool-some f n (x ∷ xs) h = absurd (omega arith)
 
-pub bool-none : {X : Type 0} (f : X → Ty Name) (n : Name) (xs : List X) → 0 < length xs → false ≡ same_ty names (TyOp n (tys_of (map f xs))) (bool_ty names)
+pub bool-none : {X : Type 0} (f : X → Ty Name) (n : Name) (xs : List X) → 0 < length xs
+    → false ≡ same_ty names (TyOp n (tys_of (map f xs))) (bool_ty names)
 bool-none f n [] h = absurd (omega arith)
 bool-none f n (x ∷ xs) h = and-false (same_name n (codes "bool" ∷ []))

@@ -1,5 +1,7 @@
 -- What values keep of their terms.
-use Rattle.std.specs.Prelude.{◌≡◌, ℕ, suc, zero, ◌+◌, ◌≤◌, ◌<◌, ◌&&◌, ◌||◌, not, max, min, ◌==◌, Bool, true, false, cond, nat_le, List, [], ◌∷◌, ◌++◌, map, length, take, Option, Some, None, Result, Ok, Err}
+use Rattle.std.specs.Prelude.{◌≡◌, ℕ, suc, zero, ◌+◌, ◌≤◌, ◌<◌, ◌&&◌, ◌||◌, not, max, min}
+use Rattle.std.specs.Prelude.{◌==◌, Bool, true, false, cond, nat_le, List, [], ◌∷◌, ◌++◌}
+use Rattle.std.specs.Prelude.{map, length, take, Option, Some, None, Result, Ok, Err}
 use Rattle.std.specs.Option.{option_map, unwrap_or}
 use Rattle.std.proofs.Common.{refl, sym, ◌∙◌, ap, subst, arith, get_or}
 use Rattle.std.proofs.Math.Seq.{take-suc}
@@ -8,8 +10,10 @@ use Rattle.std.proofs.lemmas.Bool.Decides.{nat_tests}
 use Rattle.ot_plain.specs.Answers.{◌>>=◌, some_or}
 use Rattle.ot_plain.specs.Names.{Name}
 use Rattle.ot_plain.specs.Naming.{names}
-use Rattle.ot_plain.specs.Trees.{Ty, Tys, TyVar, TyOp, NoTys, MoreTys, Tm, Free, Con, Bound, App, Abs, Symbol, ConSymbol, OpSymbol}
-use Rattle.ot_plain.specs.Hol.{fun_ty, bool_ty, same_ty, type_in, applied, result_ty, depth_tm, depth_ty, depth_all, depth_limit, has_shallow_types, is_shallow_ty, is_shallow_type}
+use Rattle.ot_plain.specs.Trees.{Ty, Tys, TyVar, TyOp, NoTys, MoreTys, Tm, Free}
+use Rattle.ot_plain.specs.Trees.{Con, Bound, App, Abs, Symbol, ConSymbol, OpSymbol}
+use Rattle.ot_plain.specs.Hol.{fun_ty, bool_ty, same_ty, type_in, applied, result_ty, depth_tm, depth_ty}
+use Rattle.ot_plain.specs.Hol.{depth_all, depth_limit, has_shallow_types, is_shallow_ty, is_shallow_type}
 use Rattle.ot_plain.specs.declared.tree.Ty as types
 use Rattle.ot_plain.specs.declared.tree.Tm as terms
 use Rattle.ot_laws.proofs.Tests.{tells_names, same_ty-is}
@@ -17,7 +21,8 @@ use Rattle.ot_laws.proofs.Typing.{result_ty-fun}
 use Rattle.ot_forms.specs.declared.fault.TextFault.TheVariants.{BadTypes, TooDeep, UnknownOperator}
 use Rattle.ot_forms.specs.Words.{same_text, base, same_kind, symbol_name}
 use Rattle.ot_forms.specs.Reading.{with_base}
-use Rattle.ot_forms.specs.Meaning.{Around, types_around, constant_of, has_type, is_typed, fits, check, whole, relation_ty, equated, are_alike}
+use Rattle.ot_forms.specs.Meaning.{Around, types_around, constant_of, has_type, is_typed}
+use Rattle.ot_forms.specs.Meaning.{fits, check, whole, relation_ty, equated, are_alike}
 use Rattle.ot_parse.specs.declared.values.Value.{Value}
 use Rattle.ot_parse.specs.declared.values.Meant.{Meant as Part}
 use Rattle.ot_parse.specs.declared.values.Meant.TheVariants as parts
@@ -31,34 +36,45 @@ use Rattle.ot_plain.proofs.PlainTrees.{term_Free, term_Con, term_Bound, term_App
 pub capped : (d : ℕ) → nat_le (min d (suc depth_limit)) depth_limit ≡ nat_le d depth_limit
 capped d = grind (arith, nat_tests)
 
-pub deeper-is : (a b : ℕ) → deeper (min a (suc depth_limit)) (min b (suc depth_limit)) ≡ min (suc (max a b)) (suc depth_limit)
+pub deeper-is : (a b : ℕ) → deeper (min a (suc depth_limit)) (min b (suc depth_limit))
+    ≡ min (suc (max a b)) (suc depth_limit)
 deeper-is a b = omega arith
 
 -- ---- the depth of a row of types
-depth-push : (ts : List (Ty Name)) (t : Ty Name) → depth_all names (tys_of (ts ++ t ∷ [])) ≡ max (depth_all names (tys_of ts)) (depth_ty names t)
+depth-push : (ts : List (Ty Name)) (t : Ty Name) → depth_all names (tys_of (ts ++ t ∷ []))
+    ≡ max (depth_all names (tys_of ts)) (depth_ty names t)
 depth-push [] t = omega arith
 depth-push (u ∷ ts) t = let e = depth-push ts t in omega (arith, e)
 
-pub depth-more : (xs : List types.Ty) (i : ℕ) (x : types.Ty) (d e k : ℕ) → d ≡ min (depth_all names (tys_of (map type_of_tree (take i xs)))) k → i < length xs → x ≡ get_or xs i x → e ≡ max d (min (depth_ty names (type_of_tree x)) k)
+pub depth-more : (xs : List types.Ty) (i : ℕ) (x : types.Ty) (d e k : ℕ)
+    → d ≡ min (depth_all names (tys_of (map type_of_tree (take i xs)))) k → i < length xs → x ≡ get_or xs i x
+    → e ≡ max d (min (depth_ty names (type_of_tree x)) k)
     → e ≡ min (depth_all names (tys_of (map type_of_tree (take (i + 1) xs)))) k
 depth-more xs i x d e k p h q r =
     let j : i + 1 ≡ suc i = omega arith in
     let w : map type_of_tree (take (i + 1) xs) ≡ map type_of_tree (take i xs) ++ type_of_tree x ∷ [] =
-    ap (λ n. map type_of_tree (take n xs)) j ∙ ap (map type_of_tree) (take-suc xs i x h) ∙ map-push type_of_tree (take i xs) (get_or xs i x) ∙ ap (λ y. map type_of_tree (take i xs) ++ type_of_tree y ∷ []) (sym q) in
+    ap (λ n. map type_of_tree (take n xs)) j ∙ ap (map type_of_tree) (take-suc xs i x h) ∙ map-push type_of_tree
+    (take i xs) (get_or xs i x) ∙ ap (λ y. map type_of_tree (take i xs) ++ type_of_tree y ∷ []) (sym q) in
     let u = ap (λ ts. depth_all names (tys_of ts)) w ∙ depth-push (map type_of_tree (take i xs)) (type_of_tree x) in
     omega (arith, p, r, u)
 
-pub depth-whole : (n : Name) (xs : List types.Ty) (i d k : ℕ) → d ≡ min (depth_all names (tys_of (map type_of_tree (take i xs)))) k → length xs ≤ i → d + 1 ≡ min (depth_ty names (TyOp n (tys_of (map type_of_tree xs)))) (suc k)
-depth-whole n xs i d k p h = let e = ap (λ ys. depth_all names (tys_of (map type_of_tree ys))) (take-all xs i h) in omega (arith, p, e)
+pub depth-whole : (n : Name) (xs : List types.Ty) (i d k : ℕ)
+    → d ≡ min (depth_all names (tys_of (map type_of_tree (take i xs)))) k → length xs ≤ i
+    → d + 1 ≡ min (depth_ty names (TyOp n (tys_of (map type_of_tree xs)))) (suc k)
+depth-whole n xs i d k p h = let e = ap (λ ys. depth_all names (tys_of (map type_of_tree ys))) (take-all xs i h) in
+    omega (arith, p, e)
 
 -- ---- values
 -- a type within the limit, by its depth as it is kept
-pub shallow-type : (t : Ty Name) (d : ℕ) → d ≡ min (depth_ty names t) (suc depth_limit) → nat_le d depth_limit ≡ is_shallow_ty names t
+pub shallow-type : (t : Ty Name) (d : ℕ) → d ≡ min (depth_ty names t) (suc depth_limit)
+    → nat_le d depth_limit ≡ is_shallow_ty names t
 shallow-type t d e = ap (λ n. nat_le n depth_limit) e ∙ capped (depth_ty names t)
 
 -- a value of this term
-pub made : (l : Around) (v : Value) (t : Tm Name) → term_of_tree v.term ≡ t → type_in names (types_around l) t ≡ Some (type_of_tree v.ty) → v.depth ≡ min (depth_tm names t) (suc depth_limit)
-    → v.type_depth ≡ min (depth_ty names (type_of_tree v.ty)) (suc depth_limit) → v.has_shallow_types ≡ has_shallow_types names (types_around l) t → IsValue l v
+pub made : (l : Around) (v : Value) (t : Tm Name) → term_of_tree v.term ≡ t → type_in names (types_around l) t
+    ≡ Some (type_of_tree v.ty) → v.depth ≡ min (depth_tm names t) (suc depth_limit)
+    → v.type_depth ≡ min (depth_ty names (type_of_tree v.ty)) (suc depth_limit)
+    → v.has_shallow_types ≡ has_shallow_types names (types_around l) t → IsValue l v
 made l v t e p q d r = record {
   typed = ap (type_in names (types_around l)) e ∙ p;
   depth = q ∙ ap (λ u. min (depth_tm names u) (suc depth_limit)) (sym e);
@@ -67,81 +83,121 @@ made l v t e p q d r = record {
 }
 
 -- a value of one node without a type inside that isn't its own
-leaf : (l : Around) (v : Value) (t : Tm Name) (ty : Ty Name) → term_of_tree v.term ≡ t → type_in names (types_around l) t ≡ Some ty → 1 ≡ depth_tm names t → is_shallow_type names (type_in names (types_around l) t) ≡ has_shallow_types names (types_around l) t
-    → type_of_tree v.ty ≡ ty → v.depth ≡ 1 → v.type_depth ≡ min (depth_ty names ty) (suc depth_limit) → v.has_shallow_types ≡ nat_le v.type_depth depth_limit → IsValue l v
+leaf : (l : Around) (v : Value) (t : Tm Name) (ty : Ty Name) → term_of_tree v.term ≡ t
+    → type_in names (types_around l) t ≡ Some ty → 1 ≡ depth_tm names t
+    → is_shallow_type names (type_in names (types_around l) t) ≡ has_shallow_types names (types_around l) t
+    → type_of_tree v.ty ≡ ty → v.depth ≡ 1 → v.type_depth ≡ min (depth_ty names ty) (suc depth_limit)
+    → v.has_shallow_types ≡ nat_le v.type_depth depth_limit → IsValue l v
 leaf l v t ty e p one own q d k r =
-    made l v t e (p ∙ ap Some (sym q)) (d ∙ ap (λ n. min n (suc depth_limit)) one) (k ∙ ap (λ u. min (depth_ty names u) (suc depth_limit)) (sym q))
+    made l v t e (p ∙ ap Some (sym q)) (d ∙ ap (λ n. min n (suc depth_limit)) one)
+    (k ∙ ap (λ u. min (depth_ty names u) (suc depth_limit)) (sym q))
     (r ∙ shallow-type ty v.type_depth k ∙ ap (is_shallow_type names) (sym p) ∙ own)
 
-pub free-value : (l : Around) (v : Value) (n : Name) (ty : Ty Name) → term_of_tree v.term ≡ Free (record { name = n; ty = ty }) → type_of_tree v.ty ≡ ty → v.depth ≡ 1 → v.type_depth ≡ min (depth_ty names ty) (suc depth_limit) → v.has_shallow_types ≡ nat_le v.type_depth depth_limit → IsValue l v
+pub free-value : (l : Around) (v : Value) (n : Name) (ty : Ty Name)
+    → term_of_tree v.term ≡ Free (record { name = n; ty = ty }) → type_of_tree v.ty ≡ ty → v.depth ≡ 1 → v.type_depth
+    ≡ min (depth_ty names ty) (suc depth_limit) → v.has_shallow_types ≡ nat_le v.type_depth depth_limit → IsValue l v
 free-value l v n ty e q d k r = leaf l v (Free (record { name = n; ty = ty })) ty e refl refl refl q d k r
 
-pub constant-value : (l : Around) (v : Value) (n : Name) (ty : Ty Name) → term_of_tree v.term ≡ Con n ty → type_of_tree v.ty ≡ ty → v.depth ≡ 1 → v.type_depth ≡ min (depth_ty names ty) (suc depth_limit) → v.has_shallow_types ≡ nat_le v.type_depth depth_limit → IsValue l v
+pub constant-value : (l : Around) (v : Value) (n : Name) (ty : Ty Name) → term_of_tree v.term ≡ Con n ty
+    → type_of_tree v.ty ≡ ty → v.depth ≡ 1 → v.type_depth ≡ min (depth_ty names ty) (suc depth_limit)
+    → v.has_shallow_types ≡ nat_le v.type_depth depth_limit → IsValue l v
 constant-value l v n ty e q d k r = leaf l v (Con n ty) ty e refl refl refl q d k r
 
-pub bound-value : (l : Around) (v : Value) (j : ℕ) (ty : Ty Name) → term_of_tree v.term ≡ Bound j → type_of_tree v.ty ≡ ty → v.depth ≡ 1 → v.type_depth ≡ min (depth_ty names ty) (suc depth_limit) → v.has_shallow_types ≡ nat_le v.type_depth depth_limit → IsBoundTo l j ty → IsValue l v
+pub bound-value : (l : Around) (v : Value) (j : ℕ) (ty : Ty Name) → term_of_tree v.term ≡ Bound j
+    → type_of_tree v.ty ≡ ty → v.depth ≡ 1 → v.type_depth ≡ min (depth_ty names ty) (suc depth_limit)
+    → v.has_shallow_types ≡ nat_le v.type_depth depth_limit → IsBoundTo l j ty → IsValue l v
 bound-value l v j ty e q d k r h = leaf l v (Bound j) ty e h refl refl q d k r
 
 -- ---- whole parts
-pub typed-test : (l : Around) (t : Tm Name) (ty u : Ty Name) → type_in names (types_around l) t ≡ Some ty → has_type l t u ≡ same_ty names ty u
+pub typed-test : (l : Around) (t : Tm Name) (ty u : Ty Name) → type_in names (types_around l) t ≡ Some ty
+    → has_type l t u ≡ same_ty names ty u
 typed-test l t ty u e = ap (λ o. same_ty names (unwrap_or o (bool_ty names)) u) e
 
-pub fits-test : (l : Around) (v : Value) → IsValue l v → (nat_le v.depth depth_limit && v.has_shallow_types) ≡ fits l (term_of_tree v.term)
-fits-test l v h = λ i. (ap (λ d. nat_le d depth_limit) h.depth ∙ capped (depth_tm names (term_of_tree v.term))) i && h.shallow i
+pub fits-test : (l : Around) (v : Value) → IsValue l v → (nat_le v.depth depth_limit && v.has_shallow_types)
+    ≡ fits l (term_of_tree v.term)
+fits-test l v h = λ i. (ap (λ d. nat_le d depth_limit) h.depth ∙ capped (depth_tm names (term_of_tree v.term))) i
+    && h.shallow i
 
-pub not-wanted : (l : Around) (k : ℕ) (t : Tm Name) → has_type l t (bool_ty names) ≡ false → whole l true k t ≡ Err (k, BadTypes)
-not-wanted l k t e = ap (λ b. check k BadTypes (not true || b) >>= (λ _. check k TooDeep (fits l t) >>= (λ _. Ok t))) e
+pub not-wanted : (l : Around) (k : ℕ) (t : Tm Name) → has_type l t (bool_ty names) ≡ false
+    → whole l true k t ≡ Err (k, BadTypes)
+not-wanted l k t e = ap (λ b. check k BadTypes (not true || b) >>= (λ _. check k TooDeep (fits l t) >>= (λ _. Ok t)))
+    e
 
-pub too-deep : (l : Around) (w : Bool) (k : ℕ) (t : Tm Name) → (not w || has_type l t (bool_ty names)) ≡ true → fits l t ≡ false → whole l w k t ≡ Err (k, TooDeep)
-too-deep l w k t e d = ap (λ b. check k BadTypes b >>= (λ _. check k TooDeep (fits l t) >>= (λ _. Ok t))) e ∙ ap (λ b. check k TooDeep b >>= (λ _. Ok t)) d
+pub too-deep : (l : Around) (w : Bool) (k : ℕ) (t : Tm Name) → (not w || has_type l t (bool_ty names)) ≡ true
+    → fits l t ≡ false → whole l w k t ≡ Err (k, TooDeep)
+too-deep l w k t e d = ap (λ b. check k BadTypes b >>= (λ _. check k TooDeep (fits l t) >>= (λ _. Ok t))) e
+    ∙ ap (λ b. check k TooDeep b >>= (λ _. Ok t)) d
 
-pub is-whole : (l : Around) (w : Bool) (k : ℕ) (t : Tm Name) → (not w || has_type l t (bool_ty names)) ≡ true → fits l t ≡ true → whole l w k t ≡ Ok t
-is-whole l w k t e d = ap (λ b. check k BadTypes b >>= (λ _. check k TooDeep (fits l t) >>= (λ _. Ok t))) e ∙ ap (λ b. check k TooDeep b >>= (λ _. Ok t)) d
+pub is-whole : (l : Around) (w : Bool) (k : ℕ) (t : Tm Name) → (not w || has_type l t (bool_ty names)) ≡ true
+    → fits l t ≡ true → whole l w k t ≡ Ok t
+is-whole l w k t e d = ap (λ b. check k BadTypes b >>= (λ _. check k TooDeep (fits l t) >>= (λ _. Ok t))) e
+    ∙ ap (λ b. check k TooDeep b >>= (λ _. Ok t)) d
 
 -- ---- applications
-pub application-type : (l : Around) (f x : Tm Name) (a b : Ty Name) → type_in names (types_around l) f ≡ Some a → type_in names (types_around l) x ≡ Some b → type_in names (types_around l) (App f x) ≡ result_ty names a b
+pub application-type : (l : Around) (f x : Tm Name) (a b : Ty Name) → type_in names (types_around l) f ≡ Some a
+    → type_in names (types_around l) x ≡ Some b → type_in names (types_around l) (App f x) ≡ result_ty names a b
 application-type l f x a b p q = λ i. applied names (p i) (q i)
 
-typed-some : (l : Around) (t : Tm Name) (ty : Ty Name) → type_in names (types_around l) t ≡ Some ty → is_typed l t ≡ true
+typed-some : (l : Around) (t : Tm Name) (ty : Ty Name) → type_in names (types_around l) t ≡ Some ty
+    → is_typed l t ≡ true
 typed-some l t ty e = ap (λ o. elim o as (λ _. Bool) [ None ↦ false | Some u ↦ true ]) e
 
 typed-none : (l : Around) (t : Tm Name) → type_in names (types_around l) t ≡ None → is_typed l t ≡ false
 typed-none l t e = ap (λ o. elim o as (λ _. Bool) [ None ↦ false | Some u ↦ true ]) e
 
-pub no-application : (l : Around) (f x : Value) → IsValue l f → IsValue l x → result_ty names (type_of_tree f.ty) (type_of_tree x.ty) ≡ None → is_typed l (App (term_of_tree f.term) (term_of_tree x.term)) ≡ false
-no-application l f x h g e = typed-none l (App (term_of_tree f.term) (term_of_tree x.term)) (application-type l (term_of_tree f.term) (term_of_tree x.term) _ _ h.typed g.typed ∙ e)
+pub no-application : (l : Around) (f x : Value) → IsValue l f → IsValue l x → result_ty names (type_of_tree f.ty)
+    (type_of_tree x.ty) ≡ None → is_typed l (App (term_of_tree f.term) (term_of_tree x.term)) ≡ false
+no-application l f x h g e = typed-none l (App (term_of_tree f.term) (term_of_tree x.term))
+    (application-type l (term_of_tree f.term) (term_of_tree x.term) _ _ h.typed g.typed ∙ e)
 
-pub application-value : (l : Around) (f x v : Value) → IsValue l f → IsValue l x → term_of_tree v.term ≡ App (term_of_tree f.term) (term_of_tree x.term) → result_ty names (type_of_tree f.ty) (type_of_tree x.ty) ≡ Some (type_of_tree v.ty)
-    → v.depth ≡ deeper f.depth x.depth → v.type_depth ≡ min (depth_ty names (type_of_tree v.ty)) (suc depth_limit) → v.has_shallow_types ≡ (nat_le v.type_depth depth_limit && (f.has_shallow_types && x.has_shallow_types)) → IsValue l v
+pub application-value : (l : Around) (f x v : Value) → IsValue l f → IsValue l x
+    → term_of_tree v.term ≡ App (term_of_tree f.term) (term_of_tree x.term)
+    → result_ty names (type_of_tree f.ty) (type_of_tree x.ty) ≡ Some (type_of_tree v.ty)
+    → v.depth ≡ deeper f.depth x.depth → v.type_depth ≡ min (depth_ty names (type_of_tree v.ty)) (suc depth_limit)
+    → v.has_shallow_types ≡ (nat_le v.type_depth depth_limit && (f.has_shallow_types && x.has_shallow_types))
+    → IsValue l v
 application-value l f x v h g e p q k r =
     let ty : type_in names (types_around l) (App (term_of_tree f.term) (term_of_tree x.term)) ≡ Some (type_of_tree v.ty) = application-type l (term_of_tree f.term) (term_of_tree x.term) _ _ h.typed g.typed ∙ p in
     made l v (App (term_of_tree f.term) (term_of_tree x.term)) e ty
-    (q ∙ (λ i. deeper (h.depth i) (g.depth i)) ∙ deeper-is (depth_tm names (term_of_tree f.term)) (depth_tm names (term_of_tree x.term)))
+    (q ∙ (λ i. deeper (h.depth i) (g.depth i))
+    ∙ deeper-is (depth_tm names (term_of_tree f.term)) (depth_tm names (term_of_tree x.term)))
     k
-    (r ∙ (λ i. (shallow-type (type_of_tree v.ty) v.type_depth k ∙ ap (is_shallow_type names) (sym ty)) i && (h.shallow i && g.shallow i)))
+    (r ∙ (λ i. (shallow-type (type_of_tree v.ty) v.type_depth k ∙ ap (is_shallow_type names) (sym ty)) i
+    && (h.shallow i && g.shallow i)))
 
-pub applied-right : (l : Around) (k : ℕ) (g y : Tm Name) (ty : Ty Name) → type_in names (types_around l) (App g y) ≡ Some ty → apply_of l k (Ok g) (Ok y) ≡ Ok (App g y)
+pub applied-right : (l : Around) (k : ℕ) (g y : Tm Name) (ty : Ty Name) → type_in names (types_around l) (App g y)
+    ≡ Some ty → apply_of l k (Ok g) (Ok y) ≡ Ok (App g y)
 applied-right l k g y ty e = ap (λ b. check k BadTypes b >>= (λ _. Ok (App g y))) (typed-some l (App g y) ty e)
 
-pub applied-wrong : (l : Around) (k : ℕ) (g y : Tm Name) → is_typed l (App g y) ≡ false → apply_of l k (Ok g) (Ok y) ≡ Err (k, BadTypes)
+pub applied-wrong : (l : Around) (k : ℕ) (g y : Tm Name) → is_typed l (App g y) ≡ false → apply_of l k (Ok g) (Ok y)
+    ≡ Err (k, BadTypes)
 applied-wrong l k g y e = ap (λ b. check k BadTypes b >>= (λ _. Ok (App g y))) e
 
 -- ---- abstractions
 twice-max : (d : ℕ) → min (suc (max d d)) (suc depth_limit) ≡ min (suc d) (suc depth_limit)
 twice-max d = omega arith
 
-function-depth : (t b : Ty Name) → min (suc (max (depth_ty names t) (depth_ty names b))) (suc depth_limit) ≡ min (depth_ty names (fun_ty names t b)) (suc depth_limit)
-function-depth t b = let k : max (depth_ty names b) 0 ≡ depth_ty names b = omega arith in ap (λ n. min (suc (max (depth_ty names t) n)) (suc depth_limit)) (sym k)
+function-depth : (t b : Ty Name) → min (suc (max (depth_ty names t) (depth_ty names b))) (suc depth_limit)
+    ≡ min (depth_ty names (fun_ty names t b)) (suc depth_limit)
+function-depth t b = let k : max (depth_ty names b) 0 ≡ depth_ty names b = omega arith in
+    ap (λ n. min (suc (max (depth_ty names t) n)) (suc depth_limit)) (sym k)
 
-pub abstraction-value : (l : Around) (x : List ℕ) (t : Ty Name) (b v : Value) (d : ℕ) → IsValue ((x, t) ∷ l) b → term_of_tree v.term ≡ Abs t (term_of_tree b.term) → type_of_tree v.ty ≡ fun_ty names t (type_of_tree b.ty)
-    → d ≡ min (depth_ty names t) (suc depth_limit) → v.depth ≡ deeper b.depth b.depth → v.type_depth ≡ deeper d b.type_depth → v.has_shallow_types ≡ (nat_le v.type_depth depth_limit && b.has_shallow_types) → IsValue l v
+pub abstraction-value : (l : Around) (x : List ℕ) (t : Ty Name) (b v : Value) (d : ℕ) → IsValue ((x, t) ∷ l) b
+    → term_of_tree v.term ≡ Abs t (term_of_tree b.term) → type_of_tree v.ty ≡ fun_ty names t (type_of_tree b.ty)
+    → d ≡ min (depth_ty names t) (suc depth_limit) → v.depth ≡ deeper b.depth b.depth → v.type_depth ≡ deeper d
+    b.type_depth → v.has_shallow_types ≡ (nat_le v.type_depth depth_limit && b.has_shallow_types) → IsValue l v
 abstraction-value l x t b v d h e p c q k r =
-    let ty : type_in names (types_around l) (Abs t (term_of_tree b.term)) ≡ Some (type_of_tree v.ty) = ap (option_map (fun_ty names t)) h.typed ∙ ap Some (sym p) in
-    let kept : v.type_depth ≡ min (depth_ty names (type_of_tree v.ty)) (suc depth_limit) = k ∙ (λ i. deeper (c i) (h.type_depth i)) ∙ deeper-is (depth_ty names t) (depth_ty names (type_of_tree b.ty)) ∙ function-depth t (type_of_tree b.ty) ∙ ap (λ u. min (depth_ty names u) (suc depth_limit)) (sym p) in
+    let ty : type_in names (types_around l) (Abs t (term_of_tree b.term)) ≡ Some (type_of_tree v.ty) =
+    ap (option_map (fun_ty names t)) h.typed ∙ ap Some (sym p) in
+    let kept : v.type_depth ≡ min (depth_ty names (type_of_tree v.ty)) (suc depth_limit) =
+    k ∙ (λ i. deeper (c i) (h.type_depth i)) ∙ deeper-is (depth_ty names t) (depth_ty names (type_of_tree b.ty))
+    ∙ function-depth t (type_of_tree b.ty) ∙ ap (λ u. min (depth_ty names u) (suc depth_limit)) (sym p) in
     made l v (Abs t (term_of_tree b.term)) e ty
-    (q ∙ (λ i. deeper (h.depth i) (h.depth i)) ∙ deeper-is (depth_tm names (term_of_tree b.term)) (depth_tm names (term_of_tree b.term)) ∙ twice-max (depth_tm names (term_of_tree b.term)))
+    (q ∙ (λ i. deeper (h.depth i) (h.depth i)) ∙ deeper-is (depth_tm names (term_of_tree b.term))
+    (depth_tm names (term_of_tree b.term)) ∙ twice-max (depth_tm names (term_of_tree b.term)))
     kept
-    (r ∙ (λ i. (shallow-type (type_of_tree v.ty) v.type_depth kept ∙ ap (is_shallow_type names) (sym ty)) i && h.shallow i))
+    (r ∙ (λ i. (shallow-type (type_of_tree v.ty) v.type_depth kept ∙ ap (is_shallow_type names) (sym ty)) i
+    && h.shallow i))
 
 -- ---- equations and operators
 same-turned : (a b : Ty Name) → same_ty names a b ≡ same_ty names b a
@@ -153,11 +209,14 @@ same-turned a b = go (same_ty names a b) (same_ty names b a) refl refl where
   go false true e f = sym e ∙ (same_ty-is names tells_names a b).1 (sym ((same_ty-is names tells_names b a).0 f))
 
 -- a relation at two terms of its type is a proposition, and at others it has no type
-related-type : (l : Around) (n : Name) (a b : Tm Name) (t u : Ty Name) → type_in names (types_around l) a ≡ Some t → type_in names (types_around l) b ≡ Some u
+related-type : (l : Around) (n : Name) (a b : Tm Name) (t u : Ty Name) → type_in names (types_around l) a ≡ Some t
+    → type_in names (types_around l) b ≡ Some u
     → type_in names (types_around l) (related_at n t a b) ≡ result_ty names (fun_ty names t (bool_ty names)) u
-related-type l n a b t u p q = (λ i. applied names (applied names (Some (relation_of t)) (p i)) (q i)) ∙ ap (λ o. applied names o (Some u)) (result_ty-fun names tells_names t (fun_ty names t (bool_ty names)))
+related-type l n a b t u p q = (λ i. applied names (applied names (Some (relation_of t)) (p i)) (q i))
+    ∙ ap (λ o. applied names o (Some u)) (result_ty-fun names tells_names t (fun_ty names t (bool_ty names)))
 
-pub alike-typed : (l : Around) (n : Name) (a b : Tm Name) (t u : Ty Name) → type_in names (types_around l) a ≡ Some t → type_in names (types_around l) b ≡ Some u → is_typed l (related_at n t a b) ≡ are_alike l a b
+pub alike-typed : (l : Around) (n : Name) (a b : Tm Name) (t u : Ty Name) → type_in names (types_around l) a ≡ Some t
+    → type_in names (types_around l) b ≡ Some u → is_typed l (related_at n t a b) ≡ are_alike l a b
 alike-typed l n a b t u p q =
     ap (λ o. elim o as (λ _. Bool) [ None ↦ false | Some v ↦ true ]) (related-type l n a b t u p q)
     ∙ go (same_ty names t u) refl
@@ -168,17 +227,26 @@ alike-typed l n a b t u p q =
     arrow : {A : Type 0} (c : Bool) (x y : A) → cond (names.same names.arrow names.arrow && c) x y ≡ cond c x y
     arrow c x y = ap (λ d. cond (d && c) x y) ((tells_names names.arrow names.arrow).1 refl)
 
-    go : (c : Bool) → same_ty names t u ≡ c → (elim (result_ty names (fun_ty names t (bool_ty names)) u) as (λ _. Bool) [ None ↦ false | Some v ↦ true ]) ≡ same_ty names t u
-    go true e = ap (λ o. elim o as (λ _. Bool) [ None ↦ false | Some v ↦ true ]) (arrow (same_ty names t u) (Some (bool_ty names)) None ∙ ap (λ d. cond d (Some (bool_ty names)) None) e) ∙ sym e
-    go false e = ap (λ o. elim o as (λ _. Bool) [ None ↦ false | Some v ↦ true ]) (arrow (same_ty names t u) (Some (bool_ty names)) None ∙ ap (λ d. cond d (Some (bool_ty names)) None) e) ∙ sym e
+    go : (c : Bool) → same_ty names t u ≡ c
+        → (elim (result_ty names (fun_ty names t (bool_ty names)) u) as (λ _. Bool) [ None ↦ false | Some v ↦ true ])
+        ≡ same_ty names t u
+    go true e = ap (λ o. elim o as (λ _. Bool) [ None ↦ false | Some v ↦ true ])
+        (arrow (same_ty names t u) (Some (bool_ty names)) None ∙ ap (λ d. cond d (Some (bool_ty names)) None) e)
+        ∙ sym e
+    go false e = ap (λ o. elim o as (λ _. Bool) [ None ↦ false | Some v ↦ true ])
+        (arrow (same_ty names t u) (Some (bool_ty names)) None ∙ ap (λ d. cond d (Some (bool_ty names)) None) e)
+        ∙ sym e
 
-pub equated-is : (l : Around) (a b : Tm Name) (t : Ty Name) → type_in names (types_around l) a ≡ Some t → related_at names.equals t a b ≡ equated l a b
+pub equated-is : (l : Around) (a b : Tm Name) (t : Ty Name) → type_in names (types_around l) a ≡ Some t
+    → related_at names.equals t a b ≡ equated l a b
 equated-is l a b t p = ap (λ o. related_at names.equals (unwrap_or o (bool_ty names)) a b) (sym p)
 
-pub equal-right : (l : Around) (k : ℕ) (a b : Tm Name) → are_alike l a b ≡ true → equal_of l k (Ok a) (Ok b) ≡ Ok (equated l a b)
+pub equal-right : (l : Around) (k : ℕ) (a b : Tm Name) → are_alike l a b ≡ true → equal_of l k (Ok a) (Ok b)
+    ≡ Ok (equated l a b)
 equal-right l k a b e = ap (λ c. check k BadTypes c >>= (λ _. Ok (equated l a b))) e
 
-pub equal-wrong : (l : Around) (k : ℕ) (a b : Tm Name) → are_alike l a b ≡ false → equal_of l k (Ok a) (Ok b) ≡ Err (k, BadTypes)
+pub equal-wrong : (l : Around) (k : ℕ) (a b : Tm Name) → are_alike l a b ≡ false → equal_of l k (Ok a) (Ok b)
+    ≡ Err (k, BadTypes)
 equal-wrong l k a b e = ap (λ c. check k BadTypes c >>= (λ _. Ok (equated l a b))) e
 
 -- the hidden constant with an operator word
@@ -186,7 +254,8 @@ text-turned : (x y : List ℕ) → same_text x y ≡ same_text y x
 text-turned [] [] = refl
 text-turned [] (b ∷ y) = refl
 text-turned (a ∷ x) [] = refl
-text-turned (a ∷ x) (b ∷ y) = λ i. (let e : (a == b) ≡ (b == a) = grind (arith, nat_tests) in e) i && text-turned x y i
+text-turned (a ∷ x) (b ∷ y) = λ i. (let e : (a == b) ≡ (b == a) = grind (arith, nat_tests) in e) i
+    && text-turned x y i
 
 pub constant-is : (h : List (Symbol Name)) (n : Name) (o : List ℕ) → with_base h (ConSymbol n) o ≡ constant_of h o
 constant-is [] n o = refl

@@ -30,9 +30,11 @@ is_sole n (Some (Some m)) = same_name n m
 
 -- what has this base name among the shown symbols of a kind, after one more symbol, and after these
 abbrev pub holder_with : List Name → Symbol Name → List ℕ → Option (Option Name) → Symbol Name → Option (Option Name)
-holder_with shown s text o t = cond ((same_kind s t && is_shown shown t) && same_text (base (symbol_name t)) text) (Some (one_more o (symbol_name t))) o
+holder_with shown s text o t = cond ((same_kind s t && is_shown shown t) && same_text (base (symbol_name t)) text)
+    (Some (one_more o (symbol_name t))) o
 
-abbrev pub holders_among : List Name → Symbol Name → List ℕ → Option (Option Name) → List (Symbol Name) → Option (Option Name)
+abbrev pub holders_among : List Name → Symbol Name → List ℕ → Option (Option Name) → List (Symbol Name)
+    → Option (Option Name)
 holders_among shown s text o [] = o
 holders_among shown s text o (t ∷ ts) = holders_among shown s text (holder_with shown s text o t) ts
 

@@ -7,8 +7,10 @@ use Rattle.ot_plain.specs.Trees.{Ty, Tm, Free, Con, Bound, App, Abs, Symbol}
 use Rattle.ot_plain.specs.Hol.{fun_ty, bool_ty}
 use Rattle.ot_forms.specs.declared.fault.TextFault.TheVariants.{Unbound, UnknownOperator, BadTypes}
 use Rattle.ot_forms.specs.Words.{same_text}
-use Rattle.ot_forms.specs.Forms.{Written, Writtens, Place, FreeAs, ConAs, Equal, Infix, Applied, Binding, NoMore, More, type_text, term_text}
-use Rattle.ot_forms.specs.Meaning.{Around, Refusal, place_of, constant_of, is_typed, check, whole, relation_ty, equated, are_alike, meaning}
+use Rattle.ot_forms.specs.Forms.{Written, Writtens, Place, FreeAs, ConAs, Equal, Infix}
+use Rattle.ot_forms.specs.Forms.{Applied, Binding, NoMore, More, type_text, term_text}
+use Rattle.ot_forms.specs.Meaning.{Around, Refusal, place_of, constant_of, is_typed}
+use Rattle.ot_forms.specs.Meaning.{check, whole, relation_ty, equated, are_alike, meaning}
 
 -- the place of what begins these bytes, in a text of so many
 abbrev pub place_at : ℕ → List ℕ → ℕ
@@ -55,16 +57,22 @@ bound_of l k x = do
 -- f, from place k on, at x and the further arguments, the first of them at place i
 abbrev pub applied_of : List (Symbol Name) → Around → ℕ → ℕ → Meaning → Meaning → Writtens → Meaning
 applied_of hidden l k i f x NoMore = apply_of l k f x
-applied_of hidden l k i f x (More b bs) = applied_of hidden l k (i + 1 + length (term_text hidden b)) (wholly l false k (apply_of l k f x)) (meaning hidden l false i b) bs
+applied_of hidden l k i f x (More b bs) = applied_of hidden l k (i + 1 + length (term_text hidden b))
+    (wholly l false k (apply_of l k f x)) (meaning hidden l false i b) bs
 
 abbrev pub raw : List (Symbol Name) → Around → ℕ → Written → Meaning
 raw hidden l k (Place x) = bound_of l k x
 raw hidden l k (FreeAs n t) = Ok (Free (record { name = n; ty = t }))
 raw hidden l k (ConAs n t) = Ok (Con n t)
-raw hidden l k (Equal a b) = equal_of l k (meaning hidden l false (k + 1) a) (meaning hidden l false (k + 4 + length (term_text hidden a)) b)
-raw hidden l k (Infix o a b) = infix_of hidden l k o (meaning hidden l true (k + 1) a) (meaning hidden l true (k + 3 + length (term_text hidden a) + length o) b)
-raw hidden l k (Applied f a more) = applied_of hidden l k (k + 3 + length (term_text hidden f) + length (term_text hidden a)) (meaning hidden l false (k + 1) f) (meaning hidden l false (k + 2 + length (term_text hidden f)) a) more
-raw hidden l k (Binding x t a) = abstracted t (meaning hidden ((x, t) ∷ l) false (k + 8 + length x + length (type_text hidden t)) a)
+raw hidden l k (Equal a b) =
+    equal_of l k (meaning hidden l false (k + 1) a) (meaning hidden l false (k + 4 + length (term_text hidden a)) b)
+raw hidden l k (Infix o a b) = infix_of hidden l k o (meaning hidden l true (k + 1) a)
+    (meaning hidden l true (k + 3 + length (term_text hidden a) + length o) b)
+raw hidden l k (Applied f a more) =
+    applied_of hidden l k (k + 3 + length (term_text hidden f) + length (term_text hidden a))
+    (meaning hidden l false (k + 1) f) (meaning hidden l false (k + 2 + length (term_text hidden f)) a) more
+raw hidden l k (Binding x t a) =
+    abstracted t (meaning hidden ((x, t) ∷ l) false (k + 8 + length x + length (type_text hidden t)) a)
 
 -- the type of a relation between terms of this type, and such a relation at two terms
 abbrev pub relation_of : Ty Name → Ty Name

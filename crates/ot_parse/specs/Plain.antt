@@ -14,7 +14,8 @@ sequent_of r = record { hyps = map term_of_tree r.hyps.items; concl = term_of_tr
 
 -- whether a type is a -> (a -> bool)
 abbrev pub equality_test : Ty Name → Bool
-equality_test (TyOp m (MoreTys a (MoreTys t NoTys))) = same_ty names (TyOp m (MoreTys a (MoreTys t NoTys))) (fun_ty names a (fun_ty names a (bool_ty names)))
+equality_test (TyOp m (MoreTys a (MoreTys t NoTys))) =
+    same_ty names (TyOp m (MoreTys a (MoreTys t NoTys))) (fun_ty names a (fun_ty names a (bool_ty names)))
 equality_test _ = false
 
 -- what stands before an argument in the text of an application

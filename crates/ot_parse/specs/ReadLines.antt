@@ -1,5 +1,6 @@
 -- What the functions over whole terms and lines answer.
-use Rattle.std.specs.Prelude.{◌≡◌, ◌⊎◌, ◌+◌, ◌-◌, ℕ, Bool, true, false, Some, None, codes, List, [], ◌∷◌, ◌++◌, map, length, cond, Result, Ok, Err}
+use Rattle.std.specs.Prelude.{◌≡◌, ◌⊎◌, ◌+◌, ◌-◌, ℕ, Bool, true, false, Some, None, codes}
+use Rattle.std.specs.Prelude.{List, [], ◌∷◌, ◌++◌, map, length, cond, Result, Ok, Err}
 use Rattle.ot_plain.specs.Answers.{◌>>=◌}
 use Rattle.ot_plain.specs.Names.{Name}
 use Rattle.ot_plain.specs.Naming.{names}
@@ -11,7 +12,8 @@ use Rattle.ot_forms.specs.declared.fault.TextFault.TheVariants.{Syntax, TooManyO
 use Rattle.ot_forms.specs.Forms.{Written, WrittenSequent}
 use Rattle.ot_forms.specs.Meaning.{Refusal, meaning, meanings, line_meaning}
 use Rattle.ot_forms.specs.Refusals.{open_limit}
-use Rattle.ot_forms.specs.Reading.{Reading, Got, Halted, NoForm, OneTooMany, mapped, literal_at, constant_at, term_at, hyps_at, line_at}
+use Rattle.ot_forms.specs.Reading.{Reading, Got, Halted, NoForm, OneTooMany, mapped}
+use Rattle.ot_forms.specs.Reading.{literal_at, constant_at, term_at, hyps_at, line_at}
 use Rattle.ot_parse.specs.declared.halt.Halt.{Halt}
 use Rattle.ot_parse.specs.declared.halt.Halt.TheVariants as halts
 use Rattle.ot_parse.specs.declared.readable.Readable.{Readable}
@@ -69,7 +71,12 @@ hyps_meant hidden s = mapped (λ hs. once (meanings hidden 0 hs)) (hyps_at (term
 
 -- what stands behind a hypothesis, and whether a further one follows
 abbrev pub separator_at : List ℕ → Reading Bool
-separator_at s = elim (behind_byte 44 s) [ Some after ↦ mapped (λ _. true) (literal_at (codes " ") after) | None ↦ mapped (λ _. false) (literal_at (codes " |- ") s) ]
+separator_at s =
+    elim (behind_byte 44 s) [
+      | Some after ↦ mapped (λ _. true) (literal_at (codes " ") after)
+      | None ↦
+          mapped (λ _. false) (literal_at (codes " |- ") s)
+    ]
 
 -- reading halts here, or what was read ends here and bytes follow
 abbrev pub IsStop : {A : Type 0} → Reading A → List ℕ → Type 0
@@ -107,8 +114,10 @@ IsSequent m (Err refusals.Memory) = Unit {0}
 
 -- a line was read, with what it means
 abbrev pub IsMeantLine : List (Symbol Name) → List ℕ → Result Readable ReadRefusal → Type 0
-IsMeantLine hidden line (Ok r) = (q : WrittenSequent) × (line_at (terms hidden) line ≡ Got q []) × (line_meaning hidden q ≡ Ok (sequent_of r))
-IsMeantLine hidden line (Err (refusals.At c f)) = (q : WrittenSequent) × (k : ℕ) × (line_at (terms hidden) line ≡ Got q []) × (line_meaning hidden q ≡ Err (k, f)) × (c ≡ k + 1)
+IsMeantLine hidden line (Ok r) = (q : WrittenSequent) × (line_at (terms hidden) line ≡ Got q [])
+    × (line_meaning hidden q ≡ Ok (sequent_of r))
+IsMeantLine hidden line (Err (refusals.At c f)) = (q : WrittenSequent) × (k : ℕ)
+    × (line_at (terms hidden) line ≡ Got q []) × (line_meaning hidden q ≡ Err (k, f)) × (c ≡ k + 1)
 IsMeantLine hidden line (Err refusals.Memory) = Unit {0}
 
 abbrev pub IsWholeLine : List (Symbol Name) → List ℕ → Result (Result Readable ReadRefusal) Halt → Type 0

@@ -55,12 +55,14 @@ IsLeaf l o (Ok (fronts.Head f x r)) = ⊥
 IsLeaf l o (Err h) = IsHalt h o
 
 -- what is open behind a parenthesis, where this is read under these abstractions with room for so many
-pub record GoesIn (n : ℕ) (hidden : List (Symbol Name)) (m : ℕ) (l : Around) (o : Reading Meaning) (f : Open) (r : List ℕ) : Type 0 where
+pub record GoesIn (n : ℕ) (hidden : List (Symbol Name)) (m : ℕ) (l : Around) (o : Reading Meaning) (f : Open)
+    (r : List ℕ) : Type 0 where
   pub within : length r ≤ n
   pub kept : IsKept l f
   pub same : o ≡ next (begun n hidden m (inner_of (frame_of f) l) r) (after n hidden m l (frame_of f))
 
-pub record HasHead (n : ℕ) (hidden : List (Symbol Name)) (m : ℕ) (l : Around) (o : Reading Meaning) (f : Open) (x : Part) (r : List ℕ) : Type 0 where
+pub record HasHead (n : ℕ) (hidden : List (Symbol Name)) (m : ℕ) (l : Around) (o : Reading Meaning) (f : Open)
+    (x : Part) (r : List ℕ) : Type 0 where
   pub within : length r ≤ n
   pub kept : IsKept l f
   pub meant : IsMeant (inner_of (frame_of f) l) x
@@ -76,7 +78,8 @@ IsInside n hidden m l o (Err h) = IsHalt h o
 abbrev pub IsFront : ℕ → List (Symbol Name) → ℕ → Around → List ℕ → Result Front Halt → Type 0
 IsFront n hidden m l s (Ok (fronts.Leaf x r)) = IsMeant l x × (begun n hidden m l s ≡ Got (meant_of x) r.now)
 IsFront n hidden m l s (Ok (fronts.Inside f r)) = (0 < m) × GoesIn n hidden (m - 1) l (begun n hidden m l s) f r.now
-IsFront n hidden m l s (Ok (fronts.Head f x r)) = (0 < m) × HasHead n hidden (m - 1) l (begun n hidden m l s) f x r.now
+IsFront n hidden m l s (Ok (fronts.Head f x r)) =
+    (0 < m) × HasHead n hidden (m - 1) l (begun n hidden m l s) f x r.now
 IsFront n hidden m l s (Err h) = IsHalt h (begun n hidden m l s)
 
 -- what comes of a term that has ended, where this is read
@@ -97,16 +100,20 @@ pub record IsLeft (n : ℕ) (hidden : List (Symbol Name)) (os ps : List Open) (o
   pub same : (m : ℕ) → resume n hidden m (map frame_of os) o ≡ resume n hidden (popped + m) (map frame_of ps) p
 
 -- a further term is read inside this and what stays open
-pub record GoesOn (n : ℕ) (hidden : List (Symbol Name)) (os ps : List Open) (o : Reading Meaning) (g : Open) (r : List ℕ) : Type 0 where
+pub record GoesOn (n : ℕ) (hidden : List (Symbol Name)) (os ps : List Open) (o : Reading Meaning) (g : Open)
+    (r : List ℕ) : Type 0 where
   pub popped : ℕ
   pub left : length os ≡ popped + suc (length ps)
   pub within : length r ≤ n
   pub kept : IsKept (around (map frame_of ps)) g
   pub still : AreKept ps
-  pub same : (m : ℕ) → resume n hidden m (map frame_of os) o ≡ resume n hidden (popped + m) (frame_of g ∷ map frame_of ps) (begun n hidden (popped + m) (inner_of (frame_of g) (around (map frame_of ps))) r)
+  pub same : (m : ℕ) → resume n hidden m (map frame_of os) o ≡ resume n hidden (popped + m)
+      (frame_of g ∷ map frame_of ps)
+      (begun n hidden (popped + m) (inner_of (frame_of g) (around (map frame_of ps))) r)
 
 abbrev pub IsClosed : ℕ → List (Symbol Name) → List Open → List Open → Reading Meaning → Result Back Halt → Type 0
-IsClosed n hidden os ps o (Ok (backs.Whole y r)) = IsMeant [] y × ((m : ℕ) → resume n hidden m (map frame_of os) o ≡ Got (meant_of y) r.now)
+IsClosed n hidden os ps o (Ok (backs.Whole y r)) =
+    IsMeant [] y × ((m : ℕ) → resume n hidden m (map frame_of os) o ≡ Got (meant_of y) r.now)
 IsClosed n hidden os ps o (Ok (backs.Further g r)) = GoesOn n hidden os ps o g r.now
 IsClosed n hidden os ps o (Err h) = (m : ℕ) → IsHalt h (resume n hidden m (map frame_of os) o)
 
@@ -116,17 +123,21 @@ pub record IsOn (n : ℕ) (hidden : List (Symbol Name)) (start : List ℕ) (fs :
   pub within : length fs ≤ open_limit
   pub short : length rest ≤ n
   pub kept : AreKept (reversed fs)
-  pub same : resume n hidden (open_limit - length fs) (frames_of fs) (begun n hidden (open_limit - length fs) (around (frames_of fs)) rest) ≡ begun n hidden open_limit [] start
+  pub same : resume n hidden (open_limit - length fs) (frames_of fs)
+      (begun n hidden (open_limit - length fs) (around (frames_of fs)) rest) ≡ begun n hidden open_limit [] start
 
 -- a term has ended inside what is open
-pub record HasEnded (n : ℕ) (hidden : List (Symbol Name)) (start : List ℕ) (fs : List Open) (x : Part) (rest : List ℕ) : Type 0 where
+pub record HasEnded (n : ℕ) (hidden : List (Symbol Name)) (start : List ℕ) (fs : List Open) (x : Part)
+    (rest : List ℕ) : Type 0 where
   pub within : length fs ≤ open_limit
   pub short : length rest ≤ n
   pub kept : AreKept (reversed fs)
   pub meant : IsMeant (around (frames_of fs)) x
-  pub same : resume n hidden (open_limit - length fs) (frames_of fs) (Got (meant_of x) rest) ≡ begun n hidden open_limit [] start
+  pub same : resume n hidden (open_limit - length fs) (frames_of fs) (Got (meant_of x) rest)
+      ≡ begun n hidden open_limit [] start
 
 abbrev pub IsNext : ℕ → List (Symbol Name) → List ℕ → List Open → Result Next Halt → Type 0
 IsNext n hidden start fs (Ok (nexts.Begins r)) = IsOn n hidden start fs r.now
-IsNext n hidden start fs (Ok (nexts.Ended x r)) = IsMeant [] x × (begun n hidden open_limit [] start ≡ Got (meant_of x) r.now)
+IsNext n hidden start fs (Ok (nexts.Ended x r)) =
+    IsMeant [] x × (begun n hidden open_limit [] start ≡ Got (meant_of x) r.now)
 IsNext n hidden start fs (Err h) = IsHalt h (begun n hidden open_limit [] start)

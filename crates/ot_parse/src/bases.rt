@@ -6,8 +6,8 @@ ghost use Rattle.ot_plain.specs.Names.{Name as NameValue};
 ghost use Rattle.ot_plain.specs.Trees.{Symbol};
 ghost use Rattle.ot_forms.specs.Words.{base};
 ghost use Rattle.ot_parse.specs.Symbols.{symbol_of};
-ghost use Rattle.ot_parse.specs.Bases.{AreBases, holder_of, holder_with, holders_among, is_no_rival};
-ghost use Rattle.ot_parse.specs.Bases.{is_sole as sole_test, one_more, held};
+ghost use Rattle.ot_parse.specs.Bases.{AreBases, holder_of, holder_with, holders_among};
+ghost use Rattle.ot_parse.specs.Bases.{is_no_rival, is_sole as sole_test, one_more, held};
 
 use crate::names::base_of;
 use crate::notation::{WordKind, is_one_kind, is_shown};

@@ -5,12 +5,12 @@ ghost use Rattle.std.specs.List.{list_any};
 ghost use Rattle.ot_plain.specs.Names.{Name as NameValue, same_name, IsName};
 ghost use Rattle.ot_plain.specs.Trees.{Symbol};
 ghost use Rattle.ot_forms.specs.Words.{IsNotation, hidden_symbols, is_hidden_in as hidden_test};
-ghost use Rattle.ot_forms.specs.Words.{is_short as short_test, namespace, is_hidden as hidden_now, is_taken};
-ghost use Rattle.ot_forms.specs.Words.{is_bare as bare_test, dotted, same_symbol};
+ghost use Rattle.ot_forms.specs.Words.{is_short as short_test, namespace, is_hidden as hidden_now};
+ghost use Rattle.ot_forms.specs.Words.{is_taken, is_bare as bare_test, dotted, same_symbol};
 ghost use Rattle.ot_forms.specs.Reading.{with_base as based, is_spelled as spelled_test, settled, operators};
 ghost use Rattle.ot_parse.specs.Bases.{AreBases};
-ghost use Rattle.ot_parse.specs.Symbols.{symbol_of, kind_test, with_passing, AreNames, has_base as has_base_test};
-ghost use Rattle.ot_parse.specs.Symbols.{operator_base};
+ghost use Rattle.ot_parse.specs.Symbols.{symbol_of, kind_test, with_passing, AreNames};
+ghost use Rattle.ot_parse.specs.Symbols.{has_base as has_base_test, operator_base};
 
 use crate::bases::Bases;
 use crate::names::{are_same, base_of, copy_name, is_bare, namespace_of};

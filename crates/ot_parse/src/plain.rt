@@ -3,8 +3,8 @@ ghost use Rattle.std.specs.Prelude.{◌≡◌, ◌<◌, ◌++◌, codes, map, le
 ghost use Rattle.ot_plain.specs.Naming.{names};
 ghost use Rattle.ot_plain.specs.Names.{Name as NameValue};
 ghost use Rattle.ot_plain.specs.Trees.{TyOp, App, Tm as TermTree};
-ghost use Rattle.ot_text.specs.Texts.{name_text, ty_text, spaced_text, tm_text, argument_text, hyps_text};
-ghost use Rattle.ot_text.specs.Texts.{sequent_text, is_equation};
+ghost use Rattle.ot_text.specs.Texts.{name_text, ty_text, spaced_text, tm_text};
+ghost use Rattle.ot_text.specs.Texts.{argument_text, hyps_text, sequent_text, is_equation};
 ghost use Rattle.ot_text.specs.Gathered.{texts_of};
 ghost use Rattle.ot_text.specs.Pages.{IsPut, printed, Appended};
 ghost use Rattle.ot_plain.specs.PlainTrees.{type_of_tree, tys_of, term_of_tree};

@@ -8,9 +8,9 @@ ghost use Rattle.ot_forms.specs.Meaning.{meanings};
 ghost use Rattle.ot_forms.specs.Reading.{mapped, first_hyp_at};
 ghost use Rattle.ot_parse.specs.Gives.{Gives};
 ghost use Rattle.ot_parse.specs.Values.{meant_of};
-ghost use Rattle.ot_parse.specs.ReadLines.{kept_of, others, once, one_more, IsKept, terms, meant_at, hyps_meant};
-ghost use Rattle.ot_parse.specs.ReadLines.{sequent_meant, IsSequent, IsWholeText, IsWholeLine, IsAt, IsHaltedAt};
-ghost use Rattle.ot_parse.specs.ReadLines.{separator_at};
+ghost use Rattle.ot_parse.specs.ReadLines.{kept_of, others, once, one_more, IsKept, terms, meant_at};
+ghost use Rattle.ot_parse.specs.ReadLines.{hyps_meant, sequent_meant, IsSequent, IsWholeText};
+ghost use Rattle.ot_parse.specs.ReadLines.{IsWholeLine, IsAt, IsHaltedAt, separator_at};
 
 use crate::halt::Halt;
 use crate::notation::Notation;

@@ -2,8 +2,8 @@
 ghost use Rattle.std.specs.Prelude.{◌≡◌, ◌<◌, ℕ, [], ◌∷◌, List, length, true, false, not, IfOk, OnOk, codes};
 ghost use Rattle.ot_plain.specs.Names.{Name as NameValue};
 ghost use Rattle.ot_forms.specs.Words.{is_bare as bare_test};
-ghost use Rattle.ot_forms.specs.Reading.{before, literal_at, is_special as special_test, bare_at, bare_on};
-ghost use Rattle.ot_forms.specs.Reading.{spelled_at, escaped_at, quoted_at, variable_at};
+ghost use Rattle.ot_forms.specs.Reading.{before, literal_at, is_special as special_test, bare_at};
+ghost use Rattle.ot_forms.specs.Reading.{bare_on, spelled_at, escaped_at, quoted_at, variable_at};
 ghost use Rattle.ot_parse.specs.Gives.{Gives, name_at, piece_reading, glued};
 ghost use Rattle.ot_parse.specs.Pieces.{IsShorter};
 

@@ -1,6 +1,6 @@
 //! Terms in a text, with what is open around them kept in a list.
-ghost use Rattle.std.specs.Prelude.{◌≡◌, ◌≤◌, ◌<◌, ◌+◌, ◌-◌, ◌==◌, ◌||◌, ℕ, suc, List, [], ◌∷◌, length, IfOk, IfNone};
-ghost use Rattle.std.specs.Prelude.{IfSome};
+ghost use Rattle.std.specs.Prelude.{◌≡◌, ◌≤◌, ◌<◌, ◌+◌, ◌-◌, ◌==◌, ◌||◌, ℕ, suc};
+ghost use Rattle.std.specs.Prelude.{List, [], ◌∷◌, length, IfOk, IfNone, IfSome};
 ghost use Rattle.ot_plain.specs.Names.{Name as NameValue};
 ghost use Rattle.ot_plain.specs.Trees.{Symbol};
 ghost use Rattle.ot_forms.specs.Forms.{FreeAs, ConAs};
@@ -12,12 +12,12 @@ ghost use Rattle.ot_plain.specs.PlainTrees.{type_of_tree};
 ghost use Rattle.ot_parse.specs.Meant.{place_at, raw, bound_of, is_relation as relation_test};
 ghost use Rattle.ot_parse.specs.Meant.{sides_of as sides_meaning};
 ghost use Rattle.ot_parse.specs.Values.{IsMeant, IsMade, meant_of};
-ghost use Rattle.ot_parse.specs.TermFrames.{First, Right, Argument, Body, inner_of, around, closed, begun, operated};
-ghost use Rattle.ot_parse.specs.TermFrames.{behind, after, binder_at, closed_free_at, closed_variable_at};
-ghost use Rattle.ot_parse.specs.TermFrames.{closed_constant_at, closed_term, binding_reading, named_reading};
-ghost use Rattle.ot_parse.specs.TermFrames.{is_free_at};
-ghost use Rattle.ot_parse.specs.TermCode.{frame_of, reversed, frames_of, IsKept, AreKept, IsLeaf, IsInside, IsFront};
-ghost use Rattle.ot_parse.specs.TermCode.{IsBack, IsClosed, IsOn, HasEnded, IsNext};
+ghost use Rattle.ot_parse.specs.TermFrames.{First, Right, Argument, Body, inner_of, around, closed};
+ghost use Rattle.ot_parse.specs.TermFrames.{begun, operated, behind, after, binder_at};
+ghost use Rattle.ot_parse.specs.TermFrames.{closed_free_at, closed_variable_at, closed_constant_at};
+ghost use Rattle.ot_parse.specs.TermFrames.{closed_term, binding_reading, named_reading, is_free_at};
+ghost use Rattle.ot_parse.specs.TermCode.{frame_of, reversed, frames_of, IsKept, AreKept, IsLeaf};
+ghost use Rattle.ot_parse.specs.TermCode.{IsInside, IsFront, IsBack, IsClosed, IsOn, HasEnded, IsNext};
 
 use crate::halt::Halt;
 use crate::notation::Notation;

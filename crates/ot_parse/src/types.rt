@@ -1,6 +1,6 @@
 //! Types in a text, with what is open around them kept in a list.
-ghost use Rattle.std.specs.Prelude.{◌≡◌, ◌≤◌, length, ◌==◌, ◌||◌, ℕ, false, IfNone, IfSome, List, ◌++◌, ◌∷◌, []};
-ghost use Rattle.std.specs.Prelude.{IfOk, map};
+ghost use Rattle.std.specs.Prelude.{◌≡◌, ◌≤◌, length, ◌==◌, ◌||◌, ℕ, false, IfNone};
+ghost use Rattle.std.specs.Prelude.{IfSome, List, ◌++◌, ◌∷◌, [], IfOk, map};
 ghost use Rattle.ot_plain.specs.Names.{Name as NameValue};
 ghost use Rattle.ot_plain.specs.Trees.{Ty as TypeTree, TyVar, TyOp, NoTys};
 ghost use Rattle.ot_plain.specs.Naming.{names};

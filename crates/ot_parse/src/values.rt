@@ -3,15 +3,15 @@ ghost use Rattle.std.specs.Prelude.{◌≡◌, ◌≤◌, ℕ, suc, min, List, �
 ghost use Rattle.std.specs.Option.{option_map};
 ghost use Rattle.ot_plain.specs.Naming.{names};
 ghost use Rattle.ot_plain.specs.Names.{Name as NameValue};
-ghost use Rattle.ot_plain.specs.Trees.{Ty as TypeTree, Free as FreeTree, Con as ConTree, Bound as BoundTree};
-ghost use Rattle.ot_plain.specs.Trees.{App as AppTree, Abs as AbsTree};
+ghost use Rattle.ot_plain.specs.Trees.{Ty as TypeTree, Free as FreeTree, Con as ConTree};
+ghost use Rattle.ot_plain.specs.Trees.{Bound as BoundTree, App as AppTree, Abs as AbsTree};
 ghost use Rattle.ot_plain.specs.Hol.{bool_ty, result_ty, depth_ty, depth_limit};
 ghost use Rattle.ot_forms.specs.Meaning.{Around, fits as fits_test};
 ghost use Rattle.ot_plain.specs.PlainTrees.{type_of_tree, term_of_tree};
-ghost use Rattle.ot_parse.specs.Meant.{equal_of, infix_of, apply_of, abstracted as abstracted_value, relation_of};
-ghost use Rattle.ot_parse.specs.Meant.{related_at};
-ghost use Rattle.ot_parse.specs.Values.{IsValue, IsBoundTo, IsMeant, meant_of, deeper, IsWholly, IsApplied, IsMade};
-ghost use Rattle.ot_parse.specs.Values.{IsRelated};
+ghost use Rattle.ot_parse.specs.Meant.{equal_of, infix_of, apply_of};
+ghost use Rattle.ot_parse.specs.Meant.{abstracted as abstracted_value, relation_of, related_at};
+ghost use Rattle.ot_parse.specs.Values.{IsValue, IsBoundTo, IsMeant, meant_of, deeper};
+ghost use Rattle.ot_parse.specs.Values.{IsWholly, IsApplied, IsMade, IsRelated};
 
 use crate::names::copy_name;
 use crate::notation::{Notation, WordKind};

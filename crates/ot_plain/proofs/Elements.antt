@@ -1,6 +1,8 @@
 -- Elements of lists by their places.
 use Rattle.std.specs.List.{All, AllByRecursion, list_any, position_or_len}
-use Rattle.std.proofs.Common.{◌≡◌, ◌≢◌, ℕ, zero, suc, ◌+◌, ◌<◌, ◌≤◌, ◌||◌, Bool, true, false, cond, not, List, [], ◌∷◌, ◌++◌, length, map, drop, set, slice_get, get_or, Some, refl, sym, ap, ◌∙◌, subst, arith, drop-cons, add-one}
+use Rattle.std.proofs.Common.{◌≡◌, ◌≢◌, ℕ, zero, suc, ◌+◌, ◌<◌, ◌≤◌, ◌||◌, Bool, true, false}
+use Rattle.std.proofs.Common.{cond, not, List, [], ◌∷◌, ◌++◌, length, map, drop, set, slice_get}
+use Rattle.std.proofs.Common.{get_or, Some, refl, sym, ap, ◌∙◌, subst, arith, drop-cons, add-one}
 use Rattle.std.proofs.lemmas.Option.{same_Some}
 use Rattle.std.proofs.lemmas.List.Elements.{All-head, All-tail}
 
@@ -44,11 +46,13 @@ module _ {X : Type 0} where
   All-slice_get P (y ∷ xs) zero x h e = subst P (same_Some y x e) (All-head P y xs h)
   All-slice_get P (y ∷ xs) (suc i) x h e = All-slice_get P xs i x (All-tail P y xs h) e
 
-  pub AllByRecursion-append : (P : X → Type 0) (xs ys : List X) → AllByRecursion P xs → AllByRecursion P ys → AllByRecursion P (xs ++ ys)
+  pub AllByRecursion-append : (P : X → Type 0) (xs ys : List X) → AllByRecursion P xs → AllByRecursion P ys
+      → AllByRecursion P (xs ++ ys)
   AllByRecursion-append P [] ys h k = k
   AllByRecursion-append P (x ∷ xs) ys h k = (h.0, AllByRecursion-append P xs ys h.1 k)
 
-  pub AllByRecursion-push : (P : X → Type 0) (xs : List X) (x : X) → AllByRecursion P xs → P x → AllByRecursion P (xs ++ x ∷ [])
+  pub AllByRecursion-push : (P : X → Type 0) (xs : List X) (x : X) → AllByRecursion P xs → P x
+      → AllByRecursion P (xs ++ x ∷ [])
   AllByRecursion-push P xs x h p = AllByRecursion-append P xs (x ∷ []) h (p, tt)
 
 -- ---- images
@@ -58,6 +62,7 @@ module _ {X Y : Type 0} (f : X → Y) where
   slice_get-map (y ∷ xs) zero x h = ap (λ z. Some (f z)) (same_Some y x h)
   slice_get-map (y ∷ xs) (suc i) x h = slice_get-map xs i x h
 
-  pub list_any-image : (p : Y → Bool) (q : X → Bool) → ((x : X) → p (f x) ≡ q x) → (xs : List X) → list_any p (map f xs) ≡ list_any q xs
+  pub list_any-image : (p : Y → Bool) (q : X → Bool) → ((x : X) → p (f x) ≡ q x) → (xs : List X)
+      → list_any p (map f xs) ≡ list_any q xs
   list_any-image p q h [] = refl
   list_any-image p q h (x ∷ xs) = λ i. h x i || list_any-image p q h xs i

@@ -1,6 +1,7 @@
 -- Members of lists.
 use Rattle.std.specs.List.{All, flat_map, list_any}
-use Rattle.std.proofs.Common.{◌≡◌, ℕ, zero, suc, ◌<◌, ◌||◌, Bool, true, false, List, [], ◌∷◌, ◌++◌, length, map, take, slice_get, get_or, Some, refl, sym, ap, subst, inl, inr, ◌⊎◌, arith}
+use Rattle.std.proofs.Common.{◌≡◌, ℕ, zero, suc, ◌<◌, ◌||◌, Bool, true, false, List, [], ◌∷◌, ◌++◌, length}
+use Rattle.std.proofs.Common.{map, take, slice_get, get_or, Some, refl, sym, ap, subst, inl, inr, ◌⊎◌, arith}
 use Rattle.std.proofs.lemmas.Option.{same_Some}
 use Rattle.std.proofs.lemmas.List.Elements.{All-nil, All-cons, All-head, All-tail}
 use Rattle.ot_plain.specs.Lists.{IsMember, IsPart, AreDistinct}
@@ -71,11 +72,13 @@ All-at_member P (y ∷ xs) x h (inl e) = subst P e (All-head P y xs h)
 All-at_member P (y ∷ xs) x h (inr m) = All-at_member P xs x (All-tail P y xs h) m
 
 -- a member that passes the test, where some does
-pub member_from_any : {X : Type 0} (p : X → Bool) (xs : List X) → list_any p xs ≡ true → (x : X) × (p x ≡ true) × IsMember x xs
+pub member_from_any : {X : Type 0} (p : X → Bool) (xs : List X) → list_any p xs ≡ true
+    → (x : X) × (p x ≡ true) × IsMember x xs
 member_from_any p [] e = cc
 member_from_any {X} p (y ∷ ys) e = by (member_from_any p ys) (p y) refl e
   where
-    by : (list_any p ys ≡ true → (x : X) × (p x ≡ true) × IsMember x ys) → (t : Bool) → p y ≡ t → (t || list_any p ys) ≡ true
+    by : (list_any p ys ≡ true → (x : X) × (p x ≡ true) × IsMember x ys) → (t : Bool) → p y ≡ t
+        → (t || list_any p ys) ≡ true
         → (x : X) × (p x ≡ true) × IsMember x (y ∷ ys)
     by next true q e = (y, q, inl refl)
     by next false q e = let w = next e in (w.0, w.1, inr w.2)
@@ -93,19 +96,23 @@ module _ {X Y : Type 0} (f : X → Y) where
   IsMember-map_back y [] i = absurd i
 
   pub IsPart-map : (xs ys : List X) → IsPart xs ys → IsPart (map f xs) (map f ys)
-  IsPart-map xs ys h y m = let r = IsMember-map_back y xs m in subst (λ z. IsMember z (map f ys)) r.2 (IsMember-map r.0 ys (h r.0 r.1))
+  IsPart-map xs ys h y m = let r = IsMember-map_back y xs m in
+      subst (λ z. IsMember z (map f ys)) r.2 (IsMember-map r.0 ys (h r.0 r.1))
 
   pub map_agree : (g : X → Y) (xs : List X) → ((x : X) → IsMember x xs → f x ≡ g x) → map f xs ≡ map g xs
   map_agree g [] h = refl
   map_agree g (x ∷ xs) h = let p = h x (inl refl) in let q = map_agree g xs (λ z m. h z (inr m)) in λ i. p i ∷ q i
 
 module _ {X Y : Type 0} (f : X → List Y) where
-  pub IsMember-flat_map : (y : Y) (x : X) (xs : List X) → IsMember x xs → IsMember y (f x) → IsMember y (flat_map f xs)
+  pub IsMember-flat_map : (y : Y) (x : X) (xs : List X) → IsMember x xs → IsMember y (f x)
+      → IsMember y (flat_map f xs)
   IsMember-flat_map y x [] m h = absurd m
-  IsMember-flat_map y x (z ∷ xs) (inl e) h = IsMember-left y (f z) (flat_map f xs) (subst (λ z. IsMember y (f z)) (sym e) h)
+  IsMember-flat_map y x (z ∷ xs) (inl e) h =
+      IsMember-left y (f z) (flat_map f xs) (subst (λ z. IsMember y (f z)) (sym e) h)
   IsMember-flat_map y x (z ∷ xs) (inr m) h = IsMember-right y (f z) (flat_map f xs) (IsMember-flat_map y x xs m h)
 
-  pub IsMember-flat_map_back : (y : Y) (xs : List X) → IsMember y (flat_map f xs) → (x : X) × IsMember x xs × IsMember y (f x)
+  pub IsMember-flat_map_back : (y : Y) (xs : List X) → IsMember y (flat_map f xs) → (x : X) × IsMember x xs
+      × IsMember y (f x)
   IsMember-flat_map_back y [] m = absurd m
   IsMember-flat_map_back y (x ∷ xs) m = elim (IsMember-cases y (f x) (flat_map f xs) m) [
     | inl a ↦ (x, inl refl, a)

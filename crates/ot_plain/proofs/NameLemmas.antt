@@ -12,10 +12,12 @@ pub injective_names : (xs : List Name) → IsDistinct same_name xs → IsInjecti
 injective_names xs d = injective_from_distinct same_name (λ x. (same_name-Decides x x).1 refl) xs d
 
 -- a table with one more name
-pub name_table-insert : (ns : List Name) (n : Name) → IsNameTable ns → IsName n → IsDistinct same_name (insert_key same_name ns n) → IsNameTable (insert_key same_name ns n)
+pub name_table-insert : (ns : List Name) (n : Name) → IsNameTable ns → IsName n
+    → IsDistinct same_name (insert_key same_name ns n) → IsNameTable (insert_key same_name ns n)
 name_table-insert ns n t h d = record {
   injective = injective_names (insert_key same_name ns n) d;
-  each = elim (list_any (same_name n) ns) as (λ b. All IsName (if b then ns else ns ++ n ∷ [])) [ true ↦ t.each | false ↦ All-push IsName ns n t.each h ];
+  each = elim (list_any (same_name n) ns) as (λ b. All IsName (if b then ns else ns ++ n ∷ []))
+      [ true ↦ t.each | false ↦ All-push IsName ns n t.each h ];
   first = Extends-trans t.first (Extends-insert_key same_name ns n);
 }
 

@@ -1,5 +1,6 @@
 -- The naming under a list of distinct names is an equivalence.
-use Rattle.std.specs.Prelude.{◌≡◌, ◌≢◌, ℕ, zero, suc, ◌+◌, ◌<◌, Bool, true, false, nat_eq, List, [], ◌∷◌, map, slice_get, Some, ◌⊎◌}
+use Rattle.std.specs.Prelude.{◌≡◌, ◌≢◌, ℕ, zero, suc, ◌+◌, ◌<◌, Bool, true, false}
+use Rattle.std.specs.Prelude.{nat_eq, List, [], ◌∷◌, map, slice_get, Some, ◌⊎◌}
 use Rattle.std.specs.Bool.{Decides}
 use Rattle.std.proofs.Common.{refl, sym, ◌∙◌, ap, subst, inl, inr, arith, eq-eqb, eqb-true}
 use Rattle.std.proofs.lemmas.Option.{none-some, same_Some}
@@ -38,7 +39,8 @@ unfolding next number_of scale double
 number_of-next [] = refl
 number_of-next (zero ∷ xs) =
     let r = next-some xs in
-    ap (λ l. number_of (longer l)) r.2 ∙ number_of-longer r.0 r.1 ∙ ap (λ l. double (number_of l)) (sym r.2) ∙ ap double (number_of-next xs)
+    ap (λ l. number_of (longer l)) r.2 ∙ number_of-longer r.0 r.1 ∙ ap (λ l. double (number_of l)) (sym r.2)
+    ∙ ap double (number_of-next xs)
 number_of-next (suc x ∷ xs) = refl
 
 number_of-list_of : (n : ℕ) → number_of (list_of n) ≡ n
@@ -61,7 +63,8 @@ unfolding next longer
 next-longer [] = refl
 next-longer (y ∷ ys) = refl
 
-list_of-scale : (x : ℕ) (l : List ℕ) → list_of (number_of l) ≡ l → list_of (scale x (suc (double (number_of l)))) ≡ x ∷ l
+list_of-scale : (x : ℕ) (l : List ℕ) → list_of (number_of l) ≡ l → list_of (scale x (suc (double (number_of l)))) ≡ x
+    ∷ l
 unfolding scale list_of longer
 list_of-scale zero l h = ap next (list_of-double (number_of l) ∙ ap longer h) ∙ next-longer l
 list_of-scale (suc x) l h = list_of-double (scale x (suc (double (number_of l)))) ∙ ap longer (list_of-scale x l h)
@@ -154,7 +157,13 @@ settled-fun I k (n ∷ ns) = settled-fun (swapped I k n) (suc k) ns
 -- the naming and its inverse
 naming_iso : (ns : List Name) → Iso ℕ Name
 unfolding name_of start
-naming_iso ns = record { fun = name_of ns; inv = I.inv; rinv = λ m. ap (λ f. f (I.inv m)) (sym same) ∙ I.rinv m; linv = λ i. ap (λ f. I.inv (f i)) (sym same) ∙ I.linv i }
+naming_iso ns = record {
+  fun = name_of ns;
+  inv = I.inv;
+  rinv = λ m. ap (λ f. f (I.inv m)) (sym same)
+      ∙ I.rinv m;
+  linv = λ i. ap (λ f. I.inv (f i)) (sym same) ∙ I.linv i;
+}
   where
     I : Iso ℕ Name
     I = settled start 0 ns
@@ -172,22 +181,27 @@ naming ns = (name_of ns, naming-equiv ns)
 
 -- ---- the number of a place has the name at the place
 -- a number below k keeps its name
-settle-keeps : (I : Iso ℕ Name) (k j : ℕ) (ns : List Name) → j < k → ¬ (IsMember (I.fun j) ns) → settle I.fun k ns j ≡ I.fun j
+settle-keeps : (I : Iso ℕ Name) (k j : ℕ) (ns : List Name) → j < k → ¬ (IsMember (I.fun j) ns)
+    → settle I.fun k ns j ≡ I.fun j
 unfolding settle swapped
 settle-keeps I k j [] h fresh = refl
 settle-keeps I k j (n ∷ ns) h fresh =
     let apart : I.fun j ≢ I.fun k = λ p. let q : j ≡ k = sym (I.linv j) ∙ ap I.inv p ∙ I.linv k in omega arith in
-    let same : swap (I.fun k) n (I.fun j) ≡ I.fun j = swap-other (I.fun k) n (I.fun j) apart (λ p. fresh (inl (sym p))) in
-    settle-keeps (swapped I k n) (suc k) j ns (omega arith) (λ m. fresh (inr (subst (λ x. IsMember x ns) same m))) ∙ same
+    let same : swap (I.fun k) n (I.fun j) ≡ I.fun j =
+    swap-other (I.fun k) n (I.fun j) apart (λ p. fresh (inl (sym p))) in
+    settle-keeps (swapped I k n) (suc k) j ns (omega arith) (λ m. fresh (inr (subst (λ x. IsMember x ns) same m)))
+    ∙ same
 
-settle-hits : (I : Iso ℕ Name) (k i : ℕ) (ns : List Name) (n : Name) → AreDistinct ns → ((j : ℕ) → j < k → ¬ (IsMember (I.fun j) ns)) → slice_get ns i ≡ Some n → settle I.fun k ns (i + k) ≡ n
+settle-hits : (I : Iso ℕ Name) (k i : ℕ) (ns : List Name) (n : Name) → AreDistinct ns
+    → ((j : ℕ) → j < k → ¬ (IsMember (I.fun j) ns)) → slice_get ns i ≡ Some n → settle I.fun k ns (i + k) ≡ n
 unfolding settle swapped
 settle-hits I k i [] n d fresh p = absurd (none-some n p)
 settle-hits I k zero (m ∷ ns) n d fresh p =
     let first : m ≡ n = same_Some m n p in
     let here : swap (I.fun k) m (I.fun k) ≡ m = swap-left (I.fun k) m in
     let at : zero + k ≡ k = omega arith in
-    ap (settle (swapped I k m).fun (suc k) ns) at ∙ settle-keeps (swapped I k m) (suc k) k ns (omega arith) (λ i. d.0 (subst (λ x. IsMember x ns) here i)) ∙ here ∙ first
+    ap (settle (swapped I k m).fun (suc k) ns) at ∙ settle-keeps (swapped I k m) (suc k) k ns (omega arith)
+    (λ i. d.0 (subst (λ x. IsMember x ns) here i)) ∙ here ∙ first
 settle-hits I k (suc i) (m ∷ ns) n d fresh p =
     let at : suc i + k ≡ i + suc k = omega arith in
     ap (settle (swapped I k m).fun (suc k) ns) at ∙ settle-hits (swapped I k m) (suc k) i ns n d.1 others p

@@ -23,14 +23,17 @@ on_ok-then (Ok x) f p = f p
 on_ok-then (Err e) f p = tt
 
 -- ---- steps one after another
-pub bind-ok : {A B E : Type 0} (r : Result A E) (f : A → Result B E) (y : B) → (r >>= f) ≡ Ok y → (x : A) × (r ≡ Ok x) × (f x ≡ Ok y)
+pub bind-ok : {A B E : Type 0} (r : Result A E) (f : A → Result B E) (y : B) → (r >>= f) ≡ Ok y
+    → (x : A) × (r ≡ Ok x) × (f x ≡ Ok y)
 bind-ok (Ok x) f y h = (x, refl, h)
 bind-ok (Err e) f y h = cc
 
-pub bind-to : {A B E : Type 0} (r : Result A E) (f : A → Result B E) (x : A) (s : Result B E) → r ≡ Ok x → f x ≡ s → (r >>= f) ≡ s
+pub bind-to : {A B E : Type 0} (r : Result A E) (f : A → Result B E) (x : A) (s : Result B E) → r ≡ Ok x → f x ≡ s
+    → (r >>= f) ≡ s
 bind-to r f x s p q = rw p q
 
-pub bind-under : {A B E : Type 0} (r : Result A E) (f g : A → Result B E) (y : B) → ((x : A) → f x ≡ Ok y → g x ≡ Ok y) → (r >>= f) ≡ Ok y
+pub bind-under : {A B E : Type 0} (r : Result A E) (f g : A → Result B E) (y : B)
+    → ((x : A) → f x ≡ Ok y → g x ≡ Ok y) → (r >>= f) ≡ Ok y
     → (r >>= g) ≡ Ok y
 bind-under (Ok x) f g y h p = h x p
 bind-under (Err e) f g y h p = absurd (cc)

@@ -1,10 +1,12 @@
 -- Laws of the spelling of a name.
-use Rattle.std.proofs.Common.{◌≡◌, ◌≤◌, ◌-◌, ◌⊎◌, inl, inr, ℕ, List, [], ◌∷◌, ◌++◌, length, take, drop, get_or, map, append_assoc, append-nil, sym, ap, subst, ◌∙◌, refl, arith}
+use Rattle.std.proofs.Common.{◌≡◌, ◌≤◌, ◌-◌, ◌⊎◌, inl, inr, ℕ, List, [], ◌∷◌, ◌++◌, length, take, drop}
+use Rattle.std.proofs.Common.{get_or, map, append_assoc, append-nil, sym, ap, subst, ◌∙◌, refl, arith}
 use Rattle.std.specs.Prelude.{Some}
 use Rattle.std.specs.List.{flat_map, AllByRecursion}
 use Rattle.std.proofs.lemmas.Bool.Decides.{eqb_tells}
 use Rattle.std.proofs.lemmas.List.{take_at, take-take, take_rest, length-append, length-map}
-use Rattle.ot_plain.specs.Names.{Name, Item, Plain, Escaped, item_text, item_byte, item_of, further_text, IsItem, IsNeeded, IsName, joined, spelled, SpellsPlainly, KeepsFront}
+use Rattle.ot_plain.specs.Names.{Name, Item, Plain, Escaped, item_text, item_byte, item_of, further_text}
+use Rattle.ot_plain.specs.Names.{IsItem, IsNeeded, IsName, joined, spelled, SpellsPlainly, KeepsFront}
 use Rattle.ot_plain.specs.Reading.{name_read}
 use Rattle.ot_plain.proofs.Reading.{spells-name_read}
 
@@ -41,7 +43,8 @@ item-IsNeeded : (b : ℕ) → IsNeeded (item_of b)
 item-IsNeeded b = elim (item_cases b) [ inl p ↦ subst IsNeeded (sym p.0) p.1 | inr p ↦ subst IsNeeded (sym p.0) tt ]
 
 -- ---- lists of them
-map-each : {X Y : Type 0} (f : X → Y) (P : Y → Type 0) → ((x : X) → P (f x)) → (xs : List X) → AllByRecursion P (map f xs)
+map-each : {X Y : Type 0} (f : X → Y) (P : Y → Type 0) → ((x : X) → P (f x)) → (xs : List X)
+    → AllByRecursion P (map f xs)
 map-each f P h [] = tt
 map-each f P h (x ∷ xs) = (h x, map-each f P h xs)
 
@@ -50,7 +53,8 @@ map-back f g h [] = refl
 map-back f g h (x ∷ xs) = let e = h x in let es = map-back f g h xs in cc
 
 -- the same where the elements have two properties
-map-back_at : {X Y : Type 0} (f : X → Y) (g : Y → X) (P Q : X → Type 0) → ((x : X) → P x → Q x → g (f x) ≡ x) → (xs : List X) → AllByRecursion P xs → AllByRecursion Q xs → map g (map f xs) ≡ xs
+map-back_at : {X Y : Type 0} (f : X → Y) (g : Y → X) (P Q : X → Type 0) → ((x : X) → P x → Q x → g (f x) ≡ x)
+    → (xs : List X) → AllByRecursion P xs → AllByRecursion Q xs → map g (map f xs) ≡ xs
 map-back_at f g P Q h [] p q = refl
 map-back_at f g P Q h (x ∷ xs) p q = let e = h x p.0 q.0 in let es = map-back_at f g P Q h xs p.1 q.1 in cc
 
@@ -73,7 +77,8 @@ spelled-plain name some = record {
 pub spelled-one : (text : List ℕ) (name : Name) → SpellsPlainly text name → text ≡ spelled name
 spelled-one text name s =
     let back : map (map item_of) (map (map item_byte) s.spells.items) ≡ s.spells.items =
-    map-back_at (map item_byte) (map item_of) (AllByRecursion IsItem) (AllByRecursion IsNeeded) (map-back_at item_byte item_of IsItem IsNeeded one_item) s.spells.items s.spells.each s.needed in
+    map-back_at (map item_byte) (map item_of) (AllByRecursion IsItem) (AllByRecursion IsNeeded)
+    (map-back_at item_byte item_of IsItem IsNeeded one_item) s.spells.items s.spells.each s.needed in
     s.spells.text_is ∙ ap (λ z. 34 ∷ joined z ++ 34 ∷ []) (sym back ∙ ap (map (map item_of)) (sym s.spells.name_is))
 
 some-same : {X : Type 0} (x y : X) → Some x ≡ Some y → x ≡ y
@@ -82,23 +87,29 @@ some-same x y e = cc
 -- no other name has it
 pub spelled-apart : (a b : Name) → IsName a → IsName b → spelled a ≡ spelled b → a ≡ b
 spelled-apart a b p q e =
-    some-same a b (sym (spells-name_read (spelled a) a (spelled-plain a p).spells) ∙ ap name_read e ∙ spells-name_read (spelled b) b (spelled-plain b q).spells)
+    some-same a b (sym (spells-name_read (spelled a) a (spelled-plain a p).spells) ∙ ap name_read e
+    ∙ spells-name_read (spelled b) b (spelled-plain b q).spells)
 
 -- ---- the loops that write it
 
 -- the first component, and each other behind a dot
-pub joined-further : (c : List ℕ) (cs : Name) → joined (map (map item_of) (c ∷ cs)) ≡ flat_map item_text (map item_of c) ++ flat_map further_text cs
+pub joined-further : (c : List ℕ) (cs : Name) → joined (map (map item_of) (c ∷ cs))
+    ≡ flat_map item_text (map item_of c) ++ flat_map further_text cs
 joined-further c [] = sym (append-nil (flat_map item_text (map item_of c)))
 joined-further c (d ∷ ds) = ap (λ z. flat_map item_text (map item_of c) ++ 46 ∷ z) (joined-further d ds)
 
 -- the first component and the others, as the code writes them
-pub joined-parts : {X : Type 0} (f : X → List ℕ) (xs : List X) (x : X) (old mid new : List ℕ) → 1 ≤ length xs → x ≡ get_or xs 0 x → mid ≡ old ++ flat_map item_text (map item_of (f x)) → new ≡ mid ++ flat_map further_text (map f (take (length xs - 1) (drop 1 xs))) → new ≡ old ++ joined (map (map item_of) (map f xs))
+pub joined-parts : {X : Type 0} (f : X → List ℕ) (xs : List X) (x : X) (old mid new : List ℕ) → 1 ≤ length xs
+    → x ≡ get_or xs 0 x → mid ≡ old ++ flat_map item_text (map item_of (f x)) → new ≡ mid ++ flat_map further_text
+    (map f (take (length xs - 1) (drop 1 xs))) → new ≡ old ++ joined (map (map item_of) (map f xs))
 joined-parts f [] x old mid new some is e g = absurd (omega arith)
 joined-parts f (y ∷ ys) x old mid new some is e g =
     g
-    ∙ ap (λ z. z ++ flat_map further_text (map f (take (length (y ∷ ys) - 1) ys))) (e ∙ ap (λ z. old ++ flat_map item_text (map item_of (f z))) is)
+    ∙ ap (λ z. z ++ flat_map further_text (map f (take (length (y ∷ ys) - 1) ys)))
+    (e ∙ ap (λ z. old ++ flat_map item_text (map item_of (f z))) is)
     ∙ append_assoc old (flat_map item_text (map item_of (f y))) _
-    ∙ ap (λ z. old ++ (flat_map item_text (map item_of (f y)) ++ flat_map further_text (map f z))) (take_rest (y ∷ ys) 1)
+    ∙ ap (λ z. old ++ (flat_map item_text (map item_of (f y)) ++ flat_map further_text (map f z)))
+    (take_rest (y ∷ ys) 1)
     ∙ ap (λ z. old ++ z) (sym (joined-further (f y) (map f ys)))
 
 -- what keeps more keeps the front
@@ -106,4 +117,5 @@ pub KeepsFront-more : (old xs mid ys new : List ℕ) → mid ≡ old ++ xs → K
 KeepsFront-more old xs mid ys new e h =
     let whole : mid ++ ys ≡ old ++ (xs ++ ys) = ap (λ z. z ++ ys) e ∙ append_assoc old xs ys in
     let le : length old ≤ length (mid ++ ys) = omega (arith, ap length whole, length-append old (xs ++ ys)) in
-    sym (take-take (length old) (length (mid ++ ys)) new le) ∙ ap (take (length old)) (h ∙ whole) ∙ take_at old (xs ++ ys) (length old) refl
+    sym (take-take (length old) (length (mid ++ ys)) new le) ∙ ap (take (length old)) (h ∙ whole)
+    ∙ take_at old (xs ++ ys) (length old) refl

@@ -6,7 +6,8 @@ use base.Stored.{Gv, gnil, gnum, gcons, num}
 use mathlib.Core.Path.{ap, subst}
 use lib.Dec.{T, eqb}
 use Rattle.ot_plain.specs.Names.{Name}
-use Rattle.ot_plain.specs.Trees.{Ty, Tys, TyVar, TyOp, NoTys, MoreTys, Variable, Tm, Free, Con, Bound, App, Abs, Named, NVar, NConst, NApp, NAbs, Sequent, Definition, ConDef, ListDef, TyDef}
+use Rattle.ot_plain.specs.Trees.{Ty, Tys, TyVar, TyOp, NoTys, MoreTys, Variable, Tm, Free, Con, Bound, App, Abs}
+use Rattle.ot_plain.specs.Trees.{Named, NVar, NConst, NApp, NAbs, Sequent, Definition, ConDef, ListDef, TyDef}
 
 abbrev first : Gv → Gv
 first (gcons a b) = a
@@ -35,19 +36,22 @@ module _ {N : Type 0} (letter : Coded N) where
   mutual
     pub ty_inj : (x y : Ty N) → code_ty x ≡ code_ty y → x ≡ y
     ty_inj (TyVar n) (TyVar m) p = ap TyVar (letter.inj n m (ap rest p))
-    ty_inj (TyOp n ts) (TyOp m us) p = λ i. TyOp (letter.inj n m (ap (λ g. first (rest g)) p) i) (tys_inj ts us (ap (λ g. rest (rest g)) p) i)
+    ty_inj (TyOp n ts) (TyOp m us) p =
+        λ i. TyOp (letter.inj n m (ap (λ g. first (rest g)) p) i) (tys_inj ts us (ap (λ g. rest (rest g)) p) i)
     ty_inj x y p = absurd (subst (λ g. T (eqb (tag g) (tag (code_ty x)))) p tt)
 
     pub tys_inj : (x y : Tys N) → code_tys x ≡ code_tys y → x ≡ y
     tys_inj NoTys NoTys p = refl
-    tys_inj (MoreTys t ts) (MoreTys u us) p = λ i. MoreTys (ty_inj t u (ap (λ g. first (rest g)) p) i) (tys_inj ts us (ap (λ g. rest (rest g)) p) i)
+    tys_inj (MoreTys t ts) (MoreTys u us) p =
+        λ i. MoreTys (ty_inj t u (ap (λ g. first (rest g)) p) i) (tys_inj ts us (ap (λ g. rest (rest g)) p) i)
     tys_inj x y p = absurd (subst (λ g. T (eqb (tag g) (tag (code_tys x)))) p tt)
 
   abbrev pub coded_ty : Coded (Ty N)
   coded_ty = record { code = code_ty; inj = ty_inj }
 
   abbrev pub coded_variable : Coded (Variable N)
-  coded_variable = code_by (N × Ty N) (coded× letter coded_ty) (λ v. (v.name, v.ty)) (λ p. record { name = p.0; ty = p.1 }) (λ _. refl)
+  coded_variable = code_by (N × Ty N) (coded× letter coded_ty) (λ v. (v.name, v.ty))
+      (λ p. record { name = p.0; ty = p.1 }) (λ _. refl)
 
   abbrev pub code_tm : Tm N → Gv
   code_tm (Free v) = gcons (gnum 0) (coded_variable.code v)
@@ -58,10 +62,13 @@ module _ {N : Type 0} (letter : Coded N) where
 
   pub tm_inj : (x y : Tm N) → code_tm x ≡ code_tm y → x ≡ y
   tm_inj (Free v) (Free w) p = ap Free (coded_variable.inj v w (ap rest p))
-  tm_inj (Con n t) (Con m u) p = λ i. Con (letter.inj n m (ap (λ g. first (rest g)) p) i) (ty_inj t u (ap (λ g. rest (rest g)) p) i)
+  tm_inj (Con n t) (Con m u) p =
+      λ i. Con (letter.inj n m (ap (λ g. first (rest g)) p) i) (ty_inj t u (ap (λ g. rest (rest g)) p) i)
   tm_inj (Bound j) (Bound k) p = ap (λ g. Bound (num (rest g))) p
-  tm_inj (App f x) (App g y) p = λ i. App (tm_inj f g (ap (λ g. first (rest g)) p) i) (tm_inj x y (ap (λ g. rest (rest g)) p) i)
-  tm_inj (Abs t b) (Abs u c) p = λ i. Abs (ty_inj t u (ap (λ g. first (rest g)) p) i) (tm_inj b c (ap (λ g. rest (rest g)) p) i)
+  tm_inj (App f x) (App g y) p =
+      λ i. App (tm_inj f g (ap (λ g. first (rest g)) p) i) (tm_inj x y (ap (λ g. rest (rest g)) p) i)
+  tm_inj (Abs t b) (Abs u c) p =
+      λ i. Abs (ty_inj t u (ap (λ g. first (rest g)) p) i) (tm_inj b c (ap (λ g. rest (rest g)) p) i)
   tm_inj x y p = absurd (subst (λ g. T (eqb (tag g) (tag (code_tm x)))) p tt)
 
   abbrev pub coded_tm : Coded (Tm N)
@@ -75,16 +82,20 @@ module _ {N : Type 0} (letter : Coded N) where
 
   pub named_inj : (x y : Named N) → code_named x ≡ code_named y → x ≡ y
   named_inj (NVar v) (NVar w) p = ap NVar (coded_variable.inj v w (ap rest p))
-  named_inj (NConst n t) (NConst m u) p = λ i. NConst (letter.inj n m (ap (λ g. first (rest g)) p) i) (ty_inj t u (ap (λ g. rest (rest g)) p) i)
-  named_inj (NApp f x) (NApp g y) p = λ i. NApp (named_inj f g (ap (λ g. first (rest g)) p) i) (named_inj x y (ap (λ g. rest (rest g)) p) i)
-  named_inj (NAbs v b) (NAbs w c) p = λ i. NAbs (coded_variable.inj v w (ap (λ g. first (rest g)) p) i) (named_inj b c (ap (λ g. rest (rest g)) p) i)
+  named_inj (NConst n t) (NConst m u) p =
+      λ i. NConst (letter.inj n m (ap (λ g. first (rest g)) p) i) (ty_inj t u (ap (λ g. rest (rest g)) p) i)
+  named_inj (NApp f x) (NApp g y) p =
+      λ i. NApp (named_inj f g (ap (λ g. first (rest g)) p) i) (named_inj x y (ap (λ g. rest (rest g)) p) i)
+  named_inj (NAbs v b) (NAbs w c) p = λ i. NAbs (coded_variable.inj v w (ap (λ g. first (rest g)) p) i)
+      (named_inj b c (ap (λ g. rest (rest g)) p) i)
   named_inj x y p = absurd (subst (λ g. T (eqb (tag g) (tag (code_named x)))) p tt)
 
   abbrev pub coded_named : Coded (Named N)
   coded_named = record { code = code_named; inj = named_inj }
 
   abbrev pub coded_sequent : Coded (Sequent N)
-  coded_sequent = code_by (List (Tm N) × Tm N) (coded× (coded_list coded_tm) coded_tm) (λ q. (q.hyps, q.concl)) (λ p. record { hyps = p.0; concl = p.1 }) (λ _. refl)
+  coded_sequent = code_by (List (Tm N) × Tm N) (coded× (coded_list coded_tm) coded_tm) (λ q. (q.hyps, q.concl))
+      (λ p. record { hyps = p.0; concl = p.1 }) (λ _. refl)
 
   -- a definition is stored as one of three tuples
   abbrev Parts : Type 0
@@ -107,5 +118,7 @@ module _ {N : Type 0} (letter : Coded N) where
 
   abbrev pub coded_definition : Coded (Definition N)
   coded_definition =
-      code_by Parts (coded⊎ (coded× letter coded_tm) (coded⊎ (coded× (coded_list (coded× letter coded_variable)) coded_sequent) (coded× letter (coded× letter (coded× letter (coded× (coded_list letter) coded_sequent))))))
+      code_by Parts
+      (coded⊎ (coded× letter coded_tm) (coded⊎ (coded× (coded_list (coded× letter coded_variable)) coded_sequent)
+      (coded× letter (coded× letter (coded× letter (coded× (coded_list letter) coded_sequent))))))
       parts_of definition_of definition_of-parts_of

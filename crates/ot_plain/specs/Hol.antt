@@ -1,9 +1,13 @@
--- Higher-order logic over any alphabet of names: types, terms, substitution, sequents, derivable sequents, accepted definitions.
-use Rattle.std.specs.Prelude.{◌≡◌, ◌≢◌, ℕ, suc, ◌<◌, ◌==◌, nat_le, Bool, true, false, cond, ◌&&◌, ◌||◌, List, [], ◌∷◌, ◌++◌, map, length, max, Option, Some, None, slice_get, take, ◌⊎◌}
+-- Higher-order logic over any alphabet of names: types, terms, substitution, sequents, derivable sequents, accepted
+-- definitions.
+use Rattle.std.specs.Prelude.{◌≡◌, ◌≢◌, ℕ, suc, ◌<◌, ◌==◌, nat_le, Bool, true, false, cond, ◌&&◌, ◌||◌, List}
+use Rattle.std.specs.Prelude.{[], ◌∷◌, ◌++◌, map, length, max, Option, Some, None, slice_get, take, ◌⊎◌}
 use Rattle.std.specs.List.{AllByRecursion, list_all}
 use Rattle.std.specs.Option.{option_map, unwrap_or}
 use Rattle.ot_plain.specs.Lists.{IsMember, IsSameSet, AreDistinct}
-use Rattle.ot_plain.specs.Trees.{Alphabet, Ty, Tys, TyVar, TyOp, NoTys, MoreTys, Variable, Tm, Free, Con, Bound, App, Abs, Named, NVar, NConst, NApp, NAbs, Sequent, Symbol, ConSymbol, OpSymbol, Definition, ConDef, ListDef, TyDef}
+use Rattle.ot_plain.specs.Trees.{Alphabet, Ty, Tys, TyVar, TyOp, NoTys, MoreTys, Variable, Tm, Free}
+use Rattle.ot_plain.specs.Trees.{Con, Bound, App, Abs, Named, NVar, NConst, NApp, NAbs, Sequent}
+use Rattle.ot_plain.specs.Trees.{Symbol, ConSymbol, OpSymbol, Definition, ConDef, ListDef, TyDef}
 
 -- the nesting limit
 abbrev pub depth_limit : ℕ
@@ -104,7 +108,8 @@ module _ {N : Type 0} (alphabet : Alphabet N) where
 
   -- what a function of this type gives at an argument of that one
   abbrev pub result_ty : Ty N → Ty N → Option (Ty N)
-  result_ty (TyOp n (MoreTys a (MoreTys b NoTys))) x = cond (alphabet.same n alphabet.arrow && same_ty a x) (Some b) None
+  result_ty (TyOp n (MoreTys a (MoreTys b NoTys))) x =
+      cond (alphabet.same n alphabet.arrow && same_ty a x) (Some b) None
   result_ty _ x = None
 
   abbrev pub applied : Option (Ty N) → Option (Ty N) → Option (Ty N)
@@ -214,7 +219,8 @@ module _ {N : Type 0} (alphabet : Alphabet N) where
 
   -- the type of each subterm is within the limit, under binders of these types, the innermost first
   abbrev pub has_shallow_types : List (Ty N) → Tm N → Bool
-  has_shallow_types l (App f x) = is_shallow_type (type_in l (App f x)) && (has_shallow_types l f && has_shallow_types l x)
+  has_shallow_types l (App f x) = is_shallow_type (type_in l (App f x))
+      && (has_shallow_types l f && has_shallow_types l x)
   has_shallow_types l (Abs t b) = is_shallow_type (type_in l (Abs t b)) && has_shallow_types (t ∷ l) b
   has_shallow_types l t = is_shallow_type (type_in l t)
 
@@ -342,7 +348,8 @@ module _ {N : Type 0} (alphabet : Alphabet N) where
   -- the type and the two sides of an equation; `=` counts only at a type a -> (a -> bool)
   abbrev pub as_equation : Tm N → Option (Ty N × Tm N × Tm N)
   as_equation (App (App (Con n (TyOp m (MoreTys a (MoreTys t NoTys)))) x) y) =
-      cond (alphabet.same n alphabet.equals && same_ty (TyOp m (MoreTys a (MoreTys t NoTys))) (fun_ty a (fun_ty a bool_ty))) (Some (a, x, y)) None
+      cond (alphabet.same n alphabet.equals && same_ty (TyOp m (MoreTys a (MoreTys t NoTys)))
+      (fun_ty a (fun_ty a bool_ty))) (Some (a, x, y)) None
   as_equation _ = None
 
   -- the list without x
@@ -411,7 +418,8 @@ module _ {N : Type 0} (alphabet : Alphabet N) where
       let c = Con abs (fun_ty u ty) in
       let r = Con rep (fun_ty ty u) in
       sequent_of (equation (fun_ty ty ty) (Abs ty (App c (App r (Bound 0)))) (Abs ty (Bound 0)))
-      ∷ sequent_of (equation (fun_ty u bool_ty) (Abs u (equation u (App r (App c (Bound 0))) (Bound 0))) (Abs u (App p (Bound 0))))
+      ∷ sequent_of (equation (fun_ty u bool_ty) (Abs u (equation u (App r (App c (Bound 0))) (Bound 0)))
+      (Abs u (App p (Bound 0))))
       ∷ []
 
   -- the two theorems of a type whose premise is p t
@@ -482,14 +490,22 @@ module _ {N : Type 0} (alphabet : Alphabet N) where
   pub data Derivable (al : List (Sequent N)) (dl : List (Definition N)) : List (Tm N) → Tm N → Type 0 where
     Refl : {t : Tm N} {ty : Ty N} → HasType t ty → Derivable al dl [] (equation ty t t)
     Assume : {p : Tm N} → HasType p bool_ty → Derivable al dl (p ∷ []) p
-    EqMp : {g h : List (Tm N)} {p q : Tm N} {ty : Ty N} → Derivable al dl g (equation ty p q) → Derivable al dl h p → Derivable al dl (g ++ h) q
-    AbsThm : {g : List (Tm N)} {t u : Tm N} {ty : Ty N} (v : Variable N) → ¬ (IsFreeInSome v g) → Derivable al dl g (equation ty t u) → Derivable al dl g (equation (fun_ty v.ty ty) (Abs v.ty (close v t)) (Abs v.ty (close v u)))
-    AppThm : {g h : List (Tm N)} {f k x y : Tm N} {a b : Ty N} → Derivable al dl g (equation (fun_ty a b) f k) → Derivable al dl h (equation a x y) → Derivable al dl (g ++ h) (equation b (App f x) (App k y))
-    DeductAntisym : {g h : List (Tm N)} {p q : Tm N} → Derivable al dl g p → Derivable al dl h q → Derivable al dl (minus q g ++ minus p h) (equation bool_ty p q)
-    BetaConv : {b u : Tm N} {a ty : Ty N} → HasType (App (Abs a b) u) ty → Derivable al dl [] (equation ty (App (Abs a b) u) (opened b u))
-    Subst : {g : List (Tm N)} {p : Tm N} (s : TypeMap) (m : TermMap) → IsTyped m → Derivable al dl g p → Derivable al dl (map (subst_tm s m) g) (subst_tm s m p)
+    EqMp : {g h : List (Tm N)} {p q : Tm N} {ty : Ty N} → Derivable al dl g (equation ty p q) → Derivable al dl h p
+        → Derivable al dl (g ++ h) q
+    AbsThm : {g : List (Tm N)} {t u : Tm N} {ty : Ty N} (v : Variable N) → ¬ (IsFreeInSome v g)
+        → Derivable al dl g (equation ty t u)
+        → Derivable al dl g (equation (fun_ty v.ty ty) (Abs v.ty (close v t)) (Abs v.ty (close v u)))
+    AppThm : {g h : List (Tm N)} {f k x y : Tm N} {a b : Ty N} → Derivable al dl g (equation (fun_ty a b) f k)
+        → Derivable al dl h (equation a x y) → Derivable al dl (g ++ h) (equation b (App f x) (App k y))
+    DeductAntisym : {g h : List (Tm N)} {p q : Tm N} → Derivable al dl g p → Derivable al dl h q
+        → Derivable al dl (minus q g ++ minus p h) (equation bool_ty p q)
+    BetaConv : {b u : Tm N} {a ty : Ty N} → HasType (App (Abs a b) u) ty
+        → Derivable al dl [] (equation ty (App (Abs a b) u) (opened b u))
+    Subst : {g : List (Tm N)} {p : Tm N} (s : TypeMap) (m : TermMap) → IsTyped m → Derivable al dl g p
+        → Derivable al dl (map (subst_tm s m) g) (subst_tm s m p)
     Assumption : {q : Sequent N} (i : ℕ) → slice_get al i ≡ Some q → Derivable al dl q.hyps q.concl
-    Defined : {d : Definition N} {q : Sequent N} (i j : ℕ) → slice_get dl i ≡ Some d → slice_get (theorems d) j ≡ Some q → Derivable al dl q.hyps q.concl
+    Defined : {d : Definition N} {q : Sequent N} (i j : ℕ) → slice_get dl i ≡ Some d → slice_get (theorems d) j
+        ≡ Some q → Derivable al dl q.hyps q.concl
     -- the hypotheses are a set: one sequent has many lists
     SameSet : {g h : List (Tm N)} {p : Tm N} → IsSameSet g h → Derivable al dl g p → Derivable al dl h p
 
@@ -522,10 +538,12 @@ module _ {N : Type 0} (alphabet : Alphabet N) where
 
   -- exactly one hypothesis gives v a term, and that one may define a constant
   abbrev pub IsGivenOnce : List (Tm N) → Variable N → Type 0
-  IsGivenOnce g v = (h t : Tm N) × IsMember h g × IsGiven v h t × IsConstant t × ((k u : Tm N) → IsMember k g → IsGiven v k u → k ≡ h)
+  IsGivenOnce g v = (h t : Tm N) × IsMember h g × IsGiven v h t × IsConstant t
+      × ((k u : Tm N) → IsMember k g → IsGiven v k u → k ≡ h)
 
   -- the conditions of a list of constants, over the assumptions and the definitions before it
-  pub record IsFineList (al : List (Sequent N)) (dl : List (Definition N)) (ps : List (N × Variable N)) (q : Sequent N) : Type 0 where
+  pub record IsFineList (al : List (Sequent N)) (dl : List (Definition N)) (ps : List (N × Variable N))
+      (q : Sequent N) : Type 0 where
     pub distinct : AreDistinct (map (λ p. p.1) ps)
     pub once : AreDistinct q.hyps
     pub many : length q.hyps ≡ length ps
@@ -534,7 +552,8 @@ module _ {N : Type 0} (alphabet : Alphabet N) where
     pub derivable : Derivable al dl q.hyps q.concl
 
   -- the conditions of a type
-  pub record IsFineType (al : List (Sequent N)) (dl : List (Definition N)) (vs : List N) (q : Sequent N) : Type 0 where
+  pub record IsFineType (al : List (Sequent N)) (dl : List (Definition N)) (vs : List N) (q : Sequent N) : Type
+      0 where
     pub no_hyps : q.hyps ≡ []
     pub parts : (p t : Tm N) × (q.concl ≡ App p t) × IsClosed p × ((n : N) → IsMember n (vars_tm p) → IsMember n vs)
     pub distinct : AreDistinct vs
@@ -549,7 +568,8 @@ module _ {N : Type 0} (alphabet : Alphabet N) where
   pub record IsNext (al : List (Sequent N)) (dl : List (Definition N)) (d : Definition N) : Type 0 where
     pub not_primitive : (s : Symbol N) → IsMember s (defined d) → ¬ (IsMember s primitives)
     pub distinct : AreDistinct (defined d)
-    pub fresh : (s : Symbol N) (e : Definition N) → IsMember s (defined d) → IsMember e dl → ¬ (IsMember s (defined e))
+    pub fresh : (s : Symbol N) (e : Definition N) → IsMember s (defined d) → IsMember e dl
+        → ¬ (IsMember s (defined e))
     pub not_in_premise : (s : Symbol N) → IsMember s (defined d) → ¬ (IsMember s (premise_symbols d))
     pub unused : (s : Symbol N) (e : Definition N) → IsMember s (defined d) → IsMember e dl → ¬ (IsMember s (used e))
     pub fine : IsFine al dl d

@@ -33,7 +33,9 @@ module _ {N T D : Type 0} (of : List T → N → T) where
       pub more_below : (j k : ℕ) → j ≤ k → (n : N) → Below j n → Below k n
       -- its tree stays when the table grows, and what fits still fits
       pub tree_stays : (ts us : List T) → Extends ts us → (n : N) → Below (length ts) n → of us n ≡ of ts n
-      pub fits_stays : (ts us : List T) → Extends ts us → (n : N) (d : D) → Below (length ts) n → Fits ts n d → Fits us n d
+      pub fits_stays : (ts us : List T) → Extends ts us → (n : N) (d : D) → Below (length ts) n → Fits ts n d
+          → Fits us n d
       -- the test of nodes is equality of trees
       pub tree_same : (ts : List T) (m n : N) → same m n ≡ true → of ts m ≡ of ts n
-      pub same_tree : (ts : List T) → IsInjective ts → (m n : N) (d e : D) → Below (length ts) m → Below (length ts) n → Fits ts m d → Fits ts n e → of ts m ≡ of ts n → same m n ≡ true
+      pub same_tree : (ts : List T) → IsInjective ts → (m n : N) (d e : D) → Below (length ts) m → Below (length ts) n
+          → Fits ts m d → Fits ts n e → of ts m ≡ of ts n → same m n ≡ true

@@ -1,5 +1,6 @@
 -- Names, and the quoted texts that spell them.
-use Rattle.std.specs.Prelude.{◌≡◌, ◌≢◌, ◌<◌, ◌==◌, ◌||◌, ◌⊎◌, ℕ, Bool, true, List, [], ◌∷◌, ◌++◌, map, take, length, if◌then◌else◌, nat_eq, refl}
+use Rattle.std.specs.Prelude.{◌≡◌, ◌≢◌, ◌<◌, ◌==◌, ◌||◌, ◌⊎◌, ℕ, Bool, true, List, []}
+use Rattle.std.specs.Prelude.{◌∷◌, ◌++◌, map, take, length, if◌then◌else◌, nat_eq, refl}
 use Rattle.std.specs.List.{flat_map, AllByRecursion}
 use Rattle.std.specs.Bool.{Decides}
 use Rattle.std.specs.Hash as fed
@@ -23,7 +24,8 @@ pub same_name-Decides : (a b : Name) → Decides (same_name a b) (a ≡ b)
 same_name-Decides a b = slice_eq-Decides bytes_eq-Decides a b (same_name a b) refl
 
 -- equal names hash alike
-pub same_name-hashes : (a b : Name) → same_name a b ≡ true → fed.slice (fed.slice fed.u8) a ≡ fed.slice (fed.slice fed.u8) b
+pub same_name-hashes : (a b : Name) → same_name a b ≡ true → fed.slice (fed.slice fed.u8) a
+    ≡ fed.slice (fed.slice fed.u8) b
 same_name-hashes a b h = ap (fed.slice (fed.slice fed.u8)) ((same_name-Decides a b).0 h)
 
 -- ---- spelling

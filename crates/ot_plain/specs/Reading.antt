@@ -31,7 +31,9 @@ abbrev pub read_from : List ℕ → Reading
 read_from [] = Unended
 read_from (b ∷ []) = if b == 34 then Done ([] ∷ []) else Unended
 read_from (b ∷ c ∷ bs) =
-    if b == 34 then Trails else (if b == 92 then push c (read_from bs) else (if b == 46 then dot (read_from (c ∷ bs)) else push b (read_from (c ∷ bs))))
+    if b == 34 then Trails else
+    (if b == 92 then push c (read_from bs) else
+    (if b == 46 then dot (read_from (c ∷ bs)) else push b (read_from (c ∷ bs))))
 
 -- what the next part of the text says about the whole
 abbrev pub read_part : Part → Reading

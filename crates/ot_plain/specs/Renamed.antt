@@ -1,6 +1,8 @@
 -- Trees with other names, by a function of names.
 use Rattle.std.specs.Prelude.{map}
-use Rattle.ot_plain.specs.Trees.{Ty, Tys, TyVar, TyOp, NoTys, MoreTys, Variable, Tm, Free, Con, Bound, App, Abs, Named, NVar, NConst, NApp, NAbs, Sequent, Symbol, ConSymbol, OpSymbol, Definition, ConDef, ListDef, TyDef}
+use Rattle.ot_plain.specs.Trees.{Ty, Tys, TyVar, TyOp, NoTys, MoreTys, Variable, Tm, Free, Con}
+use Rattle.ot_plain.specs.Trees.{Bound, App, Abs, Named, NVar, NConst, NApp, NAbs, Sequent}
+use Rattle.ot_plain.specs.Trees.{Symbol, ConSymbol, OpSymbol, Definition, ConDef, ListDef, TyDef}
 
 module _ {M N : Type 0} (f : M → N) where
   abbrev mutual

@@ -1,9 +1,14 @@
--- The rules by which types, terms and theorems are made, as functions: what is made, or the one refusal that counts first.
-use Rattle.std.specs.Prelude.{Bool, false, ◌&&◌, not, if◌then◌else◌, [], ◌∷◌, map, Option, Some, None, Result, Ok, Err}
+-- The rules by which types, terms and theorems are made, as functions: what is made, or the one refusal that counts
+-- first.
+use Rattle.std.specs.Prelude.{Bool, false, ◌&&◌, not, if◌then◌else◌, []}
+use Rattle.std.specs.Prelude.{◌∷◌, map, Option, Some, None, Result, Ok, Err}
 use Rattle.std.specs.Option.{option_and_then}
 use Rattle.ot_plain.specs.Trees.{Alphabet, Ty, Tys, TyOp, Variable, Tm, App, Abs, Sequent}
-use Rattle.ot_plain.specs.Hol.{same_ty, fun_ty, bool_ty, as_fun_ty, is_shallow_ty, type_in, type_of, close, opened, TypeMap, TermMap, subst_tm, is_shallow, same_tm, equation, as_equation, minus, is_in, union, once_each, is_free_in_some, is_shallow_sequent, sequent_of}
-use Rattle.ot_plain.specs.Faults.{Fault, NotFunction, ArgumentType, NotBool, NotEquation, NotAlphaEqual, VarFreeInHyps, NotRedex, Nesting}
+use Rattle.ot_plain.specs.Hol.{same_ty, fun_ty, bool_ty, as_fun_ty, is_shallow_ty, type_in, type_of, close}
+use Rattle.ot_plain.specs.Hol.{opened, TypeMap, TermMap, subst_tm, is_shallow, same_tm, equation, as_equation}
+use Rattle.ot_plain.specs.Hol.{minus, is_in, union, once_each, is_free_in_some, is_shallow_sequent, sequent_of}
+use Rattle.ot_plain.specs.Faults.{Fault, NotFunction, ArgumentType, NotBool, NotEquation}
+use Rattle.ot_plain.specs.Faults.{NotAlphaEqual, VarFreeInHyps, NotRedex, Nesting}
 use Rattle.ot_plain.specs.Answers.{◌>>=◌, unless, some_or}
 
 module _ {N : Type 0} (alphabet : Alphabet N) where
@@ -71,7 +76,12 @@ module _ {N : Type 0} (alphabet : Alphabet N) where
   abs_thm_rule v th = do
     e ← sides th
     _ ← unless VarFreeInHyps (not (is_free_in_some alphabet v th.hyps))
-    within_limit (record { hyps = th.hyps; concl = equation alphabet (fun_ty alphabet v.ty e.0) (Abs v.ty (close alphabet v e.1)) (Abs v.ty (close alphabet v e.2)) })
+    within_limit
+        (record {
+          hyps = th.hyps;
+          concl = equation alphabet (fun_ty alphabet v.ty e.0)
+              (Abs v.ty (close alphabet v e.1)) (Abs v.ty (close alphabet v e.2));
+        })
 
   -- from G |- f = g and D |- x = y
   abbrev pub app_thm_rule : Sequent N → Sequent N → Rule
@@ -80,7 +90,12 @@ module _ {N : Type 0} (alphabet : Alphabet N) where
     x ← sides top
     parts ← some_or NotFunction (as_fun_ty alphabet f.0)
     _ ← unless ArgumentType (same_ty alphabet parts.0 x.0)
-    within_limit (record { hyps = union alphabet lower.hyps top.hyps; concl = equation alphabet parts.1 (App f.1 x.1) (App f.2 x.2) })
+    within_limit
+        (record {
+          hyps = union alphabet lower.hyps top.hyps;
+          concl = equation alphabet parts.1 (App f.1 x.1)
+              (App f.2 x.2);
+        })
 
   -- from G |- p and D |- q
   abbrev pub deduct_antisym_rule : Sequent N → Sequent N → Rule
@@ -93,13 +108,19 @@ module _ {N : Type 0} (alphabet : Alphabet N) where
   -- (\v. t) u = t with u for v
   abbrev pub beta_conv_rule : Tm N → Rule
   beta_conv_rule (App (Abs a b) u) =
-      within_limit (sequent_of alphabet (equation alphabet (type_of alphabet (App (Abs a b) u)) (App (Abs a b) u) (opened alphabet b u)))
+      within_limit
+      (sequent_of alphabet
+      (equation alphabet (type_of alphabet (App (Abs a b) u)) (App (Abs a b) u) (opened alphabet b u)))
   beta_conv_rule _ = Err NotRedex
 
   -- a substitution put into each term
   abbrev pub subst_rule : TypeMap alphabet → TermMap alphabet → Sequent N → Rule
   subst_rule s m th =
-      within_limit (record { hyps = once_each alphabet (map (subst_tm alphabet s m) th.hyps); concl = subst_tm alphabet s m th.concl })
+      within_limit
+      (record {
+        hyps = once_each alphabet (map (subst_tm alphabet s m) th.hyps);
+        concl = subst_tm alphabet s m th.concl;
+      })
 
   -- from G |- t = u
   abbrev pub sym_rule : Sequent N → Rule
@@ -120,9 +141,11 @@ module _ {N : Type 0} (alphabet : Alphabet N) where
 
   -- the lemma L |- a and another theorem M |- b give L union (M minus a) |- b
   abbrev pub proved_hyp : Sequent N → Sequent N → Sequent N
-  proved_hyp lemma other = record { hyps = union alphabet lemma.hyps (minus alphabet lemma.concl other.hyps); concl = other.concl }
+  proved_hyp lemma other =
+      record { hyps = union alphabet lemma.hyps (minus alphabet lemma.concl other.hyps); concl = other.concl }
 
   -- the lemma is the top theorem, but the lower one where that alone fits
   abbrev pub prove_hyp_rule : Sequent N → Sequent N → Rule
   prove_hyp_rule lower top =
-      Ok (if not (is_in alphabet top.concl lower.hyps) && is_in alphabet lower.concl top.hyps then proved_hyp lower top else proved_hyp top lower)
+      Ok (if not (is_in alphabet top.concl lower.hyps) && is_in alphabet lower.concl top.hyps then proved_hyp lower
+      top else proved_hyp top lower)

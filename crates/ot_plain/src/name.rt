@@ -1,12 +1,12 @@
-ghost use Rattle.std.specs.Prelude.{◌↔◌, Some, ◌≡◌, ◌<◌, ℕ, List, [], ◌∷◌, ◌++◌, map, IfOk, IfErr, OnOk, OnErr, ◌≢◌};
-ghost use Rattle.std.specs.Prelude.{None, IsErrOf, slice_index, length, is_some};
+ghost use Rattle.std.specs.Prelude.{◌↔◌, Some, ◌≡◌, ◌<◌, ℕ, List, [], ◌∷◌, ◌++◌, map, IfOk, IfErr};
+ghost use Rattle.std.specs.Prelude.{OnOk, OnErr, ◌≢◌, None, IsErrOf, slice_index, length, is_some};
 ghost use Rattle.std.specs.List.{flat_map};
 ghost use Rattle.std.specs.Hash as fed;
 ghost use Rattle.std.proofs.Common.{rules};
 ghost use Rattle.std.specs.Cmp.Rules.{comparing};
-ghost use Rattle.ot_plain.specs.Names.{Name as NameValue, same_name, same_name-hashes, IsName, Spells, HasShorter};
-ghost use Rattle.ot_plain.specs.Names.{HasNone, AreExclusive, HasAnswer, item_of, item_text, further_text, joined};
-ghost use Rattle.ot_plain.specs.Names.{spelled, SpellsPlainly, KeepsFront};
+ghost use Rattle.ot_plain.specs.Names.{Name as NameValue, same_name, same_name-hashes, IsName, Spells};
+ghost use Rattle.ot_plain.specs.Names.{HasShorter, HasNone, AreExclusive, HasAnswer, item_of, item_text};
+ghost use Rattle.ot_plain.specs.Names.{further_text, joined, spelled, SpellsPlainly, KeepsFront};
 ghost use Rattle.ot_plain.specs.Reading.{read_from, read_part, IsShorter, name_read};
 ghost use Rattle.ot_plain.specs.declared.name.NameFault.TheVariants.{Memory};
 

@@ -9,7 +9,8 @@ use Rattle.ot_plain.specs.Lists.{IsMember}
 use Rattle.ot_plain.specs.Names.{Name, IsName}
 use Rattle.ot_plain.specs.Naming.{names, numbers, name_of, IsNameTable}
 use Rattle.ot_plain.specs.Renamed.{map_ty, map_tys, map_variable, map_named}
-use Rattle.ot_plain.specs.Trees.{Ty, Tys, TyVar, TyOp, NoTys, MoreTys, Variable, Named, NVar, NConst, NApp, NAbs, Sequent}
+use Rattle.ot_plain.specs.Trees.{Ty, Tys, TyVar, TyOp, NoTys, MoreTys, Variable}
+use Rattle.ot_plain.specs.Trees.{Named, NVar, NConst, NApp, NAbs, Sequent}
 use Rattle.ot_plain.proofs.Naming.{naming}
 use Rattle.ot_laws.proofs.Named.{nameless_in-nil}
 use Rattle.ot_laws.proofs.Sets.{all-member}
@@ -43,7 +44,8 @@ module _ (s : State) (t : TermTable) (k : IsSpelled s t) (table : IsNameTable s.
     names-types NoTys h = tt
     names-types (MoreTys u us) h = (names-type u (omega arith), names-types us (omega arith))
 
-  names-term : (e : List (Variable Name)) (u : Named ℕ) → bound_named u ≤ length s.names → HaveTermNames (nameless_in names e (map_named f u))
+  names-term : (e : List (Variable Name)) (u : Named ℕ) → bound_named u ≤ length s.names
+      → HaveTermNames (nameless_in names e (map_named f u))
   names-term e (NVar v) h = go (place names e (map_variable f v)) where
     go : (o : Option ℕ) → HaveTermNames (at_place names (map_variable f v) o)
     go None = (named v.name (omega arith), names-type v.ty (omega arith))
@@ -63,24 +65,29 @@ module _ (s : State) (t : TermTable) (k : IsSpelled s t) (table : IsNameTable s.
         let b = bound_named-get t.terms i _ (slice_get-get_or t.terms i (NConst 0 (TyVar 0)) inside) in
         let most = k.bound.1 in
         let enough : bound_named (tree_at t.terms i) ≤ length s.names = omega arith in
-        subst HaveTermNames (nameless_in-nil names tells_names (map_named f (tree_at t.terms i)) ∙ ap (nameless names) stands) (names-term [] (tree_at t.terms i) enough)
+        subst HaveTermNames (nameless_in-nil names tells_names (map_named f (tree_at t.terms i))
+        ∙ ap (nameless names) stands) (names-term [] (tree_at t.terms i) enough)
 
     shallow-at : is_shallow names (term_at s i) ≡ true
     shallow-at =
         let inside = term_inside s t k table i within in
         let limit = k.table.limit i _ (slice_get-get_or t.terms i (NConst 0 (TyVar 0)) inside) in
         subst (λ u. is_shallow names (nameless names u) ≡ true) stands
-        (carry-term (naming s.names) numbers names (lettered s t k table) (λ L a u. is_shallow a (nameless a u) ≡ true) (tree_at t.terms i) limit)
+        (carry-term (naming s.names) numbers names (lettered s t k table)
+        (λ L a u. is_shallow a (nameless a u) ≡ true) (tree_at t.terms i) limit)
 
     pub proposition : HasType names (term_at s i) (bool_ty names) → IsProposition (term_at s i)
     proposition h = record { named = names-at; typed = h; shallow = shallow-at }
 
   -- ---- a sequent of the kernel
-  pub propositions : (q : Sequent Name) (hs : List ℕ) (c : ℕ) → terms_at s hs ≡ q.hyps → term_at s c ≡ q.concl → All (λ i. i < length s.terms) hs → c < length s.terms → IsSequent names q → ArePropositions q
+  pub propositions : (q : Sequent Name) (hs : List ℕ) (c : ℕ) → terms_at s hs ≡ q.hyps → term_at s c ≡ q.concl
+      → All (λ i. i < length s.terms) hs → c < length s.terms → IsSequent names q → ArePropositions q
   propositions q hs c p r inside within typed = record {
     hyps = λ u m.
         let w = IsMember-map_back (term_at s) u hs (subst (IsMember u) (sym p) m) in
         let h = all-member (λ v. HasType names v (bool_ty names)) q.hyps typed.hyps u m in
-        subst IsProposition w.2 (proposition w.0 (All-member (λ i. i < length s.terms) hs inside w.0 w.1) (subst (λ v. HasType names v (bool_ty names)) (sym w.2) h));
-    concl = subst IsProposition r (proposition c within (subst (λ v. HasType names v (bool_ty names)) (sym r) typed.concl));
+        subst IsProposition w.2 (proposition w.0 (All-member (λ i. i < length s.terms) hs inside w.0 w.1)
+        (subst (λ v. HasType names v (bool_ty names)) (sym w.2) h));
+    concl = subst IsProposition r
+        (proposition c within (subst (λ v. HasType names v (bool_ty names)) (sym r) typed.concl));
   }

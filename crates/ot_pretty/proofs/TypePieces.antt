@@ -22,7 +22,8 @@ pub cond-false : {A : Type 0} (e : Bool) (x y : A) → e ≡ false → y ≡ con
 cond-false true x y p = cc
 cond-false false x y p = refl
 
-arrow-pieces : (x y : List ℕ) → codes "(" ++ x ++ codes " -> " ++ y ++ codes ")" ≡ codes "(" ++ x ++ codes " ->" ++ (codes " " ++ y ++ []) ++ codes ")"
+arrow-pieces : (x y : List ℕ) → codes "(" ++ x ++ codes " -> " ++ y ++ codes ")"
+    ≡ codes "(" ++ x ++ codes " ->" ++ (codes " " ++ y ++ []) ++ codes ")"
 arrow-pieces x y =
     ap (λ z. z ++ codes ")") (
     append_assoc (codes "(" ++ x) (codes " -> ") y
@@ -31,13 +32,17 @@ arrow-pieces x y =
     )
 
 module _ (hidden : List (Symbol Name)) where
-  pub function-pieces : (t a b : Ty Name) → t ≡ fun_ty names a b → codes "(" ++ type_text hidden a ++ codes " -> " ++ type_text hidden b ++ codes ")" ≡ type_text hidden t
+  pub function-pieces : (t a b : Ty Name) → t ≡ fun_ty names a b
+      → codes "(" ++ type_text hidden a ++ codes " -> " ++ type_text hidden b ++ codes ")" ≡ type_text hidden t
   function-pieces t a b p =
       arrow-pieces (type_text hidden a) (type_text hidden b)
-      ∙ cond-true (is_function names (fun_ty names a b)) _ (codes "(" ++ word hidden (OpSymbol names.arrow) ++ types_text hidden (MoreTys a (MoreTys b NoTys)) ++ codes ")") (ap is_some (as_fun_ty-fun names tells_names a b))
+      ∙ cond-true (is_function names (fun_ty names a b)) _
+      (codes "(" ++ word hidden (OpSymbol names.arrow) ++ types_text hidden (MoreTys a (MoreTys b NoTys))
+      ++ codes ")") (ap is_some (as_fun_ty-fun names tells_names a b))
       ∙ ap (type_text hidden) (sym p)
 
-  pub operator-pieces : (s : State) (t : Ty Name) (n : Name) (is : List ℕ) → t ≡ TyOp n (types_at s is) → is_function names t ≡ false → 0 < length is
+  pub operator-pieces : (s : State) (t : Ty Name) (n : Name) (is : List ℕ) → t ≡ TyOp n (types_at s is)
+      → is_function names t ≡ false → 0 < length is
       → codes "(" ++ word hidden (OpSymbol n) ++ types_text hidden (types_at s is) ++ codes ")" ≡ type_text hidden t
   operator-pieces s t n [] p h some = absurd (omega arith)
   operator-pieces s t n (i ∷ is) p h some =
@@ -45,7 +50,9 @@ module _ (hidden : List (Symbol Name)) where
       ∙ ap (type_text hidden) (sym p)
 
   pub types-more : (s : State) (is : List ℕ) (k i : ℕ) (p0 p q : Printed) → k < length is → i ≡ get_or is k i
-      → Puts (λ js. types_text hidden (types_at s js)) is k p0 p → IsPut (codes " " ++ type_text hidden (type_at s i)) p q → Puts (λ js. types_text hidden (types_at s js)) is (k + 1) p0 q
+      → Puts (λ js. types_text hidden (types_at s js)) is k p0 p → IsPut (codes " " ++ type_text hidden (type_at s i))
+      p q → Puts (λ js. types_text hidden (types_at s js)) is (k + 1) p0 q
   types-more s is k i p0 p q h e before put =
-      puts-more (λ js. types_text hidden (types_at s js)) (λ j. codes " " ++ type_text hidden (type_at s j)) (λ x xs. refl) is k i p0 p q h before
+      puts-more (λ js. types_text hidden (types_at s js)) (λ j. codes " " ++ type_text hidden (type_at s j))
+      (λ x xs. refl) is k i p0 p q h before
       (same-text (ap (λ j. codes " " ++ type_text hidden (type_at s j)) e) put)

@@ -8,4 +8,5 @@ use Rattle.ot_forms.specs.Printing.{readable_text}
 
 -- its hypotheses, as a set, and its conclusion
 abbrev pub ReadsBackAs : List (Symbol Name) → Sequent Name → Type 0
-ReadsBackAs hidden q = (hs : List (Tm Name)) × IsSameSet hs q.hyps × ReadsAs hidden (readable_text hidden q) (record { hyps = hs; concl = q.concl })
+ReadsBackAs hidden q = (hs : List (Tm Name)) × IsSameSet hs q.hyps × ReadsAs hidden (readable_text hidden q)
+    (record { hyps = hs; concl = q.concl })

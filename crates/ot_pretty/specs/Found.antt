@@ -34,13 +34,15 @@ pub record IsSearch (s : State) (p : Search) : Type 0 where
 pub record Finds (s : State) (n m : ℕ) (old new : Search) (more : List (Symbol Name)) : Type 0 where
   pub terms : (i : ℕ) → IsMember i new.terms.keys → IsMember i old.terms.keys ⊎ (i < n)
   pub types : (i : ℕ) → IsMember i new.types.keys → IsMember i old.types.keys ⊎ (i < m)
-  pub inside : (x : code.Symbol) → IsMember x new.symbols.keys → IsMember x old.symbols.keys ⊎ (x.name < length s.names)
+  pub inside : (x : code.Symbol) → IsMember x new.symbols.keys → IsMember x old.symbols.keys
+      ⊎ (x.name < length s.names)
   pub once : AreDistinct old.symbols.keys → AreDistinct new.symbols.keys
   pub symbols : IsSameSet (symbols_with s new) (symbols_with s old ++ more)
 
 -- a symbol, a type or a term more, of any kernel
 abbrev pub AddsSymbol : Search → Search → SymbolKind → ℕ → Type 0
-AddsSymbol old new k i = (s : State) (n m : ℕ) → i < length s.names → Finds s n m old new (symbol_named k (name_at s i) ∷ [])
+AddsSymbol old new k i = (s : State) (n m : ℕ) → i < length s.names
+    → Finds s n m old new (symbol_named k (name_at s i) ∷ [])
 
 abbrev pub AddsType : Search → Search → ℕ → Type 0
 AddsType old new i = (s : State) (n m : ℕ) → i < m → Finds s n m old new (symbols_ty names (type_at s i))

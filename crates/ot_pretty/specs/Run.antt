@@ -13,7 +13,8 @@ use Rattle.ot_kernel.specs.State.{State, name_at, terms_at}
 
 -- those that occur in the assumptions, in the exports, or in a premise or a theorem of the definitions
 abbrev pub symbols_of_run : (assumptions exports : List (Sequent Name)) → List (Definition Name) → List (Symbol Name)
-symbols_of_run assumptions exports definitions = symbols_in names assumptions ++ symbols_in names exports ++ flat_map (used names) definitions
+symbols_of_run assumptions exports definitions = symbols_in names assumptions ++ symbols_in names exports
+    ++ flat_map (used names) definitions
 
 -- the symbol of a kind and a name
 abbrev pub symbol_named : SymbolKind → Name → Symbol Name

@@ -28,4 +28,5 @@ front_text hidden k f = cond (is_relation hidden f) (half_text hidden k f) (spin
 
 -- a constant that is written between two propositions
 abbrev pub is_relation_constant : List (Symbol Name) → Name → Ty Name → Bool
-is_relation_constant hidden n t = is_hidden hidden (ConSymbol n) && (is_operator (base n) && same_ty names t relation_ty)
+is_relation_constant hidden n t =
+    is_hidden hidden (ConSymbol n) && (is_operator (base n) && same_ty names t relation_ty)

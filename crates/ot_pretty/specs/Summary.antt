@@ -13,10 +13,13 @@ use Rattle.ot_pretty.specs.Run.{symbols_of_run}
 use Rattle.ot_pretty.specs.Back.{ReadsBackAs}
 
 -- the symbols that a run writes by their base names, where these namespaces are shown
-abbrev pub hidden_in_run : List Name → (assumptions exports : List (Sequent Name)) → List (Definition Name) → List (Symbol Name)
-hidden_in_run shown assumptions exports definitions = hidden_symbols shown (symbols_of_run assumptions exports definitions)
+abbrev pub hidden_in_run : List Name → (assumptions exports : List (Sequent Name)) → List (Definition Name)
+    → List (Symbol Name)
+hidden_in_run shown assumptions exports definitions =
+    hidden_symbols shown (symbols_of_run assumptions exports definitions)
 
--- a section of the readable texts of assumptions, in the order of their bytes, and one of those of theorems, in their own order
+-- a section of the readable texts of assumptions, in the order of their bytes, and one of those of theorems, in their
+-- own order
 abbrev pub readable_summary : List (Symbol Name) → (assumptions theorems : List (Sequent Name)) → List ℕ
 readable_summary hidden assumptions theorems =
     section_text true (codes "assumptions") (ascending (map (readable_text hidden) assumptions))

@@ -31,7 +31,8 @@ pub record IsRelationName (hidden : List (Symbol Name)) (s : State) (id name : �
 
 -- the term is no such constant
 abbrev pub IsNoRelationName : List (Symbol Name) → State → ℕ → Type 0
-IsNoRelationName hidden s id = (n : Name) (ty : Ty Name) → named_at s.terms id ≡ NConst n ty → is_relation_constant hidden n ty ≡ false
+IsNoRelationName hidden s id = (n : Name) (ty : Ty Name) → named_at s.terms id ≡ NConst n ty
+    → is_relation_constant hidden n ty ≡ false
 
 -- the term is such a constant, of this name, applied to the term of this number
 pub record IsHalfRelation (hidden : List (Symbol Name)) (s : State) (id name left : ℕ) : Type 0 where
@@ -41,4 +42,5 @@ pub record IsHalfRelation (hidden : List (Symbol Name)) (s : State) (id name lef
 
 -- the term is no such application, under any binders
 abbrev pub IsNoHalfRelation : List (Symbol Name) → State → ℕ → Type 0
-IsNoHalfRelation hidden s id = (e : List (Variable Name)) → is_relation hidden (nameless_in names e (named_at s.terms id)) ≡ false
+IsNoHalfRelation hidden s id = (e : List (Variable Name))
+    → is_relation hidden (nameless_in names e (named_at s.terms id)) ≡ false

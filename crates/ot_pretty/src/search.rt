@@ -6,8 +6,8 @@ ghost use Rattle.ot_plain.specs.Naming.{names};
 ghost use Rattle.ot_plain.specs.Hol.{symbols_tm, symbols_ty};
 ghost use Rattle.ot_kernel.specs.State.{type_at, term_at};
 ghost use Rattle.ot_pretty.specs.Run.{named_symbol};
-ghost use Rattle.ot_pretty.specs.Found.{term_symbols, IsSearch, Finds, Reaches, AddsSymbol, AddsType, AddsTerm};
-ghost use Rattle.ot_pretty.specs.Found.{AddsTypes, AddsTerms};
+ghost use Rattle.ot_pretty.specs.Found.{term_symbols, IsSearch, Finds, Reaches, AddsSymbol};
+ghost use Rattle.ot_pretty.specs.Found.{AddsType, AddsTerm, AddsTypes, AddsTerms};
 
 use indexmap::IndexSet;
 use ot_kernel::Kernel;

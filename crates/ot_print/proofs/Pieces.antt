@@ -23,7 +23,8 @@ cond-false true x y p = cc
 cond-false false x y p = refl
 
 -- ---- types
-arrow-pieces : (x y : List ℕ) → codes "(" ++ x ++ codes " -> " ++ y ++ codes ")" ≡ codes "(" ++ x ++ codes " ->" ++ (codes " " ++ y ++ []) ++ codes ")"
+arrow-pieces : (x y : List ℕ) → codes "(" ++ x ++ codes " -> " ++ y ++ codes ")"
+    ≡ codes "(" ++ x ++ codes " ->" ++ (codes " " ++ y ++ []) ++ codes ")"
 arrow-pieces x y =
     ap (λ z. z ++ codes ")") (
     append_assoc (codes "(" ++ x) (codes " -> ") y
@@ -31,13 +32,17 @@ arrow-pieces x y =
     ∙ sym (append_assoc (codes "(" ++ x) (codes " ->") (codes " " ++ y ++ []))
     )
 
-pub function-pieces : (t a b : Ty Name) → t ≡ fun_ty names a b → codes "(" ++ ty_text a ++ codes " -> " ++ ty_text b ++ codes ")" ≡ ty_text t
+pub function-pieces : (t a b : Ty Name) → t ≡ fun_ty names a b
+    → codes "(" ++ ty_text a ++ codes " -> " ++ ty_text b ++ codes ")" ≡ ty_text t
 function-pieces t a b p =
     arrow-pieces (ty_text a) (ty_text b)
-    ∙ cond-true (is_function names (fun_ty names a b)) _ (codes "(" ++ name_text names.arrow ++ spaced_text (MoreTys a (MoreTys b NoTys)) ++ codes ")") (ap is_some (as_fun_ty-fun names tells_names a b))
+    ∙ cond-true (is_function names (fun_ty names a b)) _
+    (codes "(" ++ name_text names.arrow ++ spaced_text (MoreTys a (MoreTys b NoTys)) ++ codes ")")
+    (ap is_some (as_fun_ty-fun names tells_names a b))
     ∙ ap ty_text (sym p)
 
-pub operator-pieces : (s : State) (t : Ty Name) (n : Name) (is : List ℕ) → t ≡ TyOp n (types_at s is) → is_function names t ≡ false → 0 < length is
+pub operator-pieces : (s : State) (t : Ty Name) (n : Name) (is : List ℕ) → t ≡ TyOp n (types_at s is)
+    → is_function names t ≡ false → 0 < length is
     → codes "(" ++ name_text n ++ spaced_text (types_at s is) ++ codes ")" ≡ ty_text t
 operator-pieces s t n [] p h some = absurd (omega arith)
 operator-pieces s t n (i ∷ is) p h some =
@@ -45,20 +50,28 @@ operator-pieces s t n (i ∷ is) p h some =
     ∙ ap ty_text (sym p)
 
 pub spaced-more : (s : State) (is : List ℕ) (k i : ℕ) (p0 p q : Printed) → k < length is → i ≡ get_or is k i
-    → Puts (λ js. spaced_text (types_at s js)) is k p0 p → IsPut (codes " " ++ ty_text (type_at s i)) p q → Puts (λ js. spaced_text (types_at s js)) is (k + 1) p0 q
+    → Puts (λ js. spaced_text (types_at s js)) is k p0 p → IsPut (codes " " ++ ty_text (type_at s i)) p q
+    → Puts (λ js. spaced_text (types_at s js)) is (k + 1) p0 q
 spaced-more s is k i p0 p q h e before put =
-    puts-more (λ js. spaced_text (types_at s js)) (λ j. codes " " ++ ty_text (type_at s j)) (λ x xs. refl) is k i p0 p q h before
+    puts-more (λ js. spaced_text (types_at s js)) (λ j. codes " " ++ ty_text (type_at s j)) (λ x xs. refl) is k i p0 p
+    q h before
     (same-text (ap (λ j. codes " " ++ ty_text (type_at s j)) e) put)
 
 -- ---- terms
-pub equation-pieces : (e : List (Variable Name)) (t : Named Name) (ty : Ty Name) (a b : Named Name) → t ≡ equation_of ty a b
-    → codes "(" ++ tm_text (nameless_in names e a) ++ codes " = " ++ tm_text (nameless_in names e b) ++ codes ")" ≡ tm_text (nameless_in names e t)
+pub equation-pieces : (e : List (Variable Name)) (t : Named Name) (ty : Ty Name) (a b : Named Name)
+    → t ≡ equation_of ty a b
+    → codes "(" ++ tm_text (nameless_in names e a) ++ codes " = " ++ tm_text (nameless_in names e b) ++ codes ")"
+    ≡ tm_text (nameless_in names e t)
 equation-pieces e t ty a b p =
-    cond-true (is_equation names (equation names ty (nameless_in names e a) (nameless_in names e b))) _ _ (ap is_some (as_equation-equation names tells_names ty (nameless_in names e a) (nameless_in names e b)))
+    cond-true (is_equation names (equation names ty (nameless_in names e a) (nameless_in names e b))) _ _
+    (ap is_some (as_equation-equation names tells_names ty (nameless_in names e a) (nameless_in names e b)))
     ∙ ap (λ u. tm_text (nameless_in names e u)) (sym p)
 
-pub application-pieces : (e : List (Variable Name)) (t f x : Named Name) → t ≡ NApp f x → is_equation names (nameless_in names e t) ≡ false
-    → codes "(" ++ tm_text (nameless_in names e f) ++ codes " " ++ tm_text (nameless_in names e x) ++ codes ")" ≡ tm_text (nameless_in names e t)
+pub application-pieces : (e : List (Variable Name)) (t f x : Named Name) → t ≡ NApp f x
+    → is_equation names (nameless_in names e t) ≡ false
+    → codes "(" ++ tm_text (nameless_in names e f) ++ codes " " ++ tm_text (nameless_in names e x) ++ codes ")"
+    ≡ tm_text (nameless_in names e t)
 application-pieces e t f x p h =
-    cond-false (is_equation names (App (nameless_in names e f) (nameless_in names e x))) _ _ (ap (λ u. is_equation names (nameless_in names e u)) (sym p) ∙ h)
+    cond-false (is_equation names (App (nameless_in names e f) (nameless_in names e x))) _ _
+    (ap (λ u. is_equation names (nameless_in names e u)) (sym p) ∙ h)
     ∙ ap (λ u. tm_text (nameless_in names e u)) (sym p)

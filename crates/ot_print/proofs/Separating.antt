@@ -17,7 +17,8 @@ abbrev pub pairs_from : Bool → List (Name × Variable Name) → List ℕ
 pairs_from true ps = pairs_text ps
 pairs_from false ps = further_pairs ps
 
-pub pairs-first : (b : Bool) (p : Name × Variable Name) (ps : List (Name × Variable Name)) → pairs_from b (p ∷ ps) ≡ separator b (codes ",") ++ pair_text p ++ further_pairs ps
+pub pairs-first : (b : Bool) (p : Name × Variable Name) (ps : List (Name × Variable Name))
+    → pairs_from b (p ∷ ps) ≡ separator b (codes ",") ++ pair_text p ++ further_pairs ps
 pairs-first true p ps = refl
 pairs-first false p ps = refl
 
@@ -30,7 +31,8 @@ abbrev pub names_from : Bool → List Name → List ℕ
 names_from true ns = names_text ns
 names_from false ns = further_names ns
 
-pub names-first : (b : Bool) (n : Name) (ns : List Name) → names_from b (n ∷ ns) ≡ separator b (codes " ") ++ name_text n ++ further_names ns
+pub names-first : (b : Bool) (n : Name) (ns : List Name) → names_from b (n ∷ ns) ≡ separator b (codes " ")
+    ++ name_text n ++ further_names ns
 names-first true n ns = refl
 names-first false n ns = refl
 
@@ -40,22 +42,29 @@ names-none false = refl
 
 -- ---- a type operator
 pub type-pieces : (n abs rep : Name) (vs : List Name) (q : Sequent Name)
-    → codes "type " ++ name_text n ++ codes " (" ++ names_text vs ++ codes ") abs " ++ name_text abs ++ codes " rep " ++ name_text rep ++ (codes " from " ++ sequent_text q) ≡ head_text (TyDef n abs rep vs q)
-type-pieces n abs rep vs q = sym (append_assoc (codes "type " ++ name_text n ++ codes " (" ++ names_text vs ++ codes ") abs " ++ name_text abs ++ codes " rep " ++ name_text rep) (codes " from ") (sequent_text q))
+    → codes "type " ++ name_text n ++ codes " (" ++ names_text vs ++ codes ") abs " ++ name_text abs ++ codes " rep "
+    ++ name_text rep ++ (codes " from " ++ sequent_text q) ≡ head_text (TyDef n abs rep vs q)
+type-pieces n abs rep vs q =
+    sym (append_assoc (codes "type " ++ name_text n ++ codes " (" ++ names_text vs ++ codes ") abs " ++ name_text abs
+    ++ codes " rep " ++ name_text rep) (codes " from ") (sequent_text q))
 
 -- ---- the rest of a list
 
-pub pairs-rest : (s : State) (ns : List ℕ) (vs : List VarKey) (i n : ℕ) (v : VarKey) → i < length ns → i < length vs → n ≡ get_or ns i n → v ≡ get_or vs i v
-    → pairs_at s (drop i ns) (drop i vs) ≡ (name_at s n, variable_at s v) ∷ pairs_at s (drop (i + 1) ns) (drop (i + 1) vs)
+pub pairs-rest : (s : State) (ns : List ℕ) (vs : List VarKey) (i n : ℕ) (v : VarKey) → i < length ns → i < length vs
+    → n ≡ get_or ns i n → v ≡ get_or vs i v
+    → pairs_at s (drop i ns) (drop i vs) ≡ (name_at s n, variable_at s v) ∷ pairs_at s (drop (i + 1) ns)
+    (drop (i + 1) vs)
 pairs-rest s ns vs i n v h g p q =
     let a = drop-item ns i n h p in
     let b = drop-item vs i v g q in
     λ j. pairs_at s (a j) (b j)
 
-pub pairs-end : (s : State) (ns : List ℕ) (vs : List VarKey) (i : ℕ) → length ns ≤ i → pairs_at s (drop i ns) (drop i vs) ≡ []
+pub pairs-end : (s : State) (ns : List ℕ) (vs : List VarKey) (i : ℕ) → length ns ≤ i
+    → pairs_at s (drop i ns) (drop i vs) ≡ []
 pairs-end s ns vs i h = ap (λ is. pairs_at s is (drop i vs)) (drop_of_length-le ns h)
 
-pub names-rest : (s : State) (ns : List ℕ) (i n : ℕ) → i < length ns → n ≡ get_or ns i n → map (name_at s) (drop i ns) ≡ name_at s n ∷ map (name_at s) (drop (i + 1) ns)
+pub names-rest : (s : State) (ns : List ℕ) (i n : ℕ) → i < length ns → n ≡ get_or ns i n → map (name_at s) (drop i ns)
+    ≡ name_at s n ∷ map (name_at s) (drop (i + 1) ns)
 names-rest s ns i n h p = ap (map (name_at s)) (drop-item ns i n h p)
 
 pub names-end : (s : State) (ns : List ℕ) (i : ℕ) → length ns ≤ i → map (name_at s) (drop i ns) ≡ []

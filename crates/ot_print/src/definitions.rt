@@ -2,11 +2,11 @@
 ghost use Rattle.std.specs.Prelude.{◌≡◌, ◌<◌, ◌++◌, codes, length, map};
 ghost use Rattle.std.specs.List.{All};
 ghost use Rattle.ot_kernel.specs.State.{name_at, variable_at, theorem_at};
-ghost use Rattle.ot_kernel.specs.Definitions.{definition_at, theorems_at, pairs_at, IsDefinitionIn, IsHeld};
-ghost use Rattle.ot_kernel.specs.Definitions.{ArePairsIn};
+ghost use Rattle.ot_kernel.specs.Definitions.{definition_at, theorems_at, pairs_at};
+ghost use Rattle.ot_kernel.specs.Definitions.{IsDefinitionIn, IsHeld, ArePairsIn};
 ghost use Rattle.ot_text.specs.Texts.{sequent_text};
-ghost use Rattle.ot_text.specs.Sections.{pair_text, pairs_text, names_text, head_text, theorems_text};
-ghost use Rattle.ot_text.specs.Sections.{definition_text};
+ghost use Rattle.ot_text.specs.Sections.{pair_text, pairs_text, names_text};
+ghost use Rattle.ot_text.specs.Sections.{head_text, theorems_text, definition_text};
 ghost use Rattle.ot_print.specs.Nodes.{IsKey};
 ghost use Rattle.ot_text.specs.Pages.{IsPut, printed};
 

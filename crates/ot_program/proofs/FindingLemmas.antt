@@ -1,6 +1,8 @@
 -- The search for a pattern.
-use Rattle.std.proofs.Common.{◌≡◌, ◌≢◌, ℕ, suc, get_or, take, drop, ◌<◌, ◌≤◌, ◌+◌, ◌-◌, List, [], ◌∷◌, ◌++◌, length, map, refl, sym, ap, subst, ◌∙◌, inl, inr, ◌⊎◌, arith, append-nil, append_assoc}
-use Rattle.std.specs.Prelude.{Bool, true, false, if◌then◌else◌, Option, Some, None, IfSome, IsSomeAnd, Result, Ok, Err, IfOk, IfErr, OnOk, String, string_bytes}
+use Rattle.std.proofs.Common.{◌≡◌, ◌≢◌, ℕ, suc, get_or, take, drop, ◌<◌, ◌≤◌, ◌+◌, ◌-◌, List, [], ◌∷◌, ◌++◌, length}
+use Rattle.std.proofs.Common.{map, refl, sym, ap, subst, ◌∙◌, inl, inr, ◌⊎◌, arith, append-nil, append_assoc}
+use Rattle.std.specs.Prelude.{Bool, true, false, if◌then◌else◌, Option, Some, None, IfSome}
+use Rattle.std.specs.Prelude.{IsSomeAnd, Result, Ok, Err, IfOk, IfErr, OnOk, String, string_bytes}
 use Rattle.std.specs.Global.{Global}
 use Rattle.std.specs.Option.{option_map}
 use Rattle.std.specs.List.{All}
@@ -35,9 +37,18 @@ use Rattle.ot_find.specs.declared.search.Search.{Search}
 use Rattle.ot_read.specs.Lines.{RefusedLine, at_line, term_read}
 use Rattle.ot_text.specs.Laws.{OneSequent, OneSequentInFront}
 use Rattle.ot_program.specs.Texts.{column_line, required_line}
-use Rattle.ot_program.specs.Reply.{FindPattern, ShowReadable, FindStop, InRequired, InRun, InPattern, PackageRun, Searched, Noted, noted, search, search_theory, package_runs, find_at, sources, found, limits, theory_run, theory_shown, noted_at, notation, exports_of, run_lists, stop_status, required_status, find_status, find_line, pattern_path}
-use Rattle.ot_program.specs.Answer.{IsProved, IsSearchFile, OfWalk, OfPackage, IsInputStop, IsFindStop, IsFailedPath, FailedAt, LastInput, LeavesOther}
-use Rattle.ot_program.specs.Verdicts.{ran_from, ending_of, HasEnded, AtStop, AtFailure, IfEnded, IsWalkVerdict, required_in, AreRequired, HasEndedWalk, HasEndedInput, HasEndedPattern, HasEndedRun, HasEndedRuns, HasEndedSearch, IsPattern, runs_in, HasMatches, IsSearched, AreSearched, HasSearched, FoundEndsAs, source_of, IsSaid, End, Finished, Stopped, Failed, IsAnswer, IsEnd, IsPlace, IsNeeded, HasCause, IsStopVerdict, IsTaskVerdict, IsVerdictOn, noted_end}
+use Rattle.ot_program.specs.Reply.{FindPattern, ShowReadable, FindStop, InRequired, InRun, InPattern, PackageRun}
+use Rattle.ot_program.specs.Reply.{Searched, Noted, noted, search, search_theory, package_runs, find_at, sources}
+use Rattle.ot_program.specs.Reply.{found, limits, theory_run, theory_shown, noted_at, notation, exports_of}
+use Rattle.ot_program.specs.Reply.{run_lists, stop_status, required_status, find_status, find_line, pattern_path}
+use Rattle.ot_program.specs.Answer.{IsProved, IsSearchFile, OfWalk, OfPackage, IsInputStop}
+use Rattle.ot_program.specs.Answer.{IsFindStop, IsFailedPath, FailedAt, LastInput, LeavesOther}
+use Rattle.ot_program.specs.Verdicts.{ran_from, ending_of, HasEnded, AtStop, AtFailure, IfEnded, IsWalkVerdict}
+use Rattle.ot_program.specs.Verdicts.{required_in, AreRequired, HasEndedWalk, HasEndedInput, HasEndedPattern}
+use Rattle.ot_program.specs.Verdicts.{HasEndedRun, HasEndedRuns, HasEndedSearch, IsPattern, runs_in}
+use Rattle.ot_program.specs.Verdicts.{HasMatches, IsSearched, AreSearched, HasSearched, FoundEndsAs, source_of}
+use Rattle.ot_program.specs.Verdicts.{IsSaid, End, Finished, Stopped, Failed, IsAnswer, IsEnd, IsPlace}
+use Rattle.ot_program.specs.Verdicts.{IsNeeded, HasCause, IsStopVerdict, IsTaskVerdict, IsVerdictOn, noted_end}
 use Rattle.ot_program.specs.declared.finding.Ending.{Ending}
 use Rattle.ot_program.specs.declared.finding.Ending.TheVariants as endings
 use Rattle.ot_program.specs.declared.report.Verdict.{Verdict}
@@ -50,7 +61,8 @@ use Rattle.ot_program.proofs.Options.{untold, mapped, if_some}
 
 -- ---- answers
 
-pub unmapped : {X Y : Type 0} (f : X → Y) (P : Y → Type 0) (o : Option X) → IfSome (option_map f o) P → IfSome o (λ x. P (f x))
+pub unmapped : {X Y : Type 0} (f : X → Y) (P : Y → Type 0) (o : Option X) → IfSome (option_map f o) P
+    → IfSome o (λ x. P (f x))
 unmapped f P None h = tt
 unmapped f P (Some x) h = h
 
@@ -66,7 +78,8 @@ pub if_ended : (P Q : Verdict → Type 0) (e : Ending) → ((v : Verdict) → P 
 if_ended P Q (endings.Said v) more has = more v has
 if_ended P Q endings.Memory more has = tt
 
-pub err_ended : {X : Type 0} (P Q : Verdict → Type 0) (r : Result X Ending) → ((v : Verdict) → P v → Q v) → IfErr r (IfEnded P)
+pub err_ended : {X : Type 0} (P Q : Verdict → Type 0) (r : Result X Ending) → ((v : Verdict) → P v → Q v)
+    → IfErr r (IfEnded P)
     → IfErr r (IfEnded Q)
 err_ended P Q (Ok x) more has = tt
 err_ended P Q (Err e) more has = if_ended P Q e more has
@@ -111,16 +124,20 @@ module _ (packages path : List ℕ) (folder : Option Folder) (at : Option (List 
       (mapped (λ files. required files limits.theory_bytes packages path) (λ answer. answer ≡ Err r) folder is) theory
       (λ none. no_file (sym refused ∙ none))
 
-  pub walk_ended : (e : RepoFault) → IfSome folder (λ files. Refuses e (required files limits.theory_bytes packages path))
+  pub walk_ended : (e : RepoFault)
+      → IfSome folder (λ files. Refuses e (required files limits.theory_bytes packages path))
       → HasWalkCause e m m' f f' at
-      → IfSome folder (λ files. FailsAt (IsWalked files limits.theory_bytes packages path) e) → (v : Verdict) → IsWalkVerdict e v
+      → IfSome folder (λ files. FailsAt (IsWalked files limits.theory_bytes packages path) e) → (v : Verdict)
+      → IsWalkVerdict e v
       → HasEndedWalk packages path folder at (Rose f f') (Rose m m') v
   walk_ended (repos.Theory p line fault) gives cause fails v said =
       walk_stop (repo.Theory (string_bytes p) line fault) v refl said gives
   walk_ended (repos.TheoryTooLarge p) gives cause fails v said =
       walk_stop (repo.TheoryTooLarge (string_bytes p)) v refl said gives
-  walk_ended (repos.IndexTooLarge p) gives cause fails v said = walk_stop (repo.IndexTooLarge (string_bytes p)) v refl said gives
-  walk_ended (repos.BadIndex p line) gives cause fails v said = walk_stop (repo.BadIndex (string_bytes p) line) v refl said gives
+  walk_ended (repos.IndexTooLarge p) gives cause fails v said =
+      walk_stop (repo.IndexTooLarge (string_bytes p)) v refl said gives
+  walk_ended (repos.BadIndex p line) gives cause fails v said =
+      walk_stop (repo.BadIndex (string_bytes p) line) v refl said gives
   walk_ended (repos.NotInstalled p line) gives cause fails v said =
       walk_stop (repo.NotInstalled (string_bytes p) line) v refl said gives
   walk_ended (repos.RequiresCycle p line) gives cause fails v said =
@@ -130,14 +147,19 @@ module _ (packages path : List ℕ) (folder : Option Folder) (at : Option (List 
       (mapped (λ files. required files limits.theory_bytes packages path)
       (λ answer. answer ≡ Err (repo.Missing (string_bytes p))) folder gives)
       theory (λ none. cause)
-  walk_ended (repos.ReadFault p) gives cause fails v said = AtFailure (string_bytes p) said (theory, (fails, cause.1)) cause.0
+  walk_ended (repos.ReadFault p) gives cause fails v said =
+      AtFailure (string_bytes p) said (theory, (fails, cause.1)) cause.0
   walk_ended repos.Memory gives cause fails v said = absurd said
 
 pub are_required : (packages path : List ℕ) (folder : Option Folder) (fulls : List (List ℕ)) → is_theory path ≡ true
     → IfSome folder (λ files. required files limits.theory_bytes packages path ≡ Ok fulls)
     → AreRequired packages path folder fulls
 are_required packages path folder fulls theory is =
-    inl (theory, mapped (λ files. required files limits.theory_bytes packages path) (λ answer. answer ≡ Ok fulls) folder is)
+    inl (
+      theory,
+      mapped (λ files. required files limits.theory_bytes packages path) (λ answer. answer ≡ Ok fulls)
+          folder is,
+    )
 
 -- ---- the run of the input
 
@@ -149,10 +171,13 @@ pub input_ended : (packages path : List ℕ) (folder : Option Folder)
     → HasEndedInput packages path folder input at P Q v
 input_ended packages path folder input at P Q None ended place cause v said = absurd said
 input_ended packages path folder input at P Q (Some (Finished r)) ended place cause v said = absurd said
-input_ended packages path folder input at P Q (Some (Stopped s)) ended place cause v said = AtStop s said ended place cause
-input_ended packages path folder input at P Q (Some (Failed p)) ended place cause v said = AtFailure p said place cause
+input_ended packages path folder input at P Q (Some (Stopped s)) ended place cause v said =
+    AtStop s said ended place cause
+input_ended packages path folder input at P Q (Some (Failed p)) ended place cause v said =
+    AtFailure p said place cause
 
-pub input_last : (P : Type 0) (o : Option (End Ran Stop)) → IfSome (option_map (noted_end []) o) (λ _. P) → (v : Verdict)
+pub input_last : (P : Type 0) (o : Option (End Ran Stop)) → IfSome (option_map (noted_end []) o) (λ _. P)
+    → (v : Verdict)
     → IsSomeAnd o (IsStopVerdict v) → P
 input_last P None last v said = absurd said
 input_last P (Some e) last v said = last
@@ -179,14 +204,16 @@ cut_at xs k x h is =
 
 pub texts_cut : (xs : List (String Global)) (k : ℕ) (x : String Global) → k < length xs → x ≡ get_or xs k x
     → map string_bytes xs ≡ map string_bytes (take k xs) ++ string_bytes x ∷ map string_bytes (drop (suc k) xs)
-texts_cut xs k x h is = ap (map string_bytes) (cut_at xs k x h is) ∙ map-append string_bytes (take k xs) (x ∷ drop (suc k) xs)
+texts_cut xs k x h is = ap (map string_bytes) (cut_at xs k x h is)
+    ∙ map-append string_bytes (take k xs) (x ∷ drop (suc k) xs)
 
 pub texts_more : (xs : List (String Global)) (k : ℕ) (x : String Global) → k < length xs → x ≡ get_or xs k x
     → map string_bytes (take k xs) ++ string_bytes x ∷ [] ≡ map string_bytes (take (k + 1) xs)
 texts_more xs k x h is =
     let one : suc k ≡ k + 1 = omega arith in
     sym (map-append string_bytes (take k xs) (x ∷ []))
-    ∙ ap (map string_bytes) (sym (take-suc xs k x h ∙ ap (λ y. take k xs ++ y ∷ []) (sym is)) ∙ ap (λ n. take n xs) one)
+    ∙ ap (map string_bytes) (sym (take-suc xs k x h ∙ ap (λ y. take k xs ++ y ∷ []) (sym is))
+    ∙ ap (λ n. take n xs) one)
 
 pub middle_member : (front back : List (List ℕ)) (full : List ℕ) → IsMember full (front ++ full ∷ back)
 middle_member [] back full = inl refl
@@ -248,7 +275,8 @@ module _ (packages : List ℕ) where
     told_more front full rs r before one = go folder before one where
       go : (o : Option Folder) → IfSome (runs_in packages o front) (λ answer. answer ≡ Ok rs)
           → IfSome o (λ files. (theory_run packages (package_path packages full) files).answer ≡ Ok r)
-          → IfSome (runs_in packages o (front ++ full ∷ [])) (λ answer. answer ≡ Ok (rs ++ record { name = full; ran = r } ∷ []))
+          → IfSome (runs_in packages o (front ++ full ∷ []))
+          (λ answer. answer ≡ Ok (rs ++ record { name = full; ran = r } ∷ []))
       go None before one = tt
       go (Some files) before one = runs_more files front full rs r before one
 
@@ -295,7 +323,8 @@ module _ (packages : List ℕ) where
               All-append (λ q. IsProved (run_lists q.ran)) a.runs (r ∷ []) a.proved
               (All-cons (λ q. IsProved (run_lists q.ran)) r [] b.proved (none_all (λ q. IsProved (run_lists q.ran))));
           found_more = λ fs has.
-              subst (HasMatches new) (append_assoc fs (matches p (map source_of a.runs)) (matches_in p full (exports_of b.ran))
+              subst (HasMatches new)
+              (append_assoc fs (matches p (map source_of a.runs)) (matches_in p full (exports_of b.ran))
               ∙ ap (λ ms. fs ++ ms) (sym more))
               (b.found_more (fs ++ matches p (map source_of a.runs)) (a.found_more fs has));
         }
@@ -307,7 +336,8 @@ module _ (packages : List ℕ) where
         → (v : Verdict) → HasEndedRun packages full folder at P Q v
         → HasEndedRuns packages (front ++ full ∷ back) folder at P' Q' v
     runs_ended front back full p old mid at P Q P' Q' failed missed a v (AtStop s said is has cause) =
-        AtStop s said (told_stop front back full a.runs s a.runs_are is) (no_texts front back full) (λ none. missed (cause none))
+        AtStop s said (told_stop front back full a.runs s a.runs_are is) (no_texts front back full)
+        (λ none. missed (cause none))
     runs_ended front back full p old mid at P Q P' Q' failed missed a v (AtFailure file said has cause) =
         AtFailure file said
         (record { full = full; among = middle_member front back full; opened = has.0; last = has.1 }) (failed cause)
@@ -321,34 +351,41 @@ module _ (packages : List ℕ) where
     run_ended path full at P Q None same ended needed cause v said = absurd said
     run_ended path full at P Q (Some (Finished r)) same ended needed cause v said = absurd said
     run_ended path full at P Q (Some (Stopped s)) same ended needed cause v said =
-        let is = subst (λ (z : List ℕ). IfSome folder (λ files. (theory_run packages z files).answer ≡ Err s)) same ended in
+        let is = subst (λ (z : List ℕ). IfSome folder (λ files. (theory_run packages z files).answer ≡ Err s)) same
+        ended in
         AtStop s said
-        (mapped (λ files. (theory_run packages (package_path packages full) files).answer) (λ answer. answer ≡ Err s) folder is)
+        (mapped (λ files. (theory_run packages (package_path packages full) files).answer) (λ answer. answer ≡ Err s)
+        folder is)
         tt cause
     run_ended path full at P Q (Some (Failed file)) same ended needed cause v said =
         let opened = subst (λ (z : List ℕ). IfSome
         (option_map (λ files. (theory_run packages z files).paths) folder) (IsMember file))
         same needed.0 in
         AtFailure file said (
-          unmapped (λ files. (theory_run packages (package_path packages full) files).paths) (IsMember file) folder opened,
+          unmapped (λ files. (theory_run packages (package_path packages full) files).paths) (IsMember file) folder
+              opened,
           needed.1,
         ) cause
 
 -- the same of a path that is the package's
-pub path_answer : (packages : List ℕ) (folder : Option Folder) (o : Option (End Ran Stop)) (path other : List ℕ) → path ≡ other
+pub path_answer : (packages : List ℕ) (folder : Option Folder) (o : Option (End Ran Stop)) (path other : List ℕ)
+    → path ≡ other
     → IfSome folder (λ files. IfSome o (IsAnswer (theory_run packages path files).answer))
     → IfSome folder (λ files. IfSome o (IsAnswer (theory_run packages other files).answer))
 path_answer packages folder o path other same ended =
-    subst (λ (z : List ℕ). IfSome folder (λ files. IfSome o (IsAnswer (theory_run packages z files).answer))) same ended
+    subst (λ (z : List ℕ). IfSome folder (λ files. IfSome o (IsAnswer (theory_run packages z files).answer))) same
+    ended
 
 -- ---- the exports that are searched
 
-pub found_exports : (s : Session) (seen : State) (es : List Export) (ths : List ℕ) → seen ≡ s.kernel → ths ≡ map (λ e. e.th) es
+pub found_exports : (s : Session) (seen : State) (es : List Export) (ths : List ℕ) → seen ≡ s.kernel
+    → ths ≡ map (λ e. e.th) es
     → map (theorem_at seen) ths ≡ exports_of (ran_from s es)
 found_exports s seen es ths same are =
     (λ i. map (theorem_at (same i)) (are i)) ∙ map-map (theorem_at s.kernel) (λ e. e.th) es ∙ sym (exports_are s es)
 
-pub more_found : (p : Tm Name) (source : List ℕ) (old new : Search) (qs rs : List (Sequent Name)) (fs : List Found) → qs ≡ rs
+pub more_found : (p : Tm Name) (source : List ℕ) (old new : Search) (qs rs : List (Sequent Name)) (fs : List Found)
+    → qs ≡ rs
     → new.max ≡ old.max → HasMatches old fs
     → HasFound new (fs ++ matches_in p source qs) → HasMatches new (fs ++ matches_in p source rs)
 more_found p source old new qs rs fs same max h found = record {
@@ -358,7 +395,8 @@ more_found p source old new qs rs fs same max h found = record {
 
 -- ---- the search
 
-theory_last : (path : List ℕ) (folder : Option Folder) (at : Option (List ℕ)) → is_theory path ≡ true → LastInput path folder at
+theory_last : (path : List ℕ) (folder : Option Folder) (at : Option (List ℕ)) → is_theory path ≡ true
+    → LastInput path folder at
 theory_last path folder at theory = rw (no_standard path theory, theory) tt
 
 -- an article requires nothing, so no file is read behind its run
@@ -394,7 +432,8 @@ no_runs (r ∷ rs) fulls each none = let e : r.name ∷ map (λ p. p.name) rs �
 
 module _ (packages pattern path : List ℕ) (folder : Option Folder) (input : Option (List ℕ)) where
   -- by what is required of a theory file
-  required_stop : (r : Refusal) → is_theory path ≡ true → IfSome (required_in packages path folder) (λ answer. answer ≡ Err r)
+  required_stop : (r : Refusal) → is_theory path ≡ true
+      → IfSome (required_in packages path folder) (λ answer. answer ≡ Err r)
       → IfSome (find_at packages pattern path folder input) (λ answer. answer ≡ Err (InRequired r))
   required_stop r theory is = rw theory (go folder is) where
     go : (o : Option Folder) → IfSome (required_in packages path o) (λ answer. answer ≡ Err r)
@@ -405,9 +444,11 @@ module _ (packages pattern path : List ℕ) (folder : Option Folder) (input : Op
   -- behind it, by how the run of the input and those of the packages end
   module _ (fulls : List (List ℕ)) (N : Result Noted Stop → Type 0)
       (R : Result (List PackageRun) Stop → Type 0) (P : Result Searched FindStop → Type 0)
-      (next : (ran : Result Noted Stop) (runs : List (List ℕ) → Result (List PackageRun) Stop) → N ran → R (runs fulls)
+      (next : (ran : Result Noted Stop) (runs : List (List ℕ) → Result (List PackageRun) Stop) → N ran
+      → R (runs fulls)
       → P (search pattern (Ok fulls) ran runs)) where
-    in_theory : (o : Option Folder) → is_theory path ≡ true → IfSome (required_in packages path o) (λ answer. answer ≡ Ok fulls)
+    in_theory : (o : Option Folder) → is_theory path ≡ true
+        → IfSome (required_in packages path o) (λ answer. answer ≡ Ok fulls)
         → IfSome (noted_at packages path o input) N
         → IfSome (runs_in packages o fulls) R → IfSome (option_map (search_theory packages pattern path) o) P
     in_theory None theory is ran runs = tt
@@ -415,17 +456,20 @@ module _ (packages pattern path : List ℕ) (folder : Option Folder) (input : Op
         let ended : N (noted (theory_shown path files).answer (theory_run packages path files).answer) =
         rw (no_standard path theory, theory) at ran in
         subst (λ (r : Result (List (List ℕ)) Refusal). P (search pattern r
-        (noted (theory_shown path files).answer (theory_run packages path files).answer) (package_runs packages files)))
+        (noted (theory_shown path files).answer (theory_run packages path files).answer)
+        (package_runs packages files)))
         (sym is)
         (next (noted (theory_shown path files).answer (theory_run packages path files).answer)
         (package_runs packages files) ended runs)
 
     in_article : fulls ≡ [] → IfSome (noted_at packages path folder input) N → R (Ok [])
-        → IfSome (option_map (λ ran. search pattern (Ok []) ran (λ fs. Ok [])) (noted_at packages path folder input)) P
+        → IfSome (option_map (λ ran. search pattern (Ok []) ran (λ fs. Ok [])) (noted_at packages path folder input))
+        P
     in_article none ran runs =
         mapped (λ ran. search pattern (Ok []) ran (λ fs. Ok [])) P (noted_at packages path folder input)
         (if_some N (λ r. P (search pattern (Ok []) r (λ fs. Ok []))) (noted_at packages path folder input)
-        (λ r n. subst (λ (fs : List (List ℕ)). P (search pattern (Ok fs) r (λ gs. Ok []))) none (next r (λ fs. Ok []) n runs))
+        (λ r n. subst (λ (fs : List (List ℕ)). P (search pattern (Ok fs) r (λ gs. Ok []))) none
+        (next r (λ fs. Ok []) n runs))
         ran)
 
     told_search : AreRequired packages path folder fulls → IfSome (noted_at packages path folder input) N
@@ -492,7 +536,8 @@ module _ (packages pattern path : List ℕ) (folder : Option Folder) (input : Op
         → HasEndedSearch packages pattern path folder input at P' Q' v
     input_ends at P Q P' Q' failed missed v (AtStop s said is own cause) =
         AtStop (InRun s) said (run_stop fulls required s is) own (λ none. missed (cause none))
-    input_ends at P Q P' Q' failed missed v (AtFailure file said has cause) = AtFailure file said (inl has) (failed cause)
+    input_ends at P Q P' Q' failed missed v (AtFailure file said has cause) =
+        AtFailure file said (inl has) (failed cause)
 
     module _ (n : Noted) (ran : IfSome (noted_at packages path folder input) (λ answer. answer ≡ Ok n)) where
       pub pattern_ends : (at : Option (List ℕ)) (P Q : Type 0) (v : Verdict) → HasEndedPattern n pattern v
@@ -506,7 +551,8 @@ module _ (packages pattern path : List ℕ) (folder : Option Folder) (input : Op
           → HasEndedRuns packages fulls folder at (Rose f f') (Rose m m') v
           → HasEndedSearch packages pattern path folder input at (FailedAt path i j F f') (Rose M m') v
       runs_end p is_p at m m' M f f' F i j failed missed v ended = go required v ended where
-        of_package : (o : Option Folder) (file full : List ℕ) → IfSome (required_in packages path o) (λ answer. answer ≡ Ok fulls)
+        of_package : (o : Option Folder) (file full : List ℕ)
+            → IfSome (required_in packages path o) (λ answer. answer ≡ Ok fulls)
             → IsMember full fulls
             → IfSome o (λ files. IsMember file (theory_run packages (package_path packages full) files).paths)
             → IfSome o (λ files. IsSearchFile packages path files file)
@@ -523,13 +569,15 @@ module _ (packages pattern path : List ℕ) (folder : Option Folder) (input : Op
             AtStop (InRun s) said (runs_stop_search fulls required n ran p is_p.is_read s some is)
             (theory_stop path s theory.0) (λ none. missed (cause none))
         go (inl theory) v (AtFailure file said has cause) =
-            AtFailure file said (inr (theory.0, of_package folder file has.full theory.1 has.among has.opened, has.last))
+            AtFailure file said
+            (inr (theory.0, of_package folder file has.full theory.1 has.among has.opened, has.last))
             (theory_failed path i j F f' theory.0 (failed cause))
         go (inr article) v (AtStop s said is some cause) = absurd (some article.1)
         go (inr article) v (AtFailure file said has cause) = absurd (in_none has.full has.among article.1)
 
       -- it came to its end
-      pub has_searched : MatchesAreThose → MatchesOfOneMore → (p : Tm Name) → IsPattern n pattern p → (start mid end : Search)
+      pub has_searched : MatchesAreThose → MatchesOfOneMore → (p : Tm Name) → IsPattern n pattern p
+          → (start mid end : Search)
           → IsProved (run_lists n.ran) → HasMatches start []
           → AreSearched packages fulls folder p start mid
           → ((fs : List Found) → HasMatches mid fs → HasMatches end (fs ++ matches_in p path (exports_of n.ran)))
@@ -546,7 +594,8 @@ module _ (packages pattern path : List ℕ) (folder : Option Folder) (input : Op
               proved = a.proved;
             };
             found =
-                subst (HasMatches end) (sym (more p (map source_of a.runs) (record { name = path; exports = exports_of n.ran })))
+                subst (HasMatches end)
+                (sym (more p (map source_of a.runs) (record { name = path; exports = exports_of n.ran })))
                 (last (matches p (map source_of a.runs)) (a.found_more [] empty));
           }
 
@@ -560,9 +609,11 @@ module _ (packages pattern path : List ℕ) (folder : Option Folder) (input : Op
     pub place : IsPlace (FindPattern packages pattern path) folder at end
     pub cause : HasCause find_status P Q end
 
-  pub ended_end : (at : Option (List ℕ)) (P Q : Type 0) (v : Verdict) → HasEndedSearch packages pattern path folder input at P Q v
+  pub ended_end : (at : Option (List ℕ)) (P Q : Type 0) (v : Verdict)
+      → HasEndedSearch packages pattern path folder input at P Q v
       → HasEnd at P Q v
-  ended_end at P Q v (AtStop s said is own cause) = record { end = Stopped s; on = said; told = is; place = own; cause = cause }
+  ended_end at P Q v (AtStop s said is own cause) =
+      record { end = Stopped s; on = said; told = is; place = own; cause = cause }
   ended_end at P Q v (AtFailure file said has cause) = record {
     end = Failed file;
     on = said;
@@ -577,7 +628,13 @@ module _ (packages pattern path : List ℕ) (folder : Option Folder) (input : Op
       → FoundEndsAs path (found path h.made) v → HasEnd at P Q v
   found_end at P Q search h one front v ends = record {
     end = Finished h.made;
-    on = record { ends = ends; proved = h.proved; promised = λ fit. h.promised; one_text = one; one_in_front = front };
+    on = record {
+      ends = ends;
+      proved = h.proved;
+      promised = λ fit. h.promised;
+      one_text = one;
+      one_in_front = front;
+    };
     told = h.ended;
     place = tt;
     cause = tt;
@@ -590,9 +647,12 @@ module _ (packages pattern path : List ℕ) (folder : Option Folder) (input : Op
       h.on h.told h.place h.cause last
 
   -- an ending of the search, counted from before what came before it
-  pub search_later : {X : Type 0} (at : Option (List ℕ)) (i j f0 f1 f2 m0 m1 m2 : ℕ) (r : Result X Ending) → f0 ≤ f1 → m0 ≤ m1
-      → IfErr r (IfEnded (HasEndedSearch packages pattern path folder input at (FailedAt path i j f1 f2) (Rose m1 m2)))
-      → IfErr r (IfEnded (HasEndedSearch packages pattern path folder input at (FailedAt path i j f0 f2) (Rose m0 m2)))
+  pub search_later : {X : Type 0} (at : Option (List ℕ)) (i j f0 f1 f2 m0 m1 m2 : ℕ) (r : Result X Ending) → f0 ≤ f1
+      → m0 ≤ m1
+      → IfErr r
+      (IfEnded (HasEndedSearch packages pattern path folder input at (FailedAt path i j f1 f2) (Rose m1 m2)))
+      → IfErr r
+      (IfEnded (HasEndedSearch packages pattern path folder input at (FailedAt path i j f0 f2) (Rose m0 m2)))
   search_later at i j f0 f1 f2 m0 m1 m2 r faults misses =
       err_ended (HasEndedSearch packages pattern path folder input at (FailedAt path i j f1 f2) (Rose m1 m2))
       (HasEndedSearch packages pattern path folder input at (FailedAt path i j f0 f2) (Rose m0 m2)) r

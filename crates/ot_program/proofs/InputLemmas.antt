@@ -22,7 +22,8 @@ use Rattle.ot_link.specs.Answers.{Comes, ran_of, IsOfArticle, HasFailed, HasCaus
 use Rattle.ot_link.specs.declared.fault.LinkFault.{LinkFault}
 use Rattle.ot_link.specs.declared.fault.LinkFault.TheVariants as faults
 use Rattle.ot_program.specs.Reply.{limits, article_limit, start, outcome, theory_run, stop_status}
-use Rattle.ot_program.specs.Verdicts.{End, Stopped, end_of, IsAnswer, IsOwnEnd, IsNeeded, HasCause, IsLawfulEnd, IsLawfulEnds}
+use Rattle.ot_program.specs.Verdicts.{End, Stopped, end_of, IsAnswer, IsOwnEnd}
+use Rattle.ot_program.specs.Verdicts.{IsNeeded, HasCause, IsLawfulEnd, IsLawfulEnds}
 
 -- ---- theory files
 
@@ -39,12 +40,15 @@ unfolding limits
 limits_are l same = same
 
 -- a link with the limits of the program
-linked : (s : Session) (r : Result (Vec Export Global) LinkFault) (packages path : List ℕ) (folder : Folder) (l : Limits)
-    → l ≡ limits → Comes s.kernel (ran_of s) r (link (record { folder = folder; packages = packages; limits = l }) path)
+linked : (s : Session) (r : Result (Vec Export Global) LinkFault) (packages path : List ℕ) (folder : Folder)
+    (l : Limits)
+    → l ≡ limits
+    → Comes s.kernel (ran_of s) r (link (record { folder = folder; packages = packages; limits = l }) path)
     → Comes s.kernel (ran_of s) r (theory_run packages path folder)
 unfolding theory_run
 linked s r packages path folder l same comes =
-    subst (λ (m : Limits). Comes s.kernel (ran_of s) r (link (record { folder = folder; packages = packages; limits = m }) path))
+    subst (λ (m : Limits). Comes s.kernel (ran_of s) r
+    (link (record { folder = folder; packages = packages; limits = m }) path))
     same comes
 
 pub theory_comes : (s : Session) (r : Result (Vec Export Global) LinkFault)
@@ -56,7 +60,8 @@ pub theory_comes : (s : Session) (r : Result (Vec Export Global) LinkFault)
 theory_comes s r packages path None l same comes = tt
 theory_comes s r packages path (Some files) l same comes = linked s r packages path files l same comes
 
-comes_answer : (s : Session) (r : Result (Vec Export Global) LinkFault) (l : Linked Ran) → Comes s.kernel (ran_of s) r l
+comes_answer : (s : Session) (r : Result (Vec Export Global) LinkFault) (l : Linked Ran)
+    → Comes s.kernel (ran_of s) r l
     → IfSome (end_of s r) (IsAnswer l.answer)
 comes_answer s (Ok exports) l comes = comes
 comes_answer s (Err (faults.Article path line fault)) l comes = rw comes.1 comes.2
@@ -68,14 +73,16 @@ comes_answer s (Err (faults.ReadFault path)) l comes = tt
 comes_answer s (Err faults.Memory) l comes = tt
 
 -- the run of a theory file answers what is stated
-pub theory_answer : (s : Session) (r : Result (Vec Export Global) LinkFault) (packages path : List ℕ) (folder : Option Folder)
+pub theory_answer : (s : Session) (r : Result (Vec Export Global) LinkFault) (packages path : List ℕ)
+    (folder : Option Folder)
     → IfSome folder (λ files. Comes s.kernel (ran_of s) r (theory_run packages path files))
     → IfSome folder (λ files. IfSome (end_of s r) (IsAnswer (theory_run packages path files).answer))
 theory_answer s r packages path None comes = tt
 theory_answer s r packages path (Some files) comes = comes_answer s r (theory_run packages path files) comes
 
 -- the faults of articles are no failures
-no_failure : (files : Option (List (List ℕ))) (at : Option (List ℕ)) (o : Option (Fault Name)) (path : List ℕ) (line : ℕ)
+no_failure : (files : Option (List (List ℕ))) (at : Option (List ℕ)) (o : Option (Fault Name)) (path : List ℕ)
+    (line : ℕ)
     → IfSome (option_map (λ f. Stopped (InArticle path line f)) o) (IsNeeded files at)
 no_failure files at None path line = tt
 no_failure files at (Some f) path line = tt
@@ -127,16 +134,19 @@ theory_cause s (Err faults.Memory) at m m' f f' cause = tt
 
 -- ---- an article on its own
 
-alone_bytes : (s : Session) (r : Result (Vec Export Global) LinkFault) (path bytes : List ℕ) (max : ℕ) → max ≡ article_limit
+alone_bytes : (s : Session) (r : Result (Vec Export Global) LinkFault) (path bytes : List ℕ) (max : ℕ)
+    → max ≡ article_limit
     → Comes s.kernel (ran_of s) r (answered_by path (article_end path (run no_context (lines_of max bytes) start)))
     → IfSome (end_of s r) (IsAnswer (article_end path (outcome bytes)))
 alone_bytes s r path bytes max limit comes =
     comes_answer s r (answered_by path (article_end path (outcome bytes)))
-    (subst (λ n. Comes s.kernel (ran_of s) r (answered_by path (article_end path (run no_context (lines_of n bytes) start))))
+    (subst (λ n. Comes s.kernel (ran_of s) r
+    (answered_by path (article_end path (run no_context (lines_of n bytes) start))))
     limit comes)
 
 -- it answers what is stated
-pub alone_answer : (s : Session) (r : Result (Vec Export Global) LinkFault) (path : List ℕ) (left : Option (List ℕ)) (max : ℕ)
+pub alone_answer : (s : Session) (r : Result (Vec Export Global) LinkFault) (path : List ℕ) (left : Option (List ℕ))
+    (max : ℕ)
     → max ≡ article_limit
     → IfSome left (λ bytes. Comes s.kernel (ran_of s) r
     (answered_by path (article_end path (run no_context (lines_of max bytes) start))))
@@ -145,7 +155,8 @@ alone_answer s r path None max limit comes = tt
 alone_answer s r path (Some bytes) max limit comes = alone_bytes s r path bytes max limit comes
 
 own_article : (o : Option (Fault Name)) (p path : List ℕ) (line : ℕ) → p ≡ path
-    → let ended : Option (End Ran Stop) = option_map (λ f. Stopped (InArticle p line f)) o in IfSome ended (IsOwnEnd path)
+    → let ended : Option (End Ran Stop) = option_map (λ f. Stopped (InArticle p line f)) o in
+    IfSome ended (IsOwnEnd path)
 own_article None p path line is = tt
 own_article (Some f) p path line is = is
 
@@ -162,10 +173,12 @@ alone_own s (Err (faults.ReadFault p)) path own = own
 alone_own s (Err faults.Memory) path own = tt
 
 -- and fails only where its source does
-pub alone_cause : (s : Session) (r : Result (Vec Export Global) LinkFault) (path : List ℕ) (f f' : ℕ) → IfErr r (IsOfArticle path)
+pub alone_cause : (s : Session) (r : Result (Vec Export Global) LinkFault) (path : List ℕ) (f f' : ℕ)
+    → IfErr r (IsOfArticle path)
     → IfErr r (λ e. HasFailed e f f') → IfSome (end_of s r) (HasCause stop_status (Rose f f') ⊥)
 alone_cause s (Ok exports) path f f' own cause = tt
-alone_cause s (Err (faults.Article p line fault)) path f f' own cause = article_cause _ (string_bytes p) line (Rose f f') ⊥
+alone_cause s (Err (faults.Article p line fault)) path f f' own cause =
+    article_cause _ (string_bytes p) line (Rose f f') ⊥
 alone_cause s (Err (faults.Theory p line fault)) path f f' own cause = absurd own
 alone_cause s (Err (faults.Structure p line fault)) path f f' own cause = absurd own
 alone_cause s (Err (faults.TheoryTooLarge p)) path f f' own cause = absurd own
@@ -176,7 +189,8 @@ alone_cause s (Err faults.Memory) path f f' own cause = tt
 -- ---- what is lawful
 
 pub lawful_ends : (s : Session) (es : List Export) → IsLawfulSession s → AreLawfulOnce s es → IsLawfulEnds s es
-lawful_ends s es run once = record { run = run; exports = once.exports.lawful; stated = once.exports.stated; apart = once.apart }
+lawful_ends s es run once =
+    record { run = run; exports = once.exports.lawful; stated = once.exports.stated; apart = once.apart }
 
 pub lawful_end : {E : Type 0} (s : Session) (r : Result (Vec Export Global) E) → IsLawfulSession s
     → IfOk r (λ es. AreLawfulOnce s es.items) → IfOk r (IsLawfulEnd s)

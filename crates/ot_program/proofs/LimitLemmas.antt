@@ -12,7 +12,8 @@ use Rattle.ot_program.specs.declared.status.Status.TheVariants.{Accepted, Refuse
 
 -- the text is said to be accepted where it is within the limit, and else the line says that it isn't
 abbrev pub IsLimited : (text line : List ℕ) → Verdict → Type 0
-IsLimited text line v = MatchBool (nat_le (length text) summary_limit) (IsSaid v Accepted text) (IsSaid v Refused line)
+IsLimited text line v = MatchBool (nat_le (length text) summary_limit) (IsSaid v Accepted text)
+    (IsSaid v Refused line)
 
 pub text_printed : (text line : List ℕ) (max : ℕ) (old : List ℕ) (v : Verdict) → max ≡ summary_limit → old ≡ []
     → v.status ≡ Accepted → Appended text max old v.text.items → IsLimited text line v

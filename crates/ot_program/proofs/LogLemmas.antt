@@ -19,7 +19,8 @@ log_proved p proved = record {
 }
 
 -- the verdict on a log that ends
-pub log_ended : {E : Type 0} (path : List ℕ) (p : Proved) (a : Result Verdict E) → IfOk a (EndsAs (CheckLog path) p) → AreProved p
+pub log_ended : {E : Type 0} (path : List ℕ) (p : Proved) (a : Result Verdict E) → IfOk a (EndsAs (CheckLog path) p)
+    → AreProved p
     → OneSequent → OneSequentInFront → IfOk a (IsVerdictOf (CheckLog path) (Some (Finished p)))
 log_ended path p (Err e) ends proved one front = tt
 log_ended path p (Ok v) ends proved one front =
@@ -52,4 +53,5 @@ pub file_end : (path : List ℕ) (folder : Option Folder) (left : Option (List �
     → IfSome folder (λ files. IfSome o (IsAnswer (check_file path files)))
 file_end path None left o gives ends = tt
 file_end path (Some files) left o gives ends =
-    rw gives.1 (subst (λ (l : Option (List ℕ)). IfSome l (λ bytes. IfSome o (IsAnswer (check_bytes bytes)))) gives.2 ends)
+    rw gives.1
+    (subst (λ (l : Option (List ℕ)). IfSome l (λ bytes. IfSome o (IsAnswer (check_bytes bytes)))) gives.2 ends)

@@ -1,6 +1,8 @@
 -- The run of an input with its notation.
-use Rattle.std.proofs.Common.{◌≡◌, ℕ, ◌<◌, ◌≤◌, List, [], length, map, refl, sym, ap, subst, ◌∙◌, inl, inr, ◌⊎◌, arith}
-use Rattle.std.specs.Prelude.{min, ◌+◌, Bool, true, false, codes, nat_le, MatchBool, Option, Some, None, IfSome, IsSomeAnd, Result, Ok, Err, IfOk, OnOk, Vec, String}
+use Rattle.std.proofs.Common.{◌≡◌, ℕ, ◌<◌, ◌≤◌, List, [], length, map, refl}
+use Rattle.std.proofs.Common.{sym, ap, subst, ◌∙◌, inl, inr, ◌⊎◌, arith}
+use Rattle.std.specs.Prelude.{min, ◌+◌, Bool, true, false, codes, nat_le, MatchBool, Option, Some}
+use Rattle.std.specs.Prelude.{None, IfSome, IsSomeAnd, Result, Ok, Err, IfOk, OnOk, Vec, String}
 use Rattle.std.specs.Global.{Global}
 use Rattle.std.specs.Option.{option_map}
 use Rattle.std.specs.Prelude.{string_bytes}
@@ -29,9 +31,12 @@ use Rattle.ot_text.specs.Pages.{Appended}
 use Rattle.ot_text.specs.Laws.{OneSequent, OneSequentInFront}
 use Rattle.ot_pretty.specs.Summary.{ReadBack, hidden_in_run, readable_summary, hidden_at, summary_at}
 use Rattle.ot_program.specs.Texts.{large_line}
-use Rattle.ot_program.specs.Reply.{RunInput, ShowReadable, Noted, limits, theory_shown, shown_at, noted_told, opened_first, opened_at, is_standard, readable, notation, assumptions_of, definitions_of, exports_of, run_lists, summary_limit, stop_status}
+use Rattle.ot_program.specs.Reply.{RunInput, ShowReadable, Noted, limits, theory_shown, shown_at, noted_told}
+use Rattle.ot_program.specs.Reply.{opened_first, opened_at, is_standard, readable, notation, assumptions_of}
+use Rattle.ot_program.specs.Reply.{definitions_of, exports_of, run_lists, summary_limit, stop_status}
 use Rattle.ot_program.specs.Answer.{IsProved, IsInputStop, FailedAt, LastInput, LeavesOther, KeepsFiles, AreReadBack}
-use Rattle.ot_program.specs.Verdicts.{End, Finished, Stopped, Failed, ran_from, noted_from, noted_end, end_at, IsAnswer, IsPlace, HasCause, IsSaid, IsStopVerdict, IsVerdictOf, ReadableEndsAs}
+use Rattle.ot_program.specs.Verdicts.{End, Finished, Stopped, Failed, ran_from, noted_from, noted_end, end_at}
+use Rattle.ot_program.specs.Verdicts.{IsAnswer, IsPlace, HasCause, IsSaid, IsStopVerdict, IsVerdictOf, ReadableEndsAs}
 use Rattle.ot_program.specs.declared.report.Verdict.{Verdict}
 use Rattle.ot_program.specs.declared.status.Status.TheVariants.{Accepted, Refused}
 use Rattle.ot_program.specs.declared.task.View.{View}
@@ -49,17 +54,20 @@ theory_comes : (r : Result (Vec Name Global) LinkFault) (path : List ℕ) (folde
     → (k : State) → Comes k (λ ns. ns.items) r (theory_shown path folder)
 unfolding theory_shown
 theory_comes r path folder l same comes k =
-    subst (λ (m : Limits). Comes k (λ ns. ns.items) r (shown (record { folder = folder; packages = []; limits = m }) path))
+    subst (λ (m : Limits). Comes k (λ ns. ns.items) r
+    (shown (record { folder = folder; packages = []; limits = m }) path))
     same (comes k)
 
-told_comes : (r : Result (Vec Name Global) LinkFault) (path : List ℕ) (folder : Option Folder) (l : Limits) → l ≡ limits
+told_comes : (r : Result (Vec Name Global) LinkFault) (path : List ℕ) (folder : Option Folder) (l : Limits)
+    → l ≡ limits
     → IfSome folder (λ files. (k : State)
     → Comes k (λ ns. ns.items) r (shown (record { folder = files; packages = []; limits = l }) path))
     → IfSome (option_map (theory_shown path) folder) (λ x. (k : State) → Comes k (λ ns. ns.items) r x)
 told_comes r path None l same comes = tt
 told_comes r path (Some files) l same comes = theory_comes r path files l same comes
 
-pub shown_comes : (r : Result (Vec Name Global) LinkFault) (path : List ℕ) (folder : Option Folder) (l : Limits) → l ≡ limits
+pub shown_comes : (r : Result (Vec Name Global) LinkFault) (path : List ℕ) (folder : Option Folder) (l : Limits)
+    → l ≡ limits
     → is_theory path ≡ true
     → IfSome folder (λ files. (k : State)
     → Comes k (λ ns. ns.items) r (shown (record { folder = files; packages = []; limits = l }) path))
@@ -92,13 +100,15 @@ ends k names (Some x) (Some l) (Some (Stopped s)) shows ended = rw (shows k, end
 ends k names (Some x) (Some l) (Some (Failed path)) shows ended = tt
 
 -- by a stop of what is shown
-stop_told : (xs : Option (Linked (List Name))) (ran : Option (Linked Ran)) (s : Stop) → IfSome xs (λ x. x.answer ≡ Err s)
+stop_told : (xs : Option (Linked (List Name))) (ran : Option (Linked Ran)) (s : Stop)
+    → IfSome xs (λ x. x.answer ≡ Err s)
     → IfSome (noted_told xs ran) (λ answer. answer ≡ Err s)
 stop_told None ran s is = tt
 stop_told (Some x) None s is = tt
 stop_told (Some x) (Some l) s is = rw is refl
 
-article_stop : (x : Linked (List Name)) (ran : Option (Linked Ran)) (path : List ℕ) (line : ℕ) (o : Option (Fault Name))
+article_stop : (x : Linked (List Name)) (ran : Option (Linked Ran)) (path : List ℕ) (line : ℕ)
+    (o : Option (Fault Name))
     → (f : Fault Name) × (o ≡ Some f) × (x.answer ≡ Err (InArticle path line f))
     → let ended : Option (End Ran Stop) = option_map (λ f. Stopped (InArticle path line f)) o in
     IfSome (option_map (noted_end []) ended) (λ e. IfSome (noted_told (Some x) ran) (λ answer. IsAnswer answer e))
@@ -108,7 +118,8 @@ pub stops : (k : State) (e : LinkFault) (xs : Option (Linked (List Name))) (ran 
     → IfSome xs (λ x. (k : State) → Comes k (λ (ns : Vec Name Global). ns.items) (Err e) x)
     → IfSome (option_map (noted_end []) (end_at k e)) (λ e. IfSome (noted_told xs ran) (λ answer. IsAnswer answer e))
 stops k e None ran comes = never_told (option_map (noted_end []) (end_at k e)) where
-  never_told : (o : Option (End Noted Stop)) → IfSome o (λ e. IfSome (noted_told None ran) (λ answer. IsAnswer answer e))
+  never_told : (o : Option (End Noted Stop))
+      → IfSome o (λ e. IfSome (noted_told None ran) (λ answer. IsAnswer answer e))
   never_told None = tt
   never_told (Some e) = tt
 stops k (faults.Article path line fault) (Some x) ran comes = article_stop x ran (string_bytes path) line _ (comes k)
@@ -138,7 +149,8 @@ same_stop ns k faults.Memory = refl
 
 -- ---- its place
 
-later_member : (p : List ℕ) (xs : Option (Linked (List Name))) (paths : Option (List (List ℕ))) → IfSome paths (IsMember p)
+later_member : (p : List ℕ) (xs : Option (Linked (List Name))) (paths : Option (List (List ℕ)))
+    → IfSome paths (IsMember p)
     → IfSome (opened_first xs paths) (IsMember p)
 later_member p None paths is = tt
 later_member p (Some x) None is = tt
@@ -228,9 +240,11 @@ causes names P Q P' Q' (Some (Stopped s)) failed missed cause = λ is. missed (c
 causes names P Q P' Q' (Some (Failed p)) failed missed cause = failed cause
 
 -- of a stop before the run
-pub stop_causes : (s : Session) (e : LinkFault) (path : List ℕ) (at : Option (List ℕ)) (m m' f f' i j : ℕ) → is_theory path ≡ true
+pub stop_causes : (s : Session) (e : LinkFault) (path : List ℕ) (at : Option (List ℕ)) (m m' f f' i j : ℕ)
+    → is_theory path ≡ true
     → HasLinkCause e m m' f f' at
-    → IfSome (option_map (noted_end []) (end_at s.kernel e)) (HasCause stop_status (FailedAt path i j f f') (Rose m m'))
+    → IfSome (option_map (noted_end []) (end_at s.kernel e))
+    (HasCause stop_status (FailedAt path i j f f') (Rose m m'))
 stop_causes s e path at m m' f f' i j theory cause =
     causes [] (Rose f f') (Rose m m') (FailedAt path i j f f') (Rose m m') (end_at s.kernel e)
     (λ r. rw (no_standard path theory) r) (λ r. r) (theory_cause s (Err e) at m m' f f' cause)
@@ -273,14 +287,16 @@ stop_verdict_on packages path names v (Some (Finished r)) said = absurd said
 stop_verdict_on packages path names v (Some (Stopped s)) said = said
 stop_verdict_on packages path names v (Some (Failed p)) said = said
 
-pub stop_verdict : {E : Type 0} (packages path : List ℕ) (names : List Name) (a : Result Verdict E) (o : Option (End Ran Stop))
+pub stop_verdict : {E : Type 0} (packages path : List ℕ) (names : List Name) (a : Result Verdict E)
+    (o : Option (End Ran Stop))
     → IfOk a (λ v. IsSomeAnd o (IsStopVerdict v))
     → IfOk a (IsVerdictOf (ShowReadable packages path) (option_map (noted_end names) o))
 stop_verdict packages path names (Err e) o said = tt
 stop_verdict packages path names (Ok v) o said = stop_verdict_on packages path names v o said
 
 -- on a run that ended
-pub end_verdict : {E : Type 0} (packages path : List ℕ) (n : Noted) (a : Result Verdict E) → IfOk a (ReadableEndsAs path n)
+pub end_verdict : {E : Type 0} (packages path : List ℕ) (n : Noted) (a : Result Verdict E)
+    → IfOk a (ReadableEndsAs path n)
     → OnOk a (nat_le (length (readable n)) summary_limit ≡ true → AreReadBack n)
     → IsProved (run_lists n.ran) → OneSequent → OneSequentInFront
     → IfOk a (IsVerdictOf (ShowReadable packages path) (Some (Finished n)))
@@ -298,7 +314,8 @@ end_verdict packages path n (Ok v) said back proved one front = record {
 module _ (names : List Name) (s : Session) (seen : State) (es : List Export) (ths : List ℕ)
     (r : IsRun s) (same : seen ≡ s.kernel) (are : ths ≡ map (λ e. e.th) es) where
   exports : map (theorem_at seen) ths ≡ exports_of (ran_from s es)
-  exports = (λ i. map (theorem_at (same i)) (are i)) ∙ map-map (theorem_at s.kernel) (λ e. e.th) es ∙ sym (exports_are s es)
+  exports = (λ i. map (theorem_at (same i)) (are i)) ∙ map-map (theorem_at s.kernel) (λ e. e.th) es
+      ∙ sym (exports_are s es)
 
   assumptions : seen.assumptions ≡ assumptions_of (ran_from s es)
   assumptions = ap (λ k. k.assumptions) same ∙ sym (assumptions_are s es r)
@@ -311,7 +328,8 @@ module _ (names : List Name) (s : Session) (seen : State) (es : List Export) (th
   notation_is = λ i. hidden_in_run names (assumptions i) (exports i) (definitions i)
 
   text_is : summary_at seen (hidden_at seen names ths) ths ≡ readable (noted_from names s es)
-  text_is = λ i. readable_summary (hidden_in_run names (assumptions i) (exports i) (definitions i)) (assumptions i) (exports i)
+  text_is = λ i. readable_summary (hidden_in_run names (assumptions i) (exports i) (definitions i)) (assumptions i)
+      (exports i)
 
   pub read_back : ReadBack (hidden_at seen names ths) seen.assumptions (map (theorem_at seen) ths)
       → AreReadBack (noted_from names s es)
@@ -321,7 +339,8 @@ module _ (names : List Name) (s : Session) (seen : State) (es : List Export) (th
       (λ i. (assumptions i, exports i, definitions i)) back
 
   -- where it was printed it is accepted
-  pub printed : (path : List ℕ) (max : ℕ) (old : List ℕ) (v : Verdict) → max ≡ summary_limit → old ≡ [] → v.status ≡ Accepted
+  pub printed : (path : List ℕ) (max : ℕ) (old : List ℕ) (v : Verdict) → max ≡ summary_limit → old ≡ []
+      → v.status ≡ Accepted
       → Appended (summary_at seen (hidden_at seen names ths) ths) max old v.text.items
       → ReadableEndsAs path (noted_from names s es) v
   printed path max old v limit empty status put =
@@ -339,23 +358,27 @@ module _ (names : List Name) (s : Session) (seen : State) (es : List Export) (th
   -- and then nothing is promised
   pub unpromised : {E : Type 0} (max : ℕ) (a : Result Verdict E) → max ≡ summary_limit
       → max < length (summary_at seen (hidden_at seen names ths) ths)
-      → OnOk a (nat_le (length (readable (noted_from names s es))) summary_limit ≡ true → AreReadBack (noted_from names s es))
+      → OnOk a (nat_le (length (readable (noted_from names s es))) summary_limit ≡ true
+      → AreReadBack (noted_from names s es))
   unpromised max (Err e) limit past = tt
-  unpromised max (Ok v) limit past = λ fit. absurd (not_both _ (subst (λ (t : List ℕ). max < length t) text_is past) fit) where
-    not_both : (n : ℕ) → max < n → nat_le n summary_limit ≡ true → ⊥
-    not_both n h fit =
-        let k : nat_le n summary_limit ≡ false =
-        too_long n summary_limit (omega arith) in
-        let e : true ≡ false = sym fit ∙ k in cc
+  unpromised max (Ok v) limit past =
+      λ fit. absurd (not_both _ (subst (λ (t : List ℕ). max < length t) text_is past) fit) where
+        not_both : (n : ℕ) → max < n → nat_le n summary_limit ≡ true → ⊥
+        not_both n h fit =
+            let k : nat_le n summary_limit ≡ false =
+            too_long n summary_limit (omega arith) in
+            let e : true ≡ false = sym fit ∙ k in cc
 
 -- ---- the devices
 
-pub leaves : {F S : Type 0} (path : List ℕ) (f g h : F) (i j : S) → (is_theory path ≡ true) ⊎ (g ≡ f) → LeavesOther path g h i j
+pub leaves : {F S : Type 0} (path : List ℕ) (f g h : F) (i j : S) → (is_theory path ≡ true) ⊎ (g ≡ f)
+    → LeavesOther path g h i j
     → LeavesOther path f h i j
 leaves path f g h i j (inl theory) other = rw (no_standard path theory) (rw (no_standard path theory) at other)
 leaves path f g h i j (inr same) other = subst (λ x. LeavesOther path x h i j) same other
 
-closes : {F : Type 0} (left : F → Option (List ℕ)) (f g h : F) → (g ≡ f) ⊎ (left g ≡ Some []) → (h ≡ g) ⊎ (left h ≡ Some [])
+closes : {F : Type 0} (left : F → Option (List ℕ)) (f g h : F) → (g ≡ f) ⊎ (left g ≡ Some [])
+    → (h ≡ g) ⊎ (left h ≡ Some [])
     → (h ≡ f) ⊎ (left h ≡ Some [])
 closes left f g h (inl a) (inl b) = inl (b ∙ a)
 closes left f g h (inr a) (inl b) = inr (ap left b ∙ a)

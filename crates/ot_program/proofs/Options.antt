@@ -7,7 +7,8 @@ pub if_some : {X : Type 0} (P Q : X → Type 0) (o : Option X) → ((x : X) → 
 if_some P Q None then holds = tt
 if_some P Q (Some x) then holds = then x holds
 
-pub mapped : {X Y : Type 0} (f : X → Y) (P : Y → Type 0) (o : Option X) → IfSome o (λ x. P (f x)) → IfSome (option_map f o) P
+pub mapped : {X Y : Type 0} (f : X → Y) (P : Y → Type 0) (o : Option X) → IfSome o (λ x. P (f x))
+    → IfSome (option_map f o) P
 mapped f P None h = tt
 mapped f P (Some x) h = h
 

@@ -1,6 +1,8 @@
 -- The reading of a text under the notation of a run.
-use Rattle.std.proofs.Common.{◌≡◌, ℕ, zero, suc, ◌<◌, ◌≤◌, ◌+◌, List, [], ◌∷◌, length, map, take, refl, sym, ap, subst, ◌∙◌, inl, inr, ◌⊎◌, arith}
-use Rattle.std.specs.Prelude.{Bool, true, false, ◌||◌, nat_le, MatchBool, Option, Some, None, IfSome, IsSomeAnd, Result, Ok, Err, IfOk, Vec}
+use Rattle.std.proofs.Common.{◌≡◌, ℕ, zero, suc, ◌<◌, ◌≤◌, ◌+◌, List, [], ◌∷◌, length}
+use Rattle.std.proofs.Common.{map, take, refl, sym, ap, subst, ◌∙◌, inl, inr, ◌⊎◌, arith}
+use Rattle.std.specs.Prelude.{Bool, true, false, ◌||◌, nat_le, MatchBool, Option, Some}
+use Rattle.std.specs.Prelude.{None, IfSome, IsSomeAnd, Result, Ok, Err, IfOk, Vec}
 use Rattle.std.specs.Global.{Global}
 use Rattle.std.proofs.lemmas.Bool.{le-leb}
 use Rattle.std.specs.Option.{option_map, option_and_then}
@@ -25,9 +27,12 @@ use Rattle.ot_forms.specs.Refusals.{ReadsAsTerm}
 use Rattle.ot_read.specs.Lines.{lines_read, term_read}
 use Rattle.ot_read.specs.Laws.{TermsReadByForms, LinesReadByForms, TextsReadByForms, AreRead, StandFor}
 use Rattle.ot_read.proofs.Alike.{term-alike, lines-alike}
-use Rattle.ot_program.specs.Reply.{ShowReadable, ReadLines, Noted, Readings, ReadStop, InInput, TextTooLarge, notation, run_lists, is_standard, text_limit, text_in, read_in, read_behind, stop_status, read_status}
+use Rattle.ot_program.specs.Reply.{ShowReadable, ReadLines, Noted, Readings, ReadStop, InInput}
+use Rattle.ot_program.specs.Reply.{TextTooLarge, notation, run_lists, is_standard, text_limit}
+use Rattle.ot_program.specs.Reply.{text_in, read_in, read_behind, stop_status, read_status}
 use Rattle.ot_program.specs.Answer.{IsProved, LeavesOther, LeavesAlone, LastInput, LastOf}
-use Rattle.ot_program.specs.Verdicts.{End, Finished, Stopped, Failed, IsAnswer, IsPlace, HasCause, noted_from, noted_end, stop_end, read_end_of, IsStopVerdict, IsVerdictOf, IsPrintedAs}
+use Rattle.ot_program.specs.Verdicts.{End, Finished, Stopped, Failed, IsAnswer, IsPlace, HasCause, noted_from}
+use Rattle.ot_program.specs.Verdicts.{noted_end, stop_end, read_end_of, IsStopVerdict, IsVerdictOf, IsPrintedAs}
 use Rattle.ot_program.specs.declared.report.Verdict.{Verdict}
 use Rattle.ot_program.specs.declared.reading.LinesRead.{LinesRead}
 use Rattle.ot_program.specs.declared.reading.ReadingRefusal.{ReadingRefusal}
@@ -54,7 +59,8 @@ input_stop : (text : List ℕ) (folder : Option Folder) (told : Option (Result N
 input_stop text folder None s is = tt
 input_stop text folder (Some answer) s is = rw is refl
 
-pub stop_behind : (text : List ℕ) (folder : Option Folder) (told : Option (Result Noted Stop)) (o : Option (End Ran Stop))
+pub stop_behind : (text : List ℕ) (folder : Option Folder) (told : Option (Result Noted Stop))
+    (o : Option (End Ran Stop))
     → IfSome (option_map (noted_end []) o) (λ e. IfSome told (λ answer. IsAnswer answer e))
     → IfSome (option_and_then stop_end o) (λ e. IfSome
     (option_and_then (read_behind text folder) told) (λ answer. IsAnswer answer e))
@@ -83,7 +89,8 @@ text_place packages path text folder at n (Err readings.NoFile) last = tt
 text_place packages path text folder at n (Err readings.ReadFault) last = inr (refl, rw last (asked_text folder text))
 text_place packages path text folder at n (Err readings.Memory) last = tt
 
-pub input_place : (packages path text : List ℕ) (folder : Option Folder) (at : Option (List ℕ)) (o : Option (End Ran Stop))
+pub input_place : (packages path text : List ℕ) (folder : Option Folder) (at : Option (List ℕ))
+    (o : Option (End Ran Stop))
     → IfSome (option_map (noted_end []) o) (IsPlace (ShowReadable packages path) folder at)
     → IfSome (option_and_then stop_end o) (IsPlace (ReadLines packages path text) folder at)
 input_place packages path text folder at None place = tt
@@ -136,7 +143,8 @@ input_last path text folder at (Some (Failed p)) last = input_last_of path text 
 
 -- ---- its verdict
 
-input_verdict_on : (packages path text : List ℕ) (v : Verdict) (o : Option (End Ran Stop)) → IsSomeAnd o (IsStopVerdict v)
+input_verdict_on : (packages path text : List ℕ) (v : Verdict) (o : Option (End Ran Stop))
+    → IsSomeAnd o (IsStopVerdict v)
     → IsVerdictOf (ReadLines packages path text) (option_and_then stop_end o) v
 input_verdict_on packages path text v None said = said
 input_verdict_on packages path text v (Some (Finished r)) said = absurd said
@@ -193,7 +201,8 @@ module _ (names : List Name) (s : Session) (seen : State) (es : List Export)
   pub they_stand : TextsReadByForms → (ls : List LineText) (qs : List (Sequent Name)) → lines_read stated ls ≡ Ok qs
       → StandFor stated ls qs
   they_stand texts ls qs e =
-      subst (AreRead stated ls) e (texts stated (subst IsNotation is_stated (stated-notation seen names ths hidden is nt)) ls)
+      subst (AreRead stated ls) e
+      (texts stated (subst IsNotation is_stated (stated-notation seen names ths hidden is nt)) ls)
 
   -- and of a text of one term
   pub same_term : TermsReadByForms → (text : List ℕ) → term_read hidden text ≡ term_read stated text
@@ -202,7 +211,8 @@ module _ (names : List Name) (s : Session) (seen : State) (es : List Export)
       nt (stated-notation seen names ths hidden is nt) forms text
       ∙ ap (λ h. term_read h text) is_stated
 
-  pub term_stands : TermsReadByForms → (text : List ℕ) (p : Tm Name) → term_read stated text ≡ Ok p → ReadsAsTerm stated text p
+  pub term_stands : TermsReadByForms → (text : List ℕ) (p : Tm Name) → term_read stated text ≡ Ok p
+      → ReadsAsTerm stated text p
   term_stands forms text p e =
       ((forms stated (subst IsNotation is_stated (stated-notation seen names ths hidden is nt)) text).stands p).0 e
 
@@ -233,17 +243,20 @@ module _ (text : List ℕ) where
   fits_in files bytes all has is short =
       let one : text_limit + 1 ≡ suc text_limit = omega arith in
       let taken : bytes ≡ take (suc text_limit) all = is ∙ ap (λ n. take n all) one in
-      let whole : bytes ≡ all = taken ∙ short_take text_limit all (subst (λ (x : List ℕ). length x ≤ text_limit) taken short) in
+      let whole : bytes ≡ all =
+      taken ∙ short_take text_limit all (subst (λ (x : List ℕ). length x ≤ text_limit) taken short) in
       let within : nat_le (length all) text_limit ≡ true =
       le-leb (length all) text_limit (subst (λ (x : List ℕ). length x ≤ text_limit) whole short) in
       rw (has, within) (ap Ok (sym whole))
 
-  too_large_in : (files : Folder) (bytes all : List ℕ) → bytes_at files text ≡ Some all → bytes ≡ take (text_limit + 1) all
+  too_large_in : (files : Folder) (bytes all : List ℕ) → bytes_at files text ≡ Some all
+      → bytes ≡ take (text_limit + 1) all
       → text_limit < length bytes → text_in text files ≡ Err TextTooLarge
   too_large_in files bytes all has is long =
       let most = take_within (text_limit + 1) all in
       let size = ap length is in
-      let past : nat_le (length all) text_limit ≡ false = too_long (length all) text_limit (omega (arith, most, size, long)) in
+      let past : nat_le (length all) text_limit ≡ false =
+      too_long (length all) text_limit (omega (arith, most, size, long)) in
       rw (has, past) refl
 
   -- of a file that was opened

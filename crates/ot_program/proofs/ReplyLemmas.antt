@@ -6,11 +6,15 @@ use Rattle.ot_io.specs.Causes.{Rose}
 use Rattle.ot_io.specs.Folder.{Folder}
 use Rattle.ot_io.specs.Sinks.{AppendsFront}
 use Rattle.ot_program.specs.Texts.{write_fault_line}
-use Rattle.ot_program.specs.Reply.{Reply, accepted, fails, TaskValue, RunInput, RunSample, MakeSample, CheckLog, ShowReadable, ReadLines, FindPattern, task_of, sample_path, is_standard, Told, result_of, reply_to, answer}
-use Rattle.ot_program.specs.Answer.{MatchesReply, IsVerdict, IsReport, IsStopLine, IsLargeLine, Says, Writes, WritesLine, WritesSome, IsLine, FailedIn}
+use Rattle.ot_program.specs.Reply.{Reply, accepted, fails, TaskValue, RunInput, RunSample, MakeSample}
+use Rattle.ot_program.specs.Reply.{CheckLog, ShowReadable, ReadLines, FindPattern, task_of}
+use Rattle.ot_program.specs.Reply.{sample_path, is_standard, Told, result_of, reply_to, answer}
+use Rattle.ot_program.specs.Answer.{MatchesReply, IsVerdict, IsReport, IsStopLine, IsLargeLine}
+use Rattle.ot_program.specs.Answer.{Says, Writes, WritesLine, WritesSome, IsLine, FailedIn}
 use Rattle.ot_program.specs.Verdicts.{IsReplyOf, Ends, error_line}
 use Rattle.ot_program.specs.declared.status.Status.{Status}
-use Rattle.ot_program.specs.declared.status.Status.TheVariants.{Accepted, Refused, Usage, NoFile, ReadFault, WriteFault, Memory}
+use Rattle.ot_program.specs.declared.status.Status.TheVariants.{Accepted, Refused, Usage, NoFile}
+use Rattle.ot_program.specs.declared.status.Status.TheVariants.{ReadFault, WriteFault, Memory}
 use Rattle.ot_program.proofs.Options.{untold, mapped, if_some}
 
 -- ---- a verdict and the stated reply
@@ -34,7 +38,8 @@ large_reply t told line large =
     (λ answer is. ap (reply_to t) is ∙ rw large.large (ap (fails Refused) (sym large.line_is))) large.ended
 
 replies : (t : TaskValue) (folder : Option Folder) (input at : Option (List ℕ)) (status : Status) (text : List ℕ)
-    → Says status t folder input at text → IfSome (result_of t folder input) (λ answer. IsReplyOf status text (reply_to t answer))
+    → Says status t folder input at text
+    → IfSome (result_of t folder input) (λ answer. IsReplyOf status text (reply_to t answer))
 replies t folder input at Accepted text says = report_reply t (result_of t folder input) text says
 replies t folder input at Refused text (inl stop) = stop_reply t Refused (result_of t folder input) text stop
 replies t folder input at Refused text (inr large) = large_reply t (result_of t folder input) text large
@@ -47,16 +52,19 @@ replies t folder input at Memory text says = absurd says
 -- what holds of the verdict's reply holds of the answer to the words
 replied : (words : List (List ℕ)) (t : TaskValue) (folder : Option Folder)
     (input at : Option (List ℕ)) (status : Status) (text : List ℕ) (P : Reply → Type 0)
-    → task_of words ≡ Some t → Says status t folder input at text → ((reply : Reply) → IsReplyOf status text reply → P reply)
+    → task_of words ≡ Some t → Says status t folder input at text
+    → ((reply : Reply) → IsReplyOf status text reply → P reply)
     → IfSome (answer words folder input) P
 replied words t folder input at status text P read says then =
     rw read (mapped (reply_to t) P (result_of t folder input)
     (if_some (λ answer. IsReplyOf status text (reply_to t answer)) (λ answer. P (reply_to t answer))
-    (result_of t folder input) (λ answer is. then (reply_to t answer) is) (replies t folder input at status text says)))
+    (result_of t folder input) (λ answer is. then (reply_to t answer) is)
+    (replies t folder input at status text says)))
 
 -- ---- status and output
 
-same_matches : (status : Status) (text : List ℕ) (old new : Option (List ℕ)) → Writes status old new text → (reply : Reply)
+same_matches : (status : Status) (text : List ℕ) (old new : Option (List ℕ)) → Writes status old new text
+    → (reply : Reply)
     → IsReplyOf status text reply → MatchesReply status reply old new
 same_matches Accepted text old new writes reply is = (
   ap (λ r. r.status) is,
@@ -69,14 +77,16 @@ same_matches Usage text old new writes reply is = absurd is
 same_matches WriteFault text old new writes reply is = absurd is
 same_matches Memory text old new writes reply is = absurd is
 
-front_matches : (text : List ℕ) (old new : Option (List ℕ)) → AppendsFront old new text → (reply : Reply) → reply ≡ accepted text
+front_matches : (text : List ℕ) (old new : Option (List ℕ)) → AppendsFront old new text → (reply : Reply)
+    → reply ≡ accepted text
     → MatchesReply WriteFault reply old new
 front_matches text old new writes reply is = (
   ap (λ r. r.status) is,
   subst (λ (r : Reply). AppendsFront old new r.output) (sym is) writes,
 )
 
-matches : (verdict status : Status) (text : List ℕ) (old new : Option (List ℕ)) → Ends verdict status → Writes status old new text
+matches : (verdict status : Status) (text : List ℕ) (old new : Option (List ℕ)) → Ends verdict status
+    → Writes status old new text
     → (reply : Reply) → IsReplyOf verdict text reply → MatchesReply status reply old new
 matches verdict status text old new (inl same) writes reply is =
     subst (λ (s : Status). MatchesReply s reply old new) (sym same)
@@ -96,7 +106,8 @@ answers words t folder input at verdict status text old new read says ends write
 
 -- ---- the line on standard error
 
-same_error : {E : Type 0} (written : E → Option (List ℕ)) (faults : E → ℕ) (old new : E) (status : Status) (text : List ℕ)
+same_error : {E : Type 0} (written : E → Option (List ℕ)) (faults : E → ℕ) (old new : E) (status : Status)
+    (text : List ℕ)
     → IsVerdict status → IfSome (error_line text status) (WritesLine written faults old new) → (reply : Reply)
     → IsReplyOf status text reply → WritesLine written faults old new reply.error
 same_error written faults old new Refused text verdict line reply is =
@@ -122,7 +133,8 @@ error_is written faults old new words t folder input at verdict status text read
     absurd (subst IsVerdict failed.1 refuses)
 
 -- a line on standard error, where the words ask for this task
-abbrev Lined : {E : Type 0} → (E → Option (List ℕ)) → (E → ℕ) → E → E → Option TaskValue → Option Folder → Option (List ℕ)
+abbrev Lined : {E : Type 0} → (E → Option (List ℕ)) → (E → ℕ) → E → E → Option TaskValue → Option Folder
+    → Option (List ℕ)
     → Option (List ℕ) → Status → Type 0
 Lined written faults old new command folder input at status =
     WritesSome (IsLine status command folder input at) written faults old new
@@ -153,8 +165,10 @@ same_line written faults old new t folder input at Memory text says line loud = 
 
 front_line : {E : Type 0} (written : E → Option (List ℕ)) (faults : E → ℕ) (old new : E)
     (t : TaskValue) (folder : Option Folder) (input at : Option (List ℕ))
-    → WritesLine written faults old new write_fault_line → Lined written faults old new (Some t) folder input at WriteFault
-front_line written faults old new t folder input at line = record { line = write_fault_line; is_one = refl; writes = line }
+    → WritesLine written faults old new write_fault_line
+    → Lined written faults old new (Some t) folder input at WriteFault
+front_line written faults old new t folder input at line =
+    record { line = write_fault_line; is_one = refl; writes = line }
 
 ends_line : {E : Type 0} (written : E → Option (List ℕ)) (faults : E → ℕ) (old new : E) (t : TaskValue)
     (folder : Option Folder) (input at : Option (List ℕ)) (verdict status : Status) (text : List ℕ)
@@ -164,7 +178,8 @@ ends_line : {E : Type 0} (written : E → Option (List ℕ)) (faults : E → ℕ
 ends_line written faults old new t folder input at verdict status text says (inl same) line loud =
     subst (Lined written faults old new (Some t) folder input at) (sym same)
     (same_line written faults old new t folder input at verdict text says
-    (subst (λ (s : Status). IfSome (error_line text s) (WritesLine written faults old new)) same line) (λ is. loud (same ∙ is)))
+    (subst (λ (s : Status). IfSome (error_line text s) (WritesLine written faults old new)) same line)
+    (λ is. loud (same ∙ is)))
 ends_line written faults old new t folder input at verdict status text says (inr failed) line loud =
     subst (Lined written faults old new (Some t) folder input at) (sym failed.1)
     (front_line written faults old new t folder input at
@@ -184,7 +199,8 @@ line_is written faults old new words t folder input at verdict status text read 
 abbrev pub IsTold : Status → Status → Type 0
 IsTold status told = (status ≡ Memory) ⊎ (status ≡ told)
 
-same_told : (verdict : Status) (text : List ℕ) → ¬ (verdict ≡ ReadFault) → (reply : Reply) → IsReplyOf verdict text reply
+same_told : (verdict : Status) (text : List ℕ) → ¬ (verdict ≡ ReadFault) → (reply : Reply)
+    → IsReplyOf verdict text reply
     → verdict ≡ reply.status
 same_told Accepted text read reply is = sym (ap (λ r. r.status) is)
 same_told Refused text read reply is = sym (ap (λ r. r.status) is)
@@ -194,7 +210,8 @@ same_told Usage text read reply is = absurd is
 same_told WriteFault text read reply is = absurd is
 same_told Memory text read reply is = absurd is
 
-completes : (verdict status : Status) (text : List ℕ) → Ends verdict status → ¬ (status ≡ WriteFault) → ¬ (verdict ≡ ReadFault)
+completes : (verdict status : Status) (text : List ℕ) → Ends verdict status → ¬ (status ≡ WriteFault)
+    → ¬ (verdict ≡ ReadFault)
     → (reply : Reply) → IsReplyOf verdict text reply → IsTold status reply.status
 completes verdict status text (inl same) written read reply is = inr (same ∙ same_told verdict text read reply is)
 completes verdict status text (inr failed) written read reply is = absurd (written failed.1)
@@ -206,9 +223,12 @@ neither false P Q p q held = q held
 no_failure : (t : TaskValue) (i j f g : ℕ) → ¬ Rose i j → ¬ Rose f g → ¬ FailedIn t i j f g
 no_failure (RunInput packages path view) i j f g input files failed =
     neither (is_standard path) (Rose i j) (Rose f g) input files failed
-no_failure (RunSample n) i j f g input files failed = neither (is_standard sample_path) (Rose i j) (Rose f g) input files failed
-no_failure (MakeSample n) i j f g input files failed = neither (is_standard sample_path) (Rose i j) (Rose f g) input files failed
-no_failure (CheckLog path) i j f g input files failed = neither (is_standard path) (Rose i j) (Rose f g) input files failed
+no_failure (RunSample n) i j f g input files failed =
+    neither (is_standard sample_path) (Rose i j) (Rose f g) input files failed
+no_failure (MakeSample n) i j f g input files failed =
+    neither (is_standard sample_path) (Rose i j) (Rose f g) input files failed
+no_failure (CheckLog path) i j f g input files failed =
+    neither (is_standard path) (Rose i j) (Rose f g) input files failed
 no_failure (ShowReadable packages path) i j f g input files failed =
     neither (is_standard path) (Rose i j) (Rose f g) input files failed
 no_failure (ReadLines packages path text) i j f g input files (inl failed) =
@@ -241,7 +261,8 @@ writes_nothing NoFile old new text loud written = tt
 writes_nothing ReadFault old new text loud written = tt
 writes_nothing Memory old new text loud written = tt
 
-pub other_line : {E : Type 0} (written : E → Option (List ℕ)) (faults : E → ℕ) (old new : E) (status : Status) (text : List ℕ)
+pub other_line : {E : Type 0} (written : E → Option (List ℕ)) (faults : E → ℕ) (old new : E) (status : Status)
+    (text : List ℕ)
     → ¬ (status ≡ Accepted) → ¬ (status ≡ WriteFault) → WritesLine written faults old new text
     → IfSome (error_line text status) (WritesLine written faults old new)
 other_line written faults old new Accepted text loud unwritten line = absurd (loud refl)

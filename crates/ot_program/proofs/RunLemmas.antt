@@ -41,13 +41,16 @@ made_definitions s [] is same = refl
 made_definitions s (d ∷ ds) [] same = absurd (cc)
 made_definitions s (d ∷ ds) (i ∷ is) same = ap (λ rs. d ∷ rs) (made_definitions s ds is (omega (arith, same)))
 
-pub assumptions_are : (s : Session) (es : List Export) → IsRun s → assumptions_of (ran_from s es) ≡ s.kernel.assumptions
+pub assumptions_are : (s : Session) (es : List Export) → IsRun s → assumptions_of (ran_from s es)
+    ≡ s.kernel.assumptions
 assumptions_are s es r = given_sequents s s.kernel.assumptions s.assumption_steps.items r.each_assumption
 
-pub definitions_are : (s : Session) (es : List Export) → IsRun s → definitions_of (ran_from s es) ≡ s.kernel.definitions
+pub definitions_are : (s : Session) (es : List Export) → IsRun s → definitions_of (ran_from s es)
+    ≡ s.kernel.definitions
 definitions_are s es r = made_definitions s s.kernel.definitions s.definition_steps.items r.each_definition
 
-pub exports_are : (s : Session) (es : List Export) → exports_of (ran_from s es) ≡ map (λ e. theorem_at s.kernel e.th) es
+pub exports_are : (s : Session) (es : List Export) → exports_of (ran_from s es)
+    ≡ map (λ e. theorem_at s.kernel e.th) es
 exports_are s es = map-map _ _ es
 
 -- so are their counts
@@ -79,24 +82,36 @@ are_supported s es law r sound lawful =
     λ i d here. law (run_of s) lawful.run accepted _ (lawful.exports i d here)
 
 -- the numbers of the exports are of the kernel
-pub exported_within : (s : Session) (es : List Export) (ths : List ℕ) → ths ≡ map (λ e. e.th) es → All (IsExportIn s) es
+pub exported_within : (s : Session) (es : List Export) (ths : List ℕ) → ths ≡ map (λ e. e.th) es
+    → All (IsExportIn s) es
     → All (λ i. i < length s.kernel.theorems) ths
 exported_within s es ths are within =
     rw are (All-map (λ i. i < length s.kernel.theorems) (λ e. e.th) es (λ i d here. (within i d here).th))
 
 -- the printed text of a kernel's lists and of the exports' numbers is the summary
-summary_is : (sections : Sections) (s : Session) (seen : State) (es : List Export) (ths : List ℕ) → IsRun s → seen ≡ s.kernel
+summary_is : (sections : Sections) (s : Session) (seen : State) (es : List Export) (ths : List ℕ) → IsRun s
+    → seen ≡ s.kernel
     → ths ≡ map (λ e. e.th) es
-    → summary_text sections seen.assumptions seen.definitions (map (theorem_at seen) ths) ≡ summary sections (ran_from s es)
+    → summary_text sections seen.assumptions seen.definitions (map (theorem_at seen) ths)
+    ≡ summary sections (ran_from s es)
 summary_is sections s seen es ths r same are =
-    rw (same, are, assumptions_are s es r, definitions_are s es r, exports_are s es, map-map (theorem_at s.kernel) (λ e. e.th) es)
+    rw (
+      same,
+      are,
+      assumptions_are s es r,
+      definitions_are s es r,
+      exports_are s es,
+      map-map (theorem_at s.kernel)
+          (λ e. e.th) es,
+    )
     refl
 
 -- where it was printed it is accepted
 pub summary_printed : (path : List ℕ) (sections : Sections) (s : Session) (seen : State)
     (es : List Export) (ths : List ℕ) (max : ℕ) (old : List ℕ) (v : Verdict)
     → IsRun s → seen ≡ s.kernel → ths ≡ map (λ e. e.th) es → max ≡ summary_limit → old ≡ [] → v.status ≡ Accepted
-    → Appended (summary_text sections seen.assumptions seen.definitions (map (theorem_at seen) ths)) max old v.text.items
+    → Appended (summary_text sections seen.assumptions seen.definitions (map (theorem_at seen) ths)) max old
+    v.text.items
     → SummaryEndsAs path sections (ran_from s es) v
 summary_printed path sections s seen es ths max old v r same are limit empty status printed =
     text_printed (summary sections (ran_from s es)) (large_line path) max old v limit empty status

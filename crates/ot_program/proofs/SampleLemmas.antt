@@ -12,9 +12,11 @@ use Rattle.ot_link.specs.Stops.{Stop}
 use Rattle.ot_link.specs.Blocks.{Ran, article_end}
 use Rattle.ot_sample.specs.Sample.{sample}
 use Rattle.ot_text.specs.Laws.{OneSequent, OneSequentInFront}
-use Rattle.ot_program.specs.Reply.{RunSample, MakeSample, sample_path, outcome, run_lists, article_fits, article_text, sample_line, stop_status}
+use Rattle.ot_program.specs.Reply.{RunSample, MakeSample, sample_path, outcome, run_lists}
+use Rattle.ot_program.specs.Reply.{article_fits, article_text, sample_line, stop_status}
 use Rattle.ot_program.specs.Answer.{IsProved, IsRewritten, Says}
-use Rattle.ot_program.specs.Verdicts.{End, Finished, Stopped, Failed, IsAnswer, IsEnd, IsPlace, IsOwnEnd, HasCause, IsSaid, EndsAs, IsVerdictOf}
+use Rattle.ot_program.specs.Verdicts.{End, Finished, Stopped, Failed, IsAnswer, IsEnd, IsPlace}
+use Rattle.ot_program.specs.Verdicts.{IsOwnEnd, HasCause, IsSaid, EndsAs, IsVerdictOf}
 use Rattle.ot_program.specs.declared.report.Verdict.{Verdict}
 use Rattle.ot_program.specs.declared.status.Status.TheVariants.{Accepted}
 
@@ -36,9 +38,11 @@ pub written_text : (r : Ran) (o : Option (Vec ℕ Global)) (text : Vec ℕ Globa
     → IfSome o (λ t. (article_fits r ≡ true) × (t.items ≡ article_text r))
     → (article_fits r ≡ true) × (text.items ≡ article_text r)
 written_text r o text is some =
-    subst (λ (x : Option (Vec ℕ Global)). IfSome x (λ t. (article_fits r ≡ true) × (t.items ≡ article_text r))) is some
+    subst (λ (x : Option (Vec ℕ Global)). IfSome x (λ t. (article_fits r ≡ true) × (t.items ≡ article_text r))) is
+    some
 
-pub sample_within : (n : ℕ) (r : Ran) (v : Verdict) → article_fits r ≡ true → v.status ≡ Accepted → v.text.items ≡ sample_line n r
+pub sample_within : (n : ℕ) (r : Ran) (v : Verdict) → article_fits r ≡ true → v.status ≡ Accepted
+    → v.text.items ≡ sample_line n r
     → EndsAs (RunSample n) r v
 sample_within n r v fit status text = rw fit (record { status_is = status; text_is = text })
 
@@ -56,7 +60,8 @@ never : {X : Type 0} → Rose 0 0 → X
 never h = absurd (no_rise h)
 
 pub sample_place : (n : ℕ) (folder : Option Folder) (at : Option (List ℕ)) (o : Option (End Ran Stop))
-    → IfSome o (IsOwnEnd sample_path) → IfSome o (HasCause stop_status (Rose 0 0) ⊥) → IfSome o (IsPlace (RunSample n) folder at)
+    → IfSome o (IsOwnEnd sample_path) → IfSome o (HasCause stop_status (Rose 0 0) ⊥)
+    → IfSome o (IsPlace (RunSample n) folder at)
 sample_place n folder at None own cause = tt
 sample_place n folder at (Some (Finished r)) own cause = tt
 sample_place n folder at (Some (Stopped s)) own cause = own
@@ -74,7 +79,8 @@ unasked None = tt
 unasked (Some e) = tt
 
 -- a sample that is made alone
-pub sample_made : (n : ℕ) (folder : Option Folder) (input at : Option (List ℕ)) (v : Verdict) → IsSaid v Accepted (sample n)
+pub sample_made : (n : ℕ) (folder : Option Folder) (input at : Option (List ℕ)) (v : Verdict)
+    → IsSaid v Accepted (sample n)
     → OneSequent → OneSequentInFront → AcceptedLists names [] []
     → Says v.status (MakeSample n) folder input at v.text.items
 sample_made n folder input at v said one front none =

@@ -5,9 +5,14 @@ use Rattle.ot_io.specs.Folder.{Folder}
 use Rattle.ot_repo.specs.Required.{Refusal}
 use Rattle.ot_repo.specs.Required as repo
 use Rattle.ot_link.specs.Stops.{Stop, InArticle, InTheory, InStructure, TooLarge, Missing}
-use Rattle.ot_program.specs.Reply.{TaskValue, RunInput, RunSample, MakeSample, CheckLog, ShowReadable, ReadLines, FindPattern, LogStop, InLog, NoLog, ReadStop, InInput, NoText, TextTooLarge, InLine, FindStop, InRequired, InRun, InPattern, required_status, find_status, over_line, Product, Halt, result_of, text_of, fits, stop_status, log_status, read_status, halt_status, halt_line}
+use Rattle.ot_program.specs.Reply.{TaskValue, RunInput, RunSample, MakeSample, CheckLog, ShowReadable}
+use Rattle.ot_program.specs.Reply.{ReadLines, FindPattern, LogStop, InLog, NoLog, ReadStop, InInput, NoText}
+use Rattle.ot_program.specs.Reply.{TextTooLarge, InLine, FindStop, InRequired, InRun, InPattern}
+use Rattle.ot_program.specs.Reply.{required_status, find_status, over_line, Product, Halt, result_of, text_of}
+use Rattle.ot_program.specs.Reply.{fits, stop_status, log_status, read_status, halt_status, halt_line}
 use Rattle.ot_program.specs.Answer.{IsOwnHalt, LastPath, Says}
-use Rattle.ot_program.specs.Verdicts.{End, Finished, Stopped, Failed, IsEnd, IsPlace, HasCause, IsSaid, IsFinal, IsVerdictOn, IsVerdictOf, IsTaskVerdict}
+use Rattle.ot_program.specs.Verdicts.{End, Finished, Stopped, Failed, IsEnd, IsPlace, HasCause}
+use Rattle.ot_program.specs.Verdicts.{IsSaid, IsFinal, IsVerdictOn, IsVerdictOf, IsTaskVerdict}
 use Rattle.ot_program.specs.declared.report.Verdict.{Verdict}
 use Rattle.ot_program.specs.declared.status.Status.{Status}
 use Rattle.ot_program.specs.declared.status.Status.TheVariants.{Accepted, Refused, NoFile, ReadFault}
@@ -72,7 +77,8 @@ stop_says t folder input at s line is told own (inr e) =
     subst P (sym e) (record { stop = s; stopped = told; own = own; status_is = e; line_is = is })
 
 -- the text of a task that ended, by whether it is within the limit
-final_says : (t : TaskValue) (folder : Option Folder) (input at : Option (List ℕ)) (x : Product t) (v : Verdict) (b : Bool)
+final_says : (t : TaskValue) (folder : Option Folder) (input at : Option (List ℕ)) (x : Product t) (v : Verdict)
+    (b : Bool)
     → fits t x ≡ b → MatchBool b (IsSaid v Accepted (text_of t x)) (IsSaid v Refused (over_line t))
     → IsFinal t x v → IfSome (result_of t folder input) (λ answer. answer ≡ Ok x)
     → Says v.status t folder input at v.text.items
@@ -92,9 +98,12 @@ final_says t folder input at x v false fit said final told =
     let P : Status → Type 0 = λ s. Says s t folder input at v.text.items in
     subst P (sym said.status_is) (inr (record { made = x; ended = told; large = fit; line_is = said.text_is }))
 
-verdict_says : (t : TaskValue) (folder : Option Folder) (input at : Option (List ℕ)) (e : End (Product t) (Halt t)) (v : Verdict)
-    → IsVerdictOn t v e → IsEnd t folder input e → IsPlace t folder at e → Says v.status t folder input at v.text.items
-verdict_says t folder input at (Finished x) v on told place = final_says t folder input at x v (fits t x) refl on.ends on told
+verdict_says : (t : TaskValue) (folder : Option Folder) (input at : Option (List ℕ)) (e : End (Product t) (Halt t))
+    (v : Verdict)
+    → IsVerdictOn t v e → IsEnd t folder input e → IsPlace t folder at e
+    → Says v.status t folder input at v.text.items
+verdict_says t folder input at (Finished x) v on told place =
+    final_says t folder input at x v (fits t x) refl on.ends on told
 verdict_says t folder input at (Stopped s) v on told place =
     let P : Status → Type 0 = λ status. Says status t folder input at v.text.items in
     subst P (sym on.status_is) (stop_says t folder input at s v.text.items on.text_is told place (refusal t s))
@@ -110,7 +119,8 @@ ended_status : (v : Verdict) (b : Bool) (text line : List ℕ)
 ended_status v true text line said = inl said.status_is
 ended_status v false text line said = inr said.status_is
 
-neither : {X : Type 0} (s t : Status) → (s ≡ Accepted) ⊎ (s ≡ Refused) → s ≡ t → ¬ (Accepted ≡ t) → ¬ (Refused ≡ t) → X
+neither : {X : Type 0} (s t : Status) → (s ≡ Accepted) ⊎ (s ≡ Refused) → s ≡ t → ¬ (Accepted ≡ t) → ¬ (Refused ≡ t)
+    → X
 neither s t (inl accepted) is other other' = absurd (other (sym accepted ∙ is))
 neither s t (inr refused) is other other' = absurd (other' (sym refused ∙ is))
 
@@ -151,7 +161,8 @@ task_verdict P Q t folder input at (Some e) (Ok v) on told place cause last = re
 
 -- what reads nothing has no cause
 pub causeless : {E : Type 0} (P Q : Type 0) (t : TaskValue) (folder : Option Folder) (input at : Option (List ℕ))
-    (r : Result Verdict E) → IfOk r (IsTaskVerdict t folder input at ⊥ ⊥) → IfOk r (IsTaskVerdict t folder input at P Q)
+    (r : Result Verdict E) → IfOk r (IsTaskVerdict t folder input at ⊥ ⊥)
+    → IfOk r (IsTaskVerdict t folder input at P Q)
 causeless P Q t folder input at (Err e) h = tt
 causeless P Q t folder input at (Ok v) h = record {
   says = h.says;
@@ -161,8 +172,10 @@ causeless P Q t folder input at (Ok v) h = record {
 }
 
 -- nor has what is accepted
-pub accepted_verdict : {E : Type 0} (P Q : Type 0) (t : TaskValue) (folder : Option Folder) (input at : Option (List ℕ))
-    (r : Result Verdict E) → IfOk r (λ v. Says v.status t folder input at v.text.items) → IfOk r (λ v. v.status ≡ Accepted)
+pub accepted_verdict : {E : Type 0} (P Q : Type 0) (t : TaskValue) (folder : Option Folder)
+    (input at : Option (List ℕ))
+    (r : Result Verdict E) → IfOk r (λ v. Says v.status t folder input at v.text.items)
+    → IfOk r (λ v. v.status ≡ Accepted)
     → LastPath t folder at → IfOk r (IsTaskVerdict t folder input at P Q)
 accepted_verdict P Q t folder input at (Err e) says accepted last = tt
 accepted_verdict P Q t folder input at (Ok v) says accepted last = record {

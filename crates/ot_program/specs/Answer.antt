@@ -1,5 +1,6 @@
 -- How the program's status and texts stand to the stated reply.
-use Rattle.std.specs.Prelude.{◌≡◌, ◌⊎◌, ℕ, List, [], true, false, ◌||◌, Option, Some, Ok, Err, MatchBool, IfSome, IsSomeAnd, ◌≤◌}
+use Rattle.std.specs.Prelude.{◌≡◌, ◌⊎◌, ℕ, List, [], true, false, ◌||◌, Option}
+use Rattle.std.specs.Prelude.{Some, Ok, Err, MatchBool, IfSome, IsSomeAnd, ◌≤◌}
 use Rattle.std.specs.List.{All}
 use Rattle.std.specs.Io.KnownBytes.{Appends}
 use Rattle.ot_plain.specs.Naming.{names}
@@ -27,9 +28,15 @@ use Rattle.ot_find.specs.Matches.{AreMatches, exports_of as all_exports}
 use Rattle.ot_program.specs.declared.task.View.{View}
 use Rattle.ot_program.specs.declared.task.View.TheVariants.{Counts, Summary, Uses, Article, Log}
 use Rattle.ot_program.specs.Texts.{usage_line, read_fault_line, write_fault_line, memory_line}
-use Rattle.ot_program.specs.Reply.{Reply, TaskValue, RunInput, RunSample, MakeSample, CheckLog, ShowReadable, ReadLines, FindPattern, ReadStop, InInput, FindStop, InRequired, InRun, InPattern, Searched, limits, sample_path, is_standard, Noted, notation, assumptions_of, exports_of, sources, found, theory_run, Product, Halt, Told, result_of, opened, text_of, fits, Lists, lists_of, run_lists, halt_status, halt_line, over_line, article_limit, written_limit, article_text, log_text}
+use Rattle.ot_program.specs.Reply.{Reply, TaskValue, RunInput, RunSample, MakeSample, CheckLog, ShowReadable}
+use Rattle.ot_program.specs.Reply.{ReadLines, FindPattern, ReadStop, InInput, FindStop, InRequired, InRun}
+use Rattle.ot_program.specs.Reply.{InPattern, Searched, limits, sample_path, is_standard, Noted, notation}
+use Rattle.ot_program.specs.Reply.{assumptions_of, exports_of, sources, found, theory_run, Product, Halt, Told}
+use Rattle.ot_program.specs.Reply.{result_of, opened, text_of, fits, Lists, lists_of, run_lists, halt_status}
+use Rattle.ot_program.specs.Reply.{halt_line, over_line, article_limit, written_limit, article_text, log_text}
 use Rattle.ot_program.specs.declared.status.Status.{Status}
-use Rattle.ot_program.specs.declared.status.Status.TheVariants.{Accepted, Refused, Usage, NoFile, ReadFault, WriteFault, Memory}
+use Rattle.ot_program.specs.declared.status.Status.TheVariants.{Accepted, Refused, Usage, NoFile}
+use Rattle.ot_program.specs.declared.status.Status.TheVariants.{ReadFault, WriteFault, Memory}
 
 -- with this status the reply is such a one, and its output was written, or a front of it at a write fault
 abbrev pub MatchesReply : Status → Reply → Option (List ℕ) → Option (List ℕ) → Type 0
@@ -68,13 +75,13 @@ pub record IsProved (l : Lists) : Type 0 where
   pub accepted : AcceptedLists names l.assumptions l.definitions
   pub theorems : All (IsTheorem names l.assumptions l.definitions) l.theorems
 
--- the written article of a run is an article of its exports among its definitions: run alone it exports the same, with the
--- needed definitions and assumptions alone, and is lean
+-- the written article of a run is an article of its exports among its definitions: run alone it exports the same,
+-- with the needed definitions and assumptions alone, and is lean
 abbrev pub IsRewritten : Ran → Type 0
 IsRewritten r = IsMinimised written_limit r.run r.exports (article_text r)
 
--- the check of the proof log of a run ends: with its exports as results, with the definitions that they need in their order, and
--- with the assumptions that they need
+-- the check of the proof log of a run ends: with its exports as results, with the definitions that they need in their
+-- order, and with the assumptions that they need
 abbrev pub IsLogged : Ran → Type 0
 IsLogged r = IsLogOf article_limit r.run r.exports (log_text r)
 
@@ -86,8 +93,8 @@ AreSupported r = All (λ e. IsSupported (support_of r.run e)) r.exports
 abbrev pub AreReadBack : Noted → Type 0
 AreReadBack n = ReadBack (notation n) (assumptions_of n.ran) (exports_of n.ran)
 
--- the pattern was read by the forms; what is found is exactly what it matches among the exports of the packages and of the
--- input, in order, with the maps; and the theorems of each package are proved
+-- the pattern was read by the forms; what is found is exactly what it matches among the exports of the packages and
+-- of the input, in order, with the maps; and the theorems of each package are proved
 pub record IsSearch (pattern path : List ℕ) (s : Searched) : Type 0 where
   pub reads : ReadsAsTerm (notation s.noted) pattern s.pattern
   pub matches_are : AreMatches s.pattern (all_exports (sources path s)) (found path s)
@@ -110,10 +117,10 @@ IsPromisedBy (ShowReadable packages path) n = AreReadBack n
 IsPromisedBy (ReadLines packages path text) r = StandFor (notation r.noted) r.lines r.sequents
 IsPromisedBy (FindPattern packages pattern path) s = IsSearch pattern path s
 
--- it is what the task prints of its end, whose theorems are proved; a theorem's own assumptions and definitions suffice for it
--- where they are printed, readable text reads back, lines stand for the sequents that are printed of them, matches are exactly
--- those, an article that is written does what it is written for, and the check of a log that is written ends with the run's
--- theorems; and a text is that of one sequent, whatever stands behind it
+-- it is what the task prints of its end, whose theorems are proved; a theorem's own assumptions and definitions
+-- suffice for it where they are printed, readable text reads back, lines stand for the sequents that are printed of
+-- them, matches are exactly those, an article that is written does what it is written for, and the check of a log
+-- that is written ends with the run's theorems; and a text is that of one sequent, whatever stands behind it
 pub record IsReport (t : TaskValue) (told : Told t) (text : List ℕ) : Type 0 where
   pub made : Product t
   pub ended : IfSome told (λ answer. answer ≡ Ok made)
@@ -175,14 +182,19 @@ pub record IsLargeLine (t : TaskValue) (told : Told t) (line : List ℕ) : Type 
 -- the path is that of an input which is read: `-`, or a file that is needed, which was the last to be asked for
 abbrev pub IsReadPath : List ℕ → Option (List (List ℕ)) → Option (List ℕ) → List ℕ → Type 0
 IsReadPath path files at failed =
-    MatchBool (is_standard path) (failed ≡ path) (IfSome files (IsMember failed) × IfSome at (λ asked. failed ≡ asked))
+    MatchBool (is_standard path) (failed ≡ path)
+    (IfSome files (IsMember failed) × IfSome at (λ asked. failed ≡ asked))
 
--- a file that a search needs besides: one of the walk over what a theory file requires, or one that the run of a package needs
+-- a file that a search needs besides: one of the walk over what a theory file requires, or one that the run of a
+-- package needs
 pub data IsSearchFile (packages path : List ℕ) (folder : Folder) : List ℕ → Type 0 where
-  OfWalk : (file : List ℕ) → IsWalked folder limits.theory_bytes packages path file → IsSearchFile packages path folder file
-  OfPackage : (file full : List ℕ) (fulls : List (List ℕ)) → required folder limits.theory_bytes packages path ≡ Ok fulls
+  OfWalk : (file : List ℕ) → IsWalked folder limits.theory_bytes packages path file
+      → IsSearchFile packages path folder file
+  OfPackage : (file full : List ℕ) (fulls : List (List ℕ)) → required folder limits.theory_bytes packages path
+      ≡ Ok fulls
       → IsMember full fulls
-      → IsMember file (theory_run packages (package_path packages full) folder).paths → IsSearchFile packages path folder file
+      → IsMember file (theory_run packages (package_path packages full) folder).paths
+      → IsSearchFile packages path folder file
 
 -- and a text is a file, whatever the input is
 abbrev pub IsFailedPath : TaskValue → Option Folder → Option (List ℕ) → List ℕ → Type 0
@@ -202,7 +214,8 @@ IsFailedPath (FindPattern packages pattern path) folder at failed =
     × IfSome at (λ asked. failed ≡ asked))
 
 -- it is the line for an input that failed
-pub record IsFailureLine (t : TaskValue) (folder : Option Folder) (at : Option (List ℕ)) (line : List ℕ) : Type 0 where
+pub record IsFailureLine (t : TaskValue) (folder : Option Folder) (at : Option (List ℕ)) (line : List ℕ) : Type
+    0 where
   pub failed : List ℕ
   pub path : IsFailedPath t folder at failed
   pub line_is : line ≡ read_fault_line failed
@@ -239,7 +252,8 @@ pub record Prints (status : Status) (t : TaskValue) (told : Told t) (old new : O
 -- a sink's bytes grew by a line, or by a front of it where the sink's count of failures rose
 abbrev pub WritesLine : {E : Type 0} → (E → Option (List ℕ)) → (E → ℕ) → E → E → List ℕ → Type 0
 WritesLine written faults old new line =
-    Appends (written old) (written new) line ⊎ (Rose (faults old) (faults new) × AppendsFront (written old) (written new) line)
+    Appends (written old) (written new) line
+    ⊎ (Rose (faults old) (faults new) × AppendsFront (written old) (written new) line)
 
 -- the line on standard error that goes with a status
 abbrev pub IsLine : Status → Option TaskValue → Option Folder → Option (List ℕ) → Option (List ℕ) → List ℕ → Type 0
@@ -262,36 +276,44 @@ pub record WritesSome {E : Type 0} (IsOne : List ℕ → Type 0)
 
 -- the device that is read failed: standard input, or the files
 abbrev pub FailedAt : List ℕ → (before now : ℕ) → (files_before files_now : ℕ) → Type 0
-FailedAt path before now files_before files_now = MatchBool (is_standard path) (Rose before now) (Rose files_before files_now)
+FailedAt path before now files_before files_now =
+    MatchBool (is_standard path) (Rose before now) (Rose files_before files_now)
 
 -- and so does that of a text, which is a file
 abbrev pub FailedIn : TaskValue → (before now : ℕ) → (files_before files_now : ℕ) → Type 0
-FailedIn (RunInput packages path view) before now files_before files_now = FailedAt path before now files_before files_now
+FailedIn (RunInput packages path view) before now files_before files_now =
+    FailedAt path before now files_before files_now
 FailedIn (RunSample n) before now files_before files_now = FailedAt sample_path before now files_before files_now
 FailedIn (MakeSample n) before now files_before files_now = FailedAt sample_path before now files_before files_now
 FailedIn (CheckLog path) before now files_before files_now = FailedAt path before now files_before files_now
-FailedIn (ShowReadable packages path) before now files_before files_now = FailedAt path before now files_before files_now
+FailedIn (ShowReadable packages path) before now files_before files_now =
+    FailedAt path before now files_before files_now
 FailedIn (ReadLines packages path text) before now files_before files_now =
     FailedAt path before now files_before files_now ⊎ Rose files_before files_now
-FailedIn (FindPattern packages pattern path) before now files_before files_now = FailedAt path before now files_before files_now
+FailedIn (FindPattern packages pattern path) before now files_before files_now =
+    FailedAt path before now files_before files_now
 
 -- the files are left alone where the input is standard input, and standard input where it is a file
 abbrev pub LeavesOther : {F S : Type 0} → List ℕ → F → F → S → S → Type 0
-LeavesOther path files files_now input input_now = MatchBool (is_standard path) (files_now ≡ files) (input_now ≡ input)
+LeavesOther path files files_now input input_now =
+    MatchBool (is_standard path) (files_now ≡ files) (input_now ≡ input)
 
 -- and both where nothing is read
 abbrev pub LeavesBoth : {F S : Type 0} → F → F → S → S → Type 0
 LeavesBoth files files_now input input_now = (files_now ≡ files) × (input_now ≡ input)
 
 abbrev pub LeavesAlone : {F S : Type 0} → TaskValue → F → F → S → S → Type 0
-LeavesAlone (RunInput packages path view) files files_now input input_now = LeavesOther path files files_now input input_now
+LeavesAlone (RunInput packages path view) files files_now input input_now =
+    LeavesOther path files files_now input input_now
 LeavesAlone (RunSample n) files files_now input input_now = LeavesBoth files files_now input input_now
 LeavesAlone (MakeSample n) files files_now input input_now = LeavesBoth files files_now input input_now
 LeavesAlone (CheckLog path) files files_now input input_now = LeavesOther path files files_now input input_now
-LeavesAlone (ShowReadable packages path) files files_now input input_now = LeavesOther path files files_now input input_now
+LeavesAlone (ShowReadable packages path) files files_now input input_now =
+    LeavesOther path files files_now input input_now
 LeavesAlone (ReadLines packages path text) files files_now input input_now =
     MatchBool (is_standard path) (Unit {0}) (input_now ≡ input)
-LeavesAlone (FindPattern packages pattern path) files files_now input input_now = LeavesOther path files files_now input input_now
+LeavesAlone (FindPattern packages pattern path) files files_now input input_now =
+    LeavesOther path files files_now input input_now
 
 -- the path that was asked for last is the article's, where it is a file and the folder is told and has it
 abbrev pub LastInput : List ℕ → Option Folder → Option (List ℕ) → Type 0
@@ -300,7 +322,8 @@ LastInput path folder at = MatchBool (is_standard path || is_theory path) (Unit 
 -- or that of a text
 abbrev pub LastOf : (path text : List ℕ) → Option Folder → Option (List ℕ) → Type 0
 LastOf path text folder at =
-    MatchBool (is_standard path || is_theory path) (Unit {0}) ((at ≡ path_asked folder path) ⊎ (at ≡ path_asked folder text))
+    MatchBool (is_standard path || is_theory path) (Unit {0})
+    ((at ≡ path_asked folder path) ⊎ (at ≡ path_asked folder text))
 
 -- or the log's
 abbrev pub LastPath : TaskValue → Option Folder → Option (List ℕ) → Type 0

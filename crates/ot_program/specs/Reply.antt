@@ -1,5 +1,6 @@
 -- What the stated machine answers to words, files and input.
-use Rattle.std.specs.Prelude.{ℕ, List, [], ◌∷◌, ◌++◌, Bool, true, ◌==◌, count_by, length, map, codes, nat_le, Option, Some, None, Result, Ok, Err, if◌then◌else◌}
+use Rattle.std.specs.Prelude.{ℕ, List, [], ◌∷◌, ◌++◌, Bool, true, ◌==◌, count_by, length, map}
+use Rattle.std.specs.Prelude.{codes, nat_le, Option, Some, None, Result, Ok, Err, if◌then◌else◌}
 use Rattle.std.specs.List.{concat}
 use Rattle.std.specs.Option.{option_map, option_and_then}
 use Rattle.std.specs.Fmt.{decimal}
@@ -9,7 +10,8 @@ use Rattle.ot_plain.specs.Trees.{Tm, Sequent, Definition, Symbol}
 use Rattle.ot_plain.specs.Answers.{◌>>=◌, some_or, unless}
 use Rattle.ot_plain.specs.declared.limits.Limits.{Limits}
 use Rattle.ot_io.specs.Folder.{Folder, bytes_at}
-use Rattle.ot_args.specs.Grammar.{CommandValue, Check, Info, Uses as InfoUses, Readable as InfoReadable, Link, Minimise, Sample, SampleArticle, Verify, Read, Prove, Find, command_of, is_theory}
+use Rattle.ot_args.specs.Grammar.{CommandValue, Check, Info, Uses as InfoUses, Readable as InfoReadable, Link}
+use Rattle.ot_args.specs.Grammar.{Minimise, Sample, SampleArticle, Verify, Read, Prove, Find, command_of, is_theory}
 use Rattle.ot_args.specs.declared.sections.Sections.{Sections}
 use Rattle.ot_blocks.specs.Paths.{package_path}
 use Rattle.ot_repo.specs.Required.{Refusal, Missing as NotThere, required}
@@ -34,7 +36,8 @@ use Rattle.ot_records.specs.Tokens.{LogFault}
 use Rattle.ot_records.specs.Check.{Outcome as LogOutcome, Ends, Stops}
 use Rattle.ot_verify.specs.Reading.{log_check}
 use Rattle.ot_verify.specs.Verifying.{Proved, proved_by, proved_text}
-use Rattle.ot_program.specs.Texts.{stop_line, required_line, log_line, column_line, missing_line, large_line, large_article_line, large_log_line, large_text_line, usage_line}
+use Rattle.ot_program.specs.Texts.{stop_line, required_line, log_line, column_line, missing_line, large_line}
+use Rattle.ot_program.specs.Texts.{large_article_line, large_log_line, large_text_line, usage_line}
 use Rattle.ot_program.specs.declared.status.Status.{Status}
 use Rattle.ot_program.specs.declared.status.Status.TheVariants.{Accepted, Refused, Usage, NoFile}
 use Rattle.ot_program.specs.declared.task.View.{View}
@@ -76,9 +79,10 @@ limits = record {
 
 -- ---- what a command does
 
--- it runs an input, with packages from a folder, and prints what the run came to in one view; it makes the sample article of
--- a size, and runs it, or makes it alone; it checks the log of a path; or it runs an input and prints what the run came to in
--- readable form, or reads the lines of a text, or searches the run, and the packages that it requires, for a pattern
+-- it runs an input, with packages from a folder, and prints what the run came to in one view; it makes the sample
+-- article of a size, and runs it, or makes it alone; it checks the log of a path; or it runs an input and prints what
+-- the run came to in readable form, or reads the lines of a text, or searches the run, and the packages that it
+-- requires, for a pattern
 pub data TaskValue : Type 0 where
   RunInput : List ℕ → List ℕ → View → TaskValue
   RunSample : ℕ → TaskValue
@@ -204,8 +208,8 @@ noted_at packages path folder input = noted_told (shown_at path folder) (run_at 
 abbrev pub opened_first : Option (Linked (List Name)) → Option (List (List ℕ)) → Option (List (List ℕ))
 opened_first names opened = option_and_then (λ ns. option_map (λ paths. ns.paths ++ paths) opened) names
 
--- the symbols that a run writes by their base names: symbols of its assumptions, its exports and its definitions' premises and
--- theorems, in a namespace that is shown
+-- the symbols that a run writes by their base names: symbols of its assumptions, its exports and its definitions'
+-- premises and theorems, in a namespace that is shown
 abbrev pub notation : Noted → List (Symbol Name)
 notation n = hidden_in_run n.shown (assumptions_of n.ran) (exports_of n.ran) (definitions_of n.ran)
 
@@ -248,8 +252,10 @@ abbrev pub read_behind : List ℕ → Option Folder → Result Noted Stop → Op
 read_behind text folder (Ok n) = option_map (read_in n text) folder
 read_behind text folder (Err stop) = Some (Err (InInput stop))
 
-abbrev pub read_at : (packages path text : List ℕ) → Option Folder → Option (List ℕ) → Option (Result Readings ReadStop)
-read_at packages path text folder input = option_and_then (read_behind text folder) (noted_at packages path folder input)
+abbrev pub read_at : (packages path text : List ℕ) → Option Folder → Option (List ℕ)
+    → Option (Result Readings ReadStop)
+read_at packages path text folder input =
+    option_and_then (read_behind text folder) (noted_at packages path folder input)
 
 -- ---- the search for a pattern
 
@@ -258,8 +264,8 @@ pub record PackageRun : Type 0 where
   pub name : List ℕ
   pub ran : Ran
 
--- what is searched: the run of the input with its notation, the term that the pattern stands for under it, and the runs of the
--- required packages
+-- what is searched: the run of the input with its notation, the term that the pattern stands for under it, and the
+-- runs of the required packages
 pub record Searched : Type 0 where
   pub noted : Noted
   pub pattern : Tm Name
@@ -284,7 +290,8 @@ package_runs packages folder (full ∷ fulls) =
     package_runs packages folder fulls >>= λ more.
     Ok (record { name = full; ran = ran } ∷ more)
 
--- what is required comes first, then the run of the input, the pattern under its notation, and the runs of the packages
+-- what is required comes first, then the run of the input, the pattern under its notation, and the runs of the
+-- packages
 abbrev pub search : (pattern : List ℕ) → Result (List (List ℕ)) Refusal → Result Noted Stop
     → (List (List ℕ) → Result (List PackageRun) Stop) → Result Searched FindStop
 search pattern fulls ran runs =
@@ -301,7 +308,8 @@ search_theory packages pattern path folder =
     (noted (theory_shown path folder).answer (theory_run packages path folder).answer) (package_runs packages folder)
 
 -- an article requires none
-abbrev pub find_at : (packages pattern path : List ℕ) → Option Folder → Option (List ℕ) → Option (Result Searched FindStop)
+abbrev pub find_at : (packages pattern path : List ℕ) → Option Folder → Option (List ℕ)
+    → Option (Result Searched FindStop)
 find_at packages pattern path folder input =
     if is_theory path then option_map (search_theory packages pattern path) folder
     else option_map (λ ran. search pattern (Ok []) ran (λ fulls. Ok [])) (noted_at packages path folder input)
@@ -338,11 +346,13 @@ check_file path folder = some_or NoLog (bytes_at folder path) >>= check_bytes
 
 -- the check of a log, over the files and the bytes of standard input that are told
 abbrev pub check_at : List ℕ → Option Folder → Option (List ℕ) → Option (Result Proved LogStop)
-check_at path folder input = if is_standard path then option_map check_bytes input else option_map (check_file path) folder
+check_at path folder input = if is_standard path then option_map check_bytes input else option_map (check_file path)
+    folder
 
 -- ---- how a task ends
 
--- what it comes to: the end of a run, what a log proves, a run with its notation, or nothing but the text that is made
+-- what it comes to: the end of a run, what a log proves, a run with its notation, or nothing but the text that is
+-- made
 abbrev pub Product : TaskValue → Type 0
 Product (RunInput packages path view) = Ran
 Product (RunSample n) = Ran
@@ -383,7 +393,8 @@ opened (MakeSample n) folder = Some []
 opened (CheckLog path) folder = Some (if is_standard path then [] else path ∷ [])
 opened (ShowReadable packages path) folder = opened_first (shown_at path folder) (opened_at packages path folder)
 opened (ReadLines packages path text) folder = opened_first (shown_at path folder) (opened_at packages path folder)
-opened (FindPattern packages pattern path) folder = opened_first (shown_at path folder) (opened_at packages path folder)
+opened (FindPattern packages pattern path) folder =
+    opened_first (shown_at path folder) (opened_at packages path folder)
 
 -- ---- what is printed of a run
 
@@ -451,12 +462,13 @@ view_large Log path = large_log_line path
 abbrev pub line_count : List ℕ → ℕ
 line_count = count_by (λ b. b == 10)
 
--- what a sample's run came to: its size, the lines of its article, and its theorems; then its assumptions, its definitions and
--- the lines of its written article
+-- what a sample's run came to: its size, the lines of its article, and its theorems; then its assumptions, its
+-- definitions and the lines of its written article
 abbrev pub sample_front : (size lines theorems : ℕ) → List ℕ
 sample_front size lines theorems =
     concat
-    (codes "sample " ∷ decimal size ∷ codes ": " ∷ decimal lines ∷ codes " lines, " ∷ decimal theorems ∷ codes " theorems, " ∷ [])
+    (codes "sample " ∷ decimal size ∷ codes ": " ∷ decimal lines ∷ codes " lines, " ∷ decimal theorems
+    ∷ codes " theorems, " ∷ [])
 
 abbrev pub sample_back : (assumptions definitions minimised : ℕ) → List ℕ
 sample_back assumptions definitions minimised =

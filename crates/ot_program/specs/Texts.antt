@@ -17,7 +17,12 @@ use Rattle.ot_repo.specs.Required as repo
 use Rattle.ot_link.specs.Stops.{Stop, InArticle, InTheory, InStructure, TooLarge, Missing}
 use Rattle.ot_records.specs.Tokens.{LogFault}
 use Rattle.ot_records.specs.Tokens as log
-use Rattle.ot_plain.specs.Faults.{Fault, LineTooLong, ArticleTooLong, UnknownCommand, BadName, BadNumber, NumberRange, VersionUnsupported, VersionLate, StackEmpty, WrongKind, NoEntry, EmptyList, NotFunction, ArgumentType, NotBool, NotEquation, NotAlphaEqual, VarFreeInHyps, NotRedex, BadSubst, ExportMismatch, Primitive, AlreadyDefined, SymbolInUse, NotClosed, TypeVarEscapes, BadDefinitionList, HypothesesPresent, NotApplication, BadTypeVars, Nesting}
+use Rattle.ot_plain.specs.Faults.{Fault, LineTooLong, ArticleTooLong, UnknownCommand, BadName, BadNumber}
+use Rattle.ot_plain.specs.Faults.{NumberRange, VersionUnsupported, VersionLate, StackEmpty, WrongKind}
+use Rattle.ot_plain.specs.Faults.{NoEntry, EmptyList, NotFunction, ArgumentType, NotBool, NotEquation}
+use Rattle.ot_plain.specs.Faults.{NotAlphaEqual, VarFreeInHyps, NotRedex, BadSubst, ExportMismatch}
+use Rattle.ot_plain.specs.Faults.{Primitive, AlreadyDefined, SymbolInUse, NotClosed, TypeVarEscapes}
+use Rattle.ot_plain.specs.Faults.{BadDefinitionList, HypothesesPresent, NotApplication, BadTypeVars, Nesting}
 
 -- how a kind is called
 abbrev pub kind_text : Kind → List ℕ
@@ -94,7 +99,8 @@ line_of path text = concat (codes "opentheory: " ∷ path ∷ codes ": " ∷ tex
 
 -- the line for a text about a line of the file of a path
 abbrev pub line_at : List ℕ → ℕ → List ℕ → List ℕ
-line_at path number text = concat (codes "opentheory: " ∷ path ∷ codes ":" ∷ decimal number ∷ codes ": " ∷ text ∷ codes "\n" ∷ [])
+line_at path number text =
+    concat (codes "opentheory: " ∷ path ∷ codes ":" ∷ decimal number ∷ codes ": " ∷ text ∷ codes "\n" ∷ [])
 
 -- the line for a fault at a line of the article of a path
 abbrev pub fault_line : List ℕ → ℕ → Fault Name → List ℕ

@@ -1,5 +1,6 @@
 -- What the parts of the program come to. Only contracts of private functions speak of it.
-use Rattle.std.specs.Prelude.{◌≡◌, ◌≢◌, ◌⊎◌, ◌≤◌, ◌++◌, ℕ, true, false, List, [], map, length, nat_le, Option, Some, None, Result, Ok, Err, Vec, MatchBool, IfSome, IsSomeAnd, string_bytes}
+use Rattle.std.specs.Prelude.{◌≡◌, ◌≢◌, ◌⊎◌, ◌≤◌, ◌++◌, ℕ, true, false, List, [], map, length, nat_le, Option}
+use Rattle.std.specs.Prelude.{Some, None, Result, Ok, Err, Vec, MatchBool, IfSome, IsSomeAnd, string_bytes}
 use Rattle.std.specs.Global.{Global}
 use Rattle.std.specs.Option.{option_map}
 use Rattle.std.specs.List.{All}
@@ -35,11 +36,21 @@ use Rattle.ot_find.specs.Texts.{HasFound, find_text}
 use Rattle.ot_find.specs.declared.search.Search.{Search}
 use Rattle.ot_verify.specs.Taking.{fault_of as log_fault_of}
 use Rattle.ot_verify.specs.Verifying.{Proved}
-use Rattle.ot_program.specs.Texts.{stop_line, required_line, column_line, large_line, large_article_line, large_log_line, read_fault_line, write_fault_line}
-use Rattle.ot_program.specs.Reply.{Reply, accepted, fails, TaskValue, RunInput, RunSample, MakeSample, CheckLog, ShowReadable, ReadLines, FindPattern, LogStop, InLog, NoLog, ReadStop, InInput, NoText, TextTooLarge, InLine, Readings, PackageRun, Searched, package_runs, find_at, found, limits, theory_run, noted_at, notation, exports_of, run_lists, pattern_path, required_status, find_status, find_line, Noted, readable, Product, Halt, result_of, text_of, fits, article_text, article_fits, log_text, log_fits, lists_of, summary, uses, summary_limit, over_line, stop_status, halt_status, halt_line}
-use Rattle.ot_program.specs.Answer.{IsProved, IsPromisedBy, IsSearch, IsOwnStop, IsInputStop, IsFindStop, IsOwnHalt, IsFailedPath, LastPath, Says}
+use Rattle.ot_program.specs.Texts.{stop_line, required_line, column_line, large_line, large_article_line}
+use Rattle.ot_program.specs.Texts.{large_log_line, read_fault_line, write_fault_line}
+use Rattle.ot_program.specs.Reply.{Reply, accepted, fails, TaskValue, RunInput, RunSample, MakeSample}
+use Rattle.ot_program.specs.Reply.{CheckLog, ShowReadable, ReadLines, FindPattern, LogStop, InLog, NoLog}
+use Rattle.ot_program.specs.Reply.{ReadStop, InInput, NoText, TextTooLarge, InLine, Readings, PackageRun}
+use Rattle.ot_program.specs.Reply.{Searched, package_runs, find_at, found, limits, theory_run, noted_at}
+use Rattle.ot_program.specs.Reply.{notation, exports_of, run_lists, pattern_path, required_status}
+use Rattle.ot_program.specs.Reply.{find_status, find_line, Noted, readable, Product, Halt, result_of, text_of}
+use Rattle.ot_program.specs.Reply.{fits, article_text, article_fits, log_text, log_fits, lists_of, summary}
+use Rattle.ot_program.specs.Reply.{uses, summary_limit, over_line, stop_status, halt_status, halt_line}
+use Rattle.ot_program.specs.Answer.{IsProved, IsPromisedBy, IsSearch, IsOwnStop, IsInputStop}
+use Rattle.ot_program.specs.Answer.{IsFindStop, IsOwnHalt, IsFailedPath, LastPath, Says}
 use Rattle.ot_program.specs.declared.status.Status.{Status}
-use Rattle.ot_program.specs.declared.status.Status.TheVariants.{Accepted, Refused, Usage, NoFile, ReadFault, WriteFault, Memory}
+use Rattle.ot_program.specs.declared.status.Status.TheVariants.{Accepted, Refused, Usage, NoFile}
+use Rattle.ot_program.specs.declared.status.Status.TheVariants.{ReadFault, WriteFault, Memory}
 use Rattle.ot_program.specs.declared.report.Counts.{Counts}
 use Rattle.ot_program.specs.declared.report.Verdict.{Verdict}
 use Rattle.ot_program.specs.declared.task.Job.{Job}
@@ -235,12 +246,14 @@ SummaryEndsAs path sections r v =
 -- what each of its theorems rests on
 abbrev pub UsesEndsAs : List ℕ → Ran → Verdict → Type 0
 UsesEndsAs path r v =
-    MatchBool (nat_le (length (uses r)) summary_limit) (IsSaid v Accepted (uses r)) (IsSaid v Refused (large_line path))
+    MatchBool (nat_le (length (uses r)) summary_limit) (IsSaid v Accepted (uses r))
+    (IsSaid v Refused (large_line path))
 
 -- its assumptions and theorems in readable form
 abbrev pub ReadableEndsAs : List ℕ → Noted → Verdict → Type 0
 ReadableEndsAs path n v =
-    MatchBool (nat_le (length (readable n)) summary_limit) (IsSaid v Accepted (readable n)) (IsSaid v Refused (large_line path))
+    MatchBool (nat_le (length (readable n)) summary_limit) (IsSaid v Accepted (readable n))
+    (IsSaid v Refused (large_line path))
 
 -- the sequents that lines stand for
 abbrev pub IsPrintedAs : List ℕ → List (Sequent Name) → Verdict → Type 0
@@ -288,7 +301,8 @@ IsVerdictOn t v (Failed path) = IsSaid v ReadFault (read_fault_line path)
 abbrev pub IsVerdictOf : (t : TaskValue) → Option (End (Product t) (Halt t)) → Verdict → Type 0
 IsVerdictOf t told v = IsSomeAnd told (IsVerdictOn t v)
 
--- the verdict on a task: its text says how that ended, a missing file or a failure was counted, and the last path is its own
+-- the verdict on a task: its text says how that ended, a missing file or a failure was counted, and the last path is
+-- its own
 pub record IsTaskVerdict (t : TaskValue) (folder : Option Folder) (input last : Option (List ℕ))
     (FailureRose MissRose : Type 0) (v : Verdict) : Type 0 where
   pub says : Says v.status t folder input last v.text.items
@@ -308,7 +322,8 @@ IsReplyOf Memory line reply = ⊥
 
 -- ---- the search for a pattern
 
--- a part of a task ended it with this verdict: at a stop that is answered, as far as that is told, or at a file that failed
+-- a part of a task ended it with this verdict: at a stop that is answered, as far as that is told, or at a file that
+-- failed
 pub data HasEnded {A S : Type 0} (told : Option (Result A S)) (status : S → Status) (line : S → List ℕ)
     (Own : S → Type 0) (Failing : List ℕ → Type 0) (FailureRose MissRose : Type 0) (v : Verdict) : Type 0 where
   AtStop : (s : S) → IsSaid v (status s) (line s) → IfSome told (λ answer. answer ≡ Err s) → Own s
@@ -333,12 +348,16 @@ IsLastAsked at file = IfSome at (λ asked. file ≡ asked)
 
 -- the verdict on a walk over packages that was refused so; none where memory ran out
 abbrev pub IsWalkVerdict : RepoFault → Verdict → Type 0
-IsWalkVerdict (repos.Theory path line fault) v = IsSaid v Refused (required_line (repo.Theory (string_bytes path) line fault))
-IsWalkVerdict (repos.TheoryTooLarge path) v = IsSaid v Refused (required_line (repo.TheoryTooLarge (string_bytes path)))
+IsWalkVerdict (repos.Theory path line fault) v =
+    IsSaid v Refused (required_line (repo.Theory (string_bytes path) line fault))
+IsWalkVerdict (repos.TheoryTooLarge path) v =
+    IsSaid v Refused (required_line (repo.TheoryTooLarge (string_bytes path)))
 IsWalkVerdict (repos.IndexTooLarge path) v = IsSaid v Refused (required_line (repo.IndexTooLarge (string_bytes path)))
 IsWalkVerdict (repos.BadIndex path line) v = IsSaid v Refused (required_line (repo.BadIndex (string_bytes path) line))
-IsWalkVerdict (repos.NotInstalled path line) v = IsSaid v Refused (required_line (repo.NotInstalled (string_bytes path) line))
-IsWalkVerdict (repos.RequiresCycle path line) v = IsSaid v Refused (required_line (repo.RequiresCycle (string_bytes path) line))
+IsWalkVerdict (repos.NotInstalled path line) v =
+    IsSaid v Refused (required_line (repo.NotInstalled (string_bytes path) line))
+IsWalkVerdict (repos.RequiresCycle path line) v =
+    IsSaid v Refused (required_line (repo.RequiresCycle (string_bytes path) line))
 IsWalkVerdict (repos.NoFile path) v = IsSaid v NoFile (required_line (repo.Missing (string_bytes path)))
 IsWalkVerdict (repos.ReadFault path) v = IsSaid v ReadFault (read_fault_line (string_bytes path))
 IsWalkVerdict repos.Memory v = ⊥
@@ -359,7 +378,8 @@ IsWalkFile packages path folder at file =
     IfSome folder (λ files. IsWalked files limits.theory_bytes packages path file) × IsLastAsked at file
 
 -- the walk over them ended the task
-abbrev pub HasEndedWalk : (packages path : List ℕ) → Option Folder → Option (List ℕ) → (FailureRose MissRose : Type 0) → Verdict
+abbrev pub HasEndedWalk : (packages path : List ℕ) → Option Folder → Option (List ℕ) → (FailureRose MissRose : Type 0)
+    → Verdict
     → Type 0
 HasEndedWalk packages path folder at =
     HasEnded (required_in packages path folder) required_status required_line (λ refusal. is_theory path ≡ true)
@@ -376,7 +396,8 @@ HasEndedInput packages path folder input at =
 abbrev pub HasEndedPattern : Noted → (pattern : List ℕ) → Verdict → Type 0
 HasEndedPattern n pattern =
     HasEnded (Some (at_line 1 (term_read (notation n) pattern))) (λ refused. Refused)
-    (λ refused. column_line pattern_path refused.line refused.column refused.fault) (λ refused. Unit {0}) (λ file. ⊥) ⊥ ⊥
+    (λ refused. column_line pattern_path refused.line refused.column refused.fault) (λ refused. Unit {0}) (λ file. ⊥)
+    ⊥ ⊥
 
 -- the term that a pattern stands for
 pub record IsPattern (n : Noted) (pattern : List ℕ) (p : Tm Name) : Type 0 where
@@ -399,10 +420,12 @@ pub record IsRunFile (packages : List ℕ) (fulls : List (List ℕ))
 abbrev pub HasEndedRuns : (packages : List ℕ) (fulls : List (List ℕ)) → Option Folder → Option (List ℕ)
     → (FailureRose MissRose : Type 0) → Verdict → Type 0
 HasEndedRuns packages fulls folder at =
-    HasEnded (runs_in packages folder fulls) stop_status stop_line (λ stop. fulls ≢ []) (IsRunFile packages fulls folder at)
+    HasEnded (runs_in packages folder fulls) stop_status stop_line (λ stop. fulls ≢ [])
+    (IsRunFile packages fulls folder at)
 
 -- the run of a package by its full name ended the task
-abbrev pub HasEndedRun : (packages full : List ℕ) → Option Folder → Option (List ℕ) → (FailureRose MissRose : Type 0) → Verdict
+abbrev pub HasEndedRun : (packages full : List ℕ) → Option Folder → Option (List ℕ) → (FailureRose MissRose : Type 0)
+    → Verdict
     → Type 0
 HasEndedRun packages full folder at =
     HasEnded (option_map (λ files. (theory_run packages (package_path packages full) files).answer) folder)
@@ -416,11 +439,13 @@ pub record HasMatches (search : Search) (fs : List Found) : Type 0 where
   pub max_is : search.max ≡ summary_limit
 
 -- a package was run, its theorems are proved, and those that the pattern matches were added to what was found
-pub record IsSearched (packages full : List ℕ) (folder : Option Folder) (pattern : Tm Name) (old new : Search) : Type 0 where
+pub record IsSearched (packages full : List ℕ) (folder : Option Folder) (pattern : Tm Name) (old new : Search) : Type
+    0 where
   pub ran : Ran
   pub ran_is : IfSome folder (λ files. (theory_run packages (package_path packages full) files).answer ≡ Ok ran)
   pub proved : IsProved (run_lists ran)
-  pub found_more : (fs : List Found) → HasMatches old fs → HasMatches new (fs ++ matches_in pattern full (exports_of ran))
+  pub found_more : (fs : List Found) → HasMatches old fs
+      → HasMatches new (fs ++ matches_in pattern full (exports_of ran))
 
 -- the source that a package is
 abbrev pub source_of : PackageRun → Source

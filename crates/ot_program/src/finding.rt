@@ -1,6 +1,6 @@
 //! The search for a pattern among the exports of an input and of the packages that it requires.
-ghost use Rattle.std.specs.Prelude.{◌≡◌, ◌⊎◌, ◌++◌, ℕ, List, [], Option, Ok, true, map, string_bytes, IfOk, IfErr};
-ghost use Rattle.std.specs.Prelude.{IfSome, OnOk};
+ghost use Rattle.std.specs.Prelude.{◌≡◌, ◌⊎◌, ◌++◌, ℕ, List, [], Option, Ok, true};
+ghost use Rattle.std.specs.Prelude.{map, string_bytes, IfOk, IfErr, IfSome, OnOk};
 ghost use Rattle.std.specs.List.{All};
 ghost use Rattle.ot_plain.specs.PlainTrees.{term_of_tree};
 ghost use Rattle.ot_io.specs.Causes.{Rose};
@@ -13,12 +13,12 @@ ghost use Rattle.ot_repo.specs.Answers.{ArePackages, names_of};
 ghost use Rattle.ot_text.specs.Laws.{OneSequent, OneSequentInFront};
 ghost use Rattle.ot_program.specs.Reply.{FindPattern, exports_of, noted_at, run_lists, pattern_path};
 ghost use Rattle.ot_program.specs.Texts.{column_line};
-ghost use Rattle.ot_program.specs.Answer.{FailedAt, FailedIn, IsProved, LeavesOther, LastInput, KeepsFiles};
-ghost use Rattle.ot_program.specs.Answer.{KeepsSource};
+ghost use Rattle.ot_program.specs.Answer.{FailedAt, FailedIn, IsProved, LeavesOther};
+ghost use Rattle.ot_program.specs.Answer.{LastInput, KeepsFiles, KeepsSource};
 ghost use Rattle.ot_program.specs.Verdicts.{noted_of, ran_from, ending_of, IfEnded, AreRequired, AreSearched};
 ghost use Rattle.ot_program.specs.Verdicts.{FoundEndsAs, HasMatches, HasSearched, IsPattern, IsSaid};
-ghost use Rattle.ot_program.specs.Verdicts.{IsWalkVerdict, HasEndedWalk, HasEndedInput, HasEndedPattern, HasEndedRun};
-ghost use Rattle.ot_program.specs.Verdicts.{HasEndedRuns, HasEndedSearch, IsSearched, IsTaskVerdict};
+ghost use Rattle.ot_program.specs.Verdicts.{IsWalkVerdict, HasEndedWalk, HasEndedInput, HasEndedPattern};
+ghost use Rattle.ot_program.specs.Verdicts.{HasEndedRun, HasEndedRuns, HasEndedSearch, IsSearched, IsTaskVerdict};
 
 use crate::input::run_theory;
 use crate::noted::{NotedRun, run_noted};

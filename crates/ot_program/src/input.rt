@@ -8,8 +8,8 @@ ghost use Rattle.ot_machine.specs.States.{fresh_run};
 ghost use Rattle.ot_machine.specs.Meaning.{run_of, IsRun};
 ghost use Rattle.ot_program.specs.Reply.{outcome, article_run, theory_run, stop_status};
 ghost use Rattle.ot_program.specs.Answer.{FailedAt, LeavesOther, LastPath, KeepsFiles, KeepsSource};
-ghost use Rattle.ot_program.specs.Verdicts.{job_task, end_of, IsAnswer, IsEnd, IsPlace, IsOwnEnd, IsNeeded, HasCause};
-ghost use Rattle.ot_program.specs.Verdicts.{IsLawfulEnd};
+ghost use Rattle.ot_program.specs.Verdicts.{job_task, end_of, IsAnswer, IsEnd, IsPlace};
+ghost use Rattle.ot_program.specs.Verdicts.{IsOwnEnd, IsNeeded, HasCause, IsLawfulEnd};
 
 use crate::task::Job;
 use ot_args::is_theory;

@@ -10,8 +10,8 @@ ghost use Rattle.ot_read.specs.Laws.{StandFor};
 ghost use Rattle.ot_read.specs.Lines.{lines_read, IsLineRefusal};
 ghost use Rattle.ot_program.specs.Reply.{ReadLines, notation, read_in, read_status, text_in};
 ghost use Rattle.ot_program.specs.Answer.{FailedIn, LeavesAlone, KeepsFiles, KeepsSource};
-ghost use Rattle.ot_program.specs.Verdicts.{noted_of, read_end_of, IsAnswer, HasCause, IsVerdictOf, IsTextRefusal};
-ghost use Rattle.ot_program.specs.Verdicts.{IsTextCause, IsPrintedAs, IsTaskVerdict};
+ghost use Rattle.ot_program.specs.Verdicts.{noted_of, read_end_of, IsAnswer, HasCause, IsVerdictOf};
+ghost use Rattle.ot_program.specs.Verdicts.{IsTextRefusal, IsTextCause, IsPrintedAs, IsTaskVerdict};
 
 use crate::noted::{NotedRun, run_noted};
 use crate::report::{

@@ -6,8 +6,8 @@ ghost use Rattle.ot_term.specs.Symbols.{symbol_of};
 ghost use Rattle.ot_machine.specs.Faults.{fault_of};
 ghost use Rattle.ot_machine.specs.Answers.{IsSymbolIn};
 ghost use Rattle.ot_verify.specs.Taking.{fault_of as log_fault_of};
-ghost use Rattle.ot_program.specs.Texts.{kind_text, symbol_text, fault_text, theory_text, structure_text, log_text};
-ghost use Rattle.ot_program.specs.Texts.{readable_text, column_line, line_of, line_at, fault_line};
+ghost use Rattle.ot_program.specs.Texts.{kind_text, symbol_text, fault_text, theory_text, structure_text};
+ghost use Rattle.ot_program.specs.Texts.{log_text, readable_text, column_line, line_of, line_at, fault_line};
 ghost use Rattle.ot_program.specs.Wording.{kind_word, line_start};
 
 use ot_blocks::StructureFault;

@@ -4,7 +4,8 @@ use Rattle.ot_plain.specs.Lists.{IsMember}
 use Rattle.ot_plain.specs.Names.{Name}
 use Rattle.ot_plain.specs.Trees.{Sequent}
 use Rattle.ot_plain.specs.declared.command.Cmd.{Cmd}
-use Rattle.ot_trace.specs.Origins.{Origin, Origins, Number, Named, Make, Define, Outcome, NoOrigins, MoreOrigins, listed, operands}
+use Rattle.ot_trace.specs.Origins.{Origin, Origins, Number, Named, Make, Define}
+use Rattle.ot_trace.specs.Origins.{Outcome, NoOrigins, MoreOrigins, listed, operands}
 use Rattle.ot_trace.specs.Reach.{IsReached, Root, Operand, OfTheorem, OfSymbol}
 use Rattle.ot_written.proofs.Filters.{bool_cases}
 use Rattle.ot_machine.specs.Objects.{Object, theorem}
@@ -58,7 +59,8 @@ module _ (x : Written) (roots ds found : List (Origin Name))
   abbrev pub Good : Origin Name → Type 0
   Good o = IsMember o found ⊎ IsGood x o
 
-  each-good : (os : Origins Name) (vs : List Object) → values os ≡ Ok vs → EachPlain vs → HasAll x os → (p : Origin Name)
+  each-good : (os : Origins Name) (vs : List Object) → values os ≡ Ok vs → EachPlain vs → HasAll x os
+      → (p : Origin Name)
       → IsMember p (listed os) → Good p
   each-good NoOrigins vs e h has p m = absurd m
   each-good (MoreOrigins o os) vs e h has p m =
@@ -76,7 +78,8 @@ module _ (x : Written) (roots ds found : List (Origin Name))
       let made = made-of (maker w) a.0 v a.2 in
       elim plain [
         | inl f ↦
-            (let free = made-free w a.0 v made f in each-good os a.0 a.1 (free-plain a.0 free) (free-all x os a.0 a.1 free) p m)
+            (let free = made-free w a.0 v made f in
+            each-good os a.0 a.1 (free-plain a.0 free) (free-all x os a.0 a.1 free) p m)
         | inr t ↦ (let value_is : value (Make w os) ≡ Ok (theorem t.0) = e ∙ ap Ok t.1 in
             let there = has t.0 value_is in
             let makes : makes_theorem w ≡ true =

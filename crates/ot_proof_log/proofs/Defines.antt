@@ -1,7 +1,8 @@
 -- The record of a definition makes it, in a log that has the definitions before it and the premise.
 use Rattle.std.specs.Prelude.{slice_get, is_some}
 use Rattle.std.specs.List.{AllByRecursion, flat_map, list_all}
-use Rattle.std.proofs.Common.{◌≡◌, ℕ, suc, ◌≤◌, true, ◌&&◌, List, [], ◌∷◌, map, length, Some, Result, Ok, refl, sym, ap, subst, ◌∙◌, inl, arith, length-append}
+use Rattle.std.proofs.Common.{◌≡◌, ℕ, suc, ◌≤◌, true, ◌&&◌, List, [], ◌∷◌, map, length, Some}
+use Rattle.std.proofs.Common.{Result, Ok, refl, sym, ap, subst, ◌∙◌, inl, arith, length-append}
 use Rattle.ot_plain.specs.Lists.{IsSameSet}
 use Rattle.ot_plain.specs.Names.{Name}
 use Rattle.ot_plain.specs.Naming.{names}
@@ -14,7 +15,8 @@ use Rattle.ot_plain.specs.declared.command.Cmd.TheVariants as words
 use Rattle.ot_laws.specs.Conditions.{checked_const, checked_list, checked_type, is_empty}
 use Rattle.ot_kernel.specs.Defining.{all_defined, all_used}
 use Rattle.ot_records.specs.Tokens.{LogFault, BadStep}
-use Rattle.ot_records.specs.Steps.{is_sequent_within, is_well_typed, or_bad, constant_step, constants_step, type_operator_step}
+use Rattle.ot_records.specs.Steps.{is_sequent_within, is_well_typed, or_bad}
+use Rattle.ot_records.specs.Steps.{constant_step, constants_step, type_operator_step}
 use Rattle.ot_records.specs.State.{LogState}
 use Rattle.ot_machine.specs.Objects.{Object, name, list, term, theorem}
 use Rattle.ot_machine.specs.Places.{as_name}
@@ -26,9 +28,11 @@ use Rattle.ot_entries.specs.Entries.{Entry, AName, ASequent, type_nodes, term_no
 use Rattle.ot_entries.specs.Making.{IsSame}
 use Rattle.ot_entries.specs.Logged.{Log}
 use Rattle.ot_entries.proofs.Standing.{Stands}
-use Rattle.ot_entries.proofs.Definitions.{MakesDefinition, definition-stands, constant-feeds, constants-feeds, type_operator-feeds}
+use Rattle.ot_entries.proofs.Definitions.{MakesDefinition, definition-stands, constant-feeds}
+use Rattle.ot_entries.proofs.Definitions.{constants-feeds, type_operator-feeds}
 use Rattle.ot_proof_log.specs.Checked.{IsDefinitionOf}
-use Rattle.ot_proof_log.specs.Derived.{read, constant_entry, constant_pair, constants_entry, type_operator_entry, definition_entries}
+use Rattle.ot_proof_log.specs.Derived.{read, constant_entry, constant_pair, constants_entry}
+use Rattle.ot_proof_log.specs.Derived.{type_operator_entry, definition_entries}
 use Rattle.ot_proof_log.proofs.Kept.{IsKept}
 use Rattle.ot_proof_log.proofs.KeptObjects.{IsKeptObject, IsSound, AreSound, opened, first}
 use Rattle.ot_proof_log.proofs.Read.{each-holds, pairs-hold}
@@ -40,7 +44,8 @@ use Rattle.ot_proof_log.proofs.Told.{AreOperands, IsEntry}
 use Rattle.ot_proof_log.proofs.Texts.{is-same, same-back}
 use Rattle.ot_proof_log.proofs.Makes.{kept-within, type-named, term-named, number-low, Numbers, AllNamed}
 use Rattle.ot_proof_log.proofs.Singles.{Nodes, nodes-then, no-nodes, more-fits, flat-append}
-use Rattle.ot_proof_log.proofs.SameDefinitions.{AreMade, const-same, list-same, type-same, theorems-same, all-defined-same, all-used-same}
+use Rattle.ot_proof_log.proofs.SameDefinitions.{AreMade, const-same, list-same, type-same}
+use Rattle.ot_proof_log.proofs.SameDefinitions.{theorems-same, all-defined-same, all-used-same}
 use Rattle.ot_plain.proofs.Elements.{AllByRecursion-append}
 use Rattle.ot_plain.proofs.Results.{bind-ok, unless-ok}
 
@@ -126,7 +131,8 @@ module _ (log : Log) (st : LogState Name) (earlier : List Made)
       >>= λ _. after (checked_const names (all_defined names st.definitions) (all_used names st.definitions) n t))
       typed
       ∙ ap after checked in
-      let nodes = nodes-then (term_nodes t) [] (term-named t kt.typed.0 kt.typed.1 (more-fits t kt.fits) nt) no-nodes in
+      let nodes = nodes-then (term_nodes t) [] (term-named t kt.typed.0 kt.typed.1 (more-fits t kt.fits) nt)
+      no-nodes in
       record {
         entry = constant_entry n t;
         is = refl;
@@ -140,9 +146,11 @@ module _ (log : Log) (st : LogState Name) (earlier : List Made)
         long = omega arith;
       }
 
-  list-defines : (ps : List (Name × Variable Name)) (q r : Sequent Name) (i : ℕ) (x : Definition Name) → AllByRecursion Pair ps
+  list-defines : (ps : List (Name × Variable Name)) (q r : Sequent Name) (i : ℕ) (x : Definition Name)
+      → AllByRecursion Pair ps
       → IsSame names q r → slice_get st.sequents i ≡ Some r → x ≡ ListDef ps q
-      → checked_list names (all_defined names ds) (all_used names ds) (map (λ p. p.0) ps) (map (λ p. p.1) ps) q ≡ Ok tt
+      → checked_list names (all_defined names ds) (all_used names ds) (map (λ p. p.0) ps) (map (λ p. p.1) ps) q
+      ≡ Ok tt
       → AllByRecursion IsKept (theorems names x) → Defines log st (constants_entry ps i ∷ []) x
   list-defines ps q r i x hp same get e c kept =
       let d = ListDef ps r in
@@ -164,8 +172,10 @@ module _ (log : Log) (st : LogState Name) (earlier : List Made)
         is = refl;
         definition = d;
         makes =
-            definition-stands log st entry (λ dl. constants_step names dl ps r) d stand nodes.0 (constants-feeds st ps i r get)
-            step (theorems-within (theorems names d) (subst (AllByRecursion IsKept) (sym (theorems-same d x is_x)) kept));
+            definition-stands log st entry (λ dl. constants_step names dl ps r) d stand nodes.0
+            (constants-feeds st ps i r get)
+            step (theorems-within (theorems names d)
+            (subst (AllByRecursion IsKept) (sym (theorems-same d x is_x)) kept));
         same = is_x;
         told = record {
           nodes = nodes.1;
@@ -178,20 +188,28 @@ module _ (log : Log) (st : LogState Name) (earlier : List Made)
         long = omega (arith, long);
       }
 
-  type-defines : (n abs rep : Name) (vars : List Name) (q r : Sequent Name) (i : ℕ) (x : Definition Name) → IsWritable n
-      → IsWritable abs → IsWritable rep → AllByRecursion IsWritable vars → IsSame names q r → slice_get st.sequents i ≡ Some r
+  type-defines : (n abs rep : Name) (vars : List Name) (q r : Sequent Name) (i : ℕ) (x : Definition Name)
+      → IsWritable n
+      → IsWritable abs → IsWritable rep → AllByRecursion IsWritable vars → IsSame names q r → slice_get st.sequents i
+      ≡ Some r
       → x ≡ TyDef n abs rep vars q
       → checked_type names (all_defined names ds) (all_used names ds) n abs rep vars q ≡ Ok tt
       → AllByRecursion IsKept (theorems names x) → Defines log st (type_operator_entry n abs rep vars i ∷ []) x
   type-defines n abs rep vars q r i x hn ha hr hv same get e c kept =
       let d = TyDef n abs rep vars r in
       let (u, a, b) = bind-ok (unless HypothesesPresent (is_empty q.hyps)) _ tt c in
-      let one : q ≡ r = no-hyps q.hyps r.hyps (unless-ok HypothesesPresent (is_empty q.hyps) u a) same.hyps same.concl in
-      let on_r = subst (λ z. checked_type names (all_defined names ds) (all_used names ds) n abs rep vars z ≡ Ok tt) one c in
-      let checked = subst (λ z. checked_type names z (all_used names st.definitions) n abs rep vars r ≡ Ok tt) (sym defs)
-      (type-same (all_defined names ds) (all_used names ds) (all_used names st.definitions) uses n abs rep vars r on_r) in
-      let step : type_operator_step names st.definitions n abs rep vars r ≡ Ok d = ap (λ z. or_bad z >>= λ _. Ok d) checked in
-      let is_it : IsDefinitionOf d (TyDef n abs rep vars q) = (refl, refl, refl, refl, same-back q r (is-same q r same)) in
+      let one : q ≡ r = no-hyps q.hyps r.hyps (unless-ok HypothesesPresent (is_empty q.hyps) u a) same.hyps
+      same.concl in
+      let on_r = subst (λ z. checked_type names (all_defined names ds) (all_used names ds) n abs rep vars z ≡ Ok tt)
+      one c in
+      let checked = subst (λ z. checked_type names z (all_used names st.definitions) n abs rep vars r ≡ Ok tt)
+      (sym defs)
+      (type-same (all_defined names ds) (all_used names ds) (all_used names st.definitions) uses n abs rep vars r
+      on_r) in
+      let step : type_operator_step names st.definitions n abs rep vars r ≡ Ok d =
+      ap (λ z. or_bad z >>= λ _. Ok d) checked in
+      let is_it : IsDefinitionOf d (TyDef n abs rep vars q) =
+      (refl, refl, refl, refl, same-back q r (is-same q r same)) in
       let is_x : IsDefinitionOf d x = subst (IsDefinitionOf d) (sym e) is_it in
       let entry = type_operator_entry n abs rep vars i in
       let nodes = flat-append (map AName vars) (ASequent i ∷ []) (names-nodes vars) no-nodes in

@@ -2,13 +2,16 @@
 use Rattle.std.specs.Prelude.{slice_get, cond, max}
 use Rattle.std.specs.Option.{option_map}
 use Rattle.std.specs.List.{AllByRecursion, list_all}
-use Rattle.std.proofs.Common.{◌≡◌, ℕ, suc, ◌≤◌, true, List, [], ◌∷◌, map, Some, Ok, refl, sym, ap, subst, ◌∙◌, inl, inr}
+use Rattle.std.proofs.Common.{◌≡◌, ℕ, suc, ◌≤◌, true, List, [], ◌∷◌, map}
+use Rattle.std.proofs.Common.{Some, Ok, refl, sym, ap, subst, ◌∙◌, inl, inr}
 use Rattle.std.proofs.lemmas.Bool.{and_parts}
 use Rattle.ot_plain.specs.Lists.{AreDistinct}
 use Rattle.ot_plain.specs.Names.{Name}
 use Rattle.ot_plain.specs.Naming.{names}
-use Rattle.ot_plain.specs.Trees.{Ty, TyVar, Variable, Tm, Free, Con, Bound, App, Abs, Sequent, Definition, ConDef, ListDef, TyDef}
-use Rattle.ot_plain.specs.Hol.{depth_limit, depth_tm, inst_by, fun_ty, applied, type_in, bool_ty, term_at, subst_tm, constants_for, IsTyped, theorems, is_shallow_sequent, IsSequent, sequent_of}
+use Rattle.ot_plain.specs.Trees.{Ty, TyVar, Variable, Tm, Free, Con, Bound, App}
+use Rattle.ot_plain.specs.Trees.{Abs, Sequent, Definition, ConDef, ListDef, TyDef}
+use Rattle.ot_plain.specs.Hol.{depth_limit, depth_tm, inst_by, fun_ty, applied, type_in, bool_ty, term_at, subst_tm}
+use Rattle.ot_plain.specs.Hol.{constants_for, IsTyped, theorems, is_shallow_sequent, IsSequent, sequent_of}
 use Rattle.ot_plain.specs.Faults.{Nesting}
 use Rattle.ot_plain.specs.Answers.{◌>>=◌, unless}
 use Rattle.ot_plain.specs.declared.command.Cmd.{Cmd}
@@ -41,10 +44,12 @@ pub data IsDefining (ds : List (Definition Name)) (vs : List Object) (x : Defini
       → IsDefining ds vs x words.DefineConst
   ByList : (os : Objects) (ps : List (Name × Variable Name)) (q : Sequent Name) → vs ≡ list os ∷ theorem q ∷ []
       → pairs_of os ≡ Ok ps → x ≡ ListDef ps q
-      → checked_list names (all_defined names ds) (all_used names ds) (map (λ p. p.0) ps) (map (λ p. p.1) ps) q ≡ Ok tt
+      → checked_list names (all_defined names ds) (all_used names ds) (map (λ p. p.0) ps) (map (λ p. p.1) ps) q
+      ≡ Ok tt
       → IsDefining ds vs x words.DefineConstList
   ByType : (n abs rep : Name) (os : Objects) (vars : List Name) (q : Sequent Name)
-      → vs ≡ name n ∷ name abs ∷ name rep ∷ list os ∷ theorem q ∷ [] → as_each as_name os ≡ Ok vars → x ≡ TyDef n abs rep vars q
+      → vs ≡ name n ∷ name abs ∷ name rep ∷ list os ∷ theorem q ∷ [] → as_each as_name os ≡ Ok vars
+      → x ≡ TyDef n abs rep vars q
       → checked_type names (all_defined names ds) (all_used names ds) n abs rep vars q ≡ Ok tt
       → ShallowTheorems (TyDef n abs rep vars q) → IsDefining ds vs x words.DefineTypeOp
 
@@ -78,7 +83,8 @@ list-of ds (l ∷ t ∷ []) x h =
     let b = bind-ok (as_list l) _ x a.2 in
     let c = bind-ok (pairs_of b.0) _ x b.2 in
     let d = bind-ok
-    (checked_list names (all_defined names ds) (all_used names ds) (map (λ p. p.0) c.0) (map (λ p. p.1) c.0) a.0) _ x c.2 in
+    (checked_list names (all_defined names ds) (all_used names ds) (map (λ p. p.0) c.0) (map (λ p. p.1) c.0) a.0) _ x
+    c.2 in
     ByList b.0 c.0 a.0 (λ i. list-is l b.0 b.1 i ∷ theorem-is t a.0 a.1 i ∷ []) c.1
     (sym (same_Ok (ListDef (zipped names (map (λ p. p.0) c.0) (map (λ p. p.1) c.0)) a.0) x d.2)
     ∙ ap (λ z. ListDef z a.0) (zipped-back c.0))
@@ -99,14 +105,16 @@ type-of ds (n ∷ a ∷ r ∷ l ∷ t ∷ []) x h =
     let rep = bind-ok (as_name r) _ x vs.2 in
     let abs = bind-ok (as_name a) _ x rep.2 in
     let m = bind-ok (as_name n) _ x abs.2 in
-    let c = bind-ok (checked_type names (all_defined names ds) (all_used names ds) m.0 abs.0 rep.0 vs.0 q.0) _ x m.2 in
+    let c = bind-ok (checked_type names (all_defined names ds) (all_used names ds) m.0 abs.0 rep.0 vs.0 q.0) _ x
+    m.2 in
     let k = limited-is (TyDef m.0 abs.0 rep.0 vs.0 q.0) x c.2 in
     ByType m.0 abs.0 rep.0 os.0 vs.0 q.0 (λ i. name-is n m.0 m.1 i ∷ name-is a abs.0 abs.1 i ∷ name-is r rep.0 rep.1 i
     ∷ list-is l os.0 os.1 i ∷ theorem-is t q.0 q.1 i ∷ [])
     os.2 k.1 c.1 k.0
 type-of ds (n ∷ a ∷ r ∷ l ∷ t ∷ u ∷ vs) x h = absurd (cc)
 
-pub defining-of : (w : Cmd) (ds : List (Definition Name)) (vs : List Object) (x : Definition Name) → given_by w ds vs ≡ Ok x
+pub defining-of : (w : Cmd) (ds : List (Definition Name)) (vs : List Object) (x : Definition Name)
+    → given_by w ds vs ≡ Ok x
     → IsDefining ds vs x w
 defining-of words.DefineConst ds vs x h = const-of ds vs x h
 defining-of words.DefineConstList ds vs x h = list-of ds vs x h
@@ -132,7 +140,8 @@ leaf-at (p ∷ ps) v = elim (var_cases names tells_names v p.1) [
         types = λ n l h. subst (λ (z : Variable Name). FitsType names n (Some z.ty)) e.1 h;
       })
   | inr e ↦
-      subst (IsLeaf v) (ap (λ b. cond b (Con p.0 p.1.ty) (term_at names (constants_for names ps) v)) (sym e.0)) (leaf-at ps v)
+      subst (IsLeaf v) (ap (λ b. cond b (Con p.0 p.1.ty) (term_at names (constants_for names ps) v)) (sym e.0))
+      (leaf-at ps v)
 ]
 
 module _ (ps : List (Name × Variable Name)) where
@@ -186,7 +195,8 @@ constants-typed (p ∷ ps) = (refl, constants-typed ps)
 
 -- ---- the theorems of a definition are kept
 
-all-kept : (qs : List (Sequent Name)) → ((j : ℕ) (q : Sequent Name) → slice_get qs j ≡ Some q → IsSequent names q × (q.hyps ≡ []))
+all-kept : (qs : List (Sequent Name))
+    → ((j : ℕ) (q : Sequent Name) → slice_get qs j ≡ Some q → IsSequent names q × (q.hyps ≡ []))
     → list_all (is_shallow_sequent names) qs ≡ true → AllByRecursion IsKept qs
 all-kept [] each h = tt
 all-kept (q ∷ qs) each h =
@@ -197,14 +207,19 @@ all-kept (q ∷ qs) each h =
 no-symbols : AreSymbolsOf names [] [] []
 no-symbols = record { defined = λ s. (λ m. absurd m, λ m. absurd m.1); used = λ s. (λ m. absurd m, λ m. absurd m.1) }
 
-pub defined-kept : (w : Cmd) (vs : List Object) (x : Definition Name) → AllByRecursion IsKeptObject vs → IsDefining [] vs x w
+pub defined-kept : (w : Cmd) (vs : List Object) (x : Definition Name) → AllByRecursion IsKeptObject vs
+    → IsDefining [] vs x w
     → AllByRecursion IsKept (theorems names x)
 defined-kept w vs x k (ByConst n t s e c h) =
     let t_kept : IsKeptTerm t = (subst (AllByRecursion IsKeptObject) s k).1.0 in
     let fine = (constants_are_next names tells_names [] [] [] [] n t no-symbols t_kept.typed c).fine in
     subst (λ z. AllByRecursion IsKept (theorems names z)) (sym e)
     (all-kept (theorems names (ConDef n t))
-    (λ j q g. (definition-sequents names tells_names [] [] (ConDef n t) fine tt j q g, no_hyps-theorems names (ConDef n t) j q g))
+    (λ j q g. (
+      definition-sequents names tells_names [] [] (ConDef n t) fine tt j q g,
+      no_hyps-theorems names
+          (ConDef n t) j q g,
+    ))
     h)
 defined-kept w vs x k (ByList os ps q s e f c) =
     let q_kept : IsKept q = (subst (AllByRecursion IsKeptObject) s k).1.0 in

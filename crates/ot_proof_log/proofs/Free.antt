@@ -13,15 +13,19 @@ use Rattle.ot_plain.specs.declared.command.Cmd.{Cmd}
 use Rattle.ot_plain.specs.declared.command.Cmd.TheVariants as words
 use Rattle.ot_laws.proofs.Steps.{limit-ok}
 use Rattle.ot_kernel.specs.Pairs.{with_type, with_term}
-use Rattle.ot_machine.specs.Objects.{Object, Objects, number, name, list, type_op, a_type, constant, variable, term, theorem, no_objects, more_objects, nesting}
+use Rattle.ot_machine.specs.Objects.{Object, Objects, number, name, list, type_op, a_type, constant}
+use Rattle.ot_machine.specs.Objects.{variable, term, theorem, no_objects, more_objects, nesting}
 use Rattle.ot_machine.specs.Places.{as_name, as_list, as_type_op, as_type, as_constant, as_variable, as_term, as_each}
 use Rattle.ot_machine.specs.Parts.{or_bad, two_of}
 use Rattle.ot_machine.specs.Substitutions.{type_pair, term_pair, types_onto, terms_onto, maps_of}
 use Rattle.ot_machine.specs.DefinitionLists.{definition_pair}
-use Rattle.ot_machine.specs.Makers.{Read, of_top, of_two, maker, cons_made, type_op_made, op_type_made, var_type_made, var_made, var_term_made, const_made, const_term_made, app_term_made, abs_term_made}
+use Rattle.ot_machine.specs.Makers.{Read, of_top, of_two, maker, cons_made, type_op_made}
+use Rattle.ot_machine.specs.Makers.{op_type_made, var_type_made, var_made, var_term_made}
+use Rattle.ot_machine.specs.Makers.{const_made, const_term_made, app_term_made, abs_term_made}
 use Rattle.ot_article.proofs.Operands.{made_of}
 use Rattle.ot_proof_log.specs.Derived.{makes_theorem}
-use Rattle.ot_proof_log.proofs.Steps.{list-is, one-of, two-of, IsStep, ByRefl, ByAssume, ByBeta, ByAbsThm, BySubst, ByAxiom, BySym, ByEqMp, ByAppThm, ByDeductAntisym, ByTrans, ByProveHyp, step-of}
+use Rattle.ot_proof_log.proofs.Steps.{list-is, one-of, two-of, IsStep, ByRefl, ByAssume, ByBeta, ByAbsThm, BySubst}
+use Rattle.ot_proof_log.proofs.Steps.{ByAxiom, BySym, ByEqMp, ByAppThm, ByDeductAntisym, ByTrans, ByProveHyp, step-of}
 use Rattle.ot_proof_log.proofs.Read.{or_bad-is}
 use Rattle.ot_proof_log.proofs.Defining.{IsDefining, ByConst, ByList, ByType}
 use Rattle.ot_plain.proofs.Results.{bind-ok}
@@ -82,7 +86,8 @@ term-free _ u h = absurd (cc)
 list-free : (o : Object) (os : Objects) → as_list o ≡ Ok os → AreFree os → IsFree o
 list-free o os e h = subst IsFree (sym (list-is o os e)) h
 
-pub each-free : {A : Type 0} (as_one : Object → Result A (Fault Name)) → ((o : Object) (a : A) → as_one o ≡ Ok a → IsFree o)
+pub each-free : {A : Type 0} (as_one : Object → Result A (Fault Name))
+    → ((o : Object) (a : A) → as_one o ≡ Ok a → IsFree o)
     → (os : Objects) (xs : List A) → as_each as_one os ≡ Ok xs → AreFree os
 each-free as_one one no_objects xs h = tt
 each-free as_one one (more_objects o os) xs h =
@@ -93,16 +98,19 @@ each-free as_one one (more_objects o os) xs h =
 pub terms-free : (os : Objects) (ts : List (Tm Name)) → as_each as_term os ≡ Ok ts → AreFree os
 terms-free = each-free as_term term-free
 
-two-free : (bad : Fault Name) (os : Objects) (p : Object × Object) → two_of bad os ≡ Ok p → IsFree p.0 → IsFree p.1 → AreFree os
+two-free : (bad : Fault Name) (os : Objects) (p : Object × Object) → two_of bad os ≡ Ok p → IsFree p.0 → IsFree p.1
+    → AreFree os
 two-free bad (more_objects x (more_objects y no_objects)) p h a b =
     let e : (x, y) ≡ p = cc in (subst IsFree (λ i. (sym e i).0) a, (subst IsFree (λ i. (sym e i).1) b, tt))
 two-free bad _ p h a b = absurd (cc)
 
-pair-free : {A B : Type 0} (bad : Fault Name) (as_one : Object → Result A (Fault Name)) (as_two : Object → Result B (Fault Name))
+pair-free : {A B : Type 0} (bad : Fault Name) (as_one : Object → Result A (Fault Name))
+    (as_two : Object → Result B (Fault Name))
     → ((o : Object) (a : A) → as_one o ≡ Ok a → IsFree o) → ((o : Object) (b : B) → as_two o ≡ Ok b → IsFree o)
     → (o : Object) (r : A × B)
     → (or_bad bad (as_list o)
-    >>= λ os. two_of bad os >>= λ p. or_bad bad (as_one p.0) >>= λ a. or_bad bad (as_two p.1) >>= λ b. Ok (a, b)) ≡ Ok r
+    >>= λ os. two_of bad os >>= λ p. or_bad bad (as_one p.0) >>= λ a. or_bad bad (as_two p.1) >>= λ b. Ok (a, b))
+    ≡ Ok r
     → IsFree o
 pair-free bad as_one as_two one two o r h =
     let a = bind-ok (or_bad bad (as_list o)) _ r h in
@@ -123,8 +131,11 @@ terms_onto-free : (m t : TermMap names) (os : Objects) → terms_onto m os ≡ O
 terms_onto-free m t no_objects h = tt
 terms_onto-free m t (more_objects o os) h =
     let a = bind-ok (term_pair o) _ t h in
-    let b = bind-ok (unless BadSubst (has_type names a.0.1 a.0.0.ty)) _ t a.2 in
-    (pair-free BadSubst as_variable as_term variable-free term-free o a.0 a.1, terms_onto-free (with_term m a.0.0 a.0.1) t os b.2)
+    let b = bind-ok (unless BadSubst (has_type names a.0.1 a.0.0.ty)) _ t a.2 in (
+      pair-free BadSubst as_variable as_term variable-free term-free o a.0 a.1,
+      terms_onto-free
+          (with_term m a.0.0 a.0.1) t os b.2,
+    )
 
 maps-free : (os : Objects) (r : TypeMap names × TermMap names) → maps_of os ≡ Ok r → AreFree os
 maps-free os r h =
@@ -133,7 +144,8 @@ maps-free os r h =
     let c = bind-ok (or_bad BadSubst (as_list a.0.1)) _ r b.2 in
     let d = bind-ok (types_onto [] b.0) _ r c.2 in
     let e = bind-ok (terms_onto [] c.0) _ r d.2 in
-    two-free BadSubst os a.0 a.1 (list-free a.0.0 b.0 (or_bad-is BadSubst (as_list a.0.0) b.0 b.1) (types-free [] d.0 b.0 d.1))
+    two-free BadSubst os a.0 a.1
+    (list-free a.0.0 b.0 (or_bad-is BadSubst (as_list a.0.0) b.0 b.1) (types-free [] d.0 b.0 d.1))
     (list-free a.0.1 c.0 (or_bad-is BadSubst (as_list a.0.1) c.0 c.1) (terms_onto-free [] e.0 c.0 e.1))
 
 -- ---- the operands of a theorem
@@ -155,12 +167,14 @@ step-plain w vs q (ByDeductAntisym a b s h) = subst EachPlain (sym s) (plain a, 
 step-plain w vs q (ByTrans a b s h) = subst EachPlain (sym s) (plain a, (plain b, tt))
 step-plain w vs q (ByProveHyp a b s h) = subst EachPlain (sym s) (plain a, (plain b, tt))
 
-pub defining-plain : (w : Cmd) (ds : List (Definition Name)) (vs : List Object) (x : Definition Name) → IsDefining ds vs x w
+pub defining-plain : (w : Cmd) (ds : List (Definition Name)) (vs : List Object) (x : Definition Name)
+    → IsDefining ds vs x w
     → EachPlain vs
 defining-plain w ds vs x (ByConst n t s e c h) = subst EachPlain (sym s) (inl tt, (inl tt, tt))
 defining-plain w ds vs x (ByList os ps q s f e c) =
     subst EachPlain (sym s) (
-      inl (each-free definition_pair (pair-free BadDefinitionList as_name as_variable name-free variable-free) os ps f),
+      inl (each-free definition_pair (pair-free BadDefinitionList as_name as_variable name-free variable-free) os ps
+          f),
       (plain q, tt),
     )
 defining-plain w ds vs x (ByType n abs rep os vars q s f e c h) =
@@ -169,7 +183,8 @@ defining-plain w ds vs x (ByType n abs rep os vars q s f e c h) =
 -- ---- the operands of what has no theorem in it
 
 one-free : {A : Type 0} (f : Read → Read) (as_one : Object → Result A (Fault Name))
-    → ((o : Object) (a : A) → as_one o ≡ Ok a → IsFree o) → ((x v : Object) → f (Ok x) ≡ Ok v → (a : A) × (as_one x ≡ Ok a))
+    → ((o : Object) (a : A) → as_one o ≡ Ok a → IsFree o)
+    → ((x v : Object) → f (Ok x) ≡ Ok v → (a : A) × (as_one x ≡ Ok a))
     → (vs : List Object) (v : Object) → made_of (of_top f) vs ≡ Ok v → EachFree vs
 one-free f as_one one reads vs v e =
     let (x, s, h) = one-of f vs v e in let a = reads x v h in subst EachFree (sym s) (one x a.0 a.1, tt)
@@ -188,7 +203,8 @@ two-read : {A B : Type 0} (r : Result A (Fault Name)) (s : Result B (Fault Name)
     → (r >>= λ a. s >>= λ b. f a b) ≡ Ok v → ((a : A) × (r ≡ Ok a)) × ((b : B) × (s ≡ Ok b))
 two-read r s f v e = let a = bind-ok r _ v e in let b = bind-ok s _ v a.2 in ((a.0, a.1), (b.0, b.1))
 
-one-read : {A : Type 0} (r : Result A (Fault Name)) (f : A → Read) (v : Object) → (r >>= f) ≡ Ok v → (a : A) × (r ≡ Ok a)
+one-read : {A : Type 0} (r : Result A (Fault Name)) (f : A → Read) (v : Object) → (r >>= f) ≡ Ok v
+    → (a : A) × (r ≡ Ok a)
 one-read r f v e = let a = bind-ok r f v e in (a.0, a.1)
 
 types-listed : (o : Object) (ts : List (Ty Name)) → (as_list o >>= as_each as_type) ≡ Ok ts → IsFree o
@@ -215,7 +231,8 @@ made-free words.TypeOp vs v e h = one-free type_op_made as_name name-free (λ x 
 made-free words.OpType vs v e h =
     both-free op_type_made (λ o. as_list o >>= as_each as_type) as_type_op types-listed
     type_op-free (λ x y u k. two-read (as_list x >>= as_each as_type) (as_type_op y) _ u k) vs v e
-made-free words.VarType vs v e h = one-free var_type_made as_name name-free (λ x u k. one-read (as_name x) _ u k) vs v e
+made-free words.VarType vs v e h = one-free var_type_made as_name name-free (λ x u k. one-read (as_name x) _ u k) vs v
+    e
 made-free words.Var vs v e h =
     both-free var_made as_type as_name type-free name-free (λ x y u k. two-read (as_type x) (as_name y) _ u k) vs v e
 made-free words.VarTerm vs v e h =
@@ -225,7 +242,8 @@ made-free words.ConstTerm vs v e h =
     both-free const_term_made as_type as_constant type-free constant-free
     (λ x y u k. two-read (as_type x) (as_constant y) _ u k) vs v e
 made-free words.AppTerm vs v e h =
-    both-free app_term_made as_term as_term term-free term-free (λ x y u k. two-read (as_term x) (as_term y) _ u k) vs v e
+    both-free app_term_made as_term as_term term-free term-free (λ x y u k. two-read (as_term x) (as_term y) _ u k) vs
+    v e
 made-free words.AbsTerm vs v e h =
     both-free abs_term_made as_term as_variable term-free variable-free
     (λ x y u k. two-read (as_term x) (as_variable y) _ u k) vs v e

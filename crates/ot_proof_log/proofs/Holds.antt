@@ -1,6 +1,8 @@
--- What stands in a log that is put together: each theorem that was written, and the assumptions of the axioms among them.
+-- What stands in a log that is put together: each theorem that was written, and the assumptions of the axioms among
+-- them.
 use Rattle.std.specs.Prelude.{slice_get, ◌-◌}
-use Rattle.std.proofs.Common.{◌≡◌, ℕ, true, false, Bool, cond, List, [], ◌∷◌, ◌++◌, length, Some, Ok, refl, sym, ap, subst, ◌∙◌, inl, inr, arith, length-append, append_assoc}
+use Rattle.std.proofs.Common.{◌≡◌, ℕ, true, false, Bool, cond, List, [], ◌∷◌, ◌++◌, length, Some, Ok}
+use Rattle.std.proofs.Common.{refl, sym, ap, subst, ◌∙◌, inl, inr, arith, length-append, append_assoc}
 use Rattle.std.specs.Bool.{Decides}
 use Rattle.ot_plain.specs.Lists.{IsMember}
 use Rattle.ot_plain.specs.Names.{Name}
@@ -39,7 +41,8 @@ one-is = same-origin-law names.same tells_names
 
 -- ---- numbers of origins
 
-pub number-member : (o : Origin Name) (k : ℕ) (ps : List (Origin Name × ℕ)) → number_of o ps ≡ Some k → IsMember (o, k) ps
+pub number-member : (o : Origin Name) (k : ℕ) (ps : List (Origin Name × ℕ)) → number_of o ps ≡ Some k
+    → IsMember (o, k) ps
 number-member o k [] e = absurd (cc)
 number-member o k (p ∷ ps) e = by (is_one o p.0) refl e (number-member o k ps)
   where
@@ -53,7 +56,8 @@ pub member-number : (o : Origin Name) (k : ℕ) (ps : List (Origin Name × ℕ))
 member-number o k [] m = absurd m
 member-number o k (p ∷ ps) m = by (is_one o p.0) refl m (member-number o k ps)
   where
-    by : (b : Bool) → is_one o p.0 ≡ b → IsMember (o, k) (p ∷ ps) → (IsMember (o, k) ps → (j : ℕ) × (number_of o ps ≡ Some j))
+    by : (b : Bool) → is_one o p.0 ≡ b → IsMember (o, k) (p ∷ ps)
+        → (IsMember (o, k) ps → (j : ℕ) × (number_of o ps ≡ Some j))
         → (j : ℕ) × (cond b (Some p.1) (number_of o ps) ≡ Some j)
     by true f i later = (p.1, refl)
     by false f (inl e) later = absurd (let g = (one-is o p.0).1 (ap (λ (z : Origin Name × ℕ). z.0) (sym e)) in cc)
@@ -112,7 +116,8 @@ pub record Holds (x : Written) (st : LogState Name) : Type 0 where
   pub told : IsTold IsWritable x.log
   pub proved : (o : Origin Name) (k : ℕ) → IsMember (o, k) x.theorems → IsProvedAt st o k
   pub only : (r : Sequent Name) → IsMember r st.assumptions → IsOfAxiom x r
-  pub all : (o : Origin Name) (k : ℕ) (q : Sequent Name) → IsMember (o, k) x.theorems → IsAxiom o → value o ≡ Ok (theorem q)
+  pub all : (o : Origin Name) (k : ℕ) (q : Sequent Name) → IsMember (o, k) x.theorems → IsAxiom o
+      → value o ≡ Ok (theorem q)
       → IsAssumed st q
   pub apart : AreApart (λ (q : Sequent Name). q) st.assumptions
   pub closed : (w : Cmd) (os : Origins Name) (k : ℕ) → IsMember (Make w os, k) x.theorems → HasAll x os
@@ -123,12 +128,14 @@ pub record Holds (x : Written) (st : LogState Name) : Type 0 where
 abbrev pub put_as : Origin Name → List Entry → Written → Written
 put_as o es x = let log = write_sequents es x.log in mark o (log.sequents - 1) (record x { log = log })
 
-last-place : {X : Type 0} (xs ys : List X) (x : X) → slice_get (xs ++ (ys ++ x ∷ [])) (length (xs ++ (ys ++ x ∷ [])) - 1) ≡ Some x
+last-place : {X : Type 0} (xs ys : List X) (x : X)
+    → slice_get (xs ++ (ys ++ x ∷ [])) (length (xs ++ (ys ++ x ∷ [])) - 1) ≡ Some x
 last-place xs ys x =
     let whole = append_assoc xs ys (x ∷ []) in
     let zs = xs ++ ys in
     let long : length (zs ++ x ∷ []) - 1 ≡ length zs = let l = length-append zs (x ∷ []) in omega (arith, l) in
-    subst (λ l. slice_get l (length l - 1) ≡ Some x) whole (ap (slice_get (zs ++ x ∷ [])) long ∙ last-at zs x (length zs) refl)
+    subst (λ l. slice_get l (length l - 1) ≡ Some x) whole
+    (ap (slice_get (zs ++ x ∷ [])) long ∙ last-at zs x (length zs) refl)
 
 -- the log holds, and all that was written was kept
 pub record Goes (x y : Written) (st : LogState Name) : Type 0 where
@@ -163,12 +170,14 @@ module _ (w : Cmd) (os : Origins Name) (x : Written) (st : LogState Name) (es : 
           of = a.of;
           at = a.at;
           value_is = a.value_is;
-          there = ap (λ l. slice_get l k) m.sequents ∙ slice_get-append_left st.sequents (m.front ++ m.last ∷ []) k a.at a.there;
+          there = ap (λ l. slice_get l k) m.sequents
+              ∙ slice_get-append_left st.sequents (m.front ++ m.last ∷ []) k a.at a.there;
           same = a.same;
         })
     | inr j ↦ elim j [
       | inl e ↦
-          (let eo : Make w os ≡ o = ap (λ (z : Origin Name × ℕ). z.0) e in let ek : n ≡ k = ap (λ (z : Origin Name × ℕ). z.1) e in
+          (let eo : Make w os ≡ o = ap (λ (z : Origin Name × ℕ). z.0) e in
+          let ek : n ≡ k = ap (λ (z : Origin Name × ℕ). z.1) e in
           record {
             of = q;
             at = m.last;
@@ -217,7 +226,8 @@ module _ (w : Cmd) (os : Origins Name) (x : Written) (st : LogState Name) (es : 
     | inr b ↦ (a.0, subst (IsMember a.0) (sym b.1) (member-once st.assumptions m.last a.0 a.1), a.2)
   ]
 
-  all-new : (o : Origin Name) (k : ℕ) (p : Sequent Name) → IsMember (o, k) new.theorems → IsAxiom o → value o ≡ Ok (theorem p)
+  all-new : (o : Origin Name) (k : ℕ) (p : Sequent Name) → IsMember (o, k) new.theorems → IsAxiom o
+      → value o ≡ Ok (theorem p)
       → IsAssumed m.now p
   all-new o k p i a e = elim (IsMember-cases (o, k) x.theorems ((Make w os, n) ∷ []) i) [
     | inl j ↦ assumed-old p (h.all o k p j a e)

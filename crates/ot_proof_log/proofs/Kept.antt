@@ -7,17 +7,22 @@ use Rattle.ot_plain.specs.Lists.{IsPart, AreDistinct}
 use Rattle.ot_plain.specs.Names.{Name}
 use Rattle.ot_plain.specs.Naming.{names}
 use Rattle.ot_plain.specs.Trees.{Ty, Variable, Tm, App, Abs, Sequent}
-use Rattle.ot_plain.specs.Hol.{same_ty, fun_ty, as_fun_ty, depth_limit, bool_ty, IsWellTyped, type_of, close, opened, subst_tm, is_free_in_some, sequent_of, is_shallow, is_shallow_sequent, same_tm, equation, minus, union, once_each, IsSequent, IsTyped, TypeMap, TermMap}
+use Rattle.ot_plain.specs.Hol.{same_ty, fun_ty, as_fun_ty, depth_limit, bool_ty, IsWellTyped, type_of, close}
+use Rattle.ot_plain.specs.Hol.{opened, subst_tm, is_free_in_some, sequent_of, is_shallow, is_shallow_sequent}
+use Rattle.ot_plain.specs.Hol.{same_tm, equation, minus, union, once_each, IsSequent, IsTyped, TypeMap, TermMap}
 use Rattle.ot_plain.specs.Faults.{NotBool, NotAlphaEqual, VarFreeInHyps, NotFunction, ArgumentType}
 use Rattle.ot_plain.specs.Answers.{unless, some_or}
-use Rattle.ot_plain.specs.Rules.{has_type, within_limit, sides, refl_rule, assume_rule, eq_mp_rule, abs_thm_rule, app_thm_rule, deduct_antisym_rule, beta_conv_rule, subst_rule, sym_rule}
+use Rattle.ot_plain.specs.Rules.{has_type, within_limit, sides, refl_rule, assume_rule, eq_mp_rule, abs_thm_rule}
+use Rattle.ot_plain.specs.Rules.{app_thm_rule, deduct_antisym_rule, beta_conv_rule, subst_rule, sym_rule}
 use Rattle.ot_laws.specs.Theorem.{IsTheorem}
 use Rattle.ot_laws.proofs.Tests.{tells_names}
 use Rattle.ot_laws.proofs.Steps.{limit-ok, within_limit-ok, sides-ok}
 use Rattle.ot_laws.proofs.Sets.{all-member, all-from_members}
 use Rattle.ot_laws.proofs.Hypotheses.{IsMember-union}
 use Rattle.ot_laws.proofs.Theorems.{assumption-theorem}
-use Rattle.ot_laws.proofs.Sound.{refl_rule-sound, assume_rule-sound, eq_mp_rule-sound, abs_thm_rule-sound, app_thm_rule-sound, deduct_antisym_rule-sound, beta_conv_rule-sound, subst_rule-sound, sym_rule-sound}
+use Rattle.ot_laws.proofs.Sound.{refl_rule-sound, assume_rule-sound, eq_mp_rule-sound}
+use Rattle.ot_laws.proofs.Sound.{abs_thm_rule-sound, app_thm_rule-sound, deduct_antisym_rule-sound}
+use Rattle.ot_laws.proofs.Sound.{beta_conv_rule-sound, subst_rule-sound, sym_rule-sound}
 use Rattle.ot_entries.proofs.Fitting.{Fits, fits-shallow, sides-fit}
 use Rattle.ot_plain.proofs.Results.{bind-ok, same_Ok}
 
@@ -41,14 +46,17 @@ pub record IsKept (q : Sequent Name) : Type 0 where
 pub all-shallow : (ts : List (Tm Name)) → list_all (is_shallow names) ts ≡ true → AllFit ts
 all-shallow [] h = tt
 all-shallow (t ∷ ts) h =
-    let p = and_parts (is_shallow names t) (list_all (is_shallow names) ts) h in (fits-shallow names t p.0, all-shallow ts p.1)
+    let p = and_parts (is_shallow names t) (list_all (is_shallow names) ts) h in
+    (fits-shallow names t p.0, all-shallow ts p.1)
 
 pub fit-part : (g h : List (Tm Name)) → IsPart g h → AllFit h → AllFit g
-fit-part g h p k = all-from_members (Fits names depth_limit) g (λ x m. all-member (Fits names depth_limit) h k x (p x m))
+fit-part g h p k =
+    all-from_members (Fits names depth_limit) g (λ x m. all-member (Fits names depth_limit) h k x (p x m))
 
 pub fit-union : (g h : List (Tm Name)) → AllFit g → AllFit h → AllFit (union names g h)
 fit-union g h a b =
-    all-from_members (Fits names depth_limit) (union names g h) (λ x m. elim ((IsMember-union names tells_names x g h).0 m) [
+    all-from_members (Fits names depth_limit) (union names g h)
+    (λ x m. elim ((IsMember-union names tells_names x g h).0 m) [
       | inl i ↦ all-member (Fits names depth_limit) g a x i
       | inr i ↦ all-member (Fits names depth_limit) h b x i
     ])
@@ -70,12 +78,14 @@ pub kept-by : (al : List (Sequent Name)) (q : Sequent Name) → IsTheorem names 
     → Fits names depth_limit q.concl → IsKept q
 kept-by al q t g c = record { sequent = t.sequent; distinct = t.distinct; hyps = g; concl = c }
 
-pub kept-shallow : (q : Sequent Name) → IsSequent names q → AreDistinct q.hyps → is_shallow_sequent names q ≡ true → IsKept q
+pub kept-shallow : (q : Sequent Name) → IsSequent names q → AreDistinct q.hyps → is_shallow_sequent names q ≡ true
+    → IsKept q
 kept-shallow q s d h =
     let p = and_parts (list_all (is_shallow names) q.hyps) (is_shallow names q.concl) h in
     record { sequent = s; distinct = d; hyps = all-shallow q.hyps p.0; concl = fits-shallow names q.concl p.1 }
 
-limited : (al : List (Sequent Name)) (made q : Sequent Name) → IsTheorem names al [] q → within_limit names made ≡ Ok q → IsKept q
+limited : (al : List (Sequent Name)) (made q : Sequent Name) → IsTheorem names al [] q → within_limit names made
+    ≡ Ok q → IsKept q
 limited al made q t h =
     let r = within_limit-ok names tells_names made q h in
     kept-shallow q t.sequent t.distinct (ap (is_shallow_sequent names) (sym r.1) ∙ r.0)
@@ -134,20 +144,24 @@ app_thm-kept a b q k l h =
     let (u, j, w) = bind-ok (unless ArgumentType (same_ty names c.0 x.0)) _ q o in
     let made : Sequent Name =
     record { hyps = union names a.hyps b.hyps; concl = equation names c.1 (App f.1 x.1) (App f.2 x.2) } in
-    limited (a ∷ b ∷ []) made q (app_thm_rule-sound names tells_names (a ∷ b ∷ []) [] a b q (left a b k) (right a b l) h) w
+    limited (a ∷ b ∷ []) made q
+    (app_thm_rule-sound names tells_names (a ∷ b ∷ []) [] a b q (left a b k) (right a b l) h) w
 
-pub deduct_antisym-kept : (a b q : Sequent Name) → IsKept a → IsKept b → deduct_antisym_rule names a b ≡ Ok q → IsKept q
+pub deduct_antisym-kept : (a b q : Sequent Name) → IsKept a → IsKept b → deduct_antisym_rule names a b ≡ Ok q
+    → IsKept q
 deduct_antisym-kept a b q k l h =
     let made : Sequent Name =
     record {
       hyps = union names (minus names b.concl a.hyps) (minus names a.concl b.hyps);
       concl = equation names (bool_ty names) a.concl b.concl;
     } in
-    limited (a ∷ b ∷ []) made q (deduct_antisym_rule-sound names tells_names (a ∷ b ∷ []) [] a b q (left a b k) (right a b l) h) h
+    limited (a ∷ b ∷ []) made q
+    (deduct_antisym_rule-sound names tells_names (a ∷ b ∷ []) [] a b q (left a b k) (right a b l) h) h
 
 pub beta-kept : (t : Tm Name) (q : Sequent Name) → IsKeptTerm t → beta_conv_rule names t ≡ Ok q → IsKept q
 beta-kept (App (Abs a b) u) q k h =
-    limited [] (sequent_of names (equation names (type_of names (App (Abs a b) u)) (App (Abs a b) u) (opened names b u)))
+    limited []
+    (sequent_of names (equation names (type_of names (App (Abs a b) u)) (App (Abs a b) u) (opened names b u)))
     q (beta_conv_rule-sound names tells_names [] [] (App (Abs a b) u) q k.typed h) h
 beta-kept _ q k h = cc
 

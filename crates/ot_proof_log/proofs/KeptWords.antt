@@ -1,14 +1,16 @@
 -- What the rules keep that stand for several records of a log, and the rule of assumptions.
 use Rattle.std.specs.Prelude.{not, cond, if◌then◌else◌, ◌&&◌}
 use Rattle.std.specs.List.{AllByRecursion, list_all}
-use Rattle.std.proofs.Common.{◌≡◌, ℕ, Bool, true, false, List, [], ◌∷◌, Some, Result, Ok, Err, refl, sym, ap, subst, ◌∙◌, inl, inr, ◌⊎◌}
+use Rattle.std.proofs.Common.{◌≡◌, ℕ, Bool, true, false, List, [], ◌∷◌, Some, Result}
+use Rattle.std.proofs.Common.{Ok, Err, refl, sym, ap, subst, ◌∙◌, inl, inr, ◌⊎◌}
 use Rattle.std.proofs.lemmas.Bool.{and_parts}
 use Rattle.std.proofs.lemmas.Option.{same_Some}
 use Rattle.ot_plain.specs.Lists.{IsPart}
 use Rattle.ot_plain.specs.Names.{Name}
 use Rattle.ot_plain.specs.Naming.{names}
 use Rattle.ot_plain.specs.Trees.{Ty, Tm, Sequent}
-use Rattle.ot_plain.specs.Hol.{depth_limit, bool_ty, HasType, type_in, is_in, equation, minus, union, once_each, as_equation}
+use Rattle.ot_plain.specs.Hol.{depth_limit, bool_ty, HasType, type_in, is_in}
+use Rattle.ot_plain.specs.Hol.{equation, minus, union, once_each, as_equation}
 use Rattle.ot_plain.specs.Faults.{Fault, NotBool, NotEquation, NotAlphaEqual}
 use Rattle.ot_plain.specs.Answers.{unless}
 use Rattle.ot_plain.specs.Rules.{has_type, sides, trans_rule, proved_hyp, prove_hyp_rule}
@@ -42,10 +44,12 @@ pub record IsChain (first second q : Sequent Name) (g : List (Tm Name)) : Type 0
 pub chain-of : (lower top q : Sequent Name) → IsKept lower → IsKept top → trans_rule names lower top ≡ Ok q
     → ((c : IsChain lower top q (union names lower.hyps top.hyps))
     × ((next i j : ℕ)
-    → trans_of next (as_equation names lower.concl) (as_equation names top.concl) i j ≡ trans_entries next c.ty c.a i j))
+    → trans_of next (as_equation names lower.concl) (as_equation names top.concl) i j
+    ≡ trans_entries next c.ty c.a i j))
     ⊎ ((c : IsChain top lower q (union names lower.hyps top.hyps))
     × ((next i j : ℕ)
-    → trans_of next (as_equation names lower.concl) (as_equation names top.concl) i j ≡ trans_entries next c.ty c.a j i))
+    → trans_of next (as_equation names lower.concl) (as_equation names top.concl) i j
+    ≡ trans_entries next c.ty c.a j i))
 chain-of lower top q k l h =
     let (e, p, m) = bind-ok (sides names lower) _ q h in
     let (f, r, n) = bind-ok (sides names top) _ q m in
@@ -105,7 +109,8 @@ chain-of lower top q k l h =
                   ∙ ap (λ z. cond z (trans_entries next e.0 e.1 i j) (trans_entries next f.0 f.1 j i)) c.0,
             )
         | inr d ↦
-            let none : ◌≡◌ {A = Result (Sequent Name) (Fault Name)} (Err NotAlphaEqual) (Ok q) = rw (c.0, d.0) at n in absurd (cc)
+            let none : ◌≡◌ {A = Result (Sequent Name) (Fault Name)} (Err NotAlphaEqual) (Ok q) = rw (c.0, d.0) at n in
+            absurd (cc)
       ]
     ]
 
@@ -123,22 +128,28 @@ trans-kept a b q k l h =
     let g = union names a.hyps b.hyps in
     let fits = fit-union a.hyps b.hyps k.hyps l.hyps in
     let r : AllFit q.hyps × Fits names depth_limit q.concl =
-    elim (chain-of a b q k l h) [ inl c ↦ chain-kept a b q g k l fits c.0 | inr c ↦ chain-kept b a q g l k fits c.0 ] in
-    kept-by (a ∷ b ∷ []) q (trans_rule-sound names tells_names (a ∷ b ∷ []) [] a b q (left a b k) (right a b l) h) r.0 r.1
+    elim (chain-of a b q k l h)
+    [ inl c ↦ chain-kept a b q g k l fits c.0 | inr c ↦ chain-kept b a q g l k fits c.0 ] in
+    kept-by (a ∷ b ∷ []) q (trans_rule-sound names tells_names (a ∷ b ∷ []) [] a b q (left a b k) (right a b l) h) r.0
+    r.1
 
 -- ---- proveHyp: which theorem is the lemma
 
 pub lemma-of : (lower top q : Sequent Name) → prove_hyp_rule names lower top ≡ Ok q
-    → ((q ≡ proved_hyp names lower top) × ((next i j : ℕ) → prove_hyp_of next lower top i j ≡ prove_hyp_entries next i j))
-    ⊎ ((q ≡ proved_hyp names top lower) × ((next i j : ℕ) → prove_hyp_of next lower top i j ≡ prove_hyp_entries next j i))
+    → ((q ≡ proved_hyp names lower top)
+    × ((next i j : ℕ) → prove_hyp_of next lower top i j ≡ prove_hyp_entries next i j))
+    ⊎ ((q ≡ proved_hyp names top lower)
+    × ((next i j : ℕ) → prove_hyp_of next lower top i j ≡ prove_hyp_entries next j i))
 lemma-of lower top q h = by (not (is_in names top.concl lower.hyps) && is_in names lower.concl top.hyps) refl
   where
     test : Bool
     test = not (is_in names top.concl lower.hyps) && is_in names lower.concl top.hyps
 
     by : (b : Bool) → test ≡ b
-        → ((q ≡ proved_hyp names lower top) × ((next i j : ℕ) → prove_hyp_of next lower top i j ≡ prove_hyp_entries next i j))
-        ⊎ ((q ≡ proved_hyp names top lower) × ((next i j : ℕ) → prove_hyp_of next lower top i j ≡ prove_hyp_entries next j i))
+        → ((q ≡ proved_hyp names lower top)
+        × ((next i j : ℕ) → prove_hyp_of next lower top i j ≡ prove_hyp_entries next i j))
+        ⊎ ((q ≡ proved_hyp names top lower)
+        × ((next i j : ℕ) → prove_hyp_of next lower top i j ≡ prove_hyp_entries next j i))
     by true e =
         inl (
           sym (same_Ok _ q h) ∙ ap (λ z. if z then proved_hyp names lower top else proved_hyp names top lower) e,
@@ -164,7 +175,8 @@ pub prove_hyp-kept : (a b q : Sequent Name) → IsKept a → IsKept b → prove_
 prove_hyp-kept a b q k l h =
     let r : AllFit q.hyps × Fits names depth_limit q.concl =
     elim (lemma-of a b q h) [ inl c ↦ lemma-fits a b q k l c.0 | inr c ↦ lemma-fits b a q l k c.0 ] in
-    kept-by (a ∷ b ∷ []) q (prove_hyp_rule-sound names tells_names (a ∷ b ∷ []) [] a b q (left a b k) (right a b l) h) r.0 r.1
+    kept-by (a ∷ b ∷ []) q (prove_hyp_rule-sound names tells_names (a ∷ b ∷ []) [] a b q (left a b k) (right a b l) h)
+    r.0 r.1
 
 -- ---- axiom
 
@@ -186,7 +198,8 @@ all-typed (t ∷ ts) h =
     let p = and_parts (has_type names t (bool_ty names)) (list_all (λ h. has_type names h (bool_ty names)) ts) h in
     ((has_type-is names tells_names t (bool_ty names)).0 p.0, all-typed ts p.1)
 
-pub axiom-kept : (hyps : List (Tm Name)) (p : Tm Name) (q : Sequent Name) → AllFit hyps → IsKeptTerm p → axiom_rule hyps p ≡ Ok q
+pub axiom-kept : (hyps : List (Tm Name)) (p : Tm Name) (q : Sequent Name) → AllFit hyps → IsKeptTerm p
+    → axiom_rule hyps p ≡ Ok q
     → IsKept q
 axiom-kept hyps p q g k h =
     let (a, b, e) = axiom-is hyps p q h in

@@ -6,8 +6,11 @@ use Rattle.std.specs.Char.{is_ascii_digit}
 use Rattle.std.specs.Str.Parse.{digits_value}
 use Rattle.std.specs.Fmt.{decimal}
 use Rattle.std.specs.Int.Digits.{digits_of}
-use Rattle.std.proofs.Common.{◌≡◌, ◌≢◌, ℕ, zero, suc, ◌+◌, ◌<◌, ◌≤◌, ◌^◌, ◌==◌, true, false, List, [], ◌∷◌, map, length, get_or, None, Some, refl, sym, ap, subst, ◌∙◌, inl, inr, arith, append_assoc, length-append}
-use Rattle.std.proofs.lemmas.Fmt.{digits_decimal, digits_value-decimal, first_decimal, decimal_nonempty, decimal_digit}
+use Rattle.std.proofs.Common.{◌≡◌, ◌≢◌, ℕ, zero, suc, ◌+◌, ◌<◌, ◌≤◌, ◌^◌, ◌==◌, true, false}
+use Rattle.std.proofs.Common.{List, [], ◌∷◌, map, length, get_or, None, Some, refl, sym, ap}
+use Rattle.std.proofs.Common.{subst, ◌∙◌, inl, inr, arith, append_assoc, length-append}
+use Rattle.std.proofs.lemmas.Fmt.{digits_decimal, digits_value-decimal}
+use Rattle.std.proofs.lemmas.Fmt.{first_decimal, decimal_nonempty, decimal_digit}
 use Rattle.std.proofs.lemmas.Int.Digits.{length-digits_of_step}
 use Rattle.std.proofs.lemmas.Bool.Decides.{nat_tests, eqb_tells}
 use Rattle.ot_plain.specs.Names.{Name, spelled}
@@ -35,7 +38,8 @@ pub record IsTokenText (t : Token Name) : Type 0 where
   pub text : IsLineText (token_text t)
   pub read : token (token_text t) ≡ Some t
 
-positive-token : (d : ℕ) (ds : List ℕ) (n : ℕ) → list_all is_ascii_digit (d ∷ ds) ≡ true → 48 < d → digits_value 10 (d ∷ ds) ≡ n
+positive-token : (d : ℕ) (ds : List ℕ) (n : ℕ) → list_all is_ascii_digit (d ∷ ds) ≡ true → 48 < d
+    → digits_value 10 (d ∷ ds) ≡ n
     → n < 2 ^ 63 → token (d ∷ ds) ≡ Some (Number n)
 positive-token d ds n all low value small =
     let dig : is_ascii_digit d ≡ true = and-left (is_ascii_digit d) (list_all is_ascii_digit ds) all in
@@ -49,7 +53,8 @@ positive-token d ds n all low value small =
     let fits : is_in_range (pos n) ≡ true = in-range n small in
     rw (quote, minus, dig, zero_digit, more, rest, value, fits) refl
 
-digits-token : (ds : List ℕ) (n : ℕ) → list_all is_ascii_digit ds ≡ true → 0 < length ds → (0 < n → 48 < get_or ds 0 0)
+digits-token : (ds : List ℕ) (n : ℕ) → list_all is_ascii_digit ds ≡ true → 0 < length ds
+    → (0 < n → 48 < get_or ds 0 0)
     → (n ≡ 0 → ds ≡ 48 ∷ []) → digits_value 10 ds ≡ n → n < 2 ^ 63 → token ds ≡ Some (Number n)
 digits-token [] n all some first none value small = absurd (omega arith)
 digits-token (d ∷ ds) n all some first none value small = elim (eqb_tells n 0) [
@@ -66,7 +71,11 @@ decimal-token n h =
 number-is : (n : ℕ) → n < 2 ^ 63 → IsTokenText (Number n)
 number-is n h =
     let e : decimal n ≡ number_text n = sym (number-decimal n (omega (arith, h))) in
-    record { text = subst IsLineText e (number-text n h); read = subst (λ z. token z ≡ Some (Number n)) e (decimal-token n h) }
+    record {
+      text = subst IsLineText e (number-text n h);
+      read = subst (λ z. token z ≡ Some (Number n)) e
+          (decimal-token n h);
+    }
 
 name-is : (n : Name) → IsWritable n → IsTokenText (Named n)
 name-is n h = record {
@@ -92,7 +101,8 @@ some-letters words.TyVar = omega arith
 some-letters _ = omega arith
 
 said-is : (text : List ℕ) → IsWord text → IsTokenText (Word text)
-said-is text (inl (w, e)) = subst (λ z. IsTokenText (Word z)) (sym e) (record { text = word-text w; read = word-read w })
+said-is text (inl (w, e)) =
+    subst (λ z. IsTokenText (Word z)) (sym e) (record { text = word-text w; read = word-read w })
 said-is text (inr e) =
     subst (λ z. IsTokenText (Word z)) (sym e) (record {
       text = record { stays = refl; said = refl; unbroken = unbroken-by (codes "otlog") refl; short = omega arith };
@@ -129,7 +139,8 @@ token-long n (Named m) h = omega arith
 token-long n (Word text) (inl (w, e)) = subst (λ z. 1 ≤ length z) (sym e) (some-letters w)
 token-long n (Word text) (inr e) = subst (λ z. 1 ≤ length z) (sym e) (omega arith)
 
-bytes-long : (n : ℕ) (ts : List (Token Name)) → AreTokensTo IsWritable n ts → length ts + length ts ≤ length (bytes_of ts)
+bytes-long : (n : ℕ) (ts : List (Token Name)) → AreTokensTo IsWritable n ts
+    → length ts + length ts ≤ length (bytes_of ts)
 bytes-long n [] h = omega arith
 bytes-long n (t ∷ ts) h =
     let a = token-long n t h.0 in
@@ -155,7 +166,8 @@ lines-read : (ts : List (Token Name)) (max before number : ℕ) → AreTexts ts 
 lines-read [] max before number h fits = refl
 lines-read (t ∷ ts) max before number h fits =
     let long = length-append (token_bytes t) (bytes_of ts) in
-    let here : limit_fault max before (token_bytes t) ≡ None = within max before (token_text t) h.0.text.short (omega arith) in
+    let here : limit_fault max before (token_bytes t) ≡ None =
+    within max before (token_text t) h.0.text.short (omega arith) in
     let rest = lines-read ts max (before + length (token_bytes t)) (number + 1) h.1 (omega arith) in
     rw (here, h.0.text.stays, h.0.text.said, h.0.read)
     (ap (Then (number + 1) t) rest ∙ ap (λ k. Then k t (lined names k ts NoMore)) (next number))
@@ -167,4 +179,5 @@ bytes-read ts max h fits small =
     let long = bytes-long (log_depth + length ts) ts h in
     let low : log_depth + length ts < 2 ^ 63 = omega (arith, long, fits, small) in
     let texts = tokens-texts (log_depth + length ts) low ts h in
-    ap (λ ps. tokens_of (lines_after max 0 0 ps)) (pieces-tokens ts texts) ∙ lines-read ts max 0 0 texts (omega (arith, fits))
+    ap (λ ps. tokens_of (lines_after max 0 0 ps)) (pieces-tokens ts texts)
+    ∙ lines-read ts max 0 0 texts (omega (arith, fits))

@@ -1,7 +1,8 @@
 -- The records of a theorem make its sequent, in a log that has its operands'.
 use Rattle.std.specs.Prelude.{slice_get}
 use Rattle.std.specs.List.{AllByRecursion, list_all}
-use Rattle.std.proofs.Common.{◌≡◌, ◌≢◌, ℕ, ◌≤◌, true, ◌&&◌, List, [], ◌∷◌, ◌++◌, Some, Ok, refl, subst, inl, ◌⊎◌, arith}
+use Rattle.std.proofs.Common.{◌≡◌, ◌≢◌, ℕ, ◌≤◌, true, ◌&&◌, List, [], ◌∷◌}
+use Rattle.std.proofs.Common.{◌++◌, Some, Ok, refl, subst, inl, ◌⊎◌, arith}
 use Rattle.ot_plain.specs.Lists.{AreDistinct}
 use Rattle.ot_plain.specs.Names.{Name}
 use Rattle.ot_plain.specs.Naming.{names}
@@ -36,7 +37,8 @@ all-within : (n : ℕ) → n ≤ log_depth → (ts : List (Tm Name)) → AllByRe
 all-within n b [] h = refl
 all-within n b (t ∷ ts) h = λ i. within-fits names n b t h.0 i && all-within n b ts h.1 i
 
-pub sequent-within : (n : ℕ) → n ≤ log_depth → (q : Sequent Name) → AllByRecursion (Fits names n) q.hyps → Fits names n q.concl
+pub sequent-within : (n : ℕ) → n ≤ log_depth → (q : Sequent Name) → AllByRecursion (Fits names n) q.hyps
+    → Fits names n q.concl
     → is_sequent_within names q ≡ true
 sequent-within n b q g c = λ i. all-within n b q.hyps g i && within-fits names n b q.concl c i
 
@@ -79,7 +81,8 @@ term-named t ty w f h = (
 abbrev pub Numbers : LogState Name → List Object → List ℕ → Type 0
 Numbers st [] is = is ≡ []
 Numbers st (theorem a ∷ vs) is =
-    (i : ℕ) × (js : List ℕ) × (r : Sequent Name) × (is ≡ i ∷ js) × (slice_get st.sequents i ≡ Some r) × IsSame names a r
+    (i : ℕ) × (js : List ℕ) × (r : Sequent Name) × (is ≡ i ∷ js) × (slice_get st.sequents i ≡ Some r)
+    × IsSame names a r
     × Numbers st vs js
 Numbers st (number k ∷ vs) is = Numbers st vs is
 Numbers st (name n ∷ vs) is = Numbers st vs is
@@ -93,7 +96,8 @@ Numbers st (term t ∷ vs) is = Numbers st vs is
 abbrev pub AllNamed : List Object → Type 0
 AllNamed = AllByRecursion (ObjectNamed IsWritable)
 
-pub number-low : (x : Log) (st : LogState Name) (i : ℕ) (q : Sequent Name) → Stands x st → slice_get st.sequents i ≡ Some q
+pub number-low : (x : Log) (st : LogState Name) (i : ℕ) (q : Sequent Name) → Stands x st → slice_get st.sequents i
+    ≡ Some q
     → i ≤ x.sequents
 number-low x st i q s h = let a = slice_get-low st.sequents i q h in let b = s.sequents in omega (arith, a, b)
 
@@ -117,7 +121,8 @@ pub record Makes (w : Cmd) (x : Log) (st : LogState Name) (es : List Entry) (q :
   pub told : AreEntries IsWritable x.sequents es
 
 -- one record
-pub makes-one : (w : Cmd) (x : Log) (st : LogState Name) (e : Entry) (step : Step names) (q r : Sequent Name) → w ≢ words.Axiom
+pub makes-one : (w : Cmd) (x : Log) (st : LogState Name) (e : Entry) (step : Step names) (q r : Sequent Name)
+    → w ≢ words.Axiom
     → Stands x st → IsKept q → AreWithin (nodes_before e) → IsEntry IsWritable x.sequents e
     → Feeds st e (makes_sequent names step)
     → step ≡ Ok r → IsSame names q r → Makes w x st (e ∷ []) q
@@ -137,7 +142,8 @@ makes-one w x st e step q r n s k within told f h same =
     }
 
 -- several records, the last of which makes the sequent
-pub makes-all : (w : Cmd) (x : Log) (st : LogState Name) (es : List Entry) (q r : Sequent Name) (front : List (Sequent Name))
+pub makes-all : (w : Cmd) (x : Log) (st : LogState Name) (es : List Entry) (q r : Sequent Name)
+    (front : List (Sequent Name))
     → w ≢ words.Axiom → MakesAll x st es (front ++ r ∷ []) → IsSame names q r → AreEntries IsWritable x.sequents es
     → Makes w x st es q
 makes-all w x st es q r front n a same told = record {

@@ -1,6 +1,7 @@
 -- The theorems of a definition get the next numbers.
 use Rattle.std.specs.Prelude.{slice_get}
-use Rattle.std.proofs.Common.{◌≡◌, ℕ, zero, suc, ◌+◌, ◌<◌, List, [], ◌∷◌, ◌++◌, length, Some, Ok, refl, sym, ap, subst, ◌∙◌, inl, inr, arith, append_assoc, append-nil, length-append}
+use Rattle.std.proofs.Common.{◌≡◌, ℕ, zero, suc, ◌+◌, ◌<◌, List, [], ◌∷◌, ◌++◌, length, Some, Ok, refl, sym}
+use Rattle.std.proofs.Common.{ap, subst, ◌∙◌, inl, inr, arith, append_assoc, append-nil, length-append}
 use Rattle.ot_plain.specs.Lists.{IsMember}
 use Rattle.ot_plain.specs.Names.{Name}
 use Rattle.ot_plain.specs.Naming.{names}
@@ -39,7 +40,8 @@ added-theorems (o ∷ os) x =
 
 pub added-log : (os : List (Origin Name)) (x : Written)
     → (add_outcomes os x).log ≡ record x.log { sequents = x.log.sequents + length os }
-added-log [] x = let e : x.log.sequents ≡ x.log.sequents + 0 = omega arith in ap (λ n. record x.log { sequents = n }) e
+added-log [] x = let e : x.log.sequents ≡ x.log.sequents + 0 = omega arith in
+    ap (λ n. record x.log { sequents = n }) e
 added-log (o ∷ os) x =
     let y = mark o x.log.sequents (record x { log = record x.log { sequents = suc x.log.sequents } }) in
     added-log os y ∙ ap (λ n. record x.log { sequents = n }) (more x.log.sequents (length os))
@@ -47,7 +49,8 @@ added-log (o ∷ os) x =
 -- these origins have these theorems as values, and no word of theirs makes them
 abbrev pub HaveValues : List (Origin Name) → List (Sequent Name) → Type 0
 HaveValues [] [] = Unit {0}
-HaveValues (o ∷ os) (q ∷ qs) = (value o ≡ Ok (theorem q)) × ((w : Cmd) (ps : Origins Name) → o ≡ Make w ps → ⊥) × HaveValues os qs
+HaveValues (o ∷ os) (q ∷ qs) = (value o ≡ Ok (theorem q)) × ((w : Cmd) (ps : Origins Name) → o ≡ Make w ps → ⊥)
+    × HaveValues os qs
 HaveValues _ _ = ⊥
 
 pub values-long : (os : List (Origin Name)) (qs : List (Sequent Name)) → HaveValues os qs → length os ≡ length qs
@@ -65,7 +68,8 @@ pub record IsNumbered (qs : List (Sequent Name)) (all : List (Sequent Name)) (o 
   pub other : IsAxiom o → ⊥
   pub made : (w : Cmd) (os : Origins Name) → o ≡ Make w os → ⊥
 
-pub numbered-at : (os : List (Origin Name)) (qs front : List (Sequent Name)) (n : ℕ) → HaveValues os qs → length front ≡ n
+pub numbered-at : (os : List (Origin Name)) (qs front : List (Sequent Name)) (n : ℕ) → HaveValues os qs
+    → length front ≡ n
     → (o : Origin Name) (k : ℕ) → IsMember (o, k) (numbered n os) → IsNumbered qs (front ++ qs) o k
 numbered-at [] qs front n h l o k m = absurd m
 numbered-at (p ∷ os) [] front n h l o k m = absurd h
@@ -96,13 +100,16 @@ numbered-at (p ∷ os) (q ∷ qs) front n h l o k (inr m) =
 
 theorem-value : (j : ℕ) (d : Origin Name) (x : Definition Name) (q : Sequent Name) → definition_of [] d ≡ Ok x
     → slice_get (theorems names x) j ≡ Some q → value (Outcome (suc j) d) ≡ Ok (theorem q)
-theorem-value j d x q e h = ap (λ r. r >>= theorem_of (suc j)) e ∙ ap (λ o. some_or StackEmpty o >>= λ z. Ok (theorem z)) h
+theorem-value j d x q e h = ap (λ r. r >>= theorem_of (suc j)) e
+    ∙ ap (λ o. some_or StackEmpty o >>= λ z. Ok (theorem z)) h
 
 not-made : (j : ℕ) (d : Origin Name) (w : Cmd) (ps : Origins Name) → Outcome j d ≡ Make w ps → ⊥
 not-made j d w ps e = cc
 
-pub outcome-values : (w : Cmd) (os : Origins Name) (ds : List (Definition Name)) (vs : List Object) (x : Definition Name)
-    → IsDefining ds vs x w → definition_of [] (Define w os) ≡ Ok x → HaveValues (outcomes w (Define w os)) (theorems names x)
+pub outcome-values : (w : Cmd) (os : Origins Name) (ds : List (Definition Name)) (vs : List Object)
+    (x : Definition Name)
+    → IsDefining ds vs x w → definition_of [] (Define w os) ≡ Ok x
+    → HaveValues (outcomes w (Define w os)) (theorems names x)
 outcome-values w os ds vs x (ByConst n t s e c h) f =
     subst (λ z. HaveValues (Outcome 1 (Define words.DefineConst os) ∷ []) (theorems names z)) (sym e) (
       theorem-value 0 (Define words.DefineConst os) (ConDef n t) _ (f ∙ ap Ok e) refl,

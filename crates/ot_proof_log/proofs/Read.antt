@@ -35,7 +35,8 @@ terms_onto-typed no_objects m r k e = subst (IsTyped names) (same_Ok m r e) k
 terms_onto-typed (more_objects o os) m r k e =
     let a = bind-ok (term_pair o) _ r e in
     let b = bind-ok (unless BadSubst (has_type names a.0.1 a.0.0.ty)) _ r a.2 in
-    let w = (has_type-is names tells_names a.0.1 a.0.0.ty).0 (unless-ok BadSubst (has_type names a.0.1 a.0.0.ty) b.0 b.1) in
+    let w = (has_type-is names tells_names a.0.1 a.0.0.ty).0
+    (unless-ok BadSubst (has_type names a.0.1 a.0.0.ty) b.0 b.1) in
     terms_onto-typed os (with_term m a.0.0 a.0.1) r
     (all-if _ _ m (m ++ (a.0.0, a.0.1) ∷ []) k (AllByRecursion-append _ m ((a.0.0, a.0.1) ∷ []) k (w, tt))) b.2
 
@@ -53,7 +54,8 @@ maps-typed os maps e =
 module _ (O : Object → Type 0) (Os : Objects → Type 0) (opened : (os : Objects) → O (list os) → Os os)
     (first : (o : Object) (os : Objects) → Os (more_objects o os) → O o × Os os) where
   pub each-holds : {A : Type 0} (as_one : Object → Result A (Fault Name)) (Q : A → Type 0)
-      → ((o : Object) (x : A) → O o → as_one o ≡ Ok x → Q x) → (os : Objects) (xs : List A) → Os os → as_each as_one os ≡ Ok xs
+      → ((o : Object) (x : A) → O o → as_one o ≡ Ok x → Q x) → (os : Objects) (xs : List A) → Os os
+      → as_each as_one os ≡ Ok xs
       → AllByRecursion Q xs
   each-holds as_one Q one no_objects xs h e = subst (AllByRecursion Q) (same_Ok [] xs e) tt
   each-holds as_one Q one (more_objects o os) xs h e =
@@ -76,7 +78,8 @@ module _ (O : Object → Type 0) (Os : Objects → Type 0) (opened : (os : Objec
       → ((o : Object) (a : A) → O o → as_one o ≡ Ok a → P a) → ((o : Object) (b : B) → O o → as_two o ≡ Ok b → Q b)
       → (o : Object) (r : A × B) → O o
       → (or_bad bad (as_list o)
-      >>= λ os. two_of bad os >>= λ p. or_bad bad (as_one p.0) >>= λ a. or_bad bad (as_two p.1) >>= λ b. Ok (a, b)) ≡ Ok r
+      >>= λ os. two_of bad os >>= λ p. or_bad bad (as_one p.0) >>= λ a. or_bad bad (as_two p.1) >>= λ b. Ok (a, b))
+      ≡ Ok r
       → P r.0 × Q r.1
   pair-holds {A} {B} bad as_one as_two P Q one two o r h e =
       let a = bind-ok (or_bad bad (as_list o)) _ r e in
@@ -118,7 +121,8 @@ module _ (O : Object → Type 0) (Os : Objects → Type 0) (opened : (os : Objec
       let (p, q) = first o os h in
       let w = pair-holds BadSubst as_name as_type (λ n. O (name n)) (λ t. O (a_type t)) as-name as-type o a.0 p a.1 in
       types_onto-hold os (with_type s a.0.0 a.0.1) r q
-      (all-if TypePair _ s (s ++ (a.0.0, a.0.1) ∷ []) k (AllByRecursion-append TypePair s ((a.0.0, a.0.1) ∷ []) k (w, tt))) a.2
+      (all-if TypePair _ s (s ++ (a.0.0, a.0.1) ∷ []) k
+      (AllByRecursion-append TypePair s ((a.0.0, a.0.1) ∷ []) k (w, tt))) a.2
 
   terms_onto-hold : (os : Objects) (m r : TermMap names) → Os os → AllByRecursion TermPair m → terms_onto m os ≡ Ok r
       → AllByRecursion TermPair r
@@ -127,9 +131,11 @@ module _ (O : Object → Type 0) (Os : Objects → Type 0) (opened : (os : Objec
       let a = bind-ok (term_pair o) _ r e in
       let b = bind-ok (unless BadSubst (has_type names a.0.1 a.0.0.ty)) _ r a.2 in
       let (p, q) = first o os h in
-      let w = pair-holds BadSubst as_variable as_term (λ v. O (variable v)) (λ t. O (term t)) as-variable as-term o a.0 p a.1 in
+      let w = pair-holds BadSubst as_variable as_term (λ v. O (variable v)) (λ t. O (term t)) as-variable as-term o
+      a.0 p a.1 in
       terms_onto-hold os (with_term m a.0.0 a.0.1) r q
-      (all-if TermPair _ m (m ++ (a.0.0, a.0.1) ∷ []) k (AllByRecursion-append TermPair m ((a.0.0, a.0.1) ∷ []) k (w, tt))) b.2
+      (all-if TermPair _ m (m ++ (a.0.0, a.0.1) ∷ []) k
+      (AllByRecursion-append TermPair m ((a.0.0, a.0.1) ∷ []) k (w, tt))) b.2
 
   pub maps-hold : (os : Objects) (maps : TypeMap names × TermMap names) → Os os → maps_of os ≡ Ok maps
       → AllByRecursion TypePair maps.0 × AllByRecursion TermPair maps.1

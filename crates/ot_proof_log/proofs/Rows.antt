@@ -3,7 +3,8 @@ use Rattle.std.specs.Prelude.{codes}
 use Rattle.std.proofs.Common.{◌≡◌, ℕ, List, [], ◌∷◌, refl}
 use Rattle.ot_plain.specs.Names.{Name}
 use Rattle.ot_plain.specs.declared.command.Cmd.{Cmd}
-use Rattle.ot_plain.specs.declared.command.Cmd.TheVariants.{Nil, Cons, TypeOp, OpType, Var, VarTerm, Const, ConstTerm, Assume, Axiom, ProveHyp, DefineConst}
+use Rattle.ot_plain.specs.declared.command.Cmd.TheVariants.{Nil, Cons, TypeOp, OpType, Var, VarTerm, Const}
+use Rattle.ot_plain.specs.declared.command.Cmd.TheVariants.{ConstTerm, Assume, Axiom, ProveHyp, DefineConst}
 use Rattle.ot_trace.specs.Origins.{Origin, Named, Make, Define, Outcome, NoOrigins, MoreOrigins, Roots}
 use Rattle.ot_records.specs.Tokens.{Token, Number, Word}
 use Rattle.ot_records.specs.Tokens as token
@@ -40,11 +41,13 @@ assumed = record { theorem = one Assume p_term; list = two Cons p_term (none Nil
 
 first : (log [] (one Assume p_term ∷ [])).log.tokens
     ≡ word (codes "otlog") ∷ Number 1 ∷ word (codes "tyop") ∷ named (codes "bool") ∷ Number 0
-    ∷ word (codes "free") ∷ named (codes "p") ∷ Number 0 ∷ word (codes "assume") ∷ Number 0 ∷ word (codes "result") ∷ Number 0
+    ∷ word (codes "free") ∷ named (codes "p") ∷ Number 0 ∷ word (codes "assume") ∷ Number 0 ∷ word (codes "result")
+    ∷ Number 0
     ∷ []
 first = refl
 
-first-bytes : log_bytes [] (assumed ∷ []) ≡ codes "otlog\n1\ntyop\n\"bool\"\n0\nfree\n\"p\"\n0\nassume\n0\nresult\n0\n"
+first-bytes : log_bytes [] (assumed ∷ [])
+    ≡ codes "otlog\n1\ntyop\n\"bool\"\n0\nfree\n\"p\"\n0\nassume\n0\nresult\n0\n"
 first-bytes = refl
 
 -- ---- an assumption for a hypothesis: the lemma is the top theorem, and the lower one

@@ -1,6 +1,7 @@
 -- The law of the log of a run.
 use Rattle.std.specs.List.{All}
-use Rattle.std.proofs.Common.{◌≡◌, ℕ, ◌≤◌, ◌<◌, ◌^◌, Bool, true, List, [], ◌∷◌, map, length, take, Ok, refl, sym, ap, subst, ◌∙◌, inl, inr}
+use Rattle.std.proofs.Common.{◌≡◌, ℕ, ◌≤◌, ◌<◌, ◌^◌, Bool, true, List, [], ◌∷◌, map}
+use Rattle.std.proofs.Common.{length, take, Ok, refl, sym, ap, subst, ◌∙◌, inl, inr}
 use Rattle.ot_plain.specs.Lists.{IsMember}
 use Rattle.ot_plain.specs.Names.{Name}
 use Rattle.ot_plain.specs.Naming.{names}
@@ -60,7 +61,8 @@ theorems-of [] = refl
 theorems-of (e ∷ es) = ap (λ l. e.roots.theorem ∷ l) (theorems-of es)
 
 module _ (r : RunState) (es : List Export) (lawful : IsLawfulRun IsWritable r)
-    (exports : All (IsLawfulExport (run_basis IsWritable r)) es) (apart : AreApart (λ (e : Export). e.sequent) es) where
+    (exports : All (IsLawfulExport (run_basis IsWritable r)) es)
+    (apart : AreApart (λ (e : Export). e.sequent) es) where
   abbrev roots : List (Origin Name)
   roots = export_roots es
 
@@ -101,7 +103,8 @@ module _ (r : RunState) (es : List Export) (lawful : IsLawfulRun IsWritable r)
 
   made-rests : (m : Made) → IsMember m ms → RestsOn (run_basis IsWritable r) m.origin
   made-rests m i =
-      rests m.origin (found-reached m.origin (subst (IsMember m.origin) its (IsMember-map (λ (z : Made). z.origin) m ms i)))
+      rests m.origin
+      (found-reached m.origin (subst (IsMember m.origin) its (IsMember-map (λ (z : Made). z.origin) m ms i)))
 
   -- ---- what is written
 
@@ -160,14 +163,19 @@ module _ (r : RunState) (es : List Export) (lawful : IsLawfulRun IsWritable r)
   reached = results-reached roots ds (map (λ (e : Export). e.roots.theorem) es) middle
       (λ o m. let x = IsMember-map_back (λ (e : Export). e.roots.theorem) o es m in
       subst (IsReached roots ds) x.2 (Root x.0.roots.theorem (export-roots es x.0 x.1).0))
-      (definitions-reached roots ds E nothing_written (λ d m. found-reached d (subst (IsMember d) its m)) (λ o k m a. absurd m))
+      (definitions-reached roots ds E nothing_written (λ d m. found-reached d (subst (IsMember d) its m))
+      (λ o k m a. absurd m))
 
   only : (q : Sequent Name) → IsMember q now.assumptions → (g : Given) × IsNeeded r es g × IsSequentOf q g.sequent
   only q m =
       let a = holds.only q m in
       let at = reached a.origin a.number a.there a.is_axiom in
-      let t = taken-axiom IsWritable r lawful roots rooted a.origin a.of at a.is_axiom a.value_is in
-      (t.0, (t.1, subst (IsReached roots ds) (sym t.2) at), subst (λ z. same_sequent names q z ≡ true) (sym t.3) a.same)
+      let t = taken-axiom IsWritable r lawful roots rooted a.origin a.of at a.is_axiom a.value_is in (
+        t.0,
+        (t.1, subst (IsReached roots ds) (sym t.2) at),
+        subst (λ z. same_sequent names q z ≡ true)
+            (sym t.3) a.same,
+      )
 
   premised : (d : Origin Name) → IsMember d found → IsPremised last d
   premised d m =
@@ -178,7 +186,8 @@ module _ (r : RunState) (es : List Export) (lawful : IsLawfulRun IsWritable r)
       let accepted : definition_of before (Define f.0 f.1) ≡ Ok a.made.definition =
       ap (definition_of before) (sym f.2) ∙ a.lawful_is.accepted in
       let vs = bind-ok (values f.1) (defines f.0 before) a.made.definition accepted in
-      let defining = defining-of f.0 before vs.0 a.made.definition (given-of f.0 before vs.0 a.made.definition vs.2) in
+      let defining =
+      defining-of f.0 before vs.0 a.made.definition (given-of f.0 before vs.0 a.made.definition vs.2) in
       record {
         word = f.0;
         operands = f.1;
@@ -188,7 +197,8 @@ module _ (r : RunState) (es : List Export) (lawful : IsLawfulRun IsWritable r)
         plain = defining-plain f.0 before vs.0 a.made.definition defining;
         has =
             all-kept middle last f.1 resulted.kept
-            (defined.defined.premises f.0 f.1 (subst (IsMember (Define f.0 f.1)) (sym its) (subst (λ z. IsMember z found) is m)));
+            (defined.defined.premises f.0 f.1
+            (subst (IsMember (Define f.0 f.1)) (sym its) (subst (λ z. IsMember z found) is m)));
       }
 
   root-good : (o : Origin Name) → IsMember o roots → IsGood last o
@@ -207,7 +217,8 @@ module _ (r : RunState) (es : List Export) (lawful : IsLawfulRun IsWritable r)
   all g (m, at) =
       let fits = All-at_member (λ (h : Given). Fits (run_basis IsWritable r) h.origin (theorem h.sequent))
       r.assumptions g lawful.assumptions m in
-      let is_axiom : IsAxiom g.origin = All-at_member (λ (h : Given). IsAxiom h.origin) r.assumptions g lawful.axioms m in
+      let is_axiom : IsAxiom g.origin = All-at_member (λ (h : Given). IsAxiom h.origin) r.assumptions g lawful.axioms
+      m in
       let made = subst (IsReached roots ds) is_axiom.1 at in
       let written = theorem-written last roots ds found holds.closed premised root-good
       (λ j d a. (rests (Outcome j d) a).0) (reached-needed is_one one-is roots ds) _ is_axiom.0 made in
@@ -220,9 +231,11 @@ module _ (r : RunState) (es : List Export) (lawful : IsLawfulRun IsWritable r)
   whole : log found (map (λ e. e.theorem) (map (λ (e : Export). e.roots) es)) ≡ last
   whole = λ i. write_results (theorems-of es i) (write_definitions (sym its i) nothing_written)
 
-  ends : (max : ℕ) → length (bytes_of last.log.tokens) ≤ max → max < 2 ^ 63 → log_check max (bytes_of last.log.tokens) ≡ Ends now
+  ends : (max : ℕ) → length (bytes_of last.log.tokens) ≤ max → max < 2 ^ 63 → log_check max (bytes_of last.log.tokens)
+      ≡ Ends now
   ends max fits small =
-      ap (check_log names) (bytes-read last.log.tokens max holds.told.tokens fits small) ∙ stands-ends last.log now holds.stands
+      ap (check_log names) (bytes-read last.log.tokens max holds.told.tokens fits small)
+      ∙ stands-ends last.log now holds.stands
 
 pub run-log-law : RunLogLaw
 run-log-law r es max lawful exports apart fits small =

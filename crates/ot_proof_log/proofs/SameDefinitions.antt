@@ -2,15 +2,21 @@
 use Rattle.std.specs.Prelude.{◌==◌, ◌||◌, ◌&&◌}
 use Rattle.std.specs.List.{list_all}
 use Rattle.std.specs.Option.{option_map, option_and_then}
-use Rattle.std.proofs.Common.{◌≡◌, ℕ, Bool, List, [], ◌∷◌, ◌++◌, map, length, Option, Some, None, Result, Ok, refl, sym, ap, subst, ◌∙◌, inl, inr, ◌⊎◌, arith}
+use Rattle.std.proofs.Common.{◌≡◌, ℕ, Bool, List, [], ◌∷◌, ◌++◌, map, length, Option, Some}
+use Rattle.std.proofs.Common.{None, Result, Ok, refl, sym, ap, subst, ◌∙◌, inl, inr, ◌⊎◌, arith}
 use Rattle.ot_plain.specs.Lists.{IsMember, IsPart, IsSameSet, AreDistinct}
 use Rattle.ot_plain.specs.Names.{Name}
 use Rattle.ot_plain.specs.Naming.{names}
-use Rattle.ot_plain.specs.Trees.{Variable, Tm, Sequent, Symbol, ConSymbol, OpSymbol, Definition, ConDef, ListDef, TyDef}
-use Rattle.ot_plain.specs.Hol.{same_var, as_equation, symbols_tm, symbols_all, symbols_of, symbols_in, defined, used, theorems, vars_tm, primitives}
-use Rattle.ot_plain.specs.Faults.{Fault, Primitive, SymbolInUse, BadDefinitionList, HypothesesPresent, NotApplication, BadTypeVars, NotClosed, TypeVarEscapes}
+use Rattle.ot_plain.specs.Trees.{Variable, Tm, Sequent, Symbol, ConSymbol}
+use Rattle.ot_plain.specs.Trees.{OpSymbol, Definition, ConDef, ListDef, TyDef}
+use Rattle.ot_plain.specs.Hol.{same_var, as_equation, symbols_tm, symbols_all, symbols_of}
+use Rattle.ot_plain.specs.Hol.{symbols_in, defined, used, theorems, vars_tm, primitives}
+use Rattle.ot_plain.specs.Faults.{Fault, Primitive, SymbolInUse, BadDefinitionList, HypothesesPresent}
+use Rattle.ot_plain.specs.Faults.{NotApplication, BadTypeVars, NotClosed, TypeVarEscapes}
 use Rattle.ot_plain.specs.Answers.{◌>>=◌, unless, some_or}
-use Rattle.ot_laws.specs.Conditions.{is_among, refuse_first, refuse_defined, checked_symbols, checked_const, checked_list, checked_type, are_distinct, only, given_by, given, terms_given, is_empty, function_of, are_names_of, is_closed, is_closed_but, keeps_type_vars}
+use Rattle.ot_laws.specs.Conditions.{is_among, refuse_first, refuse_defined, checked_symbols, checked_const}
+use Rattle.ot_laws.specs.Conditions.{checked_list, checked_type, are_distinct, only, given_by, given, terms_given}
+use Rattle.ot_laws.specs.Conditions.{is_empty, function_of, are_names_of, is_closed, is_closed_but, keeps_type_vars}
 use Rattle.ot_laws.proofs.Tests.{tells_names}
 use Rattle.ot_laws.proofs.Steps.{and_then-some}
 use Rattle.ot_laws.proofs.Membership.{is_among-same_set}
@@ -31,9 +37,11 @@ Symbols = List (Symbol Name)
 symbols-same : (defs uses uses' premise premise' ss : Symbols) → IsSameSet uses uses' → IsSameSet premise premise'
     → checked_symbols names defs uses premise ss ≡ checked_symbols names defs uses' premise' ss
 symbols-same defs uses uses' premise premise' ss u p = λ i.
-    refuse_first names Primitive (λ s. is_among names s (primitives names)) ss >>= λ _. refuse_defined names defs ss >>= λ _.
+    refuse_first names Primitive (λ s. is_among names s (primitives names)) ss >>= λ _. refuse_defined names defs ss
+    >>= λ _.
     refuse_first names SymbolInUse
-    (λ s. is_among-same_set names tells_names s premise premise' p i || is_among-same_set names tells_names s uses uses' u i) ss
+    (λ s. is_among-same_set names tells_names s premise premise' p i || is_among-same_set names tells_names s uses
+    uses' u i) ss
 
 all-symbols : (ts : List (Tm Name)) (s : Symbol Name) → IsMember s (symbols_all names ts)
     → (t : Tm Name) × IsMember t ts × IsMember s (symbols_tm names t)
@@ -47,8 +55,10 @@ symbols-all : (ts : List (Tm Name)) (t : Tm Name) (s : Symbol Name) → IsMember
     → IsMember s (symbols_all names ts)
 symbols-all [] t s m h = absurd m
 symbols-all (u ∷ ts) t s (inl e) h =
-    IsMember-left s (symbols_tm names u) (symbols_all names ts) (subst (λ z. IsMember s (symbols_tm names z)) (sym e) h)
-symbols-all (u ∷ ts) t s (inr m) h = IsMember-right s (symbols_tm names u) (symbols_all names ts) (symbols-all ts t s m h)
+    IsMember-left s (symbols_tm names u) (symbols_all names ts)
+    (subst (λ z. IsMember s (symbols_tm names z)) (sym e) h)
+symbols-all (u ∷ ts) t s (inr m) h =
+    IsMember-right s (symbols_tm names u) (symbols_all names ts) (symbols-all ts t s m h)
 
 all-part : (g h : List (Tm Name)) → IsPart g h → IsPart (symbols_all names g) (symbols_all names h)
 all-part g h p s m = let r = all-symbols g s m in symbols-all h r.0 s (p r.0 r.1) r.2
@@ -87,7 +97,8 @@ module _ (v : Variable Name) where
   gives-one [] t e = absurd (cc)
   gives-one (h ∷ hs) t e = by (f h) refl e (gives-one hs t)
     where
-      by : (l : List (Tm Name)) → f h ≡ l → (l ++ given names hs v) ≡ t ∷ [] → (given names hs v ≡ t ∷ [] → GivesOne hs t)
+      by : (l : List (Tm Name)) → f h ≡ l → (l ++ given names hs v) ≡ t ∷ []
+          → (given names hs v ≡ t ∷ [] → GivesOne hs t)
           → GivesOne (h ∷ hs) t
       by [] g a later =
           let r = later a in
@@ -118,7 +129,11 @@ module _ (v : Variable Name) where
     | inl e ↦
         (let rest : given names ks v ≡ [] =
         none-given ks
-        (λ j m. elim (g.others j (inr m)) [ inl a ↦ absurd (d.0 (subst (λ z. IsMember z ks) (a ∙ sym e) m)) | inr b ↦ b ]) in
+        (λ j m. elim (g.others j (inr m)) [
+          | inl a ↦ absurd (d.0 (subst (λ z. IsMember z ks) (a ∙ sym e) m))
+          | inr b ↦
+              b
+        ]) in
         let own : f k ≡ t ∷ [] = ap f e ∙ g.gives in
         λ i. own i ++ rest i)
     | inr m ↦
@@ -133,14 +148,16 @@ module _ (v : Variable Name) where
   only-is (x ∷ []) t e = let same : x ≡ t = cc in ap (λ z. z ∷ []) same
   only-is (x ∷ y ∷ xs) t e = absurd (cc)
 
-  pub only-same : (g h : List (Tm Name)) (t : Tm Name) → IsSameSet g h → AreDistinct h → only (given names g v) ≡ Some t
+  pub only-same : (g h : List (Tm Name)) (t : Tm Name) → IsSameSet g h → AreDistinct h
+      → only (given names g v) ≡ Some t
       → only (given names h v) ≡ Some t
   only-same g h t s d e =
       let r = gives-one g t (only-is (given names g v) t e) in
       ap only (one-given h t d
       (record { of = r.of; there = s.to r.of r.there; gives = r.gives; others = λ k m. r.others k (s.back k m) }))
 
-terms-same : (g h : List (Tm Name)) → IsSameSet g h → AreDistinct h → (vs : List (Variable Name)) (ts : List (Tm Name))
+terms-same : (g h : List (Tm Name)) → IsSameSet g h → AreDistinct h
+    → (vs : List (Variable Name)) (ts : List (Tm Name))
     → terms_given names g vs ≡ Some ts → terms_given names h vs ≡ Some ts
 terms-same g h s d [] ts e = e
 terms-same g h s d (v ∷ vs) ts e =
@@ -161,12 +178,14 @@ module _ (defs uses uses' : Symbols) (u : IsSameSet uses uses') where
   pub const-same : (n : Name) (t : Tm Name) → checked_const names defs uses n t ≡ Ok tt
       → checked_const names defs uses' n t ≡ Ok tt
   const-same n t h =
-      ap (λ r. r >>= λ _. unless NotClosed (is_closed names t) >>= λ _. unless TypeVarEscapes (keeps_type_vars names t))
+      ap (λ r. r >>= λ _. unless NotClosed (is_closed names t) >>= λ _. unless TypeVarEscapes
+      (keeps_type_vars names t))
       (sym (symbols-same defs uses uses' (symbols_tm names t) (symbols_tm names t)
       (ConSymbol n ∷ []) u (same_set-self (symbols_tm names t))))
       ∙ h
 
-  pub list-same : (ns : List Name) (vs : List (Variable Name)) (q r : Sequent Name) → IsSameSet q.hyps r.hyps → q.concl ≡ r.concl
+  pub list-same : (ns : List Name) (vs : List (Variable Name)) (q r : Sequent Name) → IsSameSet q.hyps r.hyps
+      → q.concl ≡ r.concl
       → AreDistinct q.hyps → AreDistinct r.hyps → checked_list names defs uses ns vs q ≡ Ok tt
       → checked_list names defs uses' ns vs r ≡ Ok tt
   list-same ns vs q r s e dq dr h =
@@ -176,7 +195,8 @@ module _ (defs uses uses' : Symbols) (u : IsSameSet uses uses') where
       let l1 = distinct-length q.hyps r.hyps dq s.to in
       let l2 = distinct-length r.hyps q.hyps dr s.back in
       let long : length q.hyps ≡ length r.hyps = omega (arith, l1, l2) in
-      let ts = terms-same q.hyps r.hyps s dr vs b.0 (some_or-ok BadDefinitionList (terms_given names q.hyps vs) b.0 b.1) in
+      let ts = terms-same q.hyps r.hyps s dr vs b.0
+      (some_or-ok BadDefinitionList (terms_given names q.hyps vs) b.0 b.1) in
       let rest : Result (Unit {0}) (Fault Name) → Tm Name → Result (Unit {0}) (Fault Name) =
       λ c z. c
       >>= λ _. unless NotClosed (list_all (is_closed names) b.0 && is_closed_but names vs z)
@@ -190,14 +210,17 @@ module _ (defs uses uses' : Symbols) (u : IsSameSet uses uses') where
       ∙ ap (λ z. z >>= λ _. after (terms_given names r.hyps vs)) a.1
       ∙ ap after ts
       ∙ (λ i. rest (sym
-      (symbols-same defs uses uses' (symbols_of names q) (symbols_of names r) (map ConSymbol ns) u (sequent-symbols q r s e)) i)
+      (symbols-same defs uses uses' (symbols_of names q) (symbols_of names r) (map ConSymbol ns) u
+      (sequent-symbols q r s e)) i)
       (sym e i))
       ∙ b.2
 
-  pub type-same : (n abs rep : Name) (vars : List Name) (q : Sequent Name) → checked_type names defs uses n abs rep vars q ≡ Ok tt
+  pub type-same : (n abs rep : Name) (vars : List Name) (q : Sequent Name)
+      → checked_type names defs uses n abs rep vars q ≡ Ok tt
       → checked_type names defs uses' n abs rep vars q ≡ Ok tt
   type-same n abs rep vars q h =
-      sym (λ i. unless HypothesesPresent (is_empty q.hyps) >>= λ _. some_or NotApplication (function_of q.concl) >>= λ p.
+      sym (λ i. unless HypothesesPresent (is_empty q.hyps) >>= λ _. some_or NotApplication (function_of q.concl)
+      >>= λ p.
       unless BadTypeVars (are_distinct names.same vars && are_names_of names (vars_tm names p) vars) >>= λ _.
       symbols-same defs uses uses' (symbols_of names q) (symbols_of names q)
       (OpSymbol n ∷ ConSymbol abs ∷ ConSymbol rep ∷ []) u (same_set-self (symbols_of names q)) i
@@ -221,7 +244,8 @@ theorems-same (TyDef n abs rep vs q) (ListDef ps r) h = absurd (cc)
 
 defined-same : (d e : Definition Name) → IsDefinitionOf d e → defined names d ≡ defined names e
 defined-same (ListDef ps q) (ListDef qs r) h = ap (λ z. defined names (ListDef z q)) h.0
-defined-same (TyDef n abs rep vs q) (TyDef m a r ws p) h = λ i. OpSymbol (h.0 i) ∷ ConSymbol (h.1 i) ∷ ConSymbol (h.2 i) ∷ []
+defined-same (TyDef n abs rep vs q) (TyDef m a r ws p) h = λ i. OpSymbol (h.0 i) ∷ ConSymbol (h.1 i)
+    ∷ ConSymbol (h.2 i) ∷ []
 defined-same (ConDef n t) e h = ap (defined names) h
 defined-same (ListDef ps q) (ConDef n t) h = absurd (cc)
 defined-same (ListDef ps q) (TyDef n abs rep vs r) h = absurd (cc)
@@ -238,7 +262,8 @@ used-same (TyDef n abs rep vs q) (TyDef m a r ws p) h =
     let c = (same_sequent-is names tells_names q p).0 h.4 in
     subst (λ z. IsSameSet (used names (TyDef n abs rep vs q)) (symbols_of names p ++ symbols_in names z))
     (theorems-same (TyDef n abs rep vs q) (TyDef m a r ws p) h)
-    (same_set-append (sequent-symbols q p c.0 c.1) (same_set-self (symbols_in names (theorems names (TyDef n abs rep vs q)))))
+    (same_set-append (sequent-symbols q p c.0 c.1)
+    (same_set-self (symbols_in names (theorems names (TyDef n abs rep vs q)))))
 used-same (ConDef n t) e h =
     subst (λ z. IsSameSet (used names (ConDef n t)) (used names z)) h (same_set-self (used names (ConDef n t)))
 used-same (ListDef ps q) (ConDef n t) h = absurd (cc)

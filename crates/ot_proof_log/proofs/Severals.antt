@@ -1,7 +1,8 @@
 -- The words that stand for several records.
 use Rattle.std.specs.Prelude.{slice_get}
 use Rattle.std.specs.List.{AllByRecursion}
-use Rattle.std.proofs.Common.{◌≡◌, ℕ, ◌+◌, true, List, [], ◌∷◌, ◌++◌, Some, Ok, refl, sym, ap, subst, ◌∙◌, inl, inr, arith}
+use Rattle.std.proofs.Common.{◌≡◌, ℕ, ◌+◌, true, List, [], ◌∷◌, ◌++◌, Some}
+use Rattle.std.proofs.Common.{Ok, refl, sym, ap, subst, ◌∙◌, inl, inr, arith}
 use Rattle.ot_plain.specs.Lists.{IsSameSet, AreDistinct}
 use Rattle.ot_plain.specs.Names.{Name}
 use Rattle.ot_plain.specs.Naming.{names}
@@ -21,7 +22,8 @@ use Rattle.ot_records.specs.State.{LogState}
 use Rattle.ot_machine.specs.Writable.{IsWritable}
 use Rattle.ot_machine.specs.NamesIn.{TmNamed, SequentNamed}
 use Rattle.ot_entries.specs.Entries.{term_nodes}
-use Rattle.ot_entries.specs.Expansions.{equals_at, sym_entries, trans_entries, prove_hyp_entries, sym_of, trans_of, prove_hyp_of}
+use Rattle.ot_entries.specs.Expansions.{equals_at, sym_entries, trans_entries}
+use Rattle.ot_entries.specs.Expansions.{prove_hyp_entries, sym_of, trans_of, prove_hyp_of}
 use Rattle.ot_entries.specs.Making.{IsSame}
 use Rattle.ot_entries.specs.Logged.{Log}
 use Rattle.ot_entries.proofs.Fitting.{Fits, fits-more, sides-fit, applied-fits, sym-fits, chain-fits, discharge-fits}
@@ -100,7 +102,8 @@ sym-makes x st i a r q s ka kq named get same rule =
     let g2 = union names g1 [] in
     let g3 = union names g2 [] in
     let o : Sequent Name = sequent_of names (equation names (fun_ty names ty to) (equals_at ty) (equals_at ty)) in
-    let v : Sequent Name = record { hyps = g1; concl = equation names to (App (equals_at ty) t) (App (equals_at ty) u) } in
+    let v : Sequent Name =
+    record { hyps = g1; concl = equation names to (App (equals_at ty) t) (App (equals_at ty) u) } in
     let l : Sequent Name = sequent_of names (equation names ty t t) in
     let w : Sequent Name =
     record { hyps = g2; concl = equation names (bool_ty names) (equation names ty t t) (equation names ty u t) } in
@@ -137,11 +140,13 @@ sym-makes x st i a r q s ka kq named get same rule =
 -- ---- trans
 
 -- of the first a = b and the second b = d, which stand at these numbers
-chain-makes : (x : Log) (st : LogState Name) (i j : ℕ) (first second first' second' q : Sequent Name) (g : List (Tm Name))
+chain-makes : (x : Log) (st : LogState Name) (i j : ℕ) (first second first' second' q : Sequent Name)
+    (g : List (Tm Name))
     → Stands x st → IsKept first → IsKept second → IsKept q → SequentNamed IsWritable first
     → slice_get st.sequents i ≡ Some first' → slice_get st.sequents j ≡ Some second'
     → IsSame names first first' → IsSame names second second' → (c : IsChain first second q g)
-    → IsSameSet q.hyps (union names first.hyps second.hyps) → Makes words.Trans x st (trans_entries x.sequents c.ty c.a i j) q
+    → IsSameSet q.hyps (union names first.hyps second.hyps)
+    → Makes words.Trans x st (trans_entries x.sequents c.ty c.a i j) q
 chain-makes x st i j first second first' second' q g s k1 k2 kq named get1 get2 same1 same2 c set =
     let ty = c.ty in let a = c.a in let b = c.b in let d = c.d in
     let fit1 = subst (Fits names depth_limit) c.first_is k1.concl in
@@ -162,7 +167,8 @@ chain-makes x st i j first second first' second' q g s k1 k2 kq named get1 get2 
     let g2 = union names g1 first'.hyps in
     let h1 = wide-union [] second'.hyps tt w2 in
     let h2 = wide-union g1 first'.hyps h1 w1 in
-    let o : Sequent Name = sequent_of names (equation names (fun_ty names ty (bool_ty names)) (App eq a) (App eq a)) in
+    let o : Sequent Name =
+    sequent_of names (equation names (fun_ty names ty (bool_ty names)) (App eq a) (App eq a)) in
     let m : Sequent Name =
     record { hyps = g1; concl = equation names (bool_ty names) (equation names ty a b) (equation names ty a d) } in
     let last : Sequent Name = record { hyps = g2; concl = equation names ty a d } in
@@ -200,7 +206,8 @@ swapped g h = record {
 self : (g : List (Tm Name)) → IsSameSet g g
 self g = record { to = λ x m. m; back = λ x m. m }
 
-pub trans-makes : (x : Log) (st : LogState Name) (i j : ℕ) (a b a' b' q : Sequent Name) → Stands x st → IsKept a → IsKept b
+pub trans-makes : (x : Log) (st : LogState Name) (i j : ℕ) (a b a' b' q : Sequent Name) → Stands x st → IsKept a
+    → IsKept b
     → IsKept q → SequentNamed IsWritable a → SequentNamed IsWritable b → slice_get st.sequents i ≡ Some a'
     → slice_get st.sequents j ≡ Some b'
     → IsSame names a a' → IsSame names b b' → trans_rule names a b ≡ Ok q
@@ -212,12 +219,14 @@ trans-makes x st i j a b a' b' q s ka kb kq na nb ga gb sa sb rule = elim (chain
       (sym c.0.is) (self (union names a.hyps b.hyps))))
   | inr c ↦ subst (λ z. Makes words.Trans x st z q) (sym (c.1 x.sequents i j))
       (chain-makes x st j i b a b' a' q _ s kb ka kq nb gb ga sb sa c.0
-      (subst (λ (z : Sequent Name). IsSameSet z.hyps (union names b.hyps a.hyps)) (sym c.0.is) (swapped a.hyps b.hyps)))
+      (subst (λ (z : Sequent Name). IsSameSet z.hyps (union names b.hyps a.hyps)) (sym c.0.is)
+      (swapped a.hyps b.hyps)))
 ]
 
 -- ---- proveHyp
 
-lemma-makes : (x : Log) (st : LogState Name) (i j : ℕ) (a b a' b' q : Sequent Name) → Stands x st → IsKept a → IsKept b → IsKept q
+lemma-makes : (x : Log) (st : LogState Name) (i j : ℕ) (a b a' b' q : Sequent Name) → Stands x st → IsKept a
+    → IsKept b → IsKept q
     → slice_get st.sequents i ≡ Some a' → slice_get st.sequents j ≡ Some b' → IsSame names a a' → IsSame names b b'
     → q ≡ proved_hyp names a b → Makes words.ProveHyp x st (prove_hyp_entries x.sequents i j) q
 lemma-makes x st i j a b a' b' q s ka kb kq ga gb sa sb e =
@@ -244,7 +253,8 @@ lemma-makes x st i j a b a' b' q s ka kb kq ga gb sa sb e =
     subst (λ (z : Sequent Name). IsSameSet z.hyps last.hyps) (sym e)
     (same_set-then one (same_set-both_ways (discharge-hyps names tells_names a'.hyps b'.hyps a'.concl b'.concl))) in
     let dg = distinct-union names tells_names (minus names b'.concl a'.hyps) (minus names a'.concl b'.hyps)
-    (distinct-minus names tells_names b'.concl a'.hyps sa.right) (distinct-minus names tells_names a'.concl b'.hyps sb.right) in
+    (distinct-minus names tells_names b'.concl a'.hyps sa.right)
+    (distinct-minus names tells_names a'.concl b'.hyps sb.right) in
     let low1 = number-low x st i a' s ga in
     let low2 = number-low x st j b' s gb in
     makes-all words.ProveHyp x st (prove_hyp_entries x.sequents i j) q last (o ∷ []) (λ z. cc) all
@@ -258,8 +268,10 @@ lemma-makes x st i j a b a' b' q s ka kb kq ga gb sa sb e =
       (record { nodes = tt; operands = (omega arith, (omega (arith, low1), tt)) }, tt),
     )
 
-pub prove_hyp-makes : (x : Log) (st : LogState Name) (i j : ℕ) (a b a' b' q : Sequent Name) → Stands x st → IsKept a → IsKept b
-    → IsKept q → slice_get st.sequents i ≡ Some a' → slice_get st.sequents j ≡ Some b' → IsSame names a a' → IsSame names b b'
+pub prove_hyp-makes : (x : Log) (st : LogState Name) (i j : ℕ) (a b a' b' q : Sequent Name) → Stands x st → IsKept a
+    → IsKept b
+    → IsKept q → slice_get st.sequents i ≡ Some a' → slice_get st.sequents j ≡ Some b' → IsSame names a a'
+    → IsSame names b b'
     → prove_hyp_rule names a b ≡ Ok q → Makes words.ProveHyp x st (prove_hyp_of x.sequents a b i j) q
 prove_hyp-makes x st i j a b a' b' q s ka kb kq ga gb sa sb rule = elim (lemma-of a b q rule) [
   | inl c ↦

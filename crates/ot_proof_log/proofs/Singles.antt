@@ -1,12 +1,14 @@
 -- The words that stand for one record.
 use Rattle.std.specs.Prelude.{slice_get}
 use Rattle.std.specs.List.{AllByRecursion, flat_map, list_all}
-use Rattle.std.proofs.Common.{◌≡◌, ◌≢◌, ℕ, suc, ◌≤◌, true, ◌&&◌, List, [], ◌∷◌, ◌++◌, map, length, Some, Ok, refl, sym, ap, subst, inr, arith, length-append}
+use Rattle.std.proofs.Common.{◌≡◌, ◌≢◌, ℕ, suc, ◌≤◌, true, ◌&&◌, List, [], ◌∷◌, ◌++◌, map}
+use Rattle.std.proofs.Common.{length, Some, Ok, refl, sym, ap, subst, inr, arith, length-append}
 use Rattle.std.proofs.lemmas.Bool.{and_from}
 use Rattle.ot_plain.specs.Names.{Name}
 use Rattle.ot_plain.specs.Naming.{names}
 use Rattle.ot_plain.specs.Trees.{Ty, Variable, Tm, Sequent}
-use Rattle.ot_plain.specs.Hol.{depth_limit, depth_ty, fun_ty, bool_ty, HasType, TypeMap, TermMap, IsTyped, once_each, equation}
+use Rattle.ot_plain.specs.Hol.{depth_limit, depth_ty, fun_ty, bool_ty, HasType}
+use Rattle.ot_plain.specs.Hol.{TypeMap, TermMap, IsTyped, once_each, equation}
 use Rattle.ot_plain.specs.Answers.{◌>>=◌, unless}
 use Rattle.ot_plain.specs.Rules.{abs_thm_rule, subst_rule}
 use Rattle.ot_plain.specs.declared.command.Cmd.{Cmd}
@@ -21,8 +23,10 @@ use Rattle.ot_records.specs.Steps.{Step, log_depth, abs_thm_step, subst_step, as
 use Rattle.ot_records.specs.State.{LogState, makes_sequent}
 use Rattle.ot_machine.specs.Writable.{IsWritable}
 use Rattle.ot_machine.specs.NamesIn.{TyNamed, TmNamed}
-use Rattle.ot_entries.specs.Entries.{Node, Operand, Count, AName, AType, ATerm, ASequent, type_nodes, term_nodes, operand_nodes}
-use Rattle.ot_entries.specs.Expansions.{of_term, of_two, abs_thm_entry, type_pair, term_pair, subst_entry, by_text, assumption_entry}
+use Rattle.ot_entries.specs.Entries.{Node, Operand, Count, AName, AType, ATerm}
+use Rattle.ot_entries.specs.Entries.{ASequent, type_nodes, term_nodes, operand_nodes}
+use Rattle.ot_entries.specs.Expansions.{of_term, of_two, abs_thm_entry, type_pair}
+use Rattle.ot_entries.specs.Expansions.{term_pair, subst_entry, by_text, assumption_entry}
 use Rattle.ot_entries.specs.Making.{IsSame}
 use Rattle.ot_entries.specs.Logged.{Log}
 use Rattle.ot_entries.proofs.Fitting.{Fits, fits-more}
@@ -36,7 +40,8 @@ use Rattle.ot_proof_log.proofs.Kept.{IsKeptTerm, IsKept, AllFit}
 use Rattle.ot_proof_log.proofs.KeptWords.{axiom-is, all-typed}
 use Rattle.ot_proof_log.proofs.Told.{AreNodes, AreOperands}
 use Rattle.ot_proof_log.proofs.Texts.{by_text-same, by_text-bool}
-use Rattle.ot_proof_log.proofs.Makes.{type-named, term-named, number-low, Makes, makes-one, same-refl, kept-within, kept-same}
+use Rattle.ot_proof_log.proofs.Makes.{type-named, term-named, number-low, Makes}
+use Rattle.ot_proof_log.proofs.Makes.{makes-one, same-refl, kept-within, kept-same}
 use Rattle.ot_plain.proofs.Elements.{AllByRecursion-append}
 
 pub more-fits : (t : Tm Name) → Fits names depth_limit t → Fits names log_depth t
@@ -55,20 +60,24 @@ no-nodes = (tt, tt)
 
 -- ---- a record of a term
 
-pub makes-term : (w : Cmd) (v : RecordWord) (x : Log) (st : LogState Name) (t : Tm Name) (step : Step names) (q : Sequent Name)
+pub makes-term : (w : Cmd) (v : RecordWord) (x : Log) (st : LogState Name) (t : Tm Name) (step : Step names)
+    (q : Sequent Name)
     → w ≢ words.Axiom → Stands x st → IsKept q → IsKeptTerm t → TmNamed IsWritable t
     → Feeds st (of_term v t) (makes_sequent names step)
     → step ≡ Ok q → Makes w x st (of_term v t ∷ []) q
 makes-term w v x st t step q n s k kt named f h =
-    let nodes = nodes-then (term_nodes t) [] (term-named t kt.typed.0 kt.typed.1 (more-fits t kt.fits) named) no-nodes in
+    let nodes = nodes-then (term_nodes t) [] (term-named t kt.typed.0 kt.typed.1 (more-fits t kt.fits) named)
+    no-nodes in
     makes-one w x st (of_term v t) step q q n s k nodes.0
     (record { nodes = nodes.1; operands = (tt, tt) }) f h (same-refl q k.distinct)
 
 -- ---- a record of two theorems
 
-pub makes-two : (w : Cmd) (v : RecordWord) (x : Log) (st : LogState Name) (i j : ℕ) (a b q : Sequent Name) (step : Step names)
+pub makes-two : (w : Cmd) (v : RecordWord) (x : Log) (st : LogState Name) (i j : ℕ) (a b q : Sequent Name)
+    (step : Step names)
     → w ≢ words.Axiom → Stands x st → IsKept q → slice_get st.sequents i ≡ Some a → slice_get st.sequents j ≡ Some b
-    → Feeds st (of_two v i j) (makes_sequent names step) → GivesSame names tells_names q step → Makes w x st (of_two v i j ∷ []) q
+    → Feeds st (of_two v i j) (makes_sequent names step) → GivesSame names tells_names q step
+    → Makes w x st (of_two v i j ∷ []) q
 makes-two w v x st i j a b q step n s k h l f g =
     makes-one w x st (of_two v i j) step q g.0 n s k tt
     (record { nodes = tt; operands = (number-low x st i a s h, (number-low x st j b s l, tt)) }) f g.1 g.2
@@ -79,15 +88,18 @@ abs_thm-depth : (v : Variable Name) (ty : Ty Name) (c d : Tm Name)
     → Fits names depth_limit (equation names (fun_ty names v.ty ty) c d) → depth_ty names v.ty ≤ depth_limit
 abs_thm-depth v ty c d f = let h = f.types.1.1 in omega (arith, h)
 
-pub abs_thm-makes : (x : Log) (st : LogState Name) (i : ℕ) (v : Variable Name) (a r q : Sequent Name) → Stands x st → IsKept q
-    → depth_ty names v.ty ≤ depth_limit → IsWritable v.name → TyNamed IsWritable v.ty → slice_get st.sequents i ≡ Some r
+pub abs_thm-makes : (x : Log) (st : LogState Name) (i : ℕ) (v : Variable Name) (a r q : Sequent Name) → Stands x st
+    → IsKept q
+    → depth_ty names v.ty ≤ depth_limit → IsWritable v.name → TyNamed IsWritable v.ty → slice_get st.sequents i
+    ≡ Some r
     → IsSame names a r
     → abs_thm_rule names v a ≡ Ok q → Makes words.AbsThm x st (abs_thm_entry v i ∷ []) q
 abs_thm-makes x st i v a r q s k d nm ty h same rule =
     let g = abs_thm-same names tells_names v a r q same (abs_thm-ruled names tells_names v a q rule) in
     let nodes = nodes-then (type_nodes v.ty) [] (type-named v.ty d ty) no-nodes in
     makes-one words.AbsThm x st (abs_thm_entry v i) (abs_thm_step names v r) q g.0 (λ e. cc) s k nodes.0
-    (record { nodes = nodes.1; operands = (nm, (tt, (number-low x st i r s h, tt))) }) (abs_thm-feeds st v i r h) g.1 g.2
+    (record { nodes = nodes.1; operands = (nm, (tt, (number-low x st i r s h, tt))) }) (abs_thm-feeds st v i r h) g.1
+    g.2
 
 -- ---- subst
 
@@ -99,13 +111,15 @@ TermPair p =
     (IsWritable p.0.name × ((depth_ty names p.0.ty ≤ depth_limit) × TyNamed IsWritable p.0.ty))
     × (IsKeptTerm p.1 × TmNamed IsWritable p.1)
 
-type_pairs-nodes : (m : TypeMap names) → AllByRecursion TypePair m → Nodes (flat_map operand_nodes (flat_map type_pair m))
+type_pairs-nodes : (m : TypeMap names) → AllByRecursion TypePair m
+    → Nodes (flat_map operand_nodes (flat_map type_pair m))
 type_pairs-nodes [] h = no-nodes
 type_pairs-nodes (p ∷ m) h =
     nodes-then (type_nodes p.1) (flat_map operand_nodes (flat_map type_pair m))
     (type-named p.1 h.0.1.0 h.0.1.1) (type_pairs-nodes m h.1)
 
-term_pairs-nodes : (m : TermMap names) → AllByRecursion TermPair m → Nodes (flat_map operand_nodes (flat_map term_pair m))
+term_pairs-nodes : (m : TermMap names) → AllByRecursion TermPair m
+    → Nodes (flat_map operand_nodes (flat_map term_pair m))
 term_pairs-nodes [] h = no-nodes
 term_pairs-nodes (p ∷ m) h =
     nodes-then (type_nodes p.0.ty) (term_nodes p.1 ++ flat_map operand_nodes (flat_map term_pair m))
@@ -130,11 +144,13 @@ flat-append (ATerm t ∷ os) ps h k =
     let r = split (term_nodes t) (flat_map operand_nodes os) h in
     nodes-then (term_nodes t) (flat_map operand_nodes (os ++ ps)) r.0 (flat-append os ps r.1 k)
 
-type_pairs-told : (s n : ℕ) (m : TypeMap names) → AllByRecursion TypePair m → AreOperands IsWritable s n (flat_map type_pair m)
+type_pairs-told : (s n : ℕ) (m : TypeMap names) → AllByRecursion TypePair m
+    → AreOperands IsWritable s n (flat_map type_pair m)
 type_pairs-told s n [] h = tt
 type_pairs-told s n (p ∷ m) h = (h.0.0, (tt, type_pairs-told s n m h.1))
 
-term_pairs-told : (s n : ℕ) (m : TermMap names) → AllByRecursion TermPair m → AreOperands IsWritable s n (flat_map term_pair m)
+term_pairs-told : (s n : ℕ) (m : TermMap names) → AllByRecursion TermPair m
+    → AreOperands IsWritable s n (flat_map term_pair m)
 term_pairs-told s n [] h = tt
 term_pairs-told s n (p ∷ m) h = (h.0.0.0, (tt, (tt, term_pairs-told s n m h.1)))
 
@@ -146,7 +162,8 @@ term_pairs-long : (m : TermMap names) → length m ≤ length (flat_map term_pai
 term_pairs-long [] = omega arith
 term_pairs-long (p ∷ m) = let h = term_pairs-long m in omega (arith, h)
 
-pub subst-makes : (x : Log) (st : LogState Name) (i : ℕ) (sm : TypeMap names) (m : TermMap names) (a r q : Sequent Name)
+pub subst-makes : (x : Log) (st : LogState Name) (i : ℕ) (sm : TypeMap names) (m : TermMap names)
+    (a r q : Sequent Name)
     → Stands x st → IsKept q → IsTyped names m → AllByRecursion TypePair sm → AllByRecursion TermPair m
     → slice_get st.sequents i ≡ Some r → IsSame names a r
     → subst_rule names sm m a ≡ Ok q → Makes words.Subst x st (subst_entry sm m i ∷ []) q
@@ -190,9 +207,11 @@ terms-long (t ∷ ts) = ap suc (terms-long ts)
 propositions : (ts : List (Tm Name)) → AllByRecursion (λ h. HasType names h (bool_ty names)) ts
     → list_all (is_proposition names) ts ≡ true
 propositions [] h = refl
-propositions (t ∷ ts) h = let e = (has_type-is names tells_names t (bool_ty names)).1 h.0 in λ i. e i && propositions ts h.1 i
+propositions (t ∷ ts) h = let e = (has_type-is names tells_names t (bool_ty names)).1 h.0 in
+    λ i. e i && propositions ts h.1 i
 
-pub axiom-makes : (x : Log) (st : LogState Name) (hyps : List (Tm Name)) (p : Tm Name) (q : Sequent Name) → Stands x st → IsKept q
+pub axiom-makes : (x : Log) (st : LogState Name) (hyps : List (Tm Name)) (p : Tm Name) (q : Sequent Name)
+    → Stands x st → IsKept q
     → AllFit hyps → IsKeptTerm p → AllByRecursion (TmNamed IsWritable) hyps → TmNamed IsWritable p
     → axiom_rule hyps p ≡ Ok q → Makes words.Axiom x st (assumption_entry hyps p ∷ []) q
 axiom-makes x st hyps p q s k f kp nh np rule =
@@ -201,7 +220,8 @@ axiom-makes x st hyps p q s k f kp nh np rule =
     let ts = by_text hyps in
     let set = by_text-same hyps typed in
     let ts_typed = by_text-bool hyps typed in
-    let ts_fit : AllFit ts = all-from_members _ ts (λ y m. all-member (Fits names depth_limit) hyps f y (set.to y m)) in
+    let ts_fit : AllFit ts =
+    all-from_members _ ts (λ y m. all-member (Fits names depth_limit) hyps f y (set.to y m)) in
     let ts_named : AllByRecursion (TmNamed IsWritable) ts =
     all-from_members _ ts (λ y m. all-member (TmNamed IsWritable) hyps nh y (set.to y m)) in
     let r : Sequent Name = record { hyps = once_each names ts; concl = p } in
@@ -233,7 +253,10 @@ axiom-makes x st hyps p q s k f kp nh np rule =
       definitions = o.definitions;
       results = o.results;
       told = (
-        record { nodes = nodes.1; operands = (tt, (omega (arith, long), terms-told x.sequents (length e.operands) ts)) },
+        record {
+          nodes = nodes.1;
+          operands = (tt, (omega (arith, long), terms-told x.sequents (length e.operands) ts));
+        },
         tt,
       );
     }

@@ -6,14 +6,16 @@ use Rattle.ot_plain.specs.Trees.{Ty, Variable, Tm, Sequent}
 use Rattle.ot_plain.specs.Hol.{TypeMap, TermMap}
 use Rattle.ot_plain.specs.Faults.{Fault}
 use Rattle.ot_plain.specs.Answers.{◌>>=◌}
-use Rattle.ot_plain.specs.Rules.{refl_rule, assume_rule, eq_mp_rule, abs_thm_rule, app_thm_rule, deduct_antisym_rule, beta_conv_rule, subst_rule, sym_rule, trans_rule, prove_hyp_rule}
+use Rattle.ot_plain.specs.Rules.{refl_rule, assume_rule, eq_mp_rule, abs_thm_rule, app_thm_rule, deduct_antisym_rule}
+use Rattle.ot_plain.specs.Rules.{beta_conv_rule, subst_rule, sym_rule, trans_rule, prove_hyp_rule}
 use Rattle.ot_plain.specs.declared.command.Cmd.{Cmd}
 use Rattle.ot_plain.specs.declared.command.Cmd.TheVariants as words
 use Rattle.ot_kernel.specs.Axioms.{axiom_rule}
 use Rattle.ot_machine.specs.Objects.{Object, Objects, name, list, a_type, variable, term, theorem}
 use Rattle.ot_machine.specs.Places.{as_name, as_list, as_type, as_variable, as_term, as_theorem, as_each}
 use Rattle.ot_machine.specs.Substitutions.{maps_of}
-use Rattle.ot_machine.specs.Makers.{Read, of_top, of_two, maker, abs_thm_made, subst_made, axiom_made, one_theorem_made, two_theorems_made}
+use Rattle.ot_machine.specs.Makers.{Read, of_top, of_two, maker, abs_thm_made, subst_made}
+use Rattle.ot_machine.specs.Makers.{axiom_made, one_theorem_made, two_theorems_made}
 use Rattle.ot_article.proofs.Operands.{made_of}
 use Rattle.ot_proof_log.specs.Derived.{makes_theorem}
 use Rattle.ot_plain.proofs.Results.{bind-ok, same_Ok}
@@ -69,14 +71,18 @@ pub data IsStep (vs : List Object) (q : Sequent Name) : Cmd → Type 0 where
       → IsStep vs q words.AbsThm
   BySubst : (os : Objects) (maps : TypeMap names × TermMap names) (a : Sequent Name) → vs ≡ list os ∷ theorem a ∷ []
       → maps_of os ≡ Ok maps → subst_rule names maps.0 maps.1 a ≡ Ok q → IsStep vs q words.Subst
-  ByAxiom : (os : Objects) (hyps : List (Tm Name)) (p : Tm Name) → vs ≡ list os ∷ term p ∷ [] → as_each as_term os ≡ Ok hyps
+  ByAxiom : (os : Objects) (hyps : List (Tm Name)) (p : Tm Name) → vs ≡ list os ∷ term p ∷ []
+      → as_each as_term os ≡ Ok hyps
       → axiom_rule hyps p ≡ Ok q → IsStep vs q words.Axiom
   BySym : (a : Sequent Name) → vs ≡ theorem a ∷ [] → sym_rule names a ≡ Ok q → IsStep vs q words.Sym
-  ByEqMp : (a b : Sequent Name) → vs ≡ theorem a ∷ theorem b ∷ [] → eq_mp_rule names a b ≡ Ok q → IsStep vs q words.EqMp
-  ByAppThm : (a b : Sequent Name) → vs ≡ theorem a ∷ theorem b ∷ [] → app_thm_rule names a b ≡ Ok q → IsStep vs q words.AppThm
+  ByEqMp : (a b : Sequent Name) → vs ≡ theorem a ∷ theorem b ∷ [] → eq_mp_rule names a b ≡ Ok q
+      → IsStep vs q words.EqMp
+  ByAppThm : (a b : Sequent Name) → vs ≡ theorem a ∷ theorem b ∷ [] → app_thm_rule names a b ≡ Ok q
+      → IsStep vs q words.AppThm
   ByDeductAntisym : (a b : Sequent Name) → vs ≡ theorem a ∷ theorem b ∷ [] → deduct_antisym_rule names a b ≡ Ok q
       → IsStep vs q words.DeductAntisym
-  ByTrans : (a b : Sequent Name) → vs ≡ theorem a ∷ theorem b ∷ [] → trans_rule names a b ≡ Ok q → IsStep vs q words.Trans
+  ByTrans : (a b : Sequent Name) → vs ≡ theorem a ∷ theorem b ∷ [] → trans_rule names a b ≡ Ok q
+      → IsStep vs q words.Trans
   ByProveHyp : (a b : Sequent Name) → vs ≡ theorem a ∷ theorem b ∷ [] → prove_hyp_rule names a b ≡ Ok q
       → IsStep vs q words.ProveHyp
 
@@ -145,7 +151,8 @@ axiom-of vs v e =
       ByAxiom l.0 b.0 a.0 (s ∙ (λ i. list-is y l.0 l.1 i ∷ term-is x a.0 a.1 i ∷ [])) l.2 c.1,
     )
 
-sym-of : (vs : List Object) (v : Object) → made_of (of_top (one_theorem_made (sym_rule names))) vs ≡ Ok v → Steps words.Sym vs v
+sym-of : (vs : List Object) (v : Object) → made_of (of_top (one_theorem_made (sym_rule names))) vs ≡ Ok v
+    → Steps words.Sym vs v
 sym-of vs v e =
     let (x, s, h) = one-of (one_theorem_made (sym_rule names)) vs v e in
     let a = bind-ok (as_theorem x) _ v h in
@@ -153,7 +160,8 @@ sym-of vs v e =
     (b.0, sym (same_Ok (theorem b.0) v b.2), BySym a.0 (s ∙ ap (λ o. o ∷ []) (theorem-is x a.0 a.1)) b.1)
 
 -- what a word makes that makes a theorem
-pub step-of : (w : Cmd) (vs : List Object) (v : Object) → makes_theorem w ≡ true → made_of (maker w) vs ≡ Ok v → Steps w vs v
+pub step-of : (w : Cmd) (vs : List Object) (v : Object) → makes_theorem w ≡ true → made_of (maker w) vs ≡ Ok v
+    → Steps w vs v
 step-of words.Refl vs v m e = on-term words.Refl (refl_rule names) (λ us q t s h. ByRefl t s h) vs v e
 step-of words.Assume vs v m e = on-term words.Assume (assume_rule names) (λ us q t s h. ByAssume t s h) vs v e
 step-of words.BetaConv vs v m e = on-term words.BetaConv (beta_conv_rule names) (λ us q t s h. ByBeta t s h) vs v e
@@ -166,5 +174,6 @@ step-of words.AppThm vs v m e = on-two words.AppThm (app_thm_rule names) (λ us 
 step-of words.DeductAntisym vs v m e =
     on-two words.DeductAntisym (deduct_antisym_rule names) (λ us q a b s h. ByDeductAntisym a b s h) vs v e
 step-of words.Trans vs v m e = on-two words.Trans (trans_rule names) (λ us q a b s h. ByTrans a b s h) vs v e
-step-of words.ProveHyp vs v m e = on-two words.ProveHyp (prove_hyp_rule names) (λ us q a b s h. ByProveHyp a b s h) vs v e
+step-of words.ProveHyp vs v m e = on-two words.ProveHyp (prove_hyp_rule names) (λ us q a b s h. ByProveHyp a b s h) vs
+    v e
 step-of _ vs v m e = absurd (cc)

@@ -3,7 +3,8 @@ use Rattle.std.specs.Prelude.{slice_get, if◌then◌else◌}
 use Rattle.std.specs.List.{AllByRecursion, list_any}
 use Rattle.std.specs.declared.cmp.Ordering.{Ordering}
 use Rattle.std.specs.declared.cmp.Ordering.TheVariants.{Less, Equal, Greater}
-use Rattle.std.proofs.Common.{◌≡◌, ℕ, ◌<◌, Bool, true, false, List, [], ◌∷◌, ◌++◌, length, Some, refl, sym, ap, subst, ◌∙◌, inl, inr, ◌⊎◌}
+use Rattle.std.proofs.Common.{◌≡◌, ℕ, ◌<◌, Bool, true, false, List, [], ◌∷◌, ◌++◌}
+use Rattle.std.proofs.Common.{length, Some, refl, sym, ap, subst, ◌∙◌, inl, inr, ◌⊎◌}
 use Rattle.ot_plain.specs.Lists.{IsMember, IsPart, IsSameSet}
 use Rattle.ot_plain.specs.Names.{Name}
 use Rattle.ot_plain.specs.Naming.{names}
@@ -42,10 +43,15 @@ with-term t (u ∷ us) p h = by (order (tm_text t) (tm_text u)) refl (with-term 
     by : (o : Ordering) → order (tm_text t) (tm_text u) ≡ o → IsSameSet (with_term t us) (t ∷ us)
         → IsSameSet (put_between o t u us (with_term t us)) (t ∷ u ∷ us)
     by Less e s = same_set-self (t ∷ u ∷ us)
-    by Equal e s = record { to = λ x m. inr m; back = λ x m. elim m [ inl k ↦ inl (sym (one-text t u p h.0 e) ∙ k) | inr k ↦ k ] }
+    by Equal e s =
+        record {
+          to = λ x m. inr m;
+          back = λ x m. elim m [ inl k ↦ inl (sym (one-text t u p h.0 e) ∙ k) | inr k ↦ k ];
+        }
     by Greater e s = record {
       to = λ x m. elim m [ inl k ↦ inr (inl k) | inr k ↦ elim (s.to x k) [ inl a ↦ inl a | inr b ↦ inr (inr b) ] ];
-      back = λ x m. elim m [ inl k ↦ inr (s.back x (inl k)) | inr k ↦ elim k [ inl a ↦ inl a | inr b ↦ inr (s.back x (inr b)) ] ];
+      back = λ x m. elim m
+          [ inl k ↦ inr (s.back x (inl k)) | inr k ↦ elim k [ inl a ↦ inl a | inr b ↦ inr (s.back x (inr b)) ] ];
     }
 
 bool-same : (g h : List (Tm Name)) → IsPart g h → AreBool h → AreBool g
@@ -75,7 +81,8 @@ pub same-self : (q : Sequent Name) → same_sequent names q q ≡ true
 same-self q = same-of q q (same_set-self q.hyps) refl
 
 pub same-back : (q r : Sequent Name) → same_sequent names q r ≡ true → same_sequent names r q ≡ true
-same-back q r h = let p = (same_sequent-is names tells_names q r).0 h in same-of r q (same_set-both_ways p.0) (sym p.1)
+same-back q r h = let p = (same_sequent-is names tells_names q r).0 h in
+    same-of r q (same_set-both_ways p.0) (sym p.1)
 
 pub same-then : (q r s : Sequent Name) → same_sequent names q r ≡ true → same_sequent names r s ≡ true
     → same_sequent names q s ≡ true
@@ -92,12 +99,14 @@ is-same q r s = same-of q r s.hyps s.concl
 abbrev there : Sequent Name → List (Sequent Name) → Bool
 there q qs = list_any (λ r. same_sequent names r q) qs
 
-pub once-member : (qs : List (Sequent Name)) (q r : Sequent Name) → IsMember r (kept_once names qs q) → IsMember r qs ⊎ (r ≡ q)
+pub once-member : (qs : List (Sequent Name)) (q r : Sequent Name) → IsMember r (kept_once names qs q)
+    → IsMember r qs ⊎ (r ≡ q)
 once-member qs q r m = by (there q qs) m
   where
     by : (b : Bool) → IsMember r (if b then qs else qs ++ q ∷ []) → IsMember r qs ⊎ (r ≡ q)
     by true i = inl i
-    by false i = elim (IsMember-cases r qs (q ∷ []) i) [ inl k ↦ inl k | inr k ↦ elim k [ inl e ↦ inr (sym e) | inr n ↦ absurd n ] ]
+    by false i = elim (IsMember-cases r qs (q ∷ []) i)
+        [ inl k ↦ inl k | inr k ↦ elim k [ inl e ↦ inr (sym e) | inr n ↦ absurd n ] ]
 
 pub member-once : (qs : List (Sequent Name)) (q r : Sequent Name) → IsMember r qs → IsMember r (kept_once names qs q)
 member-once qs q r m = by (there q qs)
@@ -130,7 +139,8 @@ once-new qs q none = elim (bool_cases (there q qs)) [
 abbrev At : List (Sequent Name) → Sequent Name → ℕ → Sequent Name → Type 0
 At qs q i x = ((slice_get qs i ≡ Some x) × (i < length qs)) ⊎ ((i ≡ length qs) × (q ≡ x))
 
-pub once-apart : (qs : List (Sequent Name)) (q : Sequent Name) → AreApart (λ z. z) qs → AreApart (λ z. z) (kept_once names qs q)
+pub once-apart : (qs : List (Sequent Name)) (q : Sequent Name) → AreApart (λ z. z) qs
+    → AreApart (λ z. z) (kept_once names qs q)
 once-apart qs q a = elim (bool_cases (there q qs)) [
   | inl e ↦ subst (λ b. AreApart (λ z. z) (if b then qs else qs ++ q ∷ [])) (sym e) a
   | inr e ↦
@@ -139,9 +149,11 @@ once-apart qs q a = elim (bool_cases (there q qs)) [
 ]
   where
     no : (x : Sequent Name) (i : ℕ) → there q qs ≡ false → slice_get qs i ≡ Some x → same_sequent names x q ≡ true → ⊥
-    no x i e g s = let f : there q qs ≡ true = any-from (λ r. same_sequent names r q) x qs (member-get x qs i g) s in cc
+    no x i e g s = let f : there q qs ≡ true = any-from (λ r. same_sequent names r q) x qs (member-get x qs i g) s in
+        cc
 
-    both : (i j : ℕ) (x y : Sequent Name) → there q qs ≡ false → same_sequent names x y ≡ true → At qs q i x → At qs q j y → i ≡ j
+    both : (i j : ℕ) (x y : Sequent Name) → there q qs ≡ false → same_sequent names x y ≡ true → At qs q i x
+        → At qs q j y → i ≡ j
     both i j x y e s (inl g) (inl h) = a i j x y g.0 h.0 s
     both i j x y e s (inl g) (inr h) = absurd (no x i e g.0 (subst (λ z. same_sequent names x z ≡ true) (sym h.1) s))
     both i j x y e s (inr g) (inl h) =

@@ -1,7 +1,8 @@
 -- A log whose tokens can be said: its names are of one kind, and no number is greater than its length allows.
 use Rattle.std.specs.Prelude.{if◌then◌else◌, codes}
 use Rattle.std.specs.List.{AllByRecursion}
-use Rattle.std.proofs.Common.{◌≡◌, ℕ, suc, ◌+◌, ◌≤◌, Bool, true, false, List, [], ◌∷◌, ◌++◌, map, length, refl, sym, ap, subst, ◌∙◌, arith, length-append, append-nil, inl, inr, ◌⊎◌}
+use Rattle.std.proofs.Common.{◌≡◌, ℕ, suc, ◌+◌, ◌≤◌, Bool, true, false, List, [], ◌∷◌, ◌++◌, map, length}
+use Rattle.std.proofs.Common.{refl, sym, ap, subst, ◌∙◌, arith, length-append, append-nil, inl, inr, ◌⊎◌}
 use Rattle.ot_plain.specs.Names.{Name}
 use Rattle.ot_plain.specs.Naming.{names}
 use Rattle.ot_plain.specs.Trees.{Ty, Tys, TyVar, TyOp, NoTys, MoreTys, Tm, Free, Con, Bound, App, Abs}
@@ -10,8 +11,11 @@ use Rattle.ot_records.specs.declared.word.RecordWord.{RecordWord}
 use Rattle.ot_records.specs.Tokens.{Token, Number, Named, Word, spelling}
 use Rattle.ot_records.specs.Steps.{log_depth}
 use Rattle.ot_machine.specs.NamesIn.{TyNamed, TysNamed, TmNamed}
-use Rattle.ot_entries.specs.Entries.{Operand, Count, AName, AType, ATerm, ASequent, Entry, Node, TypeNode, TermNode, type_list, type_count, node_entry, type_parts, types_nodes, type_nodes, term_parts, term_nodes, nodes_before}
-use Rattle.ot_entries.specs.Logged.{Log, header, put, token_of, has_node, with_node, write_node, write_nodes, write_entry, count_sequent, write_sequents}
+use Rattle.ot_entries.specs.Entries.{Operand, Count, AName, AType, ATerm, ASequent, Entry, Node}
+use Rattle.ot_entries.specs.Entries.{TypeNode, TermNode, type_list, type_count, node_entry, type_parts}
+use Rattle.ot_entries.specs.Entries.{types_nodes, type_nodes, term_parts, term_nodes, nodes_before}
+use Rattle.ot_entries.specs.Logged.{Log, header, put, token_of, has_node, with_node, write_node}
+use Rattle.ot_entries.specs.Logged.{write_nodes, write_entry, count_sequent, write_sequents}
 use Rattle.ot_plain.proofs.Elements.{AllByRecursion-append, position-bound}
 
 -- a word of a log
@@ -74,17 +78,20 @@ module _ (P : Name → Type 0) where
     types-told NoTys h = tt
     types-told (MoreTys t ts) h =
         AllByRecursion-append IsNode (type_nodes t) (types_nodes ts)
-        (AllByRecursion-append IsNode (type_parts t) (TypeNode t ∷ []) (type_parts-told t h.0) (own-type t h.0, tt)) (types-told ts h.1)
+        (AllByRecursion-append IsNode (type_parts t) (TypeNode t ∷ []) (type_parts-told t h.0) (own-type t h.0, tt))
+        (types-told ts h.1)
 
     own-type : (t : Ty Name) → TyNamed P t → IsNode (TypeNode t)
     own-type (TyVar n) h = h
     own-type (TyOp n ts) h = h.0
 
   pub type-told : (t : Ty Name) → TyNamed P t → AreNodes (type_nodes t)
-  type-told t h = AllByRecursion-append IsNode (type_parts t) (TypeNode t ∷ []) (type_parts-told t h) (own-type t h, tt)
+  type-told t h = AllByRecursion-append IsNode (type_parts t) (TypeNode t ∷ []) (type_parts-told t h)
+      (own-type t h, tt)
 
   -- under n abstractions
-  own-term : (n : ℕ) (t : Tm Name) → IsWithin names n t → n + depth_tm names t ≤ log_depth → TmNamed P t → IsNode (TermNode t)
+  own-term : (n : ℕ) (t : Tm Name) → IsWithin names n t → n + depth_tm names t ≤ log_depth → TmNamed P t
+      → IsNode (TermNode t)
   own-term n (Free v) w d h = h.0
   own-term n (Con m t) w d h = h.0
   own-term n (Bound k) w d h = omega arith
@@ -100,18 +107,23 @@ module _ (P : Name → Type 0) where
       let df : n + depth_tm names f ≤ log_depth = omega arith in
       let dx : n + depth_tm names x ≤ log_depth = omega arith in
       AllByRecursion-append IsNode (term_nodes f) (term_nodes x)
-      (AllByRecursion-append IsNode (term_parts f) (TermNode f ∷ []) (term_parts-told n f w.0 df h.0) (own-term n f w.0 df h.0, tt))
-      (AllByRecursion-append IsNode (term_parts x) (TermNode x ∷ []) (term_parts-told n x w.1 dx h.1) (own-term n x w.1 dx h.1, tt))
+      (AllByRecursion-append IsNode (term_parts f) (TermNode f ∷ []) (term_parts-told n f w.0 df h.0)
+      (own-term n f w.0 df h.0, tt))
+      (AllByRecursion-append IsNode (term_parts x) (TermNode x ∷ []) (term_parts-told n x w.1 dx h.1)
+      (own-term n x w.1 dx h.1, tt))
   term_parts-told n (Abs t b) w d h =
       let db : suc n + depth_tm names b ≤ log_depth = omega arith in
       AllByRecursion-append IsNode (type_nodes t) (term_nodes b) (type-told t h.0)
-      (AllByRecursion-append IsNode (term_parts b) (TermNode b ∷ []) (term_parts-told (suc n) b w db h.1) (own-term (suc n) b w db h.1, tt))
+      (AllByRecursion-append IsNode (term_parts b) (TermNode b ∷ []) (term_parts-told (suc n) b w db h.1)
+      (own-term (suc n) b w db h.1, tt))
 
-  pub term-told : (t : Tm Name) → IsWithin names 0 t → depth_tm names t ≤ log_depth → TmNamed P t → AreNodes (term_nodes t)
+  pub term-told : (t : Tm Name) → IsWithin names 0 t → depth_tm names t ≤ log_depth → TmNamed P t
+      → AreNodes (term_nodes t)
   term-told t w d h =
       let z : 0 + depth_tm names t ≤ log_depth =
       omega arith in
-      AllByRecursion-append IsNode (term_parts t) (TermNode t ∷ []) (term_parts-told 0 t w z h) (own-term 0 t w z h, tt)
+      AllByRecursion-append IsNode (term_parts t) (TermNode t ∷ []) (term_parts-told 0 t w z h)
+      (own-term 0 t w z h, tt)
 
   -- ---- records
 
@@ -130,8 +142,10 @@ module _ (P : Name → Type 0) where
       → IsTokenTo (log_depth + (length x.tokens + suc n)) (token_of x o)
   token-told x n (Count k) t h = omega arith
   token-told x n (AName m) t h = h
-  token-told x n (AType u) t h = let p = position-bound (same_ty names u) x.types in let q = t.types in omega (arith, p, q)
-  token-told x n (ATerm u) t h = let p = position-bound (same_tm names u) x.terms in let q = t.terms in omega (arith, p, q)
+  token-told x n (AType u) t h = let p = position-bound (same_ty names u) x.types in let q = t.types in
+      omega (arith, p, q)
+  token-told x n (ATerm u) t h = let p = position-bound (same_tm names u) x.terms in let q = t.terms in
+      omega (arith, p, q)
   token-told x n (ASequent i) t h = let q = t.sequents in omega (arith, q)
 
   map-told : (x : Log) (n : ℕ) (os : List Operand) → IsTold x → AreOperands x.sequents n os
@@ -155,7 +169,8 @@ module _ (P : Name → Type 0) where
       let ts = Word (spelling e.word) ∷ map (token_of x) e.operands in
       subst (λ z. AreTokensTo (log_depth + z) (put e x).tokens) (sym (put-long e x))
       (AllByRecursion-append (IsTokenTo (log_depth + (length x.tokens + suc n))) x.tokens ts
-      (tokens-more (log_depth + length x.tokens) (log_depth + (length x.tokens + suc n)) (omega arith) x.tokens t.tokens)
+      (tokens-more (log_depth + length x.tokens) (log_depth + (length x.tokens + suc n)) (omega arith) x.tokens
+      t.tokens)
       (inl (e.word, refl), map-told x n e.operands t h))
 
   -- ---- nodes that are written
@@ -174,7 +189,8 @@ module _ (P : Name → Type 0) where
   list-operands s n NoTys = tt
   list-operands s n (MoreTys t ts) = (tt, list-operands s n ts)
 
-  node-operands : (s : ℕ) (n : Node) → IsNode n → AreOperands s (length (node_entry n).operands) (node_entry n).operands
+  node-operands : (s : ℕ) (n : Node) → IsNode n
+      → AreOperands s (length (node_entry n).operands) (node_entry n).operands
   node-operands s (TypeNode (TyVar n)) h = (h, tt)
   node-operands s (TypeNode (TyOp n ts)) h = let e = types-long ts in (h, (omega (arith, e), list-operands s _ ts))
   node-operands s (TermNode (Free v)) h = (h, (tt, tt))
@@ -249,7 +265,8 @@ module _ (P : Name → Type 0) where
       let a = g.told.types in let b = g.told.terms in let c = g.told.sequents in let s = g.sequents in
       record {
         told = record {
-          tokens = put-told e mid g.told (subst (λ z. AreOperands z (length e.operands) e.operands) (sym g.sequents) h.operands);
+          tokens = put-told e mid g.told
+              (subst (λ z. AreOperands z (length e.operands) e.operands) (sym g.sequents) h.operands);
           types = omega (arith, l, a);
           terms = omega (arith, l, b);
           sequents = omega (arith, l, c);

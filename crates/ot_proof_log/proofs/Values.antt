@@ -1,7 +1,8 @@
 -- The value of each origin is kept.
 use Rattle.std.specs.Prelude.{nat_le}
 use Rattle.std.specs.List.{AllByRecursion}
-use Rattle.std.proofs.Common.{◌≡◌, ℕ, zero, suc, ◌≤◌, true, List, [], ◌∷◌, slice_get, Some, Ok, refl, sym, subst, arith}
+use Rattle.std.proofs.Common.{◌≡◌, ℕ, zero, suc, ◌≤◌, true, List, [], ◌∷◌}
+use Rattle.std.proofs.Common.{slice_get, Some, Ok, refl, sym, subst, arith}
 use Rattle.std.proofs.lemmas.Bool.{leb-true}
 use Rattle.std.proofs.lemmas.Option.{same_Some}
 use Rattle.ot_plain.specs.Names.{Name}
@@ -16,16 +17,22 @@ use Rattle.ot_plain.specs.declared.command.Cmd.TheVariants as words
 use Rattle.ot_laws.proofs.Tests.{tells_names}
 use Rattle.ot_laws.proofs.Steps.{limit-ok, op_rule-ok, app_rule-ok, abs_rule-ok}
 use Rattle.ot_trace.specs.Origins.{Origin, Origins, Number, Named, Make, Define, Outcome, NoOrigins, MoreOrigins}
-use Rattle.ot_machine.specs.Objects.{Object, number, name, list, type_op, a_type, constant, variable, term, theorem, no_objects, more_objects, nesting}
-use Rattle.ot_machine.specs.Places.{as_name, as_list, as_type_op, as_type, as_constant, as_variable, as_term, as_each, arguments}
-use Rattle.ot_machine.specs.Makers.{Read, maker, cons_made, type_op_made, op_type_made, var_type_made, var_made, var_term_made, const_made, const_term_made, app_term_made, abs_term_made}
+use Rattle.ot_machine.specs.Objects.{Object, number, name, list, type_op, a_type, constant}
+use Rattle.ot_machine.specs.Objects.{variable, term, theorem, no_objects, more_objects, nesting}
+use Rattle.ot_machine.specs.Places.{as_name, as_list, as_type_op, as_type, as_constant}
+use Rattle.ot_machine.specs.Places.{as_variable, as_term, as_each, arguments}
+use Rattle.ot_machine.specs.Makers.{Read, maker, cons_made, type_op_made, op_type_made, var_type_made, var_made}
+use Rattle.ot_machine.specs.Makers.{var_term_made, const_made, const_term_made, app_term_made, abs_term_made}
 use Rattle.ot_machine.specs.Values.{value, values, applied, definition_of, defines, theorem_of}
 use Rattle.ot_article.proofs.Operands.{made_of, made-of, given-of}
 use Rattle.ot_entries.proofs.Fitting.{Fits, fits-shallow}
 use Rattle.ot_proof_log.specs.Derived.{makes_theorem}
-use Rattle.ot_proof_log.proofs.Kept.{IsKeptTerm, IsKept, refl-kept, assume-kept, eq_mp-kept, abs_thm-kept, app_thm-kept, deduct_antisym-kept, beta-kept, subst-kept, sym-kept}
+use Rattle.ot_proof_log.proofs.Kept.{IsKeptTerm, IsKept, refl-kept, assume-kept, eq_mp-kept, abs_thm-kept}
+use Rattle.ot_proof_log.proofs.Kept.{app_thm-kept, deduct_antisym-kept, beta-kept, subst-kept, sym-kept}
 use Rattle.ot_proof_log.proofs.KeptWords.{trans-kept, prove_hyp-kept, axiom-kept}
-use Rattle.ot_proof_log.proofs.Steps.{IsStep, ByRefl, ByAssume, ByBeta, ByAbsThm, BySubst, ByAxiom, BySym, ByEqMp, ByAppThm, ByDeductAntisym, ByTrans, ByProveHyp, step-of, one-of, two-of, list-is, type-is, variable-is, term-is}
+use Rattle.ot_proof_log.proofs.Steps.{IsStep, ByRefl, ByAssume, ByBeta, ByAbsThm, BySubst, ByAxiom}
+use Rattle.ot_proof_log.proofs.Steps.{BySym, ByEqMp, ByAppThm, ByDeductAntisym, ByTrans, ByProveHyp}
+use Rattle.ot_proof_log.proofs.Steps.{step-of, one-of, two-of, list-is, type-is, variable-is, term-is}
 use Rattle.ot_proof_log.proofs.Read.{maps-typed}
 use Rattle.ot_proof_log.proofs.Defining.{defining-of, defined-kept}
 use Rattle.ot_proof_log.proofs.KeptObjects.{IsKeptObject, each-term}
@@ -41,8 +48,10 @@ step-kept w vs q (ByRefl t s h) k = refl-kept t q (subst Each s k).0 h
 step-kept w vs q (ByAssume p s h) k = assume-kept p q (subst Each s k).0 h
 step-kept w vs q (ByBeta t s h) k = beta-kept t q (subst Each s k).0 h
 step-kept w vs q (ByAbsThm v a s h) k = abs_thm-kept v a q (subst Each s k).1.0 h
-step-kept w vs q (BySubst os maps a s e h) k = subst-kept maps.0 maps.1 a q (maps-typed os maps e) (subst Each s k).1.0 h
-step-kept w vs q (ByAxiom os hyps p s e h) k = axiom-kept hyps p q (each-term os hyps (subst Each s k).0 e) (subst Each s k).1.0 h
+step-kept w vs q (BySubst os maps a s e h) k =
+    subst-kept maps.0 maps.1 a q (maps-typed os maps e) (subst Each s k).1.0 h
+step-kept w vs q (ByAxiom os hyps p s e h) k =
+    axiom-kept hyps p q (each-term os hyps (subst Each s k).0 e) (subst Each s k).1.0 h
 step-kept w vs q (BySym a s h) k = sym-kept a q (subst Each s k).0 h
 step-kept w vs q (ByEqMp a b s h) k = eq_mp-kept a b q (subst Each s k).0 (subst Each s k).1.0 h
 step-kept w vs q (ByAppThm a b s h) k = app_thm-kept a b q (subst Each s k).0 (subst Each s k).1.0 h
@@ -87,14 +96,16 @@ type_op-kept vs v e =
     let (x, s, h) = one-of type_op_made vs v e in let a = bind-ok (as_name x) _ v h in made (type_op a.0) v a.2 tt
 
 const-kept : (vs : List Object) (v : Object) → made_of (maker words.Const) vs ≡ Ok v → IsKeptObject v
-const-kept vs v e = let (x, s, h) = one-of const_made vs v e in let a = bind-ok (as_name x) _ v h in made (constant a.0) v a.2 tt
+const-kept vs v e = let (x, s, h) = one-of const_made vs v e in let a = bind-ok (as_name x) _ v h in
+    made (constant a.0) v a.2 tt
 
 var-kept : (vs : List Object) (v : Object) → made_of (maker words.Var) vs ≡ Ok v → Each vs → IsKeptObject v
 var-kept vs v e k =
     let (y, x, s, h) = two-of var_made vs v e in
     let a = bind-ok (as_type x) _ v h in
     let b = bind-ok (as_name y) _ v a.2 in
-    made (variable (record { name = b.0; ty = a.0 })) v b.2 (subst IsKeptObject (type-is x a.0 a.1) (subst Each s k).1.0)
+    made (variable (record { name = b.0; ty = a.0 })) v b.2
+    (subst IsKeptObject (type-is x a.0 a.1) (subst Each s k).1.0)
 
 pub leaf-kept : (t : Tm Name) (ty : Ty Name) → HasType names t ty → Fits names depth_limit t → IsKeptTerm t
 leaf-kept t ty h f = record { typed = (ty, h); fits = f }
@@ -106,7 +117,8 @@ var_term-kept vs v e k =
     let low : depth_ty names a.0.ty ≤ depth_limit = subst IsKeptObject (variable-is x a.0 a.1) (subst Each s k).0 in
     made (term (Free a.0)) v a.2 (leaf-kept (Free a.0) a.0.ty refl (record { depth = omega arith; types = low }))
 
-const_term-kept : (vs : List Object) (v : Object) → made_of (maker words.ConstTerm) vs ≡ Ok v → Each vs → IsKeptObject v
+const_term-kept : (vs : List Object) (v : Object) → made_of (maker words.ConstTerm) vs ≡ Ok v → Each vs
+    → IsKeptObject v
 const_term-kept vs v e k =
     let (y, x, s, h) = two-of const_term_made vs v e in
     let a = bind-ok (as_type x) _ v h in
@@ -162,12 +174,14 @@ made-kept _ vs v e k = absurd (cc)
 
 -- ---- origins
 
-get-kept : (qs : List (Sequent Name)) (i : ℕ) (q : Sequent Name) → AllByRecursion IsKept qs → slice_get qs i ≡ Some q → IsKept q
+get-kept : (qs : List (Sequent Name)) (i : ℕ) (q : Sequent Name) → AllByRecursion IsKept qs → slice_get qs i ≡ Some q
+    → IsKept q
 get-kept [] i q h e = absurd (cc)
 get-kept (r ∷ qs) zero q h e = subst IsKept (same_Some r q e) h.0
 get-kept (r ∷ qs) (suc i) q h e = get-kept qs i q h.1 e
 
-theorem_of-kept : (j : ℕ) (d : Definition Name) (v : Object) → AllByRecursion IsKept (theorems names d) → theorem_of j d ≡ Ok v
+theorem_of-kept : (j : ℕ) (d : Definition Name) (v : Object) → AllByRecursion IsKept (theorems names d)
+    → theorem_of j d ≡ Ok v
     → IsKeptObject v
 theorem_of-kept zero d v h e = absurd (cc)
 theorem_of-kept (suc j) d v h e =
@@ -184,7 +198,8 @@ mutual
       made-kept w a.0 v (made-of (maker w) a.0 v a.2) (values-kept os a.0 a.1)
   value-kept (Define w os) v e = absurd (cc)
   value-kept (Outcome j d) v e =
-      let a = bind-ok (definition_of [] d) (theorem_of j) v e in theorem_of-kept j a.0 v (definition-kept d a.0 a.1) a.2
+      let a = bind-ok (definition_of [] d) (theorem_of j) v e in
+      theorem_of-kept j a.0 v (definition-kept d a.0 a.1) a.2
 
   pub values-kept : (os : Origins Name) (vs : List Object) → values os ≡ Ok vs → Each vs
   values-kept NoOrigins vs e = subst Each (same_Ok [] vs e) tt

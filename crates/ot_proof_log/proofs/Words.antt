@@ -11,7 +11,8 @@ use Rattle.ot_plain.specs.declared.command.Cmd.TheVariants as words
 use Rattle.ot_laws.proofs.Tests.{tells_names}
 use Rattle.ot_records.specs.declared.word.RecordWord.{RecordWord}
 use Rattle.ot_records.specs.declared.word.RecordWord.TheVariants as records
-use Rattle.ot_records.specs.Steps.{Step, refl_step, assume_step, beta_step, eq_mp_step, app_thm_step, deduct_antisym_step}
+use Rattle.ot_records.specs.Steps.{Step, refl_step, assume_step, beta_step}
+use Rattle.ot_records.specs.Steps.{eq_mp_step, app_thm_step, deduct_antisym_step}
 use Rattle.ot_records.specs.State.{LogState, makes_sequent}
 use Rattle.ot_machine.specs.Objects.{Object, Objects, list, variable, term, theorem}
 use Rattle.ot_machine.specs.Places.{as_term, as_each}
@@ -21,23 +22,28 @@ use Rattle.ot_entries.specs.Expansions.{of_two, subst_entry, assumption_entry}
 use Rattle.ot_entries.specs.Making.{IsSame}
 use Rattle.ot_entries.specs.Logged.{Log}
 use Rattle.ot_entries.proofs.Standing.{Stands}
-use Rattle.ot_entries.proofs.Sequents.{Feeds, refl-feeds, assume-feeds, beta-feeds, eq_mp-feeds, app_thm-feeds, deduct_antisym-feeds}
-use Rattle.ot_entries.proofs.Ruled.{refl-ruled, assume-ruled, beta-ruled, eq_mp-ruled, app_thm-ruled, deduct_antisym-ruled}
+use Rattle.ot_entries.proofs.Sequents.{Feeds, refl-feeds, assume-feeds, beta-feeds}
+use Rattle.ot_entries.proofs.Sequents.{eq_mp-feeds, app_thm-feeds, deduct_antisym-feeds}
+use Rattle.ot_entries.proofs.Ruled.{refl-ruled, assume-ruled, beta-ruled}
+use Rattle.ot_entries.proofs.Ruled.{eq_mp-ruled, app_thm-ruled, deduct_antisym-ruled}
 use Rattle.ot_entries.proofs.Same.{GivesSame, eq_mp-same, app_thm-same, deduct_antisym-same}
 use Rattle.ot_proof_log.specs.Derived.{read, theorem_entries}
 use Rattle.ot_proof_log.proofs.Kept.{IsKept}
 use Rattle.ot_proof_log.proofs.KeptObjects.{IsSound, AreSound, opened, first, each-term}
-use Rattle.ot_proof_log.proofs.Steps.{IsStep, ByRefl, ByAssume, ByBeta, ByAbsThm, BySubst, ByAxiom, BySym, ByEqMp, ByAppThm, ByDeductAntisym, ByTrans, ByProveHyp, term-is}
+use Rattle.ot_proof_log.proofs.Steps.{IsStep, ByRefl, ByAssume, ByBeta, ByAbsThm, BySubst, ByAxiom, BySym}
+use Rattle.ot_proof_log.proofs.Steps.{ByEqMp, ByAppThm, ByDeductAntisym, ByTrans, ByProveHyp, term-is}
 use Rattle.ot_proof_log.proofs.Read.{each-holds, maps-hold, maps-typed}
 use Rattle.ot_proof_log.proofs.Read as parts
 use Rattle.ot_proof_log.proofs.Values.{Each}
 use Rattle.ot_proof_log.proofs.Makes.{Numbers, AllNamed, Makes}
-use Rattle.ot_proof_log.proofs.Singles.{TypePair, TermPair, makes-term, makes-two, abs_thm-makes, subst-makes, axiom-makes}
+use Rattle.ot_proof_log.proofs.Singles.{TypePair, TermPair, makes-term, makes-two}
+use Rattle.ot_proof_log.proofs.Singles.{abs_thm-makes, subst-makes, axiom-makes}
 use Rattle.ot_proof_log.proofs.Severals.{sym-makes, trans-makes, prove_hyp-makes}
 
 -- ---- what is kept and named of lists
 
-all-more : {A : Type 0} (P Q : A → Type 0) → ((x : A) → P x → Q x) → (xs : List A) → AllByRecursion P xs → AllByRecursion Q xs
+all-more : {A : Type 0} (P Q : A → Type 0) → ((x : A) → P x → Q x) → (xs : List A) → AllByRecursion P xs
+    → AllByRecursion Q xs
 all-more P Q f [] h = tt
 all-more P Q f (x ∷ xs) h = (f x h.0, all-more P Q f xs h.1)
 
@@ -61,7 +67,8 @@ record Two (st : LogState Name) (a b : Sequent Name) (is : List ℕ) : Type 0 wh
   same_left : IsSame names a left
   same_right : IsSame names b right
 
-two : (st : LogState Name) (a b : Sequent Name) (is : List ℕ) → Numbers st (theorem a ∷ theorem b ∷ []) is → Two st a b is
+two : (st : LogState Name) (a b : Sequent Name) (is : List ℕ) → Numbers st (theorem a ∷ theorem b ∷ []) is
+    → Two st a b is
 two st a b is (i, js, r, e, g, s, (j, ks, q, f, h, t, n)) = record {
   i = i;
   j = j;
@@ -78,16 +85,20 @@ two st a b is (i, js, r, e, g, s, (j, ks, q, f, h, t, n)) = record {
 abbrev Records : Cmd → Log → LogState Name → Sequent Name → List Object → List ℕ → Type 0
 Records w x st q vs is = Makes w x st (theorem_entries x.sequents w vs is) q
 
-at : (w : Cmd) (x : Log) (st : LogState Name) (q : Sequent Name) (vs us : List Object) (is js : List ℕ) → vs ≡ us → is ≡ js
+at : (w : Cmd) (x : Log) (st : LogState Name) (q : Sequent Name) (vs us : List Object) (is js : List ℕ) → vs ≡ us
+    → is ≡ js
     → Records w x st q us js → Records w x st q vs is
-at w x st q vs us is js e f m = subst (λ z. Records w x st q z is) (sym e) (subst (λ z. Records w x st q us z) (sym f) m)
+at w x st q vs us is js e f m =
+    subst (λ z. Records w x st q z is) (sym e) (subst (λ z. Records w x st q us z) (sym f) m)
 
 by-two : (w : Cmd) (v : RecordWord) (x : Log) (st : LogState Name) (a b q : Sequent Name)
     (vs : List Object) (is : List ℕ) (rule : Sequent Name → Sequent Name → Step names)
-    → w ≢ words.Axiom → ((i j : ℕ) → theorem_entries x.sequents w (theorem a ∷ theorem b ∷ []) (i ∷ j ∷ []) ≡ of_two v i j ∷ [])
+    → w ≢ words.Axiom
+    → ((i j : ℕ) → theorem_entries x.sequents w (theorem a ∷ theorem b ∷ []) (i ∷ j ∷ []) ≡ of_two v i j ∷ [])
     → ((i j : ℕ) (a' b' : Sequent Name) → slice_get st.sequents i ≡ Some a' → slice_get st.sequents j ≡ Some b'
     → Feeds st (of_two v i j) (makes_sequent names (rule a' b')))
-    → ((a' b' : Sequent Name) → IsSame names a a' → IsSame names b b' → GivesSame names tells_names q (rule a' b')) → Stands x st
+    → ((a' b' : Sequent Name) → IsSame names a a' → IsSame names b b' → GivesSame names tells_names q (rule a' b'))
+    → Stands x st
     → IsKept q → vs ≡ theorem a ∷ theorem b ∷ [] → Numbers st vs is → Records w x st q vs is
 by-two w v x st a b q vs is rule n entries feeds same stand k s num =
     let t = two st a b is (subst (λ us. Numbers st us is) s num) in
@@ -98,7 +109,8 @@ by-two w v x st a b q vs is rule n entries feeds same stand k s num =
 
 -- ---- each word
 
-pub word-makes : (w : Cmd) (vs : List Object) (q : Sequent Name) (x : Log) (st : LogState Name) (is : List ℕ) → IsStep vs q w
+pub word-makes : (w : Cmd) (vs : List Object) (q : Sequent Name) (x : Log) (st : LogState Name) (is : List ℕ)
+    → IsStep vs q w
     → Each vs → AllNamed vs → IsKept q → Stands x st → Numbers st vs is → Records w x st q vs is
 word-makes w vs q x st is (ByRefl t s h) k n kq stand num =
     let kt = (subst Each s k).0 in
@@ -126,7 +138,8 @@ word-makes w vs q x st is (BySubst os maps a s e h) k n kq stand num =
     let terms = all-more (parts.TermPair IsSound AreSound opened first)
     TermPair (λ p z. ((z.0.1.0, (z.0.0, z.0.1.1)), z.1)) maps.1 us in
     at words.Subst x st q vs (list os ∷ theorem a ∷ []) is (i ∷ []) s (f ∙ ap (λ l. i ∷ l) rest)
-    (subst (λ z. Makes words.Subst x st (read (λ (m : TypeMap names × TermMap names). subst_entry m.0 m.1 i ∷ []) z) q) (sym e)
+    (subst (λ z. Makes words.Subst x st (read (λ (m : TypeMap names × TermMap names). subst_entry m.0 m.1 i ∷ []) z)
+    q) (sym e)
     (subst-makes x st i maps.0 maps.1 a r q stand kq (maps-typed os maps e) types terms g same h))
 word-makes w vs q x st is (ByAxiom os hyps p s e h) k n kq stand num =
     at words.Axiom x st q vs (list os ∷ term p ∷ []) is [] s (subst (λ us. Numbers st us is) s num)
@@ -141,8 +154,10 @@ word-makes w vs q x st is (ByEqMp a b s h) k n kq stand num =
     by-two words.EqMp records.EqMp x st a b q vs is (eq_mp_step names) (λ e. cc) (λ i j. refl) (eq_mp-feeds st)
     (λ c d sa sb. eq_mp-same names tells_names a b c d q sa sb (eq_mp-ruled names tells_names a b q h)) stand kq s num
 word-makes w vs q x st is (ByAppThm a b s h) k n kq stand num =
-    by-two words.AppThm records.AppThm x st a b q vs is (app_thm_step names) (λ e. cc) (λ i j. refl) (app_thm-feeds st)
-    (λ c d sa sb. app_thm-same names tells_names a b c d q sa sb (app_thm-ruled names tells_names a b q h)) stand kq s num
+    by-two words.AppThm records.AppThm x st a b q vs is (app_thm_step names) (λ e. cc) (λ i j. refl)
+    (app_thm-feeds st)
+    (λ c d sa sb. app_thm-same names tells_names a b c d q sa sb (app_thm-ruled names tells_names a b q h)) stand kq s
+    num
 word-makes w vs q x st is (ByDeductAntisym a b s h) k n kq stand num =
     by-two words.DeductAntisym records.DeductAntisym x st a b q vs is (deduct_antisym_step names) (λ e. cc)
     (λ i j. refl) (deduct_antisym-feeds st) (λ c d sa sb. deduct_antisym-same names

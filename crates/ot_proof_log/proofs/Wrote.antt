@@ -1,7 +1,8 @@
 -- Writing the theorem of an origin: the log holds, and has it.
 use Rattle.std.specs.Prelude.{◌-◌}
 use Rattle.std.specs.List.{AllByRecursion}
-use Rattle.std.proofs.Common.{◌≡◌, ℕ, true, false, Bool, cond, List, [], ◌∷◌, ◌++◌, Option, Some, None, Result, Ok, refl, sym, ap, subst, ◌∙◌, inl}
+use Rattle.std.proofs.Common.{◌≡◌, ℕ, true, false, Bool, cond, List, [], ◌∷◌, ◌++◌, Option}
+use Rattle.std.proofs.Common.{Some, None, Result, Ok, refl, sym, ap, subst, ◌∙◌, inl}
 use Rattle.ot_plain.specs.Names.{Name}
 use Rattle.ot_plain.specs.Naming.{names}
 use Rattle.ot_plain.specs.Trees.{Sequent}
@@ -31,16 +32,19 @@ use Rattle.ot_proof_log.proofs.KeptObjects.{IsKeptObject}
 use Rattle.ot_proof_log.proofs.Values.{value-kept, values-kept}
 use Rattle.ot_proof_log.proofs.Makes.{Numbers}
 use Rattle.ot_proof_log.proofs.Words.{word-makes}
-use Rattle.ot_proof_log.proofs.Holds.{number-member, member-number, Has, HasTheorem, HasAll, theorem-kept, IsProvedAt, Holds, put_as, Goes, goes-none, put-goes}
+use Rattle.ot_proof_log.proofs.Holds.{number-member, member-number, Has, HasTheorem, HasAll}
+use Rattle.ot_proof_log.proofs.Holds.{theorem-kept, IsProvedAt, Holds, put_as, Goes, goes-none, put-goes}
 use Rattle.ot_plain.proofs.Members.{IsMember-right}
 use Rattle.ot_plain.proofs.Results.{bind-ok, same_Ok}
 
 -- ---- a word that makes no theorem
 
-pub no-theorem : (w : Cmd) (os : Origins Name) (q : Sequent Name) → makes_theorem w ≡ false → value (Make w os) ≡ Ok (theorem q)
+pub no-theorem : (w : Cmd) (os : Origins Name) (q : Sequent Name) → makes_theorem w ≡ false
+    → value (Make w os) ≡ Ok (theorem q)
     → ⊥
 no-theorem w os q n e =
-    let a = bind-ok (values os) (applied (maker w)) (theorem q) e in by w a.0 n (made-of (maker w) a.0 (theorem q) a.2)
+    let a = bind-ok (values os) (applied (maker w)) (theorem q) e in
+    by w a.0 n (made-of (maker w) a.0 (theorem q) a.2)
   where
     kind : (v : Cmd) (vs : List Object) → made_of (maker v) vs ≡ Ok (theorem q) → kinds.Thm ≡ made_kind v
     kind v vs h = kind-made v vs (theorem q) h
@@ -88,7 +92,8 @@ numbers-of x st (MoreOrigins o os) vs h has e =
         go : (k : Option ℕ) → number_of o x.theorems ≡ k → Numbers st us (listed k ++ js)
         go None c = rest
         go (Some k) c =
-            let p = h.proved o k (number-member o k x.theorems c) in absurd (other p.of (one (value o) p.of f p.value_is))
+            let p = h.proved o k (number-member o k x.theorems c) in
+            absurd (other p.of (one (value o) p.of f p.value_is))
 
     by : (v : Object) (us : List Object) → value o ≡ Ok v → Numbers st us (numbers_of os x.theorems)
         → Numbers st (v ∷ us) (numbers_of (MoreOrigins o os) x.theorems)
@@ -164,7 +169,8 @@ module _ (axioms defs : List (Origin Name)) (used : Origin Name → Bool) (E : L
       let makes = word-makes w vs q x.log st (numbers_of os x.theorems) step
       (values-kept os vs f) named kept h.stands (numbers-of x st os vs h has f) in
       let goes = put-goes w os x st es q h has value_is makes in
-      subst (λ z. Writes x (put_as (Make w os) (read (λ us. theorem_entries x.log.sequents w us (numbers_of os x.theorems)) z) x)
+      subst (λ z. Writes x
+      (put_as (Make w os) (read (λ us. theorem_entries x.log.sequents w us (numbers_of os x.theorems)) z) x)
       st (λ y. HasTheorem y (Make w os)))
       (sym f)
       (record {
@@ -180,7 +186,8 @@ module _ (axioms defs : List (Origin Name)) (used : Origin Name → Bool) (E : L
       one r c d = cc
 
   make-written : (w : Cmd) (os : Origins Name) (vs : List Object) (v : Object) (x : Written) (st : LogState Name)
-      → value (Make w os) ≡ Ok v → values os ≡ Ok vs → AreOn b os → Holds x st → Writes x (write_all os x) st (λ y. HasAll y os)
+      → value (Make w os) ≡ Ok v → values os ≡ Ok vs → AreOn b os → Holds x st
+      → Writes x (write_all os x) st (λ y. HasAll y os)
       → Writes x (write (Make w os) x) st (λ y. HasTheorem y (Make w os))
   make-written w os vs v x st e f on h all = by (makes_theorem w) refl (number_of (Make w os) x.theorems) refl
     where
@@ -190,31 +197,38 @@ module _ (axioms defs : List (Origin Name)) (used : Origin Name → Bool) (E : L
       by : (t : Bool) → makes_theorem w ≡ t → (k : Option ℕ) → number_of (Make w os) x.theorems ≡ k
           → Writes x (cond t (once k (λ z. put_theorem w os (write_all os z)) x) x) st (λ z. HasTheorem z (Make w os))
       by false m k n = record { goes = goes-none x st h; has = λ q g. absurd (no-theorem w os q m g) }
-      by true m (Some k) n = record { goes = goes-none x st h; has = λ q g. (k, number-member (Make w os) k x.theorems n) }
+      by true m (Some k) n =
+          record { goes = goes-none x st h; has = λ q g. (k, number-member (Make w os) k x.theorems n) }
       by true m None n =
           let last = theorem-written w os vs v y all.goes.now m e f on all.goes.holds all.has in
           record { goes = goes-then x y (put_theorem w os y) st all.goes last.goes; has = last.has }
 
   mutual
-    pub write-writes : (o : Origin Name) (v : Object) (x : Written) (st : LogState Name) → value o ≡ Ok v → RestsOn b o
-        → EachOutcome (IsTheoremOf used E) o → Holds x st → HasOutcomes x → Writes x (write o x) st (λ y. HasTheorem y o)
+    pub write-writes : (o : Origin Name) (v : Object) (x : Written) (st : LogState Name) → value o ≡ Ok v
+        → RestsOn b o
+        → EachOutcome (IsTheoremOf used E) o → Holds x st → HasOutcomes x
+        → Writes x (write o x) st (λ y. HasTheorem y o)
     write-writes (Number k) v x st e on out h has = record { goes = goes-none x st h; has = λ q f. absurd (cc) }
     write-writes (Named n) v x st e on out h has = record { goes = goes-none x st h; has = λ q f. absurd (cc) }
     write-writes (Define w os) v x st e on out h has = absurd (cc)
-    write-writes (Outcome j d) v x st e on out h has = record { goes = goes-none x st h; has = λ q f. has (Outcome j d) out }
+    write-writes (Outcome j d) v x st e on out h has =
+        record { goes = goes-none x st h; has = λ q f. has (Outcome j d) out }
     write-writes (Make w os) v x st e on out h has =
         let a = bind-ok (values os) (applied (maker w)) v e in
         make-written w os a.0 v x st e a.1 on.0 h (write-all os a.0 x st a.1 on.0 out h has)
 
-    pub write-all : (os : Origins Name) (vs : List Object) (x : Written) (st : LogState Name) → values os ≡ Ok vs → AreOn b os
-        → EachOutcomes (IsTheoremOf used E) os → Holds x st → HasOutcomes x → Writes x (write_all os x) st (λ y. HasAll y os)
+    pub write-all : (os : Origins Name) (vs : List Object) (x : Written) (st : LogState Name) → values os ≡ Ok vs
+        → AreOn b os
+        → EachOutcomes (IsTheoremOf used E) os → Holds x st → HasOutcomes x
+        → Writes x (write_all os x) st (λ y. HasAll y os)
     write-all NoOrigins vs x st e on out h has = record { goes = goes-none x st h; has = tt }
     write-all (MoreOrigins o os) vs x st e on out h has =
         let a = bind-ok (value o) _ vs e in
         let c = bind-ok (values os) _ vs a.2 in
         let first = write-writes o a.0 x st a.1 on.0 out.0 h has in
         let y = write o x in
-        let rest = write-all os c.0 y first.goes.now c.1 on.1 out.1 first.goes.holds (outcomes-kept x y st first.goes has) in
+        let rest = write-all os c.0 y first.goes.now c.1 on.1 out.1 first.goes.holds
+        (outcomes-kept x y st first.goes has) in
         record {
           goes = goes-then x y (write_all os y) st first.goes rest.goes;
           has = (theorem-kept y (write_all os y) o rest.goes.kept first.has, rest.has);

@@ -1,7 +1,8 @@
 -- Writing definitions: the log has each, with its theorems, behind its premise.
 use Rattle.std.specs.Prelude.{slice_get}
 use Rattle.std.specs.List.{AllByRecursion}
-use Rattle.std.proofs.Common.{◌≡◌, ℕ, suc, ◌+◌, ◌<◌, ◌≤◌, Bool, List, [], ◌∷◌, ◌++◌, length, Ok, refl, sym, ap, subst, ◌∙◌, inl, inr, arith, append-nil, append_assoc}
+use Rattle.std.proofs.Common.{◌≡◌, ℕ, suc, ◌+◌, ◌<◌, ◌≤◌, Bool, List, [], ◌∷◌, ◌++◌, length, Ok}
+use Rattle.std.proofs.Common.{refl, sym, ap, subst, ◌∙◌, inl, inr, arith, append-nil, append_assoc}
 use Rattle.ot_plain.specs.Lists.{IsMember}
 use Rattle.ot_plain.specs.Names.{Name}
 use Rattle.ot_plain.specs.Naming.{names}
@@ -29,7 +30,8 @@ use Rattle.ot_entries.specs.Logged.{write_entry}
 use Rattle.ot_entries.proofs.Standing.{Stands}
 use Rattle.ot_entries.proofs.Definitions.{with_theorems}
 use Rattle.ot_proof_log.specs.Derived.{read, definition_entries}
-use Rattle.ot_proof_log.specs.Writing.{Written, numbers_of, write_all, write_entries, outcomes, add_outcomes, put_definition, write_definition, write_definitions}
+use Rattle.ot_proof_log.specs.Writing.{Written, numbers_of, write_all, write_entries, outcomes}
+use Rattle.ot_proof_log.specs.Writing.{add_outcomes, put_definition, write_definition, write_definitions}
 use Rattle.ot_proof_log.proofs.Kept.{IsKept}
 use Rattle.ot_proof_log.proofs.Defining.{defining-of}
 use Rattle.ot_proof_log.proofs.Values.{values-kept, definition-kept}
@@ -39,7 +41,8 @@ use Rattle.ot_proof_log.proofs.Holds.{Has, HasAll, all-kept, IsProvedAt, IsOfAxi
 use Rattle.ot_proof_log.proofs.Wrote.{b, HasOutcomes, values-named, numbers-of, write-all}
 use Rattle.ot_proof_log.proofs.SameDefinitions.{AreMade, theorems-same, made-snoc}
 use Rattle.ot_proof_log.proofs.Defines.{Defines, word-defines}
-use Rattle.ot_proof_log.proofs.Outcomes.{numbered, added-theorems, added-log, HaveValues, values-long, numbered-at, outcome-values, outcome-numbered}
+use Rattle.ot_proof_log.proofs.Outcomes.{numbered, added-theorems, added-log, HaveValues}
+use Rattle.ot_proof_log.proofs.Outcomes.{values-long, numbered-at, outcome-values, outcome-numbered}
 use Rattle.ot_plain.proofs.Members.{IsMember-cases, IsMember-left, IsMember-right}
 use Rattle.ot_plain.proofs.Results.{bind-ok}
 use Rattle.ot_plain.proofs.TableLemmas.{slice_get-append_left}
@@ -86,11 +89,13 @@ module _ (x : Written) (st : LogState Name) (es : List Entry) (d : Definition Na
           of = a.of;
           at = a.at;
           value_is = a.value_is;
-          there = ap (λ l. slice_get l k) at-end ∙ slice_get-append_left st.sequents (theorems names d) k a.at a.there;
+          there = ap (λ l. slice_get l k) at-end
+              ∙ slice_get-append_left st.sequents (theorems names d) k a.at a.there;
           same = a.same;
         })
     | inr j ↦
-        (let a = numbered-at os (theorems names d) st.sequents (write_entry m.entry x.log).sequents values old-length o k j in
+        (let a = numbered-at os (theorems names d) st.sequents (write_entry m.entry x.log).sequents values old-length
+        o k j in
         record {
           of = a.of;
           at = a.of;
@@ -107,19 +112,22 @@ module _ (x : Written) (st : LogState Name) (es : List Entry) (d : Definition Na
         origin = a.origin;
         number = a.number;
         of = a.of;
-        there = IsMember-left (a.origin, a.number) x.theorems (numbered (write_entry m.entry x.log).sequents os) a.there;
+        there = IsMember-left (a.origin, a.number) x.theorems (numbered (write_entry m.entry x.log).sequents os)
+            a.there;
         is_axiom = a.is_axiom;
         value_is = a.value_is;
         same = a.same;
       }
 
-  all-new : (o : Origin Name) (k : ℕ) (p : Sequent Name) → IsMember (o, k) new.theorems → IsAxiom o → value o ≡ Ok (theorem p)
+  all-new : (o : Origin Name) (k : ℕ) (p : Sequent Name) → IsMember (o, k) new.theorems → IsAxiom o
+      → value o ≡ Ok (theorem p)
       → IsAssumed now p
   all-new o k p i a e = elim (IsMember-cases (o, k) x.theorems (numbered (write_entry m.entry x.log).sequents os) i) [
     | inl j ↦ (let r = h.all o k p j a e in (r.0, subst (IsMember r.0) (sym m.makes.assumptions) r.1, r.2))
     | inr j ↦
         absurd
-        ((numbered-at os (theorems names d) st.sequents (write_entry m.entry x.log).sequents values old-length o k j).other a)
+        ((numbered-at os (theorems names d) st.sequents (write_entry m.entry x.log).sequents values old-length o k
+        j).other a)
   ]
 
   told-new : IsTold IsWritable new.log
@@ -139,15 +147,16 @@ module _ (x : Written) (st : LogState Name) (es : List Entry) (d : Definition Na
       subst (λ n. Stands (with_theorems (write_entry m.entry x.log) n) now) long m.makes.stands
 
   closed-new : (c : Cmd) (ps : Origins Name) (k : ℕ) → IsMember (Make c ps, k) new.theorems → HasAll new ps
-  closed-new c ps k i = elim (IsMember-cases (Make c ps, k) x.theorems (numbered (write_entry m.entry x.log).sequents os) i) [
-    | inl j ↦
-        all-kept x new ps (λ p n. IsMember-left p x.theorems (numbered (write_entry m.entry x.log).sequents os) n)
-        (h.closed c ps k j)
-    | inr j ↦
-        absurd ((numbered-at os (theorems names d) st.sequents
-        (write_entry m.entry x.log).sequents values old-length (Make c ps) k j).made
-        c ps refl)
-  ]
+  closed-new c ps k i =
+      elim (IsMember-cases (Make c ps, k) x.theorems (numbered (write_entry m.entry x.log).sequents os) i) [
+        | inl j ↦
+            all-kept x new ps (λ p n. IsMember-left p x.theorems (numbered (write_entry m.entry x.log).sequents os) n)
+            (h.closed c ps k j)
+        | inr j ↦
+            absurd ((numbered-at os (theorems names d) st.sequents
+            (write_entry m.entry x.log).sequents values old-length (Make c ps) k j).made
+            c ps refl)
+      ]
 
   pub put-holds : Holds new now
   put-holds = record {
@@ -177,7 +186,8 @@ module _ (axioms defs : List (Origin Name)) (used : Origin Name → Bool) where
     pub kept : (p : Origin Name × ℕ) → IsMember p x.theorems → IsMember p y.theorems
 
   one-defined : (x : Written) (earlier : List Made) (m : Made) (w : Cmd) (os : Origins Name) → m.origin ≡ Define w os
-      → EachOutcomes (IsTheoremOf used (origins_made earlier)) os → AreOn (b axioms defs used (origins_made earlier)) os
+      → EachOutcomes (IsTheoremOf used (origins_made earlier)) os
+      → AreOn (b axioms defs used (origins_made earlier)) os
       → definition_of (definitions_of earlier) (Define w os) ≡ Ok m.definition → Defined x earlier
       → Goes x (write_definition (Define w os) x) (earlier ++ m ∷ [])
   one-defined x earlier m w os is settled on accepted d =
@@ -205,7 +215,8 @@ module _ (axioms defs : List (Origin Name)) (used : Origin Name → Bool) where
       let put_is : put_definition w os y ≡ z =
       ap (λ r. record y { log = write_entries (read (λ us. definition_entries w us numbers) r) y.log }) vs.1
       ∙ ap (λ l. record y { log = write_entries l y.log }) df.is in
-      let added : add_outcomes outs z ≡ new = (λ i. record { log = added-log outs z i; theorems = added-theorems outs z i }) in
+      let added : add_outcomes outs z ≡ new =
+      (λ i. record { log = added-log outs z i; theorems = added-theorems outs z i }) in
       let whole : write_definition (Define w os) x ≡ new = ap (add_outcomes outs) put_is ∙ added in
       let kept_all : (p : Origin Name × ℕ) → IsMember p x.theorems → IsMember p new.theorems =
       λ p k. IsMember-left p y.theorems (numbered (write_entry df.entry y.log).sequents outs) (all.goes.kept p k) in
@@ -268,7 +279,8 @@ module _ (axioms defs : List (Origin Name)) (used : Origin Name → Bool) where
   pub definitions-defined : (ms earlier : List Made) (x : Written) → AreWritable used earlier ms
       → ((m : Made) → IsMember m ms → RestsOn (b axioms defs used []) m.origin) → Defined x earlier
       → Goes x (write_definitions (origins_made ms) x) (earlier ++ ms)
-  definitions-defined [] earlier x w on d = record { defined = subst (Defined x) (sym (append-nil earlier)) d; kept = λ p m. m }
+  definitions-defined [] earlier x w on d =
+      record { defined = subst (Defined x) (sym (append-nil earlier)) d; kept = λ p m. m }
   definitions-defined (m ∷ ms) earlier x w on d =
       let f = w.0 in
       let on_os : AreOn (b axioms defs used (origins_made earlier)) f.operands =
@@ -279,6 +291,7 @@ module _ (axioms defs : List (Origin Name)) (used : Origin Name → Bool) where
       let y = write_definition m.origin x in
       let rest = definitions-defined ms (earlier ++ m ∷ []) y w.1 (λ n k. on n (inr k)) one.defined in
       record {
-        defined = subst (Defined (write_definitions (origins_made ms) y)) (append_assoc earlier (m ∷ []) ms) rest.defined;
+        defined = subst (Defined (write_definitions (origins_made ms) y)) (append_assoc earlier (m ∷ []) ms)
+            rest.defined;
         kept = λ p k. rest.kept p (one.kept p k);
       }

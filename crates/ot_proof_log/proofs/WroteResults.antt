@@ -1,6 +1,7 @@
 -- Writing results: each export once, in order.
 use Rattle.std.specs.Prelude.{slice_get}
-use Rattle.std.proofs.Common.{◌≡◌, true, Bool, List, [], ◌∷◌, ◌++◌, map, length, Ok, refl, sym, ap, subst, ◌∙◌, inl, inr, arith, append_assoc, append-nil}
+use Rattle.std.proofs.Common.{◌≡◌, true, Bool, List, [], ◌∷◌, ◌++◌, map, length, Ok, refl}
+use Rattle.std.proofs.Common.{sym, ap, subst, ◌∙◌, inl, inr, arith, append_assoc, append-nil}
 use Rattle.ot_plain.specs.Lists.{IsMember}
 use Rattle.ot_plain.specs.Names.{Name}
 use Rattle.ot_plain.specs.Naming.{names}
@@ -47,7 +48,8 @@ results-snoc [] (f ∷ es) q e h k = absurd h
 results-snoc (p ∷ qs) [] q e h k = absurd h
 
 -- no earlier export is the same
-earlier-apart : (es pre rest : List Export) (e f : Export) → es ≡ pre ++ e ∷ rest → AreApart (λ (x : Export). x.sequent) es
+earlier-apart : (es pre rest : List Export) (e f : Export) → es ≡ pre ++ e ∷ rest
+    → AreApart (λ (x : Export). x.sequent) es
     → IsMember f pre → same_sequent names f.sequent e.sequent ≡ true → ⊥
 earlier-apart es pre rest e f whole apart m s =
     let p = IsMember-place f pre m in
@@ -57,7 +59,8 @@ earlier-apart es pre rest e f whole apart m s =
     let low = slice_get-low pre p.0 f p.1 in
     omega (arith, one, low)
 
-module _ (axioms defs : List (Origin Name)) (used : Origin Name → Bool) (E : List (Origin Name)) (ms : List Made) where
+module _ (axioms defs : List (Origin Name)) (used : Origin Name → Bool) (E : List (Origin Name))
+    (ms : List Made) where
   -- the log has these definitions and results
   pub record Resulted (x : Written) (pre : List Export) : Type 0 where
     pub now : LogState Name
@@ -83,7 +86,8 @@ module _ (axioms defs : List (Origin Name)) (used : Origin Name → Bool) (E : L
   one-resulted x es pre rest e whole apart can d =
       let o = e.roots.theorem in
       let y = write o x in
-      let w = write-writes axioms defs used E o (theorem e.sequent) x d.now can.value_is can.rests can.settled d.holds d.has in
+      let w = write-writes axioms defs used E o (theorem e.sequent) x d.now can.value_is can.rests can.settled d.holds
+      d.has in
       let st = w.goes.now in
       let h = w.goes.holds in
       let has = w.has e.sequent can.value_is in
@@ -96,7 +100,8 @@ module _ (axioms defs : List (Origin Name)) (used : Origin Name → Bool) (E : L
       subst (λ z. same_sequent names q z ≡ true) is (same-back p.of q (is-same p.of q p.same)) in
       let m = result-stands y.log st j q h.stands p.there in
       let new : Written = record y { log = write_entry (result_of j) y.log } in
-      let put : put_result o y ≡ new = ap (λ k. record y { log = write_entry (result_entry (listed k)) y.log }) found.1 in
+      let put : put_result o y ≡ new =
+      ap (λ k. record y { log = write_entry (result_entry (listed k)) y.log }) found.1 in
       let old : AreResults st.results pre = subst (λ l. AreResults l pre) (sym w.goes.results) d.results in
       let fresh : kept_once names st.results q ≡ st.results ++ q ∷ [] = once-new st.results q (λ r i s.
       let f = results-member st.results pre r old i in
@@ -131,14 +136,16 @@ module _ (axioms defs : List (Origin Name)) (used : Origin Name → Bool) (E : L
                   value_is = a.value_is;
                   same = a.same;
                 });
-            all = λ u k r i a v. (let z = h.all u k r i a v in (z.0, subst (IsMember z.0) (sym m.assumptions) z.1, z.2));
+            all = λ u k r i a v.
+                (let z = h.all u k r i a v in (z.0, subst (IsMember z.0) (sym m.assumptions) z.1, z.2));
             apart = subst (AreApart (λ (z : Sequent Name). z)) (sym m.assumptions) h.apart;
             closed = h.closed;
           };
           made = subst (λ l. AreMade l ms) (sym (m.definitions ∙ w.goes.definitions)) d.made;
           has = outcomes-kept axioms defs used E x y d.now w.goes d.has;
           results =
-              subst (λ l. AreResults l (pre ++ e ∷ [])) (sym (m.results ∙ fresh)) (results-snoc st.results pre q e old same);
+              subst (λ l. AreResults l (pre ++ e ∷ [])) (sym (m.results ∙ fresh))
+              (results-snoc st.results pre q e old same);
           written = λ f i. elim (IsMember-cases f pre (e ∷ []) i) [
             | inl a ↦ (let r = d.written f a in (r.0, w.goes.kept (f.roots.theorem, r.0) r.1))
             | inr a ↦ elim a [ inl c ↦ subst (λ (z : Export). Has y z.roots.theorem) c has | inr n ↦ absurd n ]
@@ -147,7 +154,8 @@ module _ (axioms defs : List (Origin Name)) (used : Origin Name → Bool) (E : L
         kept = w.goes.kept;
       })
 
-  pub results-resulted : (es rest pre : List Export) (x : Written) → es ≡ pre ++ rest → AreApart (λ (z : Export). z.sequent) es
+  pub results-resulted : (es rest pre : List Export) (x : Written) → es ≡ pre ++ rest
+      → AreApart (λ (z : Export). z.sequent) es
       → ((e : Export) → IsMember e rest → CanResult e) → Resulted x pre
       → Goes x (write_results (map (λ (e : Export). e.roots.theorem) rest) x) es
   results-resulted es [] pre x whole apart can d = record {

@@ -57,13 +57,14 @@ IsSequentOf q r = same_sequent names q r ≡ true
 
 abbrev pub IsDefinitionOf : Definition Name → Definition Name → Type 0
 IsDefinitionOf (ListDef ps q) (ListDef qs r) = (ps ≡ qs) × IsSequentOf q r
-IsDefinitionOf (TyDef n abs rep vs q) (TyDef m a r ws p) = (n ≡ m) × (abs ≡ a) × (rep ≡ r) × (vs ≡ ws) × IsSequentOf q p
+IsDefinitionOf (TyDef n abs rep vs q) (TyDef m a r ws p) = (n ≡ m) × (abs ≡ a) × (rep ≡ r) × (vs ≡ ws)
+    × IsSequentOf q p
 IsDefinitionOf d e = d ≡ e
 
 -- ---- the check
 
--- the check of a log of at most max bytes ends: with the exports as results, in their order; with the needed definitions, in
--- their old order; and with the needed assumptions, each once
+-- the check of a log of at most max bytes ends: with the exports as results, in their order; with the needed
+-- definitions, in their old order; and with the needed assumptions, each once
 pub record IsLogOf (max : ℕ) (r : RunState) (es : List Export) (bytes : List ℕ) : Type 0 where
   pub now : LogState Name
   pub ends : log_check max bytes ≡ Ends now
@@ -76,6 +77,7 @@ pub record IsLogOf (max : ℕ) (r : RunState) (es : List Export) (bytes : List �
 -- so it is with the log of lawful exports of a lawful run, whose names a line can say
 abbrev pub RunLogLaw : Type 0
 RunLogLaw =
-    (r : RunState) (es : List Export) (max : ℕ) → IsLawfulRun IsWritable r → All (IsLawfulExport (run_basis IsWritable r)) es
+    (r : RunState) (es : List Export) (max : ℕ) → IsLawfulRun IsWritable r
+    → All (IsLawfulExport (run_basis IsWritable r)) es
     → AreApart (λ (e : Export). e.sequent) es
     → length (run_log r es) ≤ max → max < 2 ^ 63 → IsLogOf max r es (run_log r es)

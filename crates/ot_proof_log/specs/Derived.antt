@@ -12,7 +12,8 @@ use Rattle.ot_machine.specs.Places.{as_each, as_term, as_name}
 use Rattle.ot_machine.specs.Substitutions.{maps_of}
 use Rattle.ot_machine.specs.DefinitionLists.{pairs_of}
 use Rattle.ot_entries.specs.Entries.{Operand, Count, AName, AType, ATerm, ASequent, Entry}
-use Rattle.ot_entries.specs.Expansions.{of_term, of_two, abs_thm_entry, subst_entry, assumption_entry, sides, sym_of, trans_of, prove_hyp_of}
+use Rattle.ot_entries.specs.Expansions.{of_term, of_two, abs_thm_entry, subst_entry}
+use Rattle.ot_entries.specs.Expansions.{assumption_entry, sides, sym_of, trans_of, prove_hyp_of}
 
 -- the words that make a theorem
 abbrev pub makes_theorem : Cmd → Bool
@@ -35,19 +36,21 @@ abbrev pub read : {A : Type 0} → (A → List Entry) → Result A (Fault Name) 
 read f (Ok x) = f x
 read f (Err e) = []
 
--- the records of a theorem that a word makes of operands with these values, the lowest first; the theorems among these have the
--- numbers `is`, and the next sequent the number `next`
+-- the records of a theorem that a word makes of operands with these values, the lowest first; the theorems among
+-- these have the numbers `is`, and the next sequent the number `next`
 abbrev pub theorem_entries : ℕ → Cmd → List Object → List ℕ → List Entry
 theorem_entries next words.Refl (term t ∷ []) [] = of_term records.Refl t ∷ []
 theorem_entries next words.Assume (term p ∷ []) [] = of_term records.Assume p ∷ []
 theorem_entries next words.BetaConv (term t ∷ []) [] = of_term records.BetaConv t ∷ []
-theorem_entries next words.Axiom (list os ∷ term p ∷ []) [] = read (λ hyps. assumption_entry hyps p ∷ []) (as_each as_term os)
+theorem_entries next words.Axiom (list os ∷ term p ∷ []) [] =
+    read (λ hyps. assumption_entry hyps p ∷ []) (as_each as_term os)
 theorem_entries next words.AbsThm (variable v ∷ theorem a ∷ []) (i ∷ []) = abs_thm_entry v i ∷ []
 theorem_entries next words.Subst (list os ∷ theorem a ∷ []) (i ∷ []) =
     read (λ maps. subst_entry maps.0 maps.1 i ∷ []) (maps_of os)
 theorem_entries next words.EqMp (theorem a ∷ theorem b ∷ []) (i ∷ j ∷ []) = of_two records.EqMp i j ∷ []
 theorem_entries next words.AppThm (theorem a ∷ theorem b ∷ []) (i ∷ j ∷ []) = of_two records.AppThm i j ∷ []
-theorem_entries next words.DeductAntisym (theorem a ∷ theorem b ∷ []) (i ∷ j ∷ []) = of_two records.DeductAntisym i j ∷ []
+theorem_entries next words.DeductAntisym (theorem a ∷ theorem b ∷ []) (i ∷ j ∷ []) =
+    of_two records.DeductAntisym i j ∷ []
 theorem_entries next words.Sym (theorem a ∷ []) (i ∷ []) = sym_of next (sides a) i
 theorem_entries next words.Trans (theorem a ∷ theorem b ∷ []) (i ∷ j ∷ []) = trans_of next (sides a) (sides b) i j
 theorem_entries next words.ProveHyp (theorem a ∷ theorem b ∷ []) (i ∷ j ∷ []) = prove_hyp_of next a b i j

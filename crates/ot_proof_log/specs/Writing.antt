@@ -5,7 +5,8 @@ use Rattle.ot_plain.specs.Naming.{names}
 use Rattle.ot_plain.specs.declared.command.Cmd.{Cmd}
 use Rattle.ot_plain.specs.declared.command.Cmd.TheVariants as words
 use Rattle.ot_records.specs.declared.word.RecordWord.TheVariants as records
-use Rattle.ot_trace.specs.Origins.{Origin, Origins, Number, Named, Make, Define, Outcome, NoOrigins, MoreOrigins, Roots}
+use Rattle.ot_trace.specs.Origins.{Origin, Origins, Number, Named, Make, Define}
+use Rattle.ot_trace.specs.Origins.{Outcome, NoOrigins, MoreOrigins, Roots}
 use Rattle.ot_written.specs.Same.{same_origin}
 use Rattle.ot_written.specs.Needed.{needed_definitions}
 use Rattle.ot_written.specs.Written.{roots_of}
@@ -45,7 +46,8 @@ mark o i x = record x { theorems = x.theorems ++ (o, i) ∷ [] }
 
 abbrev pub put_theorem : Cmd → Origins Name → Written → Written
 put_theorem w os x =
-    let log = write_sequents (read (λ vs. theorem_entries x.log.sequents w vs (numbers_of os x.theorems)) (values os)) x.log in
+    let log = write_sequents (read (λ vs. theorem_entries x.log.sequents w vs (numbers_of os x.theorems)) (values os))
+    x.log in
     mark (Make w os) (log.sequents - 1) (record x { log = log })
 
 -- what was written isn't written again
@@ -53,7 +55,8 @@ abbrev pub once : Option ℕ → (Written → Written) → Written → Written
 once (Some i) write x = x
 once None write x = write x
 
--- the theorem of an origin: first its theorem operands from the bottom up, then its records; the last one's sequent is the theorem
+-- the theorem of an origin: first its theorem operands from the bottom up, then its records; the last one's sequent
+-- is the theorem
 abbrev mutual
   pub write : Origin Name → Written → Written
   write (Make w os) x =

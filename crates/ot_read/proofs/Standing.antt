@@ -12,7 +12,8 @@ use Rattle.ot_read.specs.Lines.{line_read, at_line, lines_read, RefusedLine}
 use Rattle.ot_read.specs.Laws.{LinesReadByForms, AreRead}
 
 module _ (hidden : List (Symbol Name)) (nt : IsNotation hidden) (forms : LinesReadByForms) where
-  first : (l : LineText) (ls : List LineText) (o : Result (Sequent Name) Refusal) → line_read hidden l.text ≡ o → (p : Result (List (Sequent Name)) RefusedLine) → AreRead hidden ls p
+  first : (l : LineText) (ls : List LineText) (o : Result (Sequent Name) Refusal) → line_read hidden l.text ≡ o
+      → (p : Result (List (Sequent Name)) RefusedLine) → AreRead hidden ls p
       → AreRead hidden (l ∷ ls) (at_line l.number o >>= λ q. p >>= λ qs. Ok (q ∷ qs))
   first l ls (Err (k, f)) e p read =
       let column : k + 1 - 1 ≡ k = omega arith in

@@ -10,15 +10,18 @@ use Rattle.ot_theory.specs.Lines.{LineText}
 use Rattle.ot_read.specs.Lines.{line_read, term_read, lines_read, RefusedLine}
 
 -- it is read as what it stands for, and is refused where and for what the forms refuse it
-pub record IsByForms {A : Type 0} (StandsFor : A → Type 0) (IsRefused : ℕ → TextFault → Type 0) (read : Result A Refusal) : Type 0 where
+pub record IsByForms {A : Type 0} (StandsFor : A → Type 0) (IsRefused : ℕ → TextFault → Type 0)
+    (read : Result A Refusal) : Type 0 where
   pub stands : (a : A) → (read ≡ Ok a) ↔ StandsFor a
   pub refused : (place : ℕ) (fault : TextFault) → (read ≡ Err (place, fault)) ↔ IsRefused place fault
 
 abbrev pub LinesReadByForms : Type 0
-LinesReadByForms = (hidden : List (Symbol Name)) → IsNotation hidden → (line : List ℕ) → IsByForms (ReadsAs hidden line) (IsRefused hidden line) (line_read hidden line)
+LinesReadByForms = (hidden : List (Symbol Name)) → IsNotation hidden → (line : List ℕ)
+    → IsByForms (ReadsAs hidden line) (IsRefused hidden line) (line_read hidden line)
 
 abbrev pub TermsReadByForms : Type 0
-TermsReadByForms = (hidden : List (Symbol Name)) → IsNotation hidden → (text : List ℕ) → IsByForms (ReadsAsTerm hidden text) (IsTermRefused hidden text) (term_read hidden text)
+TermsReadByForms = (hidden : List (Symbol Name)) → IsNotation hidden → (text : List ℕ)
+    → IsByForms (ReadsAsTerm hidden text) (IsTermRefused hidden text) (term_read hidden text)
 
 -- ---- lines
 
@@ -45,4 +48,5 @@ AreRead hidden ls (Ok qs) = StandFor hidden ls qs
 AreRead hidden ls (Err r) = IsFirstRefused hidden ls r
 
 abbrev pub TextsReadByForms : Type 0
-TextsReadByForms = (hidden : List (Symbol Name)) → IsNotation hidden → (ls : List LineText) → AreRead hidden ls (lines_read hidden ls)
+TextsReadByForms = (hidden : List (Symbol Name)) → IsNotation hidden → (ls : List LineText)
+    → AreRead hidden ls (lines_read hidden ls)

@@ -1,4 +1,5 @@
--- The sequents that the lines of a text stand for, one after another, or the first refusal; and what is printed of them.
+-- The sequents that the lines of a text stand for, one after another, or the first refusal; and what is printed of
+-- them.
 use Rattle.std.specs.Prelude.{◌≡◌, ℕ, ◌+◌, ◌-◌, List, [], ◌∷◌, ◌++◌, length, flat_map, Result, Ok, Err}
 use Rattle.ot_plain.specs.Answers.{◌>>=◌}
 use Rattle.ot_plain.specs.Names.{Name}
@@ -15,7 +16,8 @@ use Rattle.ot_read.specs.declared.lines.LineRefusal.TheVariants as refusals
 
 -- ---- one line, and a text of one term
 
--- what a text means that was read so: reading has to end where the text does, and to halt is a refusal at the byte there
+-- what a text means that was read so: reading has to end where the text does, and to halt is a refusal at the byte
+-- there
 abbrev pub meant : {A B : Type 0} → (A → Result B Refusal) → List ℕ → Reading A → Result B Refusal
 meant means text (Got a []) = means a
 meant means text (Got a (b ∷ rest)) = Err (length text - length (b ∷ rest), Syntax)
@@ -46,7 +48,8 @@ at_line number (Err (place, fault)) = Err (record { line = number; column = plac
 -- the sequents that lines stand for, or the first refusal
 abbrev pub lines_read : List (Symbol Name) → List LineText → Result (List (Sequent Name)) RefusedLine
 lines_read hidden [] = Ok []
-lines_read hidden (l ∷ ls) = at_line l.number (line_read hidden l.text) >>= λ q. lines_read hidden ls >>= λ qs. Ok (q ∷ qs)
+lines_read hidden (l ∷ ls) = at_line l.number (line_read hidden l.text) >>= λ q. lines_read hidden ls
+    >>= λ qs. Ok (q ∷ qs)
 
 -- the printed texts of sequents, each on a line of its own
 abbrev pub sequent_lines : List (Sequent Name) → List ℕ
@@ -54,5 +57,6 @@ sequent_lines qs = flat_map (λ q. sequent_text q ++ 10 ∷ []) qs
 
 -- the code's refusal is the one that was found
 abbrev pub IsLineRefusal : {A : Type 0} → Result A RefusedLine → LineRefusal → Type 0
-IsLineRefusal read (refusals.At line column fault) = read ≡ Err (record { line = line; column = column; fault = fault })
+IsLineRefusal read (refusals.At line column fault) =
+    read ≡ Err (record { line = line; column = column; fault = fault })
 IsLineRefusal read refusals.Memory = Unit {0}

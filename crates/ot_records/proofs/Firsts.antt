@@ -22,13 +22,15 @@ module _ {N : Type 0} (alphabet : Alphabet N) (tells : Tells alphabet) where
         ∙ ap (cond (same_var alphabet v p.0) p.1) (without-other v w m n)
   ]
 
-  pub term_at-first : (m : TermMap alphabet) (v : Variable N) → term_at alphabet (first_pairs alphabet m) v ≡ term_at alphabet m v
+  pub term_at-first : (m : TermMap alphabet) (v : Variable N) → term_at alphabet (first_pairs alphabet m) v
+      ≡ term_at alphabet m v
   term_at-first [] v = refl
   term_at-first (p ∷ m) v = elim (var_cases alphabet tells v p.0) [
     | inl e ↦
         ap (λ b. cond b p.1 (term_at alphabet (without alphabet p.0 (first_pairs alphabet m)) v)) e.0
         ∙ ap (λ b. cond b p.1 (term_at alphabet m v)) (sym e.0)
-    | inr e ↦ ap (cond (same_var alphabet v p.0) p.1) (without-other v p.0 (first_pairs alphabet m) e.0 ∙ term_at-first m v)
+    | inr e ↦ ap (cond (same_var alphabet v p.0) p.1) (without-other v p.0 (first_pairs alphabet m) e.0
+        ∙ term_at-first m v)
   ]
 
   -- ---- names
@@ -46,13 +48,15 @@ module _ {N : Type 0} (alphabet : Alphabet N) (tells : Tells alphabet) where
         ∙ ap (cond (alphabet.same n p.0) p.1) (without_name-other n k s d)
   ]
 
-  pub type_at-first : (s : TypeMap alphabet) (n : N) → type_at alphabet (first_types alphabet s) n ≡ type_at alphabet s n
+  pub type_at-first : (s : TypeMap alphabet) (n : N) → type_at alphabet (first_types alphabet s) n
+      ≡ type_at alphabet s n
   type_at-first [] n = refl
   type_at-first (p ∷ s) n = elim (cases_of (alphabet.same n p.0) (tells n p.0)) [
     | inl e ↦
         ap (λ b. cond b p.1 (type_at alphabet (without_name alphabet p.0 (first_types alphabet s)) n)) e.0
         ∙ ap (λ b. cond b p.1 (type_at alphabet s n)) (sym e.0)
-    | inr e ↦ ap (cond (alphabet.same n p.0) p.1) (without_name-other n p.0 (first_types alphabet s) e.0 ∙ type_at-first s n)
+    | inr e ↦ ap (cond (alphabet.same n p.0) p.1) (without_name-other n p.0 (first_types alphabet s) e.0
+        ∙ type_at-first s n)
   ]
 
   -- ---- so the substitution is one

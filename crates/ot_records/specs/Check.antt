@@ -3,7 +3,8 @@ use Rattle.std.specs.Prelude.{ℕ, List, codes, Bool, false, ◌==◌, Result, O
 use Rattle.std.specs.Str.{bytes_eq}
 use Rattle.ot_plain.specs.Answers.{◌>>=◌, unless, some_or}
 use Rattle.ot_plain.specs.Trees.{Alphabet}
-use Rattle.ot_records.specs.Tokens.{LogFault, BadToken, BadHeader, UnknownRecord, BadReference, LogEnds, Token, Number, Named, Word, Tokens, NoMore, Stopped, Then, record_of}
+use Rattle.ot_records.specs.Tokens.{LogFault, BadToken, BadHeader, UnknownRecord, BadReference, LogEnds}
+use Rattle.ot_records.specs.Tokens.{Token, Number, Named, Word, Tokens, NoMore, Stopped, Then, record_of}
 use Rattle.ot_records.specs.declared.word.RecordWord.{RecordWord}
 use Rattle.ot_records.specs.State.{LogState, nothing_made}
 use Rattle.ot_records.specs.Records.{Makes, AskName, AskCount, AskType, AskTerm, AskSequent, RecordForm, form}
@@ -42,7 +43,8 @@ is_second (Number n) = n == 1
 is_second _ = false
 
 module _ {N : Type 0} (alphabet : Alphabet N) where
-  -- where the check is: before the header's tokens, between two records, or in a record that began at a line and asks for more
+  -- where the check is: before the header's tokens, between two records, or in a record that began at a line and asks
+  -- for more
   pub data Place : Type 0 where
     AtFirst : Place
     AtSecond : Place

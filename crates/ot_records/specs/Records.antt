@@ -1,12 +1,17 @@
 -- The records of a log: the tokens that each asks for, one after another, and what it makes.
 use Rattle.std.specs.Prelude.{ℕ, zero, suc, List, [], ◌∷◌}
-use Rattle.ot_plain.specs.Trees.{Alphabet, Ty, Tys, NoTys, MoreTys, TyVar, TyOp, Variable, Tm, Free, Con, Bound, App, Abs, Sequent}
+use Rattle.ot_plain.specs.Trees.{Alphabet, Ty, Tys, NoTys, MoreTys, TyVar, TyOp}
+use Rattle.ot_plain.specs.Trees.{Variable, Tm, Free, Con, Bound, App, Abs, Sequent}
 use Rattle.ot_records.specs.declared.word.RecordWord.{RecordWord}
 use Rattle.ot_records.specs.declared.word.RecordWord.TheVariants as words
-use Rattle.ot_records.specs.Steps.{refl_step, assume_step, eq_mp_step, abs_thm_step, app_thm_step, deduct_antisym_step, beta_step, subst_step, assumption_step, constant_step, constants_step, type_operator_step}
-use Rattle.ot_records.specs.State.{Change, makes_type, makes_term, makes_sequent, makes_assumption, makes_definition, makes_result}
+use Rattle.ot_records.specs.Steps.{refl_step, assume_step, eq_mp_step, abs_thm_step, app_thm_step}
+use Rattle.ot_records.specs.Steps.{deduct_antisym_step, beta_step, subst_step, assumption_step}
+use Rattle.ot_records.specs.Steps.{constant_step, constants_step, type_operator_step}
+use Rattle.ot_records.specs.State.{Change, makes_type, makes_term, makes_sequent}
+use Rattle.ot_records.specs.State.{makes_assumption, makes_definition, makes_result}
 
--- what a record asks for next: a name, a count, the number of an earlier type, term or sequent; or what it makes in the end
+-- what a record asks for next: a name, a count, the number of an earlier type, term or sequent; or what it makes in
+-- the end
 pub data Form (N : Type 0) (C : Type 0) : Type 0 where
   Makes : C → Form N C
   AskName : (N → Form N C) → Form N C
@@ -64,11 +69,22 @@ module _ {N : Type 0} (alphabet : Alphabet N) where
   form words.EqMp = AskSequent (λ a. AskSequent (λ b. Makes (makes_sequent alphabet (eq_mp_step alphabet a b))))
   form words.AbsThm = ask_variable (λ v. AskSequent (λ a. Makes (makes_sequent alphabet (abs_thm_step alphabet v a))))
   form words.AppThm = AskSequent (λ a. AskSequent (λ b. Makes (makes_sequent alphabet (app_thm_step alphabet a b))))
-  form words.DeductAntisym = AskSequent (λ a. AskSequent (λ b. Makes (makes_sequent alphabet (deduct_antisym_step alphabet a b))))
+  form words.DeductAntisym =
+      AskSequent (λ a. AskSequent (λ b. Makes (makes_sequent alphabet (deduct_antisym_step alphabet a b))))
   form words.BetaConv = AskTerm (λ t. Makes (makes_sequent alphabet (beta_step alphabet t)))
-  form words.Subst = AskSequent (λ a. ask_list (ask_type_pair) (λ s. ask_list (ask_term_pair) (λ m. Makes (makes_sequent alphabet (subst_step alphabet s m a)))))
-  form words.Assumption = AskTerm (λ p. ask_list AskTerm (λ hyps. Makes (makes_assumption alphabet (assumption_step alphabet hyps p))))
-  form words.Constant = AskName (λ n. AskTerm (λ t. Makes (makes_definition alphabet (λ dl. constant_step alphabet dl n t))))
-  form words.Constants = ask_list (ask_constant_pair) (λ ps. AskSequent (λ a. Makes (makes_definition alphabet (λ dl. constants_step alphabet dl ps a))))
-  form words.TypeOperator = AskName (λ n. AskName (λ abs. AskName (λ rep. ask_list AskName (λ vars. AskSequent (λ a. Makes (makes_definition alphabet (λ dl. type_operator_step alphabet dl n abs rep vars a)))))))
+  form words.Subst =
+      AskSequent (λ a. ask_list (ask_type_pair)
+      (λ s. ask_list (ask_term_pair) (λ m. Makes (makes_sequent alphabet (subst_step alphabet s m a)))))
+  form words.Assumption =
+      AskTerm (λ p. ask_list AskTerm (λ hyps. Makes (makes_assumption alphabet (assumption_step alphabet hyps p))))
+  form words.Constant =
+      AskName (λ n. AskTerm (λ t. Makes (makes_definition alphabet (λ dl. constant_step alphabet dl n t))))
+  form words.Constants = ask_list (ask_constant_pair)
+      (λ ps. AskSequent (λ a. Makes (makes_definition alphabet (λ dl. constants_step alphabet dl ps a))))
+  form words.TypeOperator =
+      AskName (λ n.
+      AskName (λ abs.
+      AskName (λ rep. ask_list AskName
+      (λ vars. AskSequent
+      (λ a. Makes (makes_definition alphabet (λ dl. type_operator_step alphabet dl n abs rep vars a)))))))
   form words.Result = AskSequent (λ a. Makes (makes_result alphabet a))

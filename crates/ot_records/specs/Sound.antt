@@ -12,7 +12,8 @@ module _ {N : Type 0} (alphabet : Alphabet N) where
   pub record IsProved (st : LogState N) : Type 0 where
     pub accepted : Accepted alphabet st.assumptions st.definitions
     pub assumptions : AreSequents alphabet st.assumptions
-    pub results : (i : ℕ) (q : Sequent N) → slice_get st.results i ≡ Some q → IsTheorem alphabet st.assumptions st.definitions q
+    pub results : (i : ℕ) (q : Sequent N) → slice_get st.results i ≡ Some q
+        → IsTheorem alphabet st.assumptions st.definitions q
 
   -- where the check of a log ends, what it ends with is proved
   abbrev pub LogsAreSound : Type 0

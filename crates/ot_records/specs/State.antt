@@ -7,7 +7,8 @@ use Rattle.ot_plain.specs.Answers.{◌>>=◌, unless}
 use Rattle.ot_records.specs.Tokens.{LogFault, LogNesting}
 use Rattle.ot_records.specs.Steps.{log_depth, is_sequent_within}
 
--- types, terms and sequents by number, in the order of the records that made them; assumptions, definitions and results
+-- types, terms and sequents by number, in the order of the records that made them; assumptions, definitions and
+-- results
 pub record LogState (N : Type 0) : Type 0 where
   pub types : List (Ty N)
   pub terms : List (Tm N)

@@ -1,8 +1,12 @@
 -- The cases of a derivation, as functions: the sequent that a case gives, or that the case doesn't hold.
-use Rattle.std.specs.Prelude.{cond, Bool, true, ◌&&◌, not, is_some, if◌then◌else◌, ℕ, nat_le, List, [], ◌∷◌, map, Option, Some, None, Result, Ok, Err}
+use Rattle.std.specs.Prelude.{cond, Bool, true, ◌&&◌, not, is_some, if◌then◌else◌, ℕ, nat_le}
+use Rattle.std.specs.Prelude.{List, [], ◌∷◌, map, Option, Some, None, Result, Ok, Err}
 use Rattle.std.specs.List.{list_all, flat_map}
-use Rattle.ot_plain.specs.Trees.{Alphabet, Ty, Variable, Tm, App, Abs, Sequent, Symbol, Definition, ConDef, ListDef, TyDef}
-use Rattle.ot_plain.specs.Hol.{same_ty, same_var, fun_ty, bool_ty, as_fun_ty, depth_ty, type_in, type_of, close, opened, depth_tm, TypeMap, TermMap, subst_tm, same_tm, equation, as_equation, minus, union, once_each, is_free_in_some, sequent_of, defined, used}
+use Rattle.ot_plain.specs.Trees.{Alphabet, Ty, Variable, Tm, App, Abs, Sequent}
+use Rattle.ot_plain.specs.Trees.{Symbol, Definition, ConDef, ListDef, TyDef}
+use Rattle.ot_plain.specs.Hol.{same_ty, same_var, fun_ty, bool_ty, as_fun_ty, depth_ty, type_in, type_of, close}
+use Rattle.ot_plain.specs.Hol.{opened, depth_tm, TypeMap, TermMap, subst_tm, same_tm, equation, as_equation}
+use Rattle.ot_plain.specs.Hol.{minus, union, once_each, is_free_in_some, sequent_of, defined, used}
 use Rattle.ot_plain.specs.Answers.{◌>>=◌, unless, some_or}
 use Rattle.ot_plain.specs.Rules.{has_type}
 use Rattle.ot_laws.specs.Conditions.{checked_const, checked_list, checked_type}
@@ -59,7 +63,11 @@ module _ {N : Type 0} (alphabet : Alphabet N) where
   abs_thm_step v a = do
     e ← sides_of a
     _ ← unless BadStep (not (is_free_in_some alphabet v a.hyps))
-    Ok (record { hyps = a.hyps; concl = equation alphabet (fun_ty alphabet v.ty e.0) (Abs v.ty (close alphabet v e.1)) (Abs v.ty (close alphabet v e.2)) })
+    Ok (record {
+      hyps = a.hyps;
+      concl = equation alphabet (fun_ty alphabet v.ty e.0) (Abs v.ty (close alphabet v e.1))
+          (Abs v.ty (close alphabet v e.2));
+    })
 
   -- from G |- f = g and H |- x = y
   abbrev pub app_thm_step : Sequent N → Sequent N → Step
@@ -82,7 +90,8 @@ module _ {N : Type 0} (alphabet : Alphabet N) where
   abbrev pub beta_step : Tm N → Step
   beta_step (App (Abs a b) u) = do
     _ ← unless BadStep (is_well_typed (App (Abs a b) u))
-    Ok (sequent_of alphabet (equation alphabet (type_of alphabet (App (Abs a b) u)) (App (Abs a b) u) (opened alphabet b u)))
+    Ok (sequent_of alphabet
+        (equation alphabet (type_of alphabet (App (Abs a b) u)) (App (Abs a b) u) (opened alphabet b u)))
   beta_step _ = Err BadStep
 
   -- the list without the pairs for this variable
@@ -108,7 +117,10 @@ module _ {N : Type 0} (alphabet : Alphabet N) where
   abbrev pub subst_step : TypeMap alphabet → TermMap alphabet → Sequent N → Step
   subst_step s m a = do
     _ ← unless BadStep (list_all (λ p. has_type alphabet p.1 p.0.ty) (first_pairs m))
-    Ok (record { hyps = once_each alphabet (map (subst_tm alphabet s (first_pairs m)) a.hyps); concl = subst_tm alphabet s (first_pairs m) a.concl })
+    Ok (record {
+      hyps = once_each alphabet (map (subst_tm alphabet s (first_pairs m)) a.hyps);
+      concl = subst_tm alphabet s (first_pairs m) a.concl;
+    })
 
   -- the sequent of these hypotheses and this conclusion, of propositions alone
   abbrev pub assumption_step : List (Tm N) → Tm N → Step
@@ -135,7 +147,8 @@ module _ {N : Type 0} (alphabet : Alphabet N) where
     _ ← or_bad (checked_list alphabet (all_defined dl) (all_used dl) (map (λ p. p.0) ps) (map (λ p. p.1) ps) q)
     Ok (ListDef ps q)
 
-  abbrev pub type_operator_step : List (Definition N) → (n abs rep : N) → List N → Sequent N → Result (Definition N) LogFault
+  abbrev pub type_operator_step : List (Definition N) → (n abs rep : N) → List N → Sequent N
+      → Result (Definition N) LogFault
   type_operator_step dl n abs rep vars q = do
     _ ← or_bad (checked_type alphabet (all_defined dl) (all_used dl) n abs rep vars q)
     Ok (TyDef n abs rep vars q)
@@ -148,7 +161,8 @@ module _ {N : Type 0} (alphabet : Alphabet N) where
 
   -- the type of each subterm is within the limit, under binders of these types, the innermost first
   abbrev pub has_types_within : List (Ty N) → Tm N → Bool
-  has_types_within l (App f x) = is_within_type (type_in alphabet l (App f x)) && (has_types_within l f && has_types_within l x)
+  has_types_within l (App f x) = is_within_type (type_in alphabet l (App f x))
+      && (has_types_within l f && has_types_within l x)
   has_types_within l (Abs t b) = is_within_type (type_in alphabet l (Abs t b)) && has_types_within (t ∷ l) b
   has_types_within l t = is_within_type (type_in alphabet l t)
 

@@ -37,18 +37,21 @@ abbrev answer : Type 0
 answer = Result (List (List ℕ)) Refusal
 
 -- each once, behind its own requirements; a name picks the last line that has it
-row-order : ◌≡◌ {A = answer} (required files 1000 (codes "p") (codes "u.thy")) (Ok (codes "b-2" ∷ codes "a-1" ∷ codes "b-1" ∷ []))
+row-order : ◌≡◌ {A = answer} (required files 1000 (codes "p") (codes "u.thy"))
+    (Ok (codes "b-2" ∷ codes "a-1" ∷ codes "b-1" ∷ []))
 row-order = refl
 
 row-none : ◌≡◌ {A = answer} (required files 1000 (codes "q") (codes "none.thy")) (Ok [])
 row-none = refl
 
-row-gone : ◌≡◌ {A = answer} (required files 1000 (codes "p") (codes "gone.thy")) (Err (NotInstalled (codes "gone.thy") 1))
+row-gone : ◌≡◌ {A = answer} (required files 1000 (codes "p") (codes "gone.thy"))
+    (Err (NotInstalled (codes "gone.thy") 1))
 row-gone = refl
 
 -- the list is read before the value
 row-list : ◌≡◌ {A = answer} (required files 1000 (codes "q") (codes "gone.thy")) (Err (Missing (codes "q/installed")))
 row-list = refl
 
-row-round : ◌≡◌ {A = answer} (required round 1000 (codes "p") (codes "u.thy")) (Err (RequiresCycle (codes "p/b-1/b.thy") 1))
+row-round : ◌≡◌ {A = answer} (required round 1000 (codes "p") (codes "u.thy"))
+    (Err (RequiresCycle (codes "p/b-1/b.thy") 1))
 row-round = refl

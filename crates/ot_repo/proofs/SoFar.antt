@@ -43,13 +43,15 @@ abbrev pub AreLevels : List (List ℕ) → List Waiting → Type 0
 AreLevels listed ws = (w : Waiting) → IsMember w ws → IsLevel listed w
 
 -- what holds of the code's state, with the stack's end first
-pub record SoFar (listed : List (List ℕ)) (marked : List ℕ → Option Mark) (ws : List Waiting) (file : File) (done : List (List ℕ)) : Type 0 where
+pub record SoFar (listed : List (List ℕ)) (marked : List ℕ → Option Mark) (ws : List Waiting) (file : File)
+    (done : List (List ℕ)) : Type 0 where
   pub marks : IsMarked marked (path_of (levels_of ws)) done
   pub levels : AreLevels listed ws
   pub left : AreListed listed file.left.items
 
 -- the rest of the walk is the whole one
-pub record Rests (edges : List ℕ → Result (List (Edge (List ℕ) Refusal)) Refusal) (whole : Walk (List ℕ) Refusal) (ws : List Waiting) (file : File) (done : List (List ℕ)) : Type 0 where
+pub record Rests (edges : List ℕ → Result (List (Edge (List ℕ) Refusal)) Refusal) (whole : Walk (List ℕ) Refusal)
+    (ws : List Waiting) (file : File) (done : List (List ℕ)) : Type 0 where
   pub bound : ℕ
   pub is : rest_of bytes_eq edges bound (levels_of ws) (edges_left file) done ≡ whole
 

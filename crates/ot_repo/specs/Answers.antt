@@ -4,7 +4,8 @@ use Rattle.std.specs.Global.{Global}
 use Rattle.ot_io.specs.Causes.{Rose}
 use Rattle.ot_plain.specs.Lists.{IsMember}
 use Rattle.ot_blocks.specs.Paths.{is_package}
-use Rattle.ot_repo.specs.Required.{Refusal, Theory, TheoryTooLarge, IndexTooLarge, BadIndex, NotInstalled, RequiresCycle, Missing}
+use Rattle.ot_repo.specs.Required.{Refusal, Theory, TheoryTooLarge, IndexTooLarge}
+use Rattle.ot_repo.specs.Required.{BadIndex, NotInstalled, RequiresCycle, Missing}
 use Rattle.ot_repo.specs.declared.fault.RepoFault.{RepoFault}
 use Rattle.ot_repo.specs.declared.fault.RepoFault.TheVariants as faults
 
@@ -36,7 +37,8 @@ Gives view (Err e) stated = Refuses e stated
 -- a missing file is counted, and so is a failure, which is one of the path that was asked for, where that is told
 abbrev pub HasCause : RepoFault → ℕ → ℕ → ℕ → ℕ → Option (List ℕ) → Type 0
 HasCause (faults.NoFile path) misses misses' faults faults' at = Rose misses misses'
-HasCause (faults.ReadFault path) misses misses' faults faults' at = Rose faults faults' × IfSome at (λ asked. string_bytes path ≡ asked)
+HasCause (faults.ReadFault path) misses misses' faults faults' at =
+    Rose faults faults' × IfSome at (λ asked. string_bytes path ≡ asked)
 HasCause (faults.Theory path line fault) misses misses' faults faults' at = Unit {0}
 HasCause (faults.TheoryTooLarge path) misses misses' faults faults' at = Unit {0}
 HasCause (faults.IndexTooLarge path) misses misses' faults faults' at = Unit {0}

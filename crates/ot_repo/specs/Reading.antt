@@ -1,5 +1,6 @@
 -- What the code's parts answer.
-use Rattle.std.specs.Prelude.{◌≡◌, ℕ, List, nat_le, map, length, reverse, Option, Some, None, Result, Ok, Err, string_bytes, if◌then◌else◌}
+use Rattle.std.specs.Prelude.{◌≡◌, ℕ, List, nat_le, map, length, reverse, Option, Some}
+use Rattle.std.specs.Prelude.{None, Result, Ok, Err, string_bytes, if◌then◌else◌}
 use Rattle.std.specs.Borrow.{Bor}
 use Rattle.std.specs.HashMap.{HashMap, get_by}
 use Rattle.std.specs.Option.{option_map}
@@ -24,7 +25,8 @@ use Rattle.ot_repo.specs.declared.walk.Mark.TheVariants.{Open, Done}
 
 -- the bytes of a file, where it has no more than so many
 abbrev pub sized_at : Folder → ℕ → List ℕ → Result (Option (List ℕ)) Refusal
-sized_at folder max path = file_at folder path >>= λ bytes. Ok (if nat_le (length bytes) max then Some bytes else None)
+sized_at folder max path =
+    file_at folder path >>= λ bytes. Ok (if nat_le (length bytes) max then Some bytes else None)
 
 -- ---- the list of installed packages
 
@@ -49,7 +51,10 @@ pub record IsIndex (index : Index) : Type 0 where
 
 -- the edge that a tag of the file of this path is
 abbrev pub edge_at : List ℕ → Requirement → Edge (List ℕ) Refusal
-edge_at path r = record { target = some_or (NotInstalled path r.line) (option_map (λ f. f.now) r.full); back = RequiresCycle path r.line }
+edge_at path r = record {
+  target = some_or (NotInstalled path r.line) (option_map (λ f. f.now) r.full);
+  back = RequiresCycle path r.line;
+}
 
 -- the edges that are left of a file
 abbrev pub edges_left : File → List (Edge (List ℕ) Refusal)
@@ -57,7 +62,8 @@ edges_left file = map (edge_at (string_bytes file.path)) (reverse file.left.item
 
 -- each package that these tags pick is listed
 abbrev pub AreListed : List (List ℕ) → List Requirement → Type 0
-AreListed listed rs = (r : Requirement) → IsMember r rs → (full : List ℕ) → option_map (λ f. f.now) r.full ≡ Some full → IsMember full listed
+AreListed listed rs = (r : Requirement) → IsMember r rs → (full : List ℕ) → option_map (λ f. f.now) r.full ≡ Some full
+    → IsMember full listed
 
 -- ---- the walk
 
@@ -78,7 +84,8 @@ next_at marked e = e.target >>= λ full. arrived (marked full) full e.back
 -- ---- the files that are needed
 
 -- the theory file of a package that these edges lead to
-pub record IsReachedFile (edges : List ℕ → Result (List (Edge (List ℕ) Refusal)) Refusal) (start : List (Edge (List ℕ) Refusal)) (packages file : List ℕ) : Type 0 where
+pub record IsReachedFile (edges : List ℕ → Result (List (Edge (List ℕ) Refusal)) Refusal)
+    (start : List (Edge (List ℕ) Refusal)) (packages file : List ℕ) : Type 0 where
   pub full : List ℕ
   pub reached : Reaches edges start full
   pub file_is : file ≡ package_path packages full
@@ -87,4 +94,5 @@ pub record IsReachedFile (edges : List ℕ → Result (List (Edge (List ℕ) Ref
 pub data IsTagFile (folder : Folder) (max : ℕ) (packages : List ℕ) (tags : List TagText) : List ℕ → Type 0 where
   TheList : IsTagFile folder max packages tags (index_path packages)
   OfPackage : (listed : List (List ℕ)) (full : List ℕ) → index_at folder (index_path packages) ≡ Ok listed
-      → IsNeeded folder max packages listed tags full → IsTagFile folder max packages tags (package_path packages full)
+      → IsNeeded folder max packages listed tags full
+      → IsTagFile folder max packages tags (package_path packages full)

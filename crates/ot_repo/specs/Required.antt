@@ -1,5 +1,6 @@
 -- The packages that a theory file requires, each once, behind its own requirements.
-use Rattle.std.specs.Prelude.{ℕ, List, [], ◌∷◌, ◌++◌, Bool, not, nat_le, length, map, codes, find, Option, Some, None, Result, Ok, Err, if◌then◌else◌, reverse}
+use Rattle.std.specs.Prelude.{ℕ, List, [], ◌∷◌, ◌++◌, Bool, not, nat_le, length, map, codes}
+use Rattle.std.specs.Prelude.{find, Option, Some, None, Result, Ok, Err, if◌then◌else◌, reverse}
 use Rattle.std.specs.List.{list_any, filter}
 use Rattle.std.specs.Str.{bytes_eq}
 use Rattle.ot_io.specs.Folder.{Folder, bytes_at}
@@ -85,7 +86,11 @@ picked listed value = if list_any (bytes_eq value) listed then Some value else p
 
 -- a tag of the file of this path leads to the package that its value picks
 abbrev pub edge_of : List (List ℕ) → List ℕ → TagText → Edge (List ℕ) Refusal
-edge_of listed path tag = record { target = some_or (NotInstalled path tag.line) (picked listed tag.value); back = RequiresCycle path tag.line }
+edge_of listed path tag =
+    record {
+      target = some_or (NotInstalled path tag.line) (picked listed tag.value);
+      back = RequiresCycle path tag.line;
+    }
 
 -- those of such tags
 abbrev pub edges_in : List (List ℕ) → List ℕ → List TagText → List (Edge (List ℕ) Refusal)
@@ -94,7 +99,8 @@ edges_in listed path tags = map (edge_of listed path) tags
 -- those of a package's file
 abbrev pub edges_of : Folder → ℕ → List ℕ → List (List ℕ) → List ℕ → Result (List (Edge (List ℕ) Refusal)) Refusal
 edges_of folder max packages listed full =
-    theory_at folder max (package_path packages full) >>= λ t. Ok (edges_in listed (package_path packages full) (requirements t))
+    theory_at folder max (package_path packages full)
+    >>= λ t. Ok (edges_in listed (package_path packages full) (requirements t))
 
 -- the order, or the refusal; that the bound ran out never comes
 abbrev pub walked : Walk (List ℕ) Refusal → Result (List (List ℕ)) Refusal
@@ -103,13 +109,15 @@ walked (Stops refusal) = Err refusal
 walked TooDeep = Ok []
 
 -- what these tags require, over the list of installed packages
-abbrev pub required_listed : Folder → ℕ → List ℕ → List ℕ → List TagText → List (List ℕ) → Result (List (List ℕ)) Refusal
+abbrev pub required_listed : Folder → ℕ → List ℕ → List ℕ → List TagText → List (List ℕ)
+    → Result (List (List ℕ)) Refusal
 required_listed folder max packages path tags listed =
     walked (walk_from bytes_eq (edges_of folder max packages listed) (length listed) (edges_in listed path tags))
 
 -- what these tags of a file require; the list of installed packages is read
 abbrev pub required_over : Folder → ℕ → List ℕ → List ℕ → List TagText → Result (List (List ℕ)) Refusal
-required_over folder max packages path tags = index_at folder (index_path packages) >>= required_listed folder max packages path tags
+required_over folder max packages path tags = index_at folder (index_path packages)
+    >>= required_listed folder max packages path tags
 
 -- it is read where there is a tag
 abbrev pub required_by : Folder → ℕ → List ℕ → List ℕ → List TagText → Result (List (List ℕ)) Refusal
@@ -118,4 +126,5 @@ required_by folder max packages path (tag ∷ tags) = required_over folder max p
 
 -- the full names of the packages that the theory file of a path requires, in their order, or the first refusal
 abbrev pub required : Folder → ℕ → List ℕ → List ℕ → Result (List (List ℕ)) Refusal
-required folder max packages path = theory_at folder max path >>= λ t. required_by folder max packages path (requirements t)
+required folder max packages path = theory_at folder max path >>= λ t. required_by folder max packages path
+    (requirements t)

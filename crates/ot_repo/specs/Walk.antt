@@ -45,7 +45,8 @@ module _ {K E : Type 0} (same : K → K → Bool) (edges : K → Result (List (E
   abbrev pub walk_key : ℕ → List K → List K → K → Walk K E
   walk_key zero path done k = TooDeep
   walk_key (suc n) path done k =
-      followed (edges k) (λ es. walk_edges (walk_key n (k ∷ path)) (k ∷ path) es done) >>= λ more. Walked (more ++ k ∷ [])
+      followed (edges k) (λ es. walk_edges (walk_key n (k ∷ path)) (k ∷ path) es done)
+      >>= λ more. Walked (more ++ k ∷ [])
 
   -- the walk from these edges; no path is longer than the bound
   abbrev pub walk_from : ℕ → List (Edge K E) → Walk K E

@@ -28,7 +28,8 @@ module _ {K E : Type 0} (edges : K → Result (List (Edge K E)) E) where
   pub record IsWalk (start : List (Edge K E)) (order : List K) : Type 0 where
     pub once : AreDistinct order
     pub starts : LeadInto start order
-    pub behind : (front back : List K) (k : K) → order ≡ front ++ k ∷ back → (es : List (Edge K E)) × (edges k ≡ Ok es) × LeadInto es front
+    pub behind : (front back : List K) (k : K) → order ≡ front ++ k ∷ back
+        → (es : List (Edge K E)) × (edges k ≡ Ok es) × LeadInto es front
     pub reached : (k : K) → IsMember k order → Reaches start k
 
   -- a first edge, or one of a key that is reached
@@ -42,7 +43,8 @@ module _ {K E : Type 0} (edges : K → Result (List (Edge K E)) E) where
     -- an edge leads nowhere
     NoTarget : (e : Edge K E) (fault : E) → IsReached start e → e.target ≡ Err fault → HasStop start fault
     -- an edge leads back
-    Cycle : (j k : K) (e : Edge K E) → Reaches start j → HasEdge j e → e.target ≡ Ok k → Leads k j → HasStop start e.back
+    Cycle : (j k : K) (e : Edge K E) → Reaches start j → HasEdge j e → e.target ≡ Ok k → Leads k j
+        → HasStop start e.back
 
   -- each edge leads to a key of the list
   pub record StaysIn (start : List (Edge K E)) (all : List K) : Type 0 where
@@ -52,11 +54,13 @@ module _ {K E : Type 0} (edges : K → Result (List (Edge K E)) E) where
 module _ {K E : Type 0} (same : K → K → Bool) (edges : K → Result (List (Edge K E)) E) where
   -- a law: the bound is enough
   abbrev pub EndsAlways : Type 0
-  EndsAlways = (all : List K) (start : List (Edge K E)) (n : ℕ) → StaysIn edges start all → length all ≤ n → walk_from same edges n start ≢ TooDeep
+  EndsAlways = (all : List K) (start : List (Edge K E)) (n : ℕ) → StaysIn edges start all → length all ≤ n
+      → walk_from same edges n start ≢ TooDeep
 
   -- a law: what the walk gives
   abbrev pub GivesWalk : Type 0
-  GivesWalk = (n : ℕ) (start : List (Edge K E)) (order : List K) → walk_from same edges n start ≡ Walked order → IsWalk edges start order
+  GivesWalk = (n : ℕ) (start : List (Edge K E)) (order : List K) → walk_from same edges n start ≡ Walked order
+      → IsWalk edges start order
 
   -- a law: what stands before the target of a first edge is reached from that edge and those before it
   abbrev pub GivesTurns : Type 0
@@ -66,4 +70,5 @@ module _ {K E : Type 0} (same : K → K → Bool) (edges : K → Result (List (E
 
   -- a law: where it stops, there is a cause
   abbrev pub GivesStop : Type 0
-  GivesStop = (n : ℕ) (start : List (Edge K E)) (fault : E) → walk_from same edges n start ≡ Stops fault → HasStop edges start fault
+  GivesStop = (n : ℕ) (start : List (Edge K E)) (fault : E) → walk_from same edges n start ≡ Stops fault
+      → HasStop edges start fault

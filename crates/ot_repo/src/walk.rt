@@ -7,8 +7,8 @@ ghost use Rattle.ot_io.specs.Folder.{Folder};
 ghost use Rattle.ot_repo.specs.Walk.{walk_from};
 ghost use Rattle.ot_repo.specs.Required.{edges_of, walked};
 ghost use Rattle.ot_repo.specs.Answers.{ArePackages, FailsAt, Gives, names_of, HasCause, IsInside};
-ghost use Rattle.ot_repo.specs.Reading.{listed_in, IsIndex, IsReachedFile, edge_at, edges_left, AreListed, mark_in};
-ghost use Rattle.ot_repo.specs.Reading.{next_at};
+ghost use Rattle.ot_repo.specs.Reading.{listed_in, IsIndex, IsReachedFile, edge_at};
+ghost use Rattle.ot_repo.specs.Reading.{edges_left, AreListed, mark_in, next_at};
 
 use crate::fault::RepoFault;
 use crate::index::Index;

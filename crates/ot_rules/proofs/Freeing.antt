@@ -39,13 +39,19 @@ free-is v t = elim (cases_of (is_free names v t) (is_free-is names tells_names v
 ]
 
 -- by numbers
-pub free-numbers : (ts us : List Item) → Extends ts us → IsInjective us → (v : Variable Name) (id r : ℕ) (b : Bool) → HasTerm ts id → IsTerm us r (close names v (term_at ts id)) → b ≡ not (nat_eq r id) → b ≡ is_free names v (term_at ts id)
+pub free-numbers : (ts us : List Item) → Extends ts us → IsInjective us → (v : Variable Name) (id r : ℕ) (b : Bool)
+    → HasTerm ts id → IsTerm us r (close names v (term_at ts id)) → b ≡ not (nat_eq r id)
+    → b ≡ is_free names v (term_at ts id)
 free-numbers ts us e one v id r b has is test =
     let still = still-term ts us e id has in
     let tree : term_at us r ≡ close names v (term_at ts id) = term-is us r _ is in
     let kept = term-stays ts us e id has in
-    test ∙ ap not (sym (same-terms us one r id (has-term us r _ is) still)) ∙ (λ i. not (same_tm names (tree i) (kept i))) ∙ free-is v (term_at ts id)
+    test ∙ ap not (sym (same-terms us one r id (has-term us r _ is) still))
+    ∙ (λ i. not (same_tm names (tree i) (kept i))) ∙ free-is v (term_at ts id)
 
 -- in one of several terms: the next one, or the rest
-pub free-next : (ts : List Item) (v : Variable Name) (ids : List ℕ) (k i : ℕ) (b : Bool) → k < length ids → i ≡ get_or ids k i → b ≡ is_free names v (term_at ts i) → is_free_in_some names v (terms_at ts (drop k ids)) ≡ (b || is_free_in_some names v (terms_at ts (drop (k + 1) ids)))
-free-next ts v ids k i b h e d = ap (is_free_in_some names v) (terms-drop ts ids k i h e) ∙ ap (λ c. c || is_free_in_some names v (terms_at ts (drop (k + 1) ids))) (sym d)
+pub free-next : (ts : List Item) (v : Variable Name) (ids : List ℕ) (k i : ℕ) (b : Bool) → k < length ids
+    → i ≡ get_or ids k i → b ≡ is_free names v (term_at ts i) → is_free_in_some names v (terms_at ts (drop k ids))
+    ≡ (b || is_free_in_some names v (terms_at ts (drop (k + 1) ids)))
+free-next ts v ids k i b h e d = ap (is_free_in_some names v) (terms-drop ts ids k i h e)
+    ∙ ap (λ c. c || is_free_in_some names v (terms_at ts (drop (k + 1) ids))) (sym d)

@@ -21,16 +21,19 @@ pub passes-unless : {E : Type 0} (e : E) (b : Bool) → passes (unless e b) ≡ 
 passes-unless e true = refl
 passes-unless e false = refl
 
-pub passes-first : (fault : Symbol Name → Fault Name) (test : Symbol Name → Bool) (ss : List (Symbol Name)) → passes (refuse_first names fault test ss) ≡ not (list_any test ss)
+pub passes-first : (fault : Symbol Name → Fault Name) (test : Symbol Name → Bool) (ss : List (Symbol Name))
+    → passes (refuse_first names fault test ss) ≡ not (list_any test ss)
 passes-first fault test [] = refl
 passes-first fault test (s ∷ ss) = by (test s) (passes-first fault test ss)
   where
-    by : (b : Bool) → passes (refuse_first names fault test ss) ≡ not (list_any test ss) → passes (if b then Err (fault s) else refuse_first names fault test ss) ≡ not (b || list_any test ss)
+    by : (b : Bool) → passes (refuse_first names fault test ss) ≡ not (list_any test ss)
+        → passes (if b then Err (fault s) else refuse_first names fault test ss) ≡ not (b || list_any test ss)
     by true e = refl
     by false e = e
 
 -- three tests of each, one test after another
-rearranged : (a b c p q r : Bool) → (not (a || p) && ((not b && q) && not (c || r))) ≡ ((not a && (not b && not c)) && (not p && (q && not r)))
+rearranged : (a b c p q r : Bool) → (not (a || p) && ((not b && q) && not (c || r)))
+    ≡ ((not a && (not b && not c)) && (not p && (q && not r)))
 rearranged true b c p q r = refl
 rearranged false true c p q r = turned (not p)
   where
@@ -45,27 +48,55 @@ rearranged false false true p q r = outer (not p) q
     outer false y = refl
 rearranged false false false p q r = refl
 
-pub passes-symbols : (defined used premise ss : List (Symbol Name)) → passes (checked_symbols names defined used premise ss) ≡ are_fresh defined used premise ss
+pub passes-symbols : (defined used premise ss : List (Symbol Name))
+    → passes (checked_symbols names defined used premise ss) ≡ are_fresh defined used premise ss
 passes-symbols defined used premise ss =
-    passes-then (refuse_first names Primitive (λ s. is_among names s (primitives names)) ss) (refuse_defined names defined ss >>= λ _. refuse_first names SymbolInUse (λ s. is_among names s premise || is_among names s used) ss)
-    ∙ (λ i. passes-first Primitive (λ s. is_among names s (primitives names)) ss i && (passes-then (refuse_defined names defined ss) (refuse_first names SymbolInUse (λ s. is_among names s premise || is_among names s used) ss) ∙ ap (λ b. passes (refuse_defined names defined ss) && b) (passes-first SymbolInUse (λ s. is_among names s premise || is_among names s used) ss)) i)
+    passes-then (refuse_first names Primitive (λ s. is_among names s (primitives names)) ss)
+    (refuse_defined names defined ss >>= λ _. refuse_first names SymbolInUse
+    (λ s. is_among names s premise || is_among names s used) ss)
+    ∙ (λ i. passes-first Primitive (λ s. is_among names s (primitives names)) ss i
+    && (passes-then (refuse_defined names defined ss)
+    (refuse_first names SymbolInUse (λ s. is_among names s premise || is_among names s used) ss)
+    ∙ ap (λ b. passes (refuse_defined names defined ss) && b)
+    (passes-first SymbolInUse (λ s. is_among names s premise || is_among names s used) ss)) i)
     ∙ all defined ss
   where
-    all : (ds ss : List (Symbol Name)) → (not (list_any (λ s. is_among names s (primitives names)) ss) && (passes (refuse_defined names ds ss) && not (list_any (λ s. is_among names s premise || is_among names s used) ss))) ≡ are_fresh ds used premise ss
+    all : (ds ss : List (Symbol Name))
+        → (not (list_any (λ s. is_among names s (primitives names)) ss)
+        && (passes (refuse_defined names ds ss)
+        && not (list_any (λ s. is_among names s premise || is_among names s used) ss))) ≡ are_fresh ds used premise ss
     all ds [] = refl
-    all ds (s ∷ ss) = by (is_among names s ds) ∙ ap (λ b. (not (is_among names s (primitives names)) && (not (is_among names s ds) && not (is_among names s premise || is_among names s used))) && b) (all (s ∷ ds) ss)
+    all ds (s ∷ ss) = by (is_among names s ds)
+        ∙ ap (λ b. (not (is_among names s (primitives names))
+        && (not (is_among names s ds) && not (is_among names s premise || is_among names s used))) && b)
+        (all (s ∷ ds) ss)
       where
         by : (b : Bool)
-            → (not (is_among names s (primitives names) || list_any (λ s. is_among names s (primitives names)) ss) && (passes (if b then Err (AlreadyDefined s) else refuse_defined names (s ∷ ds) ss) && not ((is_among names s premise || is_among names s used) || list_any (λ s. is_among names s premise || is_among names s used) ss)))
-            ≡ ((not (is_among names s (primitives names)) && (not b && not (is_among names s premise || is_among names s used))) && (not (list_any (λ s. is_among names s (primitives names)) ss) && (passes (refuse_defined names (s ∷ ds) ss) && not (list_any (λ s. is_among names s premise || is_among names s used) ss))))
-        by true = rearranged (is_among names s (primitives names)) true (is_among names s premise || is_among names s used) (list_any (λ s. is_among names s (primitives names)) ss) (passes (refuse_defined names (s ∷ ds) ss)) (list_any (λ s. is_among names s premise || is_among names s used) ss)
-        by false = rearranged (is_among names s (primitives names)) false (is_among names s premise || is_among names s used) (list_any (λ s. is_among names s (primitives names)) ss) (passes (refuse_defined names (s ∷ ds) ss)) (list_any (λ s. is_among names s premise || is_among names s used) ss)
+            → (not (is_among names s (primitives names) || list_any (λ s. is_among names s (primitives names)) ss)
+            && (passes (if b then Err (AlreadyDefined s) else refuse_defined names (s ∷ ds) ss)
+            && not ((is_among names s premise || is_among names s used)
+            || list_any (λ s. is_among names s premise || is_among names s used) ss)))
+            ≡ ((not (is_among names s (primitives names))
+            && (not b && not (is_among names s premise || is_among names s used)))
+            && (not (list_any (λ s. is_among names s (primitives names)) ss)
+            && (passes (refuse_defined names (s ∷ ds) ss)
+            && not (list_any (λ s. is_among names s premise || is_among names s used) ss))))
+        by true =
+            rearranged (is_among names s (primitives names)) true (is_among names s premise || is_among names s used)
+            (list_any (λ s. is_among names s (primitives names)) ss) (passes (refuse_defined names (s ∷ ds) ss))
+            (list_any (λ s. is_among names s premise || is_among names s used) ss)
+        by false =
+            rearranged (is_among names s (primitives names)) false (is_among names s premise || is_among names s used)
+            (list_any (λ s. is_among names s (primitives names)) ss) (passes (refuse_defined names (s ∷ ds) ss))
+            (list_any (λ s. is_among names s premise || is_among names s used) ss)
 
 -- a check within a step
-pub step-passed : {A E : Type 0} (r : Result (Unit {0}) E) (s : Result A LogFault) → passes r ≡ true → (or_bad r >>= λ _. s) ≡ s
+pub step-passed : {A E : Type 0} (r : Result (Unit {0}) E) (s : Result A LogFault) → passes r ≡ true
+    → (or_bad r >>= λ _. s) ≡ s
 step-passed (Ok u) s h = refl
 step-passed (Err e) s h = cc
 
-pub step-refused : {A E : Type 0} (r : Result (Unit {0}) E) (s : Result A LogFault) → passes r ≡ false → (or_bad r >>= λ _. s) ≡ Err BadStep
+pub step-refused : {A E : Type 0} (r : Result (Unit {0}) E) (s : Result A LogFault) → passes r ≡ false
+    → (or_bad r >>= λ _. s) ≡ Err BadStep
 step-refused (Ok u) s h = cc
 step-refused (Err e) s h = refl

@@ -13,7 +13,9 @@ member-put : (z x : ℕ) (ys : List ℕ) → IsMember z (insert_key nat_cmp ys x
 member-put z x [] m = m
 member-put z x (y ∷ ys) m = go (nat_cmp x y) (member-put z x ys) m
   where
-    go : (o : Ordering) → (IsMember z (insert_key nat_cmp ys x) → (x ≡ z) ⊎ IsMember z ys) → IsMember z (match_ordering o (x ∷ y ∷ ys) (y ∷ ys) (y ∷ insert_key nat_cmp ys x)) → (x ≡ z) ⊎ ((y ≡ z) ⊎ IsMember z ys)
+    go : (o : Ordering) → (IsMember z (insert_key nat_cmp ys x) → (x ≡ z) ⊎ IsMember z ys)
+        → IsMember z (match_ordering o (x ∷ y ∷ ys) (y ∷ ys) (y ∷ insert_key nat_cmp ys x))
+        → (x ≡ z) ⊎ ((y ≡ z) ⊎ IsMember z ys)
     go Less f m = m
     go Equal f m = inr m
     go Greater f (inl p) = inr (inl p)
@@ -23,7 +25,9 @@ put-member : (z x : ℕ) (ys : List ℕ) → (x ≡ z) ⊎ IsMember z ys → IsM
 put-member z x [] m = m
 put-member z x (y ∷ ys) m = go (nat_cmp x y) (ranked x y (nat_cmp x y) refl) (put-member z x ys) m
   where
-    go : (o : Ordering) → MatchOrdering o (x < y) (x ≡ y) (y < x) → ((x ≡ z) ⊎ IsMember z ys → IsMember z (insert_key nat_cmp ys x)) → (x ≡ z) ⊎ ((y ≡ z) ⊎ IsMember z ys) → IsMember z (match_ordering o (x ∷ y ∷ ys) (y ∷ ys) (y ∷ insert_key nat_cmp ys x))
+    go : (o : Ordering) → MatchOrdering o (x < y) (x ≡ y) (y < x)
+        → ((x ≡ z) ⊎ IsMember z ys → IsMember z (insert_key nat_cmp ys x)) → (x ≡ z) ⊎ ((y ≡ z) ⊎ IsMember z ys)
+        → IsMember z (match_ordering o (x ∷ y ∷ ys) (y ∷ ys) (y ∷ insert_key nat_cmp ys x))
     go Less e f m = m
     go Equal e f (inl p) = inl (sym e ∙ p)
     go Equal e f (inr m) = m
@@ -67,7 +71,8 @@ put-ascending : (x : ℕ) (ys : List ℕ) → IsAscending ys → IsAscending (in
 put-ascending x [] a = (λ y m. absurd m, tt)
 put-ascending x (y ∷ ys) a = go (nat_cmp x y) (ranked x y (nat_cmp x y) refl) (put-ascending x ys a.1)
   where
-    go : (o : Ordering) → MatchOrdering o (x < y) (x ≡ y) (y < x) → IsAscending (insert_key nat_cmp ys x) → IsAscending (match_ordering o (x ∷ y ∷ ys) (y ∷ ys) (y ∷ insert_key nat_cmp ys x))
+    go : (o : Ordering) → MatchOrdering o (x < y) (x ≡ y) (y < x) → IsAscending (insert_key nat_cmp ys x)
+        → IsAscending (match_ordering o (x ∷ y ∷ ys) (y ∷ ys) (y ∷ insert_key nat_cmp ys x))
     go Less e b = (λ z m. elim m [ inl p ↦ subst (λ w. x < w) p e | inr n ↦ less-trans x y z e (a.0 z n) ], a)
     go Equal e b = a
     go Greater e b = (λ z m. elim (member-put z x ys m) [ inl p ↦ subst (λ w. y < w) p e | inr n ↦ a.0 z n ], b)
@@ -80,13 +85,15 @@ not-itself : (x : ℕ) → x < x → ⊥
 not-itself x h = omega arith
 
 -- the least members of one set are one
-first-same : (x y : ℕ) (xs ys : List ℕ) → IsBelowAll x xs → IsBelowAll y ys → IsMember x (y ∷ ys) → IsMember y (x ∷ xs) → x ≡ y
+first-same : (x y : ℕ) (xs ys : List ℕ) → IsBelowAll x xs → IsBelowAll y ys → IsMember x (y ∷ ys)
+    → IsMember y (x ∷ xs) → x ≡ y
 first-same x y xs ys a b (inl p) n = sym p
 first-same x y xs ys a b (inr m) (inl p) = p
 first-same x y xs ys a b (inr m) (inr n) = absurd (not-itself x (less-trans x y x (a y n) (b x m)))
 
 rest-part : (x y : ℕ) (xs ys : List ℕ) → IsBelowAll x xs → x ≡ y → IsPart (x ∷ xs) (y ∷ ys) → IsPart xs ys
-rest-part x y xs ys a e p z m = elim (p z (inr m)) [ inl q ↦ absurd (not-itself x (subst (λ w. x < w) (sym q ∙ sym e) (a z m))) | inr n ↦ n ]
+rest-part x y xs ys a e p z m =
+    elim (p z (inr m)) [ inl q ↦ absurd (not-itself x (subst (λ w. x < w) (sym q ∙ sym e) (a z m))) | inr n ↦ n ]
 
 ascending-unique : (xs ys : List ℕ) → IsAscending xs → IsAscending ys → IsSameSet xs ys → xs ≡ ys
 ascending-unique [] [] a b h = refl
@@ -94,14 +101,16 @@ ascending-unique [] (y ∷ ys) a b h = absurd (h.back y (inl refl))
 ascending-unique (x ∷ xs) [] a b h = absurd (h.to x (inl refl))
 ascending-unique (x ∷ xs) (y ∷ ys) a b h =
     let e = first-same x y xs ys a.0 b.0 (h.to x (inl refl)) (h.back y (inl refl)) in
-    let rest : xs ≡ ys = ascending-unique xs ys a.1 b.1 (record { to = rest-part x y xs ys a.0 e h.to; back = rest-part y x ys xs b.0 (sym e) h.back }) in
+    let rest : xs ≡ ys = ascending-unique xs ys a.1 b.1
+    (record { to = rest-part x y xs ys a.0 e h.to; back = rest-part y x ys xs b.0 (sym e) h.back }) in
     λ i. e i ∷ rest i
 
 pub ordered-same : (xs ys : List ℕ) → IsSameSet xs ys → ordered xs ≡ ordered ys
-ordered-same xs ys h = ascending-unique (ordered xs) (ordered ys) (all-ascending [] xs tt) (all-ascending [] ys tt) (record {
-  to = λ z m. ordered-member z ys (h.to z (member-ordered z xs m));
-  back = λ z m. ordered-member z xs (h.back z (member-ordered z ys m));
-})
+ordered-same xs ys h = ascending-unique (ordered xs) (ordered ys) (all-ascending [] xs tt) (all-ascending [] ys tt)
+    (record {
+      to = λ z m. ordered-member z ys (h.to z (member-ordered z xs m));
+      back = λ z m. ordered-member z xs (h.back z (member-ordered z ys m));
+    })
 
 pub same-ordered : (xs ys : List ℕ) → ordered xs ≡ ordered ys → IsSameSet xs ys
 same-ordered xs ys e = record {

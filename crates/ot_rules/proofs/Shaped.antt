@@ -1,7 +1,8 @@
 -- Terms and types of a shape, or of none.
 use Rattle.std.specs.Prelude.{◌≢◌, MatchOption}
 use Rattle.std.specs.Bool.{Decides}
-use Rattle.std.proofs.Common.{◌≡◌, length, arith, ℕ, Bool, true, false, ◌&&◌, List, [], ◌∷◌, Option, Some, None, nat_eq, eq-eqb, eqb-true, true≢false, refl, sym, ap, ◌∙◌}
+use Rattle.std.proofs.Common.{◌≡◌, length, arith, ℕ, Bool, true, false, ◌&&◌, List, [], ◌∷◌, Option}
+use Rattle.std.proofs.Common.{Some, None, nat_eq, eq-eqb, eqb-true, true≢false, refl, sym, ap, ◌∙◌}
 use Rattle.std.proofs.lemmas.Option.{same_Some}
 use Rattle.ot_plain.specs.Names.{Name}
 use Rattle.ot_plain.specs.Naming.{names}
@@ -18,7 +19,8 @@ use Rattle.ot_rules.specs.Shapes.{IsApp, equals_at, IsEquals, IsRelation, AreSid
 use Rattle.ot_rules.specs.declared.shapes.Sides.{Sides}
 
 -- a term that is no equation
-pub no-equation : (t : Tm Name) → ((a : Ty Name) (l r : Tm Name) → t ≢ equation names a l r) → as_equation names t ≡ None
+pub no-equation : (t : Tm Name) → ((a : Ty Name) (l r : Tm Name) → t ≢ equation names a l r)
+    → as_equation names t ≡ None
 no-equation t h = go (as_equation names t) refl
   where
     go : (o : Option (Ty Name × Tm Name × Tm Name)) → as_equation names t ≡ o → as_equation names t ≡ None
@@ -27,18 +29,31 @@ no-equation t h = go (as_equation names t) refl
 
 module _ (ts : List Item) where
   -- the sides of an equation, from its parts
-  pub sides-made : (id half equals : ℕ) (s : Sides) → IsApp ts id half s.right → IsApp ts half equals s.left → IsEquals ts equals s.ty → AreSides ts id s
+  pub sides-made : (id half equals : ℕ) (s : Sides) → IsApp ts id half s.right → IsApp ts half equals s.left
+      → IsEquals ts equals s.ty → AreSides ts id s
   sides-made id half equals s a b c =
-      let tree : term_at ts id ≡ equation names (type_at ts s.ty) (term_at ts s.left) (term_at ts s.right) = a.is ∙ (λ i. App ((b.is ∙ (λ j. App (c.is j) (term_at ts s.left))) i) (term_at ts s.right)) in
-      record { is = ap (as_equation names) tree ∙ as_equation-equation names tells_names (type_at ts s.ty) (term_at ts s.left) (term_at ts s.right); ty = c.ty; left = b.x; right = a.x }
+      let tree : term_at ts id ≡ equation names (type_at ts s.ty) (term_at ts s.left) (term_at ts s.right) =
+      a.is ∙ (λ i. App ((b.is ∙ (λ j. App (c.is j) (term_at ts s.left))) i) (term_at ts s.right)) in
+      record {
+        is = ap (as_equation names) tree ∙ as_equation-equation names tells_names (type_at ts s.ty)
+            (term_at ts s.left) (term_at ts s.right);
+        ty = c.ty;
+        left = b.x;
+        right = a.x;
+      }
 
   pub no-app : (id : ℕ) → ((f x : Tm Name) → term_at ts id ≢ App f x) → as_equation names (term_at ts id) ≡ None
   no-app id h = no-equation (term_at ts id) (λ a l r e. h (App (equals_at a) l) r e)
 
-  pub no-half : (id half right : ℕ) → IsApp ts id half right → ((f x : Tm Name) → term_at ts half ≢ App f x) → as_equation names (term_at ts id) ≡ None
-  no-half id half right a h = no-equation (term_at ts id) (λ t l r e. let k : App (term_at ts half) (term_at ts right) ≡ App (App (equals_at t) l) r = sym a.is ∙ e in let p : term_at ts half ≡ App (equals_at t) l = cc in h (equals_at t) l p)
+  pub no-half : (id half right : ℕ) → IsApp ts id half right → ((f x : Tm Name) → term_at ts half ≢ App f x)
+      → as_equation names (term_at ts id) ≡ None
+  no-half id half right a h =
+      no-equation (term_at ts id)
+      (λ t l r e. let k : App (term_at ts half) (term_at ts right) ≡ App (App (equals_at t) l) r = sym a.is ∙ e in
+      let p : term_at ts half ≡ App (equals_at t) l = cc in h (equals_at t) l p)
 
-  pub no-equals : (id half right equals left : ℕ) → IsApp ts id half right → IsApp ts half equals left → ((t : Ty Name) → term_at ts equals ≢ equals_at t) → as_equation names (term_at ts id) ≡ None
+  pub no-equals : (id half right equals left : ℕ) → IsApp ts id half right → IsApp ts half equals left
+      → ((t : Ty Name) → term_at ts equals ≢ equals_at t) → as_equation names (term_at ts id) ≡ None
   no-equals id half right equals left a b h =
       no-equation (term_at ts id) (λ t l r e.
       let k : App (term_at ts half) (term_at ts right) ≡ App (App (equals_at t) l) r = sym a.is ∙ e in
@@ -61,42 +76,57 @@ module _ (ts : List Item) (first : Extends first_items ts) (one : IsInjective ts
   has_bool = has-name ts 1 names.bool_name (first.keeps 1 _ refl)
 
   -- ---- the equality relation
-  pub equals-made : (id n ty : ℕ) (b : Bool) → term_at ts id ≡ Con (name_at ts n) (type_at ts ty) → b ≡ nat_eq n 2 → b ≡ true → (r : Option ℕ)
-      → MatchOption r ((a : Ty Name) → type_at ts ty ≢ fun_ty names a (fun_ty names a (bool_ty names))) (IsRelation ts ty) → MatchOption r ((a : Ty Name) → term_at ts id ≢ equals_at a) (IsEquals ts id)
-  equals-made id n ty b tree test so None m = λ a e. let k : Con (name_at ts n) (type_at ts ty) ≡ equals_at a = sym tree ∙ e in let p : type_at ts ty ≡ fun_ty names a (fun_ty names a (bool_ty names)) = cc in m a p
+  pub equals-made : (id n ty : ℕ) (b : Bool) → term_at ts id ≡ Con (name_at ts n) (type_at ts ty) → b ≡ nat_eq n 2
+      → b ≡ true → (r : Option ℕ)
+      → MatchOption r ((a : Ty Name) → type_at ts ty ≢ fun_ty names a (fun_ty names a (bool_ty names)))
+      (IsRelation ts ty) → MatchOption r ((a : Ty Name) → term_at ts id ≢ equals_at a) (IsEquals ts id)
+  equals-made id n ty b tree test so None m = λ a e. let k : Con (name_at ts n) (type_at ts ty) ≡ equals_at a =
+      sym tree ∙ e in let p : type_at ts ty ≡ fun_ty names a (fun_ty names a (bool_ty names)) = cc in m a p
   equals-made id n ty b tree test so (Some a) m =
       let two : n ≡ 2 = eqb-true n 2 (sym test ∙ so) in
       let name : name_at ts n ≡ names.equals = ap (name_at ts) two ∙ name_equals in
       record { is = tree ∙ (λ i. Con (name i) (m.is i)); ty = m.ty }
 
-  pub equals-other : (id n ty : ℕ) (b : Bool) → HasName ts n → term_at ts id ≡ Con (name_at ts n) (type_at ts ty) → b ≡ nat_eq n 2 → b ≡ false → (a : Ty Name) → term_at ts id ≢ equals_at a
+  pub equals-other : (id n ty : ℕ) (b : Bool) → HasName ts n → term_at ts id ≡ Con (name_at ts n) (type_at ts ty)
+      → b ≡ nat_eq n 2 → b ≡ false → (a : Ty Name) → term_at ts id ≢ equals_at a
   equals-other id n ty b has tree test contrary a e =
       let k : Con (name_at ts n) (type_at ts ty) ≡ equals_at a = sym tree ∙ e in
       let p : name_at ts n ≡ names.equals = cc in
       true≢false (sym (eq-eqb n 2 (name-one ts one n 2 has has_equals (p ∙ sym name_equals))) ∙ sym test ∙ contrary)
 
   -- ---- the type of relations
-  pub relation-made : (id a predicate b truth : ℕ) → IsFunction ts id a predicate → IsFunction ts predicate b truth → a ≡ b → type_at ts truth ≡ bool_ty names → IsRelation ts id a
+  pub relation-made : (id a predicate b truth : ℕ) → IsFunction ts id a predicate → IsFunction ts predicate b truth
+      → a ≡ b → type_at ts truth ≡ bool_ty names → IsRelation ts id a
   relation-made id a predicate b truth f g same truly =
       record {
         is = as_fun_ty-some names tells_names (type_at ts id) (type_at ts a) (type_at ts predicate) f.is
-            ∙ ap (fun_ty names (type_at ts a)) (as_fun_ty-some names tells_names (type_at ts predicate) (type_at ts b) (type_at ts truth) g.is ∙ (λ i. fun_ty names (type_at ts (sym same i)) (truly i)));
+            ∙ ap (fun_ty names (type_at ts a)) (as_fun_ty-some names tells_names (type_at ts predicate) (type_at ts b)
+            (type_at ts truth) g.is ∙ (λ i. fun_ty names (type_at ts (sym same i)) (truly i)));
         ty = f.from;
       }
 
-  pub relation-parts : (id a predicate : ℕ) → IsFunction ts id a predicate → (t u : Ty Name) → type_at ts id ≡ fun_ty names t u → (type_at ts a ≡ t) × (type_at ts predicate ≡ u)
+  pub relation-parts : (id a predicate : ℕ) → IsFunction ts id a predicate → (t u : Ty Name)
+      → type_at ts id ≡ fun_ty names t u → (type_at ts a ≡ t) × (type_at ts predicate ≡ u)
   relation-parts id a predicate f t u e =
-      let k : Some (type_at ts a, type_at ts predicate) ≡ Some (t, u) = sym f.is ∙ ap (as_fun_ty names) e ∙ as_fun_ty-fun names tells_names t u in
-      let p : (type_at ts a, type_at ts predicate) ≡ (t, u) = same_Some (type_at ts a, type_at ts predicate) (t, u) k in
+      let k : Some (type_at ts a, type_at ts predicate) ≡ Some (t, u) = sym f.is ∙ ap (as_fun_ty names) e
+      ∙ as_fun_ty-fun names tells_names t u in
+      let p : (type_at ts a, type_at ts predicate) ≡ (t, u) =
+      same_Some (type_at ts a, type_at ts predicate) (t, u) k in
       (ap (λ (x : Ty Name × Ty Name). x.0) p, ap (λ (x : Ty Name × Ty Name). x.1) p)
 
-  pub no-function : (id : ℕ) → as_fun_ty names (type_at ts id) ≡ None → (t u : Ty Name) → type_at ts id ≢ fun_ty names t u
-  no-function id h t u e = let k : Some (t, u) ≡ None = sym (ap (as_fun_ty names) e ∙ as_fun_ty-fun names tells_names t u) ∙ h in cc
+  pub no-function : (id : ℕ) → as_fun_ty names (type_at ts id) ≡ None → (t u : Ty Name)
+      → type_at ts id ≢ fun_ty names t u
+  no-function id h t u e = let k : Some (t, u) ≡ None =
+      sym (ap (as_fun_ty names) e ∙ as_fun_ty-fun names tells_names t u) ∙ h in cc
 
-  pub no-predicate : (id a predicate : ℕ) → IsFunction ts id a predicate → as_fun_ty names (type_at ts predicate) ≡ None → (t : Ty Name) → type_at ts id ≢ fun_ty names t (fun_ty names t (bool_ty names))
-  no-predicate id a predicate f h t e = no-function predicate h t (bool_ty names) (relation-parts id a predicate f t (fun_ty names t (bool_ty names)) e).1
+  pub no-predicate : (id a predicate : ℕ) → IsFunction ts id a predicate → as_fun_ty names (type_at ts predicate)
+      ≡ None → (t : Ty Name) → type_at ts id ≢ fun_ty names t (fun_ty names t (bool_ty names))
+  no-predicate id a predicate f h t e = no-function predicate h t (bool_ty names)
+      (relation-parts id a predicate f t (fun_ty names t (bool_ty names)) e).1
 
-  pub no-relation : (id a predicate b truth : ℕ) (same truly : Bool) → IsFunction ts id a predicate → IsFunction ts predicate b truth → same ≡ nat_eq a b → Decides truly (type_at ts truth ≡ bool_ty names) → (same && truly) ≡ false → (t : Ty Name) → type_at ts id ≢ fun_ty names t (fun_ty names t (bool_ty names))
+  pub no-relation : (id a predicate b truth : ℕ) (same truly : Bool) → IsFunction ts id a predicate
+      → IsFunction ts predicate b truth → same ≡ nat_eq a b → Decides truly (type_at ts truth ≡ bool_ty names)
+      → (same && truly) ≡ false → (t : Ty Name) → type_at ts id ≢ fun_ty names t (fun_ty names t (bool_ty names))
   no-relation id a predicate b truth same truly f g s d contrary t e =
       let p = relation-parts id a predicate f t (fun_ty names t (bool_ty names)) e in
       let q = relation-parts predicate b truth g t (bool_ty names) p.1 in
@@ -106,7 +136,8 @@ module _ (ts : List Item) (first : Extends first_items ts) (one : IsInjective ts
       true≢false (sym whole ∙ contrary)
 
   -- ---- the type of propositions
-  pub boolean-made : (id n : ℕ) (is : List ℕ) → type_at ts id ≡ TyOp (name_at ts n) (types_at ts is) → nat_eq n 1 ≡ true → (b : Bool) → b ≡ nat_eq (length is) 0 → Decides b (type_at ts id ≡ bool_ty names)
+  pub boolean-made : (id n : ℕ) (is : List ℕ) → type_at ts id ≡ TyOp (name_at ts n) (types_at ts is)
+      → nat_eq n 1 ≡ true → (b : Bool) → b ≡ nat_eq (length is) 0 → Decides b (type_at ts id ≡ bool_ty names)
   boolean-made id n is tree so b h = by is refl
     where
       name : name_at ts n ≡ names.bool_name
@@ -118,11 +149,14 @@ module _ (ts : List Item) (first : Extends first_items ts) (one : IsInjective ts
         (λ p. h ∙ ap (λ l. nat_eq (length l) 0) e),
       )
       by (j ∷ js) e = (
-        (λ p. let q : length (j ∷ js) ≡ 0 = sym (ap length e) ∙ eqb-true (length is) 0 (sym h ∙ p) in absurd (omega arith)),
-        (λ p. let q : TyOp (name_at ts n) (MoreTys (type_at ts j) (types_at ts js)) ≡ TyOp names.bool_name NoTys = sym (ap (λ l. TyOp (name_at ts n) (types_at ts l)) e) ∙ sym tree ∙ p in cc),
+        (λ p. let q : length (j ∷ js) ≡ 0 = sym (ap length e) ∙ eqb-true (length is) 0 (sym h ∙ p) in
+            absurd (omega arith)),
+        (λ p. let q : TyOp (name_at ts n) (MoreTys (type_at ts j) (types_at ts js)) ≡ TyOp names.bool_name NoTys = sym
+            (ap (λ l. TyOp (name_at ts n) (types_at ts l)) e) ∙ sym tree ∙ p in cc),
       )
 
-  pub boolean-other : (id n : ℕ) (is : List ℕ) → HasName ts n → type_at ts id ≡ TyOp (name_at ts n) (types_at ts is) → nat_eq n 1 ≡ false → (b : Bool) → b ≡ false → Decides b (type_at ts id ≡ bool_ty names)
+  pub boolean-other : (id n : ℕ) (is : List ℕ) → HasName ts n → type_at ts id ≡ TyOp (name_at ts n) (types_at ts is)
+      → nat_eq n 1 ≡ false → (b : Bool) → b ≡ false → Decides b (type_at ts id ≡ bool_ty names)
   boolean-other id n is has tree contrary b e = (
     (λ p. absurd (true≢false (sym p ∙ e))),
     (λ p.

@@ -24,22 +24,27 @@ use Rattle.ot_plain.proofs.Members.{All-at_member, IsMember-map, IsMember-map_ba
 -- the test of variables and of marks
 variable-is : (v w : VariableNode) → Decides (nat_eq v.name w.name && nat_eq v.ty w.ty) (v ≡ w)
 variable-is v w =
-    Decides-like (nat_eq v.name w.name && nat_eq v.ty w.ty) (λ p i. record { name = p.0 i; ty = p.1 i }) (λ e. (ap (λ x. x.name) e, ap (λ x. x.ty) e))
+    Decides-like (nat_eq v.name w.name && nat_eq v.ty w.ty) (λ p i. record { name = p.0 i; ty = p.1 i })
+    (λ e. (ap (λ x. x.name) e, ap (λ x. x.ty) e))
     (Decides-and (nat_eq v.name w.name) (nat_eq v.ty w.ty) (Decides-eqb v.name w.name) (Decides-eqb v.ty w.ty))
 
 pub mark-is : (m k : Mark) → Decides (mark_eq m k) (m ≡ k)
 mark-is (mark.TypeVar n) (mark.TypeVar j) = Decides-like (nat_eq n j) (ap mark.TypeVar) (λ e. cc) (Decides-eqb n j)
 mark-is (mark.Operator n) (mark.Operator j) = Decides-like (nat_eq n j) (ap mark.Operator) (λ e. cc) (Decides-eqb n j)
 mark-is (mark.Constant n) (mark.Constant j) = Decides-like (nat_eq n j) (ap mark.Constant) (λ e. cc) (Decides-eqb n j)
-mark-is (mark.Variable v) (mark.Variable w) = Decides-like (nat_eq v.name w.name && nat_eq v.ty w.ty) (ap mark.Variable) (λ e. cc) (variable-is v w)
+mark-is (mark.Variable v) (mark.Variable w) =
+    Decides-like (nat_eq v.name w.name && nat_eq v.ty w.ty) (ap mark.Variable) (λ e. cc) (variable-is v w)
 mark-is _ _ = (λ h. cc, λ e. cc)
 
 module _ (ts : List Item) (one : IsInjective ts) where
   -- each mark has one number
   pub mark-one : (m k : Mark) → HasMark ts m → HasMark ts k → mark_at ts m ≡ mark_at ts k → m ≡ k
-  mark-one (mark.TypeVar n) (mark.TypeVar j) g h e = let p : name_at ts n ≡ name_at ts j = cc in ap mark.TypeVar (name-one ts one n j g h p)
-  mark-one (mark.Operator n) (mark.Operator j) g h e = let p : name_at ts n ≡ name_at ts j = cc in ap mark.Operator (name-one ts one n j g h p)
-  mark-one (mark.Constant n) (mark.Constant j) g h e = let p : name_at ts n ≡ name_at ts j = cc in ap mark.Constant (name-one ts one n j g h p)
+  mark-one (mark.TypeVar n) (mark.TypeVar j) g h e = let p : name_at ts n ≡ name_at ts j = cc in
+      ap mark.TypeVar (name-one ts one n j g h p)
+  mark-one (mark.Operator n) (mark.Operator j) g h e = let p : name_at ts n ≡ name_at ts j = cc in
+      ap mark.Operator (name-one ts one n j g h p)
+  mark-one (mark.Constant n) (mark.Constant j) g h e = let p : name_at ts n ≡ name_at ts j = cc in
+      ap mark.Constant (name-one ts one n j g h p)
   mark-one (mark.Variable v) (mark.Variable w) g h e =
       let p : variable_at ts v ≡ variable_at ts w = cc in
       let name = name-one ts one v.name w.name g.0 h.0 (ap (λ x. x.name) p) in
@@ -61,14 +66,17 @@ module _ (ts : List Item) (one : IsInjective ts) where
   has-mark (mark.Variable v) h = absurd h
 
   -- the test of a mark among others is that of its symbol among theirs
-  pub marked-among : (m : Mark) (ms : List Mark) (ss : List (Symbol Name)) → IsSymbolMark ts m → All (HasMark ts) ms → HasSymbols ss (map (mark_at ts) ms) → is_marked m ms ≡ is_among names (symbol_of ts m) ss
+  pub marked-among : (m : Mark) (ms : List Mark) (ss : List (Symbol Name)) → IsSymbolMark ts m → All (HasMark ts) ms
+      → HasSymbols ss (map (mark_at ts) ms) → is_marked m ms ≡ is_among names (symbol_of ts m) ss
   marked-among m ms ss h has k =
       same_from_decides (is_marked m ms) (is_among names (symbol_of ts m) ss)
       (Decides-like (is_marked m ms)
-      (λ i. (k.is (symbol_of ts m)).0 (subst (λ o. IsMember o (map (mark_at ts) ms)) (marked-as m h) (IsMember-map (mark_at ts) m ms i)))
+      (λ i. (k.is (symbol_of ts m)).0
+      (subst (λ o. IsMember o (map (mark_at ts) ms)) (marked-as m h) (IsMember-map (mark_at ts) m ms i)))
       (λ i.
       let r = IsMember-map_back (mark_at ts) (mark_of (symbol_of ts m)) ms ((k.is (symbol_of ts m)).1 i) in
-      let same : r.0 ≡ m = mark-one r.0 m (All-at_member (HasMark ts) ms r.0 has r.1) (has-mark m h) (r.2 ∙ sym (marked-as m h)) in
+      let same : r.0 ≡ m = mark-one r.0 m (All-at_member (HasMark ts) ms r.0 has r.1) (has-mark m h)
+      (r.2 ∙ sym (marked-as m h)) in
       subst (λ x. IsMember x ms) same r.1)
       (any-is mark_eq mark-is m ms))
       (is_among-is names tells_names (symbol_of ts m) ss)

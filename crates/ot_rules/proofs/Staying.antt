@@ -16,7 +16,8 @@ use Rattle.ot_rules.specs.declared.definition.Definition as code
 use Rattle.ot_rules.specs.declared.definition.Definition.TheVariants as kind
 
 -- what agrees on each element agrees on the list
-pub map-agree : {X Y : Type 0} (P : X → Type 0) (f g : X → Y) → ((x : X) → P x → g x ≡ f x) → (xs : List X) → All P xs → map g xs ≡ map f xs
+pub map-agree : {X Y : Type 0} (P : X → Type 0) (f g : X → Y) → ((x : X) → P x → g x ≡ f x) → (xs : List X) → All P xs
+    → map g xs ≡ map f xs
 map-agree P f g same [] h = refl
 map-agree P f g same (x ∷ xs) h =
     let head = same x (All-head P x xs h) in
@@ -47,11 +48,14 @@ module _ (ts us : List Item) (e : Extends ts us) where
 
   pub pairs-stay : (ps : List (ℕ × VariableNode)) → HasPairs ts ps → pairs_at us ps ≡ pairs_at ts ps
   pairs-stay ps h =
-      map-agree (λ p. HasName ts p.0 × HasVariable ts p.1) (λ p. (name_at ts p.0, variable_at ts p.1)) (λ p. (name_at us p.0, variable_at us p.1))
-      (λ p k. let name = name-stays ts us e p.0 k.0 in let variable = variable-stays ts us e p.1 k.1 in λ i. (name i, variable i)) ps h
+      map-agree (λ p. HasName ts p.0 × HasVariable ts p.1) (λ p. (name_at ts p.0, variable_at ts p.1))
+      (λ p. (name_at us p.0, variable_at us p.1))
+      (λ p k. let name = name-stays ts us e p.0 k.0 in let variable = variable-stays ts us e p.1 k.1 in
+      λ i. (name i, variable i)) ps h
 
   pub still-pairs : (ps : List (ℕ × VariableNode)) → HasPairs ts ps → HasPairs us ps
-  still-pairs ps h = All-weaker (λ p. HasName ts p.0 × HasVariable ts p.1) (λ p. HasName us p.0 × HasVariable us p.1) (λ p k. (still-name ts us e p.0 k.0, still-variable ts us e p.1 k.1)) ps h
+  still-pairs ps h = All-weaker (λ p. HasName ts p.0 × HasVariable ts p.1) (λ p. HasName us p.0 × HasVariable us p.1)
+      (λ p k. (still-name ts us e p.0 k.0, still-variable ts us e p.1 k.1)) ps h
 
   pub definition-stays : (d : code.Definition) → HasDefinition ts d → definition_at us d ≡ definition_at ts d
   definition-stays (kind.Constant n t) h =
@@ -73,4 +77,10 @@ module _ (ts us : List Item) (e : Extends ts us) where
   pub still-definition : (d : code.Definition) → HasDefinition ts d → HasDefinition us d
   still-definition (kind.Constant n t) h = (still-name ts us e n h.0, still-term ts us e t h.1)
   still-definition (kind.Constants ps q) h = (still-pairs ps.items h.0, still-statement q h.1)
-  still-definition (kind.TypeOperator n abs rep vs q) h = (still-name ts us e n h.0, still-name ts us e abs h.1, still-name ts us e rep h.2, still-names vs.items h.3, still-statement q h.4)
+  still-definition (kind.TypeOperator n abs rep vs q) h = (
+    still-name ts us e n h.0,
+    still-name ts us e abs h.1,
+    still-name ts us e rep h.2,
+    still-names vs.items h.3,
+    still-statement q h.4,
+  )

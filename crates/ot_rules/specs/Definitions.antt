@@ -31,16 +31,20 @@ names_at ts is = map (name_at ts) is
 abbrev pub definition_at : List Item → code.Definition → Definition Name
 definition_at ts (kind.Constant n t) = ConDef (name_at ts n) (term_at ts t)
 definition_at ts (kind.Constants ps q) = ListDef (pairs_at ts ps.items) (sequent_at ts q)
-definition_at ts (kind.TypeOperator n abs rep vs q) = TyDef (name_at ts n) (name_at ts abs) (name_at ts rep) (names_at ts vs.items) (sequent_at ts q)
+definition_at ts (kind.TypeOperator n abs rep vs q) =
+    TyDef (name_at ts n) (name_at ts abs) (name_at ts rep) (names_at ts vs.items) (sequent_at ts q)
 
 -- its numbers are of the table
 abbrev pub HasDefinition : List Item → code.Definition → Type 0
 HasDefinition ts (kind.Constant n t) = HasName ts n × HasTerm ts t
 HasDefinition ts (kind.Constants ps q) = HasPairs ts ps.items × HasStatement ts q
-HasDefinition ts (kind.TypeOperator n abs rep vs q) = HasName ts n × HasName ts abs × HasName ts rep × All (HasName ts) vs.items × HasStatement ts q
+HasDefinition ts (kind.TypeOperator n abs rep vs q) = HasName ts n × HasName ts abs × HasName ts rep
+    × All (HasName ts) vs.items × HasStatement ts q
 
 -- the sequents are the theorems of the definition, which the case gives; or it gives none. Want of memory is free
-abbrev pub Defines : Result (Vec Statement) StepFault → Definition Name → Result (Definition Name) LogFault → List Item → Type 0
-Defines (Ok v) d step ts = All (HasStatement ts) v.items × (map (sequent_at ts) v.items ≡ theorems names d) × (step ≡ Ok d)
+abbrev pub Defines : Result (Vec Statement) StepFault → Definition Name → Result (Definition Name) LogFault
+    → List Item → Type 0
+Defines (Ok v) d step ts = All (HasStatement ts) v.items × (map (sequent_at ts) v.items ≡ theorems names d)
+    × (step ≡ Ok d)
 Defines (Err fault.BadStep) d step ts = step ≡ Err BadStep
 Defines (Err fault.Memory) d step ts = Unit {0}

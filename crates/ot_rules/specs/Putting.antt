@@ -25,7 +25,9 @@ pub record IsChanged (ts us : List Item) (change : Changing) (a q : Statement) :
   pub concl : term_at us q.concl ≡ changed change 0 (term_at ts a.concl)
 
 -- the statement is the other one with the substitution put into each term
-pub record IsPut (ts us : List Item) (types : List (ℕ × ℕ)) (terms : List (VariableNode × ℕ)) (a q : Statement) : Type 0 where
+pub record IsPut (ts us : List Item) (types : List (ℕ × ℕ)) (terms : List (VariableNode × ℕ)) (a q : Statement) : Type
+    0 where
   pub has : HasStatement us q
-  pub hyps : terms_at us q.hyps.items ≡ once_each names (map (subst_tm names (type_map ts types) (term_map ts terms)) (terms_at ts a.hyps.items))
+  pub hyps : terms_at us q.hyps.items
+      ≡ once_each names (map (subst_tm names (type_map ts types) (term_map ts terms)) (terms_at ts a.hyps.items))
   pub concl : term_at us q.concl ≡ subst_tm names (type_map ts types) (term_map ts terms) (term_at ts a.concl)

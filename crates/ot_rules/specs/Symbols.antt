@@ -1,5 +1,6 @@
 -- The symbols of definitions, by the marks of what occurs.
-use Rattle.std.specs.Prelude.{◌≡◌, ◌↔◌, ◌&&◌, ◌||◌, not, nat_eq, Bool, true, false, List, [], ◌∷◌, map, Result, Ok, Err}
+use Rattle.std.specs.Prelude.{◌≡◌, ◌↔◌, ◌&&◌, ◌||◌, not, nat_eq, Bool, true}
+use Rattle.std.specs.Prelude.{false, List, [], ◌∷◌, map, Result, Ok, Err}
 use Rattle.std.specs.List.{All, list_any}
 use Rattle.ot_plain.specs.Names.{Name}
 use Rattle.ot_plain.specs.Naming.{names}
@@ -54,12 +55,14 @@ pub record KeepsSymbols (old new : Signature) : Type 0 where
   pub defined : new.defined.keys ≡ old.defined.keys
   pub used : new.used.keys ≡ old.used.keys
 
--- whether each symbol may be defined, after those that are: it has no meaning of its own, isn't defined, and occurs neither
--- in the premise nor in a definition
+-- whether each symbol may be defined, after those that are: it has no meaning of its own, isn't defined, and occurs
+-- neither in the premise nor in a definition
 abbrev pub are_fresh : (defined used premise symbols : List (Symbol Name)) → Bool
 are_fresh defined used premise [] = true
 are_fresh defined used premise (s ∷ ss) =
-    (not (is_among names s (primitives names)) && (not (is_among names s defined) && not (is_among names s premise || is_among names s used))) && are_fresh (s ∷ defined) used premise ss
+    (not (is_among names s (primitives names))
+    && (not (is_among names s defined) && not (is_among names s premise || is_among names s used)))
+    && are_fresh (s ∷ defined) used premise ss
 
 -- ---- by the code's tests
 

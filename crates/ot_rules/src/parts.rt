@@ -2,8 +2,8 @@
 ghost use Rattle.std.specs.Prelude.{◌≡◌, ◌<◌, List, [], ◌∷◌, map, OnOk, IfOk};
 ghost use Rattle.std.specs.List.{All};
 ghost use Rattle.ot_nodes.specs.Items.{HasType, HasTerm, type_at, term_at, types_at};
-ghost use Rattle.ot_rules.specs.Parts.{marks_ty, marks_all, marks_tm, marks_each, marks_sequent, marks_sequents};
-ghost use Rattle.ot_rules.specs.Parts.{HasMark, mark_at, IsGoneOver, Gathers, IsOf};
+ghost use Rattle.ot_rules.specs.Parts.{marks_ty, marks_all, marks_tm, marks_each, marks_sequent};
+ghost use Rattle.ot_rules.specs.Parts.{marks_sequents, HasMark, mark_at, IsGoneOver, Gathers, IsOf};
 ghost use Rattle.ot_rules.specs.Statements.{terms_at, sequent_at, HasStatement};
 
 use crate::statement::Statement;

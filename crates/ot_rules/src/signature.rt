@@ -10,8 +10,8 @@ ghost use Rattle.ot_nodes.specs.Items.{HasName};
 ghost use Rattle.ot_rules.specs.Definitions.{definition_at, HasDefinition};
 ghost use Rattle.ot_rules.specs.Parts.{marks_premise, marks_sequents, HasMark, marks_at, Gathers, IsGoneOver, IsOf};
 ghost use Rattle.ot_rules.specs.Statements.{sequent_at, HasStatement};
-ghost use Rattle.ot_rules.specs.Symbols.{HasSymbols, IsSignature, IsSymbolMark, KeepsSymbols, mark_eq, symbol_of};
-ghost use Rattle.ot_rules.specs.Symbols.{are_fresh, is_primitive_mark, is_marked};
+ghost use Rattle.ot_rules.specs.Symbols.{HasSymbols, IsSignature, IsSymbolMark, KeepsSymbols};
+ghost use Rattle.ot_rules.specs.Symbols.{mark_eq, symbol_of, are_fresh, is_primitive_mark, is_marked};
 ghost use Rattle.indexmap.specs.IndexSet.{insert_all};
 ghost use Rattle.ot_rules.specs.declared.parts.Mark.TheVariants.{Constant};
 

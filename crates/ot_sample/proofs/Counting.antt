@@ -1,5 +1,6 @@
 -- How many newlines the sample article has.
-use Rattle.std.specs.Prelude.{◌≡◌, ℕ, zero, suc, ◌+◌, ◌*◌, ◌<◌, ◌≤◌, ◌^◌, ◌%◌, ◌==◌, cond, false, List, [], ◌∷◌, ◌++◌, codes, decimal, count_by}
+use Rattle.std.specs.Prelude.{◌≡◌, ℕ, zero, suc, ◌+◌, ◌*◌, ◌<◌, ◌≤◌, ◌^◌, ◌%◌, ◌==◌}
+use Rattle.std.specs.Prelude.{cond, false, List, [], ◌∷◌, ◌++◌, codes, decimal, count_by}
 use Rattle.std.proofs.Common.{refl, ◌∙◌, ap, arith}
 use Rattle.std.proofs.lemmas.Bool.Decides.{nat_tests}
 use Rattle.std.proofs.lemmas.Fmt.{decimal_by_steps}
@@ -33,14 +34,35 @@ newlines-doubled a b ha hb =
     let four = three ++ number a in
     let five = four ++ lines (codes "ref appTerm ") in
     let six = five ++ number b in
-    omega (arith, newlines-append six (lines (codes "def pop ")), newlines-append five (number b), newlines-append four (lines (codes "ref appTerm ")), newlines-append three (number a), newlines-append two (lines (codes "ref appTerm ")), newlines-append one (number a), newlines-number a ha, newlines-number b hb)
+    omega (
+      arith,
+      newlines-append six (lines (codes "def pop ")),
+      newlines-append five (number b),
+      newlines-append
+          four (lines (codes "ref appTerm ")),
+      newlines-append three (number a),
+      newlines-append two
+          (lines (codes "ref appTerm ")),
+      newlines-append one (number a),
+      newlines-number a ha,
+      newlines-number b hb,
+    )
 
 newlines-doublings : (n : ℕ) → n ≤ 1000 → newlines (doublings n) ≡ 22 * n
 newlines-doublings zero h = refl
 newlines-doublings (suc k) h =
     let one = doubled (4 + 2 * suc k) (6 + 2 * suc k) in
     let two = doubled (5 + 2 * suc k) (7 + 2 * suc k) in
-    omega (arith, newlines-append (doublings k ++ one) two, newlines-append (doublings k) one, newlines-doublings k (omega arith), newlines-doubled (4 + 2 * suc k) (6 + 2 * suc k) (omega arith) (omega arith), newlines-doubled (5 + 2 * suc k) (7 + 2 * suc k) (omega arith) (omega arith))
+    omega (
+      arith,
+      newlines-append (doublings k ++ one) two,
+      newlines-append (doublings k) one,
+      newlines-doublings k
+          (omega arith),
+      newlines-doubled (4 + 2 * suc k) (6 + 2 * suc k) (omega arith) (omega arith),
+      newlines-doubled
+          (5 + 2 * suc k) (7 + 2 * suc k) (omega arith) (omega arith),
+    )
 
 newlines-redex : (t r : ℕ) → t < 2 ^ 64 → r < 2 ^ 64 → newlines (redex t r) ≡ 15
 newlines-redex t r ht hr =
@@ -48,13 +70,29 @@ newlines-redex t r ht hr =
     let two = one ++ number t in
     let three = two ++ lines (codes "ref absTerm 7 ref appTerm ") in
     let four = three ++ number r in
-    omega (arith, newlines-append four (lines (codes "def betaConv ")), newlines-append three (number r), newlines-append two (lines (codes "ref absTerm 7 ref appTerm ")), newlines-append one (number t), newlines-append (number t) (lines (codes "ref refl pop 5 ref ")), newlines-number t ht, newlines-number r hr)
+    omega (
+      arith,
+      newlines-append four (lines (codes "def betaConv ")),
+      newlines-append three (number r),
+      newlines-append two (lines (codes "ref absTerm 7 ref appTerm ")),
+      newlines-append one (number t),
+      newlines-append (number t) (lines (codes "ref refl pop 5 ref ")),
+      newlines-number t ht,
+      newlines-number r hr,
+    )
 
 newlines-exported : (r s : ℕ) → r < 2 ^ 64 → s < 2 ^ 64 → newlines (exported r s) ≡ 7
 newlines-exported r s hr hs =
     let one = number r ++ lines (codes "ref appTerm ") in
     let two = one ++ number s in
-    omega (arith, newlines-append two (lines (codes "ref appTerm thm ")), newlines-append one (number s), newlines-append (number r) (lines (codes "ref appTerm ")), newlines-number r hr, newlines-number s hs)
+    omega (
+      arith,
+      newlines-append two (lines (codes "ref appTerm thm ")),
+      newlines-append one (number s),
+      newlines-append (number r) (lines (codes "ref appTerm ")),
+      newlines-number r hr,
+      newlines-number s hs,
+    )
 
 newlines-opening : newlines opening ≡ 64
 newlines-opening = refl
@@ -67,4 +105,17 @@ newlines-sample n h =
     let one = opening ++ doublings n in
     let two = one ++ redex (6 + 2 * n) (8 + 2 * n) in
     let three = two ++ equality in
-    omega (arith, newlines-append three (exported (8 + 2 * n) (7 + 2 * n)), newlines-append two equality, newlines-append one (redex (6 + 2 * n) (8 + 2 * n)), newlines-append opening (doublings n), newlines-doublings n h, newlines-redex (6 + 2 * n) (8 + 2 * n) (omega arith) (omega arith), newlines-exported (8 + 2 * n) (7 + 2 * n) (omega arith) (omega arith), newlines-opening, newlines-equality)
+    omega (
+      arith,
+      newlines-append three (exported (8 + 2 * n) (7 + 2 * n)),
+      newlines-append two equality,
+      newlines-append one (redex (6 + 2 * n) (8 + 2 * n)),
+      newlines-append opening (doublings n),
+      newlines-doublings
+          n h,
+      newlines-redex (6 + 2 * n) (8 + 2 * n) (omega arith) (omega arith),
+      newlines-exported (8 + 2 * n)
+          (7 + 2 * n) (omega arith) (omega arith),
+      newlines-opening,
+      newlines-equality,
+    )

@@ -4,10 +4,13 @@ use Rattle.std.proofs.Common.{sym, ◌∙◌, ap, arith, append_assoc, get_or}
 use Rattle.std.proofs.lemmas.List.{take_more, map-append}
 use Rattle.ot_sample.specs.Sample.{lines, opening, doubled, doublings, redex, equality, exported, sample}
 
-pub lines-more : (words : List ℕ) (i d : ℕ) → i < length words → lines (take (i + 1) words) ≡ lines (take i words) ++ cond (get_or words i d == 32) 10 (get_or words i d) ∷ []
-lines-more words i d lt = ap lines (take_more words i d lt) ∙ map-append (λ b. cond (b == 32) 10 b) (take i words) (get_or words i d ∷ [])
+pub lines-more : (words : List ℕ) (i d : ℕ) → i < length words → lines (take (i + 1) words) ≡ lines (take i words)
+    ++ cond (get_or words i d == 32) 10 (get_or words i d) ∷ []
+lines-more words i d lt = ap lines (take_more words i d lt)
+    ∙ map-append (λ b. cond (b == 32) 10 b) (take i words) (get_or words i d ∷ [])
 
-pub doublings-more : (k : ℕ) (old mid new : List ℕ) → old ≡ opening ++ doublings k → mid ≡ old ++ doubled (6 + 2 * k) (8 + 2 * k) → new ≡ mid ++ doubled (7 + 2 * k) (9 + 2 * k) → new ≡ opening ++ doublings (k + 1)
+pub doublings-more : (k : ℕ) (old mid new : List ℕ) → old ≡ opening ++ doublings k → mid ≡ old ++ doubled (6 + 2 * k)
+    (8 + 2 * k) → new ≡ mid ++ doubled (7 + 2 * k) (9 + 2 * k) → new ≡ opening ++ doublings (k + 1)
 doublings-more k old mid new e f g =
     let one = doubled (6 + 2 * k) (8 + 2 * k) in
     let two = doubled (7 + 2 * k) (9 + 2 * k) in
@@ -16,16 +19,21 @@ doublings-more k old mid new e f g =
     let c : 5 + 2 * suc k ≡ 7 + 2 * k = omega arith in
     let d : 7 + 2 * suc k ≡ 9 + 2 * k = omega arith in
     let n : suc k ≡ k + 1 = omega arith in
-    let more : doublings (suc k) ≡ (doublings k ++ one) ++ two = λ i. (doublings k ++ doubled (a i) (b i)) ++ doubled (c i) (d i) in
+    let more : doublings (suc k) ≡ (doublings k ++ one) ++ two = λ i. (doublings k ++ doubled (a i) (b i))
+    ++ doubled (c i) (d i) in
     g ∙ ap (λ z. z ++ two) (f ∙ ap (λ z. z ++ one) e)
     ∙ ap (λ z. z ++ two) (append_assoc opening (doublings k) one) ∙ append_assoc opening (doublings k ++ one) two
     ∙ ap (λ z. opening ++ z) (sym more ∙ ap doublings n)
 
-pub sample-whole : (n k : ℕ) (text beta equal whole old new : List ℕ) → k ≡ n → text ≡ opening ++ doublings k → beta ≡ text ++ redex (6 + 2 * n) (8 + 2 * n) → equal ≡ beta ++ equality → whole ≡ equal ++ exported (8 + 2 * n) (7 + 2 * n) → new ≡ old ++ whole → new ≡ old ++ sample n
+pub sample-whole : (n k : ℕ) (text beta equal whole old new : List ℕ) → k ≡ n → text ≡ opening ++ doublings k
+    → beta ≡ text ++ redex (6 + 2 * n) (8 + 2 * n) → equal ≡ beta ++ equality
+    → whole ≡ equal ++ exported (8 + 2 * n) (7 + 2 * n) → new ≡ old ++ whole → new ≡ old ++ sample n
 sample-whole n k text beta equal whole old new h e b q x g =
     g
     ∙ ap (λ z. old ++ z)
-    (x ∙ ap (λ z. z ++ exported (8 + 2 * n) (7 + 2 * n)) (q ∙ ap (λ z. z ++ equality) (b ∙ ap (λ z. z ++ redex (6 + 2 * n) (8 + 2 * n)) (e ∙ ap (λ z. opening ++ doublings z) h))))
+    (x ∙ ap (λ z. z ++ exported (8 + 2 * n) (7 + 2 * n))
+    (q ∙ ap (λ z. z ++ equality)
+    (b ∙ ap (λ z. z ++ redex (6 + 2 * n) (8 + 2 * n)) (e ∙ ap (λ z. opening ++ doublings z) h))))
 
 -- one text more behind
 pub onto : (old mid new x y : List ℕ) → mid ≡ old ++ x → new ≡ mid ++ y → new ≡ old ++ (x ++ y)

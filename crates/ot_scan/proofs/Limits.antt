@@ -1,5 +1,6 @@
 -- Laws of the limits of lines and articles.
-use Rattle.std.proofs.Common.{◌≡◌, ◌≢◌, ◌<◌, ◌≤◌, ◌+◌, ◌-◌, inl, inr, ℕ, suc, Bool, true, false, cond, List, [], ◌∷◌, ◌++◌, length, ltb, append-nil, length-append, sym, subst, ◌∙◌, refl, arith}
+use Rattle.std.proofs.Common.{◌≡◌, ◌≢◌, ◌<◌, ◌≤◌, ◌+◌, ◌-◌, inl, inr, ℕ, suc, Bool, true, false, cond, List, []}
+use Rattle.std.proofs.Common.{◌∷◌, ◌++◌, length, ltb, append-nil, length-append, sym, subst, ◌∙◌, refl, arith}
 use Rattle.std.specs.Prelude.{Option, Some, None}
 use Rattle.std.proofs.lemmas.Bool.Decides.{leb_tells}
 use Rattle.ot_lines.specs.Pieces.{IsOpenTo, without_last}
@@ -27,7 +28,8 @@ names_limit max before piece =
     ]
 
 -- past the article's limit, the fault does not depend on where the piece ends
-limit-past : (max before : ℕ) (piece : List ℕ) → max < before + length piece → limit_fault max before piece ≡ cond (ltb (before + 65536) (max + 1)) (Some LineTooLong) (Some ArticleTooLong)
+limit-past : (max before : ℕ) (piece : List ℕ) → max < before + length piece → limit_fault max before piece
+    ≡ cond (ltb (before + 65536) (max + 1)) (Some LineTooLong) (Some ArticleTooLong)
 limit-past max before piece past =
     elim (leb_tells (suc max) (before + length piece)) [
       | inl p ↦ elim (leb_tells 65536 (length (without_last 10 piece))) [
@@ -43,7 +45,8 @@ limit-past max before piece past =
 -- ---- a line that is too long
 
 -- so does that of a line with a 65,536th byte
-limit-long : (max before : ℕ) (piece : List ℕ) → IsLong piece → limit_fault max before piece ≡ cond (ltb (before + 65536) (max + 1)) (Some LineTooLong) (Some ArticleTooLong)
+limit-long : (max before : ℕ) (piece : List ℕ) → IsLong piece → limit_fault max before piece
+    ≡ cond (ltb (before + 65536) (max + 1)) (Some LineTooLong) (Some ArticleTooLong)
 limit-long max before piece long =
     elim (leb_tells (suc max) (before + length piece)) [
       | inl p ↦ limit-past max before piece p.1
@@ -58,16 +61,20 @@ limit-long max before piece long =
 
 -- without a newline nothing is dropped
 open_is_long : (front : List ℕ) → 65536 ≤ length front → IsOpenTo (length front) front → IsLong front
-open_is_long front long none = subst (λ (bs : List ℕ). 65536 ≤ length bs) (kept_last 10 front (λ some. none (length front - 1) (omega (arith, some)))) long
+open_is_long front long none = subst (λ (bs : List ℕ). 65536 ≤ length bs)
+    (kept_last 10 front (λ some. none (length front - 1) (omega (arith, some)))) long
 
 longer_is_long : (front rest : List ℕ) → 65536 ≤ length front → IsOpenTo (length front) front → IsLong (front ++ rest)
 longer_is_long front [] long none = rw (append-nil front) (open_is_long front long none)
-longer_is_long front (b ∷ bs) long none = omega (arith, long, length-append front (b ∷ bs), length-without_last 10 (front ++ b ∷ bs))
+longer_is_long front (b ∷ bs) long none =
+    omega (arith, long, length-append front (b ∷ bs), length-without_last 10 (front ++ b ∷ bs))
 
 -- the fault of a piece is that of its first 65,536 bytes, or more, where no newline is among them
-pub limit-front : (max before : ℕ) (front rest : List ℕ) → 65536 ≤ length front → IsOpenTo (length front) front → limit_fault max before (front ++ rest) ≡ limit_fault max before front
+pub limit-front : (max before : ℕ) (front rest : List ℕ) → 65536 ≤ length front → IsOpenTo (length front) front
+    → limit_fault max before (front ++ rest) ≡ limit_fault max before front
 limit-front max before front rest long none =
-    limit-long max before (front ++ rest) (longer_is_long front rest long none) ∙ sym (limit-long max before front (open_is_long front long none))
+    limit-long max before (front ++ rest) (longer_is_long front rest long none)
+    ∙ sym (limit-long max before front (open_is_long front long none))
 
 -- which there is
 abbrev no_fault : Option (Fault Name)
@@ -77,6 +84,7 @@ some_fault : (b : Bool) → cond b (Some LineTooLong) (Some ArticleTooLong) ≡ 
 some_fault true e = cc
 some_fault false e = cc
 
-pub limit-found : (max before : ℕ) (front : List ℕ) → 65536 ≤ length front → IsOpenTo (length front) front → limit_fault max before front ≢ None
+pub limit-found : (max before : ℕ) (front : List ℕ) → 65536 ≤ length front → IsOpenTo (length front) front
+    → limit_fault max before front ≢ None
 limit-found max before front long none e =
     some_fault (ltb (before + 65536) (max + 1)) (sym (limit-long max before front (open_is_long front long none)) ∙ e)

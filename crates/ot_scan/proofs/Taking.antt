@@ -14,7 +14,8 @@ Consumes-kept None new k = tt
 Consumes-kept (Some o) None k = absurd k
 Consumes-kept (Some o) (Some n) k = sym k
 
-Consumes-trans : (old mid new : Option (List ℕ)) (xs ys : List ℕ) → Consumes old mid xs → Consumes mid new ys → Consumes old new (xs ++ ys)
+Consumes-trans : (old mid new : Option (List ℕ)) (xs ys : List ℕ) → Consumes old mid xs → Consumes mid new ys
+    → Consumes old new (xs ++ ys)
 Consumes-trans None mid new xs ys p q = tt
 Consumes-trans (Some o) None new xs ys p q = absurd p
 Consumes-trans (Some o) (Some m) None xs ys p q = absurd q
@@ -29,5 +30,8 @@ pub seen : (scan view : Scan) (held : List ℕ) → view ≡ scan → held ≡ s
 seen scan view held e h = ap (λ (s : Scan). with_held s held) e ∙ ap (with_held scan) h
 
 -- so the limits that were checked are kept
-pub limits-kept : (scan view : Scan) (held : List ℕ) (len : ℕ) → view ≡ scan → held ≡ scan.held → limit_fault view.max view.before (take len held) ≡ None → limit_fault scan.max scan.before (take len scan.held) ≡ None
-limits-kept scan view held len e h kept = subst (λ (s : Scan). limit_fault s.max s.before (take len s.held) ≡ None) (seen scan view held e h) kept
+pub limits-kept : (scan view : Scan) (held : List ℕ) (len : ℕ) → view ≡ scan → held ≡ scan.held
+    → limit_fault view.max view.before (take len held) ≡ None → limit_fault scan.max scan.before (take len scan.held)
+    ≡ None
+limits-kept scan view held len e h kept = subst (λ (s : Scan). limit_fault s.max s.before (take len s.held) ≡ None)
+    (seen scan view held e h) kept

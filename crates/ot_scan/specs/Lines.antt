@@ -1,5 +1,6 @@
 -- The lines of an article.
-use Rattle.std.specs.Prelude.{◌≡◌, ◌<◌, ◌≤◌, ◌+◌, ℕ, ◌⊎◌, if◌then◌else◌, nat_lt, nat_le, List, [], ◌∷◌, ◌++◌, length, Option, Some, None, Result, Ok, Err, IfOk, IfSome, IfNone}
+use Rattle.std.specs.Prelude.{◌≡◌, ◌<◌, ◌≤◌, ◌+◌, ℕ, ◌⊎◌, if◌then◌else◌, nat_lt, nat_le, List, [], ◌∷◌}
+use Rattle.std.specs.Prelude.{◌++◌, length, Option, Some, None, Result, Ok, Err, IfOk, IfSome, IfNone}
 use Rattle.ot_io.specs.Causes.{Rose}
 use Rattle.ot_lines.specs.Pieces.{pieces, without_last, text_of, is_skipped}
 use Rattle.ot_plain.specs.Lists.{IsMember}
@@ -32,7 +33,8 @@ limit_fault max before piece = earlier_fault (line_limit_at before piece) (artic
 
 -- ---- lines
 
--- the lines to come: the end, a line past a limit, or the text of a line that holds a command, with its number, and more
+-- the lines to come: the end, a line past a limit, or the text of a line that holds a command, with its number, and
+-- more
 pub data Lines : Type 0 where
   Finished : Lines
   Broken : ℕ → Fault Name → Lines
@@ -46,7 +48,8 @@ with_piece number text None after = if is_skipped text then after else Next numb
 -- the lines of these pieces, which stand after so many bytes and so many lines
 abbrev pub lines_after : ℕ → ℕ → ℕ → List (List ℕ) → Lines
 lines_after max before number [] = Finished
-lines_after max before number (p ∷ ps) = with_piece (number + 1) (text_of p) (limit_fault max before p) (lines_after max (before + length p) (number + 1) ps)
+lines_after max before number (p ∷ ps) = with_piece (number + 1) (text_of p) (limit_fault max before p)
+    (lines_after max (before + length p) (number + 1) ps)
 
 -- the lines of an article
 abbrev pub lines_of : ℕ → List ℕ → Lines
@@ -61,8 +64,8 @@ pub record IsLineText (text : List ℕ) : Type 0 where
 
 -- ---- the lines to come
 
--- what is known of an article in the midst of its lines: its limit, the bytes that are held and that no line took yet, and
--- how many bytes and lines of it came before them
+-- what is known of an article in the midst of its lines: its limit, the bytes that are held and that no line took
+-- yet, and how many bytes and lines of it came before them
 pub record Scan : Type 0 where
   pub max : ℕ
   pub held : List ℕ
@@ -84,7 +87,8 @@ TakesLine (Err (code.ArticleTooLong number)) old new = (old ≡ Broken number Ar
 TakesLine (Err code.ReadFault) old new = new ≡ old
 
 -- the next line was taken of these bytes that are held and left; at the end there is no byte more
-pub record Takes (result : Result (Option Line) ScanFault) (old : Scan) (left : List ℕ) (new : Scan) (left' : List ℕ) : Type 0 where
+pub record Takes (result : Result (Option Line) ScanFault) (old : Scan) (left : List ℕ) (new : Scan)
+    (left' : List ℕ) : Type 0 where
   pub line : TakesLine result (lines_to_come old left) (lines_to_come new left')
   pub end : IfOk result (λ o. IfNone o ((new.held ≡ []) × (left' ≡ [])))
 
@@ -94,10 +98,12 @@ TakesFrom result old new None left' = Unit {0}
 TakesFrom result old new (Some left) None = ⊥
 TakesFrom result old new (Some left) (Some left') = Takes result old left new left'
 
--- a line has a number of its own, greater than those of before, which the limit bounds; also where the source tells nothing
+-- a line has a number of its own, greater than those of before, which the limit bounds; also where the source tells
+-- nothing
 pub record Counts (result : Result (Option Line) ScanFault) (old new : Scan) : Type 0 where
   pub max : new.max ≡ old.max
-  pub line : IfOk result (λ o. IfSome o (λ line. (line.number ≡ new.number) × (old.number < new.number) × (new.number ≤ new.max)))
+  pub line : IfOk result
+      (λ o. IfSome o (λ line. (line.number ≡ new.number) × (old.number < new.number) × (new.number ≤ new.max)))
 
 -- a read fault comes only where the count of the source's failures rose
 abbrev pub HasReadCause : ScanFault → ℕ → ℕ → Type 0
@@ -111,9 +117,11 @@ HasReadCause (code.ArticleTooLong number) before now = Unit {0}
 abbrev pub IsLong : List ℕ → Type 0
 IsLong piece = 65536 ≤ length (without_last 10 piece)
 
--- a piece keeps both limits, or its line goes past its own, before the article does, or the article does, and its line not before it
+-- a piece keeps both limits, or its line goes past its own, before the article does, or the article does, and its
+-- line not before it
 abbrev pub NamesLimit : ℕ → ℕ → List ℕ → Type 0
 NamesLimit max before piece =
     ((limit_fault max before piece ≡ None) × ¬ (IsLong piece) × (before + length piece ≤ max))
     ⊎ (((limit_fault max before piece ≡ Some LineTooLong) × IsLong piece × (before + 65536 < max + 1))
-    ⊎ ((limit_fault max before piece ≡ Some ArticleTooLong) × (max < before + length piece) × (IsLong piece → max + 1 ≤ before + 65536)))
+    ⊎ ((limit_fault max before piece ≡ Some ArticleTooLong) × (max < before + length piece)
+    × (IsLong piece → max + 1 ≤ before + 65536)))

@@ -1,5 +1,6 @@
 -- How lines are read: the bytes that are held, and the first piece among them.
-use Rattle.std.specs.Prelude.{◌≡◌, ◌<◌, ◌≤◌, ◌+◌, ◌^◌, ◌⊎◌, ℕ, List, [], ◌++◌, length, take, drop, false, Option, Some, None, Result, Ok, Err, IfSome}
+use Rattle.std.specs.Prelude.{◌≡◌, ◌<◌, ◌≤◌, ◌+◌, ◌^◌, ◌⊎◌, ℕ, List, [], ◌++◌, length, take}
+use Rattle.std.specs.Prelude.{drop, false, Option, Some, None, Result, Ok, Err, IfSome}
 use Rattle.std.specs.Io.KnownBytes.{Consumes, IsAtEnd}
 use Rattle.ot_lines.specs.Pieces.{IsOpenTo, EndsAt, text_of, is_skipped}
 use Rattle.ot_plain.specs.Faults.{Fault, LineTooLong, ArticleTooLong}
@@ -41,7 +42,8 @@ pub record IsFirst (len : ℕ) (held : List ℕ) (left : Option (List ℕ)) : Ty
 
 -- after a line of this length
 abbrev pub taken : ℕ → Scan → Scan
-taken len scan = record { max = scan.max; held = drop len scan.held; before = scan.before + len; number = scan.number + 1 }
+taken len scan =
+    record { max = scan.max; held = drop len scan.held; before = scan.before + len; number = scan.number + 1 }
 
 -- the lines to come are the same
 abbrev pub KeepsLines : Scan → Scan → Option (List ℕ) → Option (List ℕ) → Type 0
@@ -64,7 +66,8 @@ pub record IsCommandLine (len : ℕ) (scan : Scan) (left : Option (List ℕ)) : 
   pub limited : scan.before + len ≤ scan.max
   pub holds : is_skipped (text_of (take len scan.held)) ≡ false
   pub fits : IsLineText (text_of (take len scan.held))
-  pub next : IfSome left (λ bytes. lines_to_come scan bytes ≡ Next (scan.number + 1) (text_of (take len scan.held)) (lines_to_come (taken len scan) bytes))
+  pub next : IfSome left (λ bytes. lines_to_come scan bytes ≡ Next (scan.number + 1) (text_of (take len scan.held))
+      (lines_to_come (taken len scan) bytes))
 
 -- the length of the next line that holds a command, or 0 at the end
 pub record FindsLine (len : ℕ) (scan : Scan) (left : Option (List ℕ)) : Type 0 where

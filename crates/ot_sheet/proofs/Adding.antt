@@ -1,7 +1,8 @@
 -- Records that make sequents, one after another.
 use Rattle.std.specs.Prelude.{◌-◌}
 use Rattle.std.specs.List.{All}
-use Rattle.std.proofs.Common.{◌≡◌, ℕ, suc, ◌+◌, Bool, true, false, cond, List, [], ◌∷◌, map, refl, sym, ap, subst, ◌∙◌, arith}
+use Rattle.std.proofs.Common.{◌≡◌, ℕ, suc, ◌+◌, Bool, true, false, cond, List}
+use Rattle.std.proofs.Common.{[], ◌∷◌, map, refl, sym, ap, subst, ◌∙◌, arith}
 use Rattle.std.proofs.lemmas.List.Elements.{All-head, All-tail}
 use Rattle.ot_plain.specs.Trees.{Ty, Tm, Con, App}
 use Rattle.ot_plain.specs.Naming.{names}
@@ -15,7 +16,8 @@ use Rattle.ot_nodes.specs.Items.{Item, IsType, HasType, HasTerm, name_at, type_a
 use Rattle.ot_nodes.proofs.ShapeLemmas.{name-equals}
 use Rattle.ot_nodes.proofs.ItemLemmas.{type-is, type-stays, term-stays, still-type, still-term}
 use Rattle.ot_entries.specs.Entries.{Entry, Node, TypeNode, TermNode, type_entry, term_entry, nodes_before}
-use Rattle.ot_entries.specs.Logged.{Log, put, has_node, with_node, write_node, write_nodes, write_entry, count_sequent}
+use Rattle.ot_entries.specs.Logged.{Log, put, has_node, with_node, write_node}
+use Rattle.ot_entries.specs.Logged.{write_nodes, write_entry, count_sequent}
 use Rattle.ot_entries.specs.Logged.{write_sequents}
 use Rattle.ot_entries.specs.Expansions.{of_term, of_two, equals_at, sym_entries, trans_entries, prove_hyp_entries}
 use Rattle.ot_sheet.specs.Sheets.{Shows, Moves, Adds}
@@ -66,21 +68,24 @@ adds-one ts old mid new e m k = λ max x h. (k max (write_entry e x) (m max x h)
 
 -- ---- a table that grows
 
-types-stay : (ts us : List Item) → Extends ts us → (is : List ℕ) → All (HasType ts) is → map (type_at us) is ≡ map (type_at ts) is
+types-stay : (ts us : List Item) → Extends ts us → (is : List ℕ) → All (HasType ts) is
+    → map (type_at us) is ≡ map (type_at ts) is
 types-stay ts us e [] h = refl
 types-stay ts us e (i ∷ is) h =
     let a = type-stays ts us e i (All-head (HasType ts) i is h) in
     let b = types-stay ts us e is (All-tail (HasType ts) i is h) in
     λ k. a k ∷ b k
 
-terms-stay : (ts us : List Item) → Extends ts us → (is : List ℕ) → All (HasTerm ts) is → map (term_at us) is ≡ map (term_at ts) is
+terms-stay : (ts us : List Item) → Extends ts us → (is : List ℕ) → All (HasTerm ts) is
+    → map (term_at us) is ≡ map (term_at ts) is
 terms-stay ts us e [] h = refl
 terms-stay ts us e (i ∷ is) h =
     let a = term-stays ts us e i (All-head (HasTerm ts) i is h) in
     let b = terms-stay ts us e is (All-tail (HasTerm ts) i is h) in
     λ k. a k ∷ b k
 
-pub shows-grown : (ts us : List Item) (max : ℕ) (s : Sheet) (x : Log) → Extends ts us → Shows ts max s x → Shows us max s x
+pub shows-grown : (ts us : List Item) (max : ℕ) (s : Sheet) (x : Log) → Extends ts us → Shows ts max s x
+    → Shows us max s x
 shows-grown ts us max s x e h = record {
   text = h.text;
   types = types-stay ts us e s.types.keys h.has_types ∙ h.types;
@@ -93,8 +98,10 @@ shows-grown ts us max s x e h = record {
 
 -- ---- the words that stand for several records
 
-pub sym-adds : (ts us : List Item) (a b c d e f : Sheet) (ty : Ty Name) (t : Tm Name) (i p q r s n : ℕ) → Extends ts us
-    → Adds us us a b (λ x. of_term words.Refl (equals_at ty) ∷ []) p → Adds us us b c (λ x. of_two words.AppThm p i ∷ []) q
+pub sym-adds : (ts us : List Item) (a b c d e f : Sheet) (ty : Ty Name) (t : Tm Name) (i p q r s n : ℕ)
+    → Extends ts us
+    → Adds us us a b (λ x. of_term words.Refl (equals_at ty) ∷ []) p
+    → Adds us us b c (λ x. of_two words.AppThm p i ∷ []) q
     → Adds us us c d (λ x. of_term words.Refl t ∷ []) r
     → Adds us us d e (λ x. of_two words.AppThm q r ∷ []) s → Adds us us e f (λ x. of_two words.EqMp s r ∷ []) n
     → Adds ts us a f (λ x. sym_entries x.sequents ty t i) n
@@ -115,10 +122,12 @@ sym-adds ts us a b c d e f ty t i p q r s n g A B C D E = λ max x h.
     let h5 = E max x4 h4.0 in
     let np : p ≡ x.sequents = h1.1 ∙ last e1 x in
     let nq : q ≡ x.sequents + 1 = h2.1 ∙ last e2 x1 ∙ counted e1 x in
-    let nr : r ≡ x.sequents + 2 = h3.1 ∙ last e3 x2 ∙ counted e2 x1 ∙ ap (λ k. k + 1) (counted e1 x) ∙ two x.sequents in
+    let nr : r ≡ x.sequents + 2 = h3.1 ∙ last e3 x2 ∙ counted e2 x1 ∙ ap (λ k. k + 1) (counted e1 x)
+    ∙ two x.sequents in
     let ns : s ≡ x.sequents + 3 = h4.1 ∙ last e4 x3 ∙ counted e3 x2
     ∙ ap (λ k. k + 1) (counted e2 x1 ∙ ap (λ k. k + 1) (counted e1 x)) ∙ three x.sequents in
-    let same : e1 ∷ e2 ∷ e3 ∷ e4 ∷ e5 ∷ [] ≡ sym_entries x.sequents ty t i = λ k. e1 ∷ of_two words.AppThm (np k) i ∷ e3
+    let same : e1 ∷ e2 ∷ e3 ∷ e4 ∷ e5 ∷ [] ≡ sym_entries x.sequents ty t i = λ k. e1 ∷ of_two words.AppThm (np k) i
+    ∷ e3
     ∷ of_two words.AppThm (nq k) (nr k) ∷ of_two words.EqMp (ns k) (nr k) ∷ [] in
     subst (λ es. Shows us max f (write_sequents es x) × (n ≡ (write_sequents es x).sequents - 1)) same h5
   where
@@ -147,7 +156,8 @@ trans-adds ts us a b c d ty t i j p q n g A B C = λ max x h.
     ∷ of_two words.EqMp (nq k) i ∷ [] in
     subst (λ es. Shows us max d (write_sequents es x) × (n ≡ (write_sequents es x).sequents - 1)) same h3
 
-pub prove_hyp-adds : (us : List Item) (a b c : Sheet) (i j p n : ℕ) → Adds us us a b (λ x. of_two words.DeductAntisym i j ∷ []) p
+pub prove_hyp-adds : (us : List Item) (a b c : Sheet) (i j p n : ℕ)
+    → Adds us us a b (λ x. of_two words.DeductAntisym i j ∷ []) p
     → Adds us us b c (λ x. of_two words.EqMp p i ∷ []) n
     → Adds us us a c (λ x. prove_hyp_entries x.sequents i j) n
 prove_hyp-adds us a b c i j p n A B = λ max x h.
@@ -164,7 +174,8 @@ prove_hyp-adds us a b c i j p n A B = λ max x h.
 
 pub equals-tree : (ts ks ls ms : List Item) (ty b p r : ℕ) → Extends ts ks → Extends ks ls → Extends ls ms
     → Extends first_items ms → HasType ts ty → IsType ks b (bool_ty names)
-    → IsType ls p (fun_ty names (type_at ks ty) (type_at ks b)) → IsType ms r (fun_ty names (type_at ls ty) (type_at ls p))
+    → IsType ls p (fun_ty names (type_at ks ty) (type_at ks b))
+    → IsType ms r (fun_ty names (type_at ls ty) (type_at ls p))
     → Con (name_at ms 2) (type_at ms r) ≡ equals_at (type_at ts ty)
 equals-tree ts ks ls ms ty b p r d e f first g B P R =
     let n = name-equals ms first in
@@ -172,7 +183,8 @@ equals-tree ts ks ls ms ty b p r d e f first g B P R =
     let t2 = type-stays ts ls (Extends-trans d e) ty g in
     let made : type_at ls p ≡ fun_ty names (type_at ts ty) (bool_ty names) = type-is ls p _ P
     ∙ (λ j. fun_ty names (t1 j) (type-is ks b _ B j)) in
-    let whole : type_at ms r ≡ fun_ty names (type_at ts ty) (fun_ty names (type_at ts ty) (bool_ty names)) = type-is ms r _ R
+    let whole : type_at ms r ≡ fun_ty names (type_at ts ty) (fun_ty names (type_at ts ty) (bool_ty names)) =
+    type-is ms r _ R
     ∙ (λ j. fun_ty names (t2 j) (made j)) in
     λ k. Con (n k) (whole k)
 

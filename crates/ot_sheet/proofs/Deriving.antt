@@ -1,7 +1,8 @@
 -- Sequents of the words that stand for several records, by the numbers of their terms.
 use Rattle.std.specs.Prelude.{filter, not}
 use Rattle.std.specs.List.{All, list_any}
-use Rattle.std.proofs.Common.{◌≡◌, ℕ, Bool, true, false, cond, List, nat_eq, Option, None, Some, Ok, Err, refl, sym, ap, subst}
+use Rattle.std.proofs.Common.{◌≡◌, ℕ, Bool, true, false, cond, List, nat_eq}
+use Rattle.std.proofs.Common.{Option, None, Some, Ok, Err, refl, sym, ap, subst}
 use Rattle.std.proofs.Common.{◌∙◌}
 use Rattle.std.proofs.lemmas.List.Elements.{All-filter}
 use Rattle.ot_plain.specs.Names.{Name}
@@ -35,7 +36,8 @@ module _ (ts : List Item) (one : IsInjective ts) where
   abbrev pub proved_numbers : Statement → Statement → List ℕ
   proved_numbers a b = joined a.hyps.items (filter (λ u. not (nat_eq u a.concl)) b.hyps.items)
 
-  pub proved : (a b q : Statement) → HasStatement ts a → HasStatement ts b → q.hyps.items ≡ proved_numbers a b → q.concl ≡ b.concl
+  pub proved : (a b q : Statement) → HasStatement ts a → HasStatement ts b → q.hyps.items ≡ proved_numbers a b
+      → q.concl ≡ b.concl
       → IsStatementOf ts (proved_hyp names (sequent_at ts a) (sequent_at ts b)) q
   proved a b q g h e f =
       let left = filter (λ u. not (nat_eq u a.concl)) b.hyps.items in
@@ -53,12 +55,14 @@ module _ (ts : List Item) (one : IsInjective ts) where
 
 -- ---- sym
 
-none-ok : (r : Sequent Name) (after : Ty Name × Tm Name × Tm Name → Rule names) (o : Option (Ty Name × Tm Name × Tm Name))
+none-ok : (r : Sequent Name) (after : Ty Name × Tm Name × Tm Name → Rule names)
+    (o : Option (Ty Name × Tm Name × Tm Name))
     → o ≡ None → (some_or NotEquation o >>= after) ≡ Ok r → ⊥
 none-ok r after None p h = cc
 none-ok r after (Some e) p h = cc
 
-sym-is : (a r : Sequent Name) (e : Ty Name × Tm Name × Tm Name) → as_equation names a.concl ≡ Some e → sym_rule names a ≡ Ok r
+sym-is : (a r : Sequent Name) (e : Ty Name × Tm Name × Tm Name) → as_equation names a.concl ≡ Some e
+    → sym_rule names a ≡ Ok r
     → record { hyps = a.hyps; concl = equation names e.0 e.2 e.1 } ≡ r
 sym-is a r e p h =
     let after : Ty Name × Tm Name × Tm Name → Rule names =
@@ -66,9 +70,11 @@ sym-is a r e p h =
     (within_limit-ok names tells_names (record { hyps = a.hyps; concl = equation names e.0 e.2 e.1 }) r
     (sym (ap (λ o. some_or NotEquation o >>= after) p) ∙ h)).1
 
-pub sym-made : (ts us : List Item) (a q : Statement) (e : Sides) (r : Sequent Name) → Extends ts us → HasStatement ts a
+pub sym-made : (ts us : List Item) (a q : Statement) (e : Sides) (r : Sequent Name) → Extends ts us
+    → HasStatement ts a
     → AreSides ts a.concl e
-    → q.hyps.items ≡ a.hyps.items → IsTerm us q.concl (equation names (type_at ts e.ty) (term_at ts e.right) (term_at ts e.left))
+    → q.hyps.items ≡ a.hyps.items
+    → IsTerm us q.concl (equation names (type_at ts e.ty) (term_at ts e.right) (term_at ts e.left))
     → sym_rule names (sequent_at ts a) ≡ Ok r → IsStatementOf us r q
 sym-made ts us a q e r x h s p c k =
     let hyps = ap (terms_at us) p ∙ terms-stay ts us x a.hyps.items h.hyps in
@@ -91,13 +97,15 @@ sym-none a r p h =
 -- ---- trans
 
 -- of two tests the first counts; where neither holds the word is refused
-trans-by : (b c : Bool) (q s r : Sequent Name) → ◌≡◌ {A = Rule names} (cond b (Ok q) (cond c (Ok s) (Err NotAlphaEqual))) (Ok r)
+trans-by : (b c : Bool) (q s r : Sequent Name)
+    → ◌≡◌ {A = Rule names} (cond b (Ok q) (cond c (Ok s) (Err NotAlphaEqual))) (Ok r)
     → cond b q s ≡ r
 trans-by true c q s r h = same_Ok q r h
 trans-by false true q s r h = same_Ok s r h
 trans-by false false q s r h = cc
 
-abbrev outer : Sequent Name → Sequent Name → Ty Name × Tm Name × Tm Name → Ty Name × Tm Name × Tm Name → Bool → Sequent Name
+abbrev outer : Sequent Name → Sequent Name → Ty Name × Tm Name × Tm Name → Ty Name × Tm Name × Tm Name → Bool
+    → Sequent Name
 outer a b e f t = cond t (record { hyps = union names a.hyps b.hyps; concl = equation names e.0 e.1 f.2 })
     (record { hyps = union names a.hyps b.hyps; concl = equation names e.0 f.1 e.2 })
 
@@ -105,10 +113,13 @@ trans-is : (a b r : Sequent Name) (e f : Ty Name × Tm Name × Tm Name) → as_e
     → as_equation names b.concl ≡ Some f → trans_rule names a b ≡ Ok r → outer a b e f (same_tm names e.2 f.1) ≡ r
 trans-is a b r e f p q h =
     let last : Ty Name × Tm Name × Tm Name → Ty Name × Tm Name × Tm Name → Rule names = λ y z.
-    cond (same_tm names y.2 z.1) (Ok (record { hyps = union names a.hyps b.hyps; concl = equation names y.0 y.1 z.2 }))
-    (cond (same_tm names z.2 y.1) (Ok (record { hyps = union names a.hyps b.hyps; concl = equation names y.0 z.1 y.2 }))
+    cond (same_tm names y.2 z.1)
+    (Ok (record { hyps = union names a.hyps b.hyps; concl = equation names y.0 y.1 z.2 }))
+    (cond (same_tm names z.2 y.1)
+    (Ok (record { hyps = union names a.hyps b.hyps; concl = equation names y.0 z.1 y.2 }))
     (Err NotAlphaEqual)) in
-    let reads : (some_or NotEquation (as_equation names a.concl) >>= λ y. some_or NotEquation (as_equation names b.concl)
+    let reads : (some_or NotEquation (as_equation names a.concl) >>= λ y. some_or NotEquation
+    (as_equation names b.concl)
     >>= last y) ≡ last e f =
     ap (λ o. some_or NotEquation o >>= λ y. some_or NotEquation (as_equation names b.concl) >>= last y) p
     ∙ ap (λ o. some_or NotEquation o >>= last e) q in
@@ -122,19 +133,24 @@ outer-as : (a b : Sequent Name) (e f : Ty Name × Tm Name × Tm Name) (t : Bool)
 outer-as a b e f true = refl
 outer-as a b e f false = refl
 
-pub trans-made : (ts us : List Item) (one : IsInjective ts) (a b q : Statement) (e f : Sides) (r : Sequent Name) → Extends ts us
+pub trans-made : (ts us : List Item) (one : IsInjective ts) (a b q : Statement) (e f : Sides) (r : Sequent Name)
+    → Extends ts us
     → HasStatement ts a → HasStatement ts b → AreSides ts a.concl e → AreSides ts b.concl f
     → q.hyps.items ≡ joined a.hyps.items b.hyps.items → IsTerm us q.concl (outer_equation ts e f)
     → trans_rule names (sequent_at ts a) (sequent_at ts b) ≡ Ok r → IsStatementOf us r q
 trans-made ts us one a b q e f r x g h s t p c k =
     let whole = joined a.hyps.items b.hyps.items in
     let has = has-joined ts a.hyps.items b.hyps.items g.hyps h.hyps in
-    let hyps = ap (terms_at us) p ∙ terms-stay ts us x whole has ∙ union-numbers ts one a.hyps.items b.hyps.items g.hyps h.hyps in
+    let hyps = ap (terms_at us) p ∙ terms-stay ts us x whole has
+    ∙ union-numbers ts one a.hyps.items b.hyps.items g.hyps h.hyps in
     let d : Ty Name × Tm Name × Tm Name = (type_at ts e.ty, term_at ts e.left, term_at ts e.right) in
     let o : Ty Name × Tm Name × Tm Name = (type_at ts f.ty, term_at ts f.left, term_at ts f.right) in
     let concl = term-is us q.concl _ c ∙ ap (λ z. cond z (equation names d.0 d.1 o.2) (equation names d.0 o.1 d.2))
     (sym (same-terms ts one e.right f.left s.right t.left)) in (
-      record { hyps = subst (All (HasTerm us)) (sym p) (still-terms ts us x whole has); concl = has-term us q.concl _ c },
+      record {
+        hyps = subst (All (HasTerm us)) (sym p) (still-terms ts us x whole has);
+        concl = has-term us q.concl _ c;
+      },
       (λ i. record { hyps = hyps i; concl = concl i })
           ∙ sym (outer-as (sequent_at ts a) (sequent_at ts b) d o (same_tm names d.2 o.1))
           ∙ trans-is (sequent_at ts a) (sequent_at ts b) r d o s.is t.is k,

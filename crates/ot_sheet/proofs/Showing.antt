@@ -1,7 +1,8 @@
 -- A sheet that goes on.
 use Rattle.std.specs.Prelude.{nat_eq, nat_lt}
 use Rattle.std.specs.List.{All, list_any, flat_map, position, position_or_len}
-use Rattle.std.proofs.Common.{◌≡◌, ℕ, suc, ◌+◌, ◌<◌, ◌≤◌, Bool, true, false, ◌||◌, cond, List, [], ◌∷◌, ◌++◌, map, Some, None}
+use Rattle.std.proofs.Common.{◌≡◌, ℕ, suc, ◌+◌, ◌<◌, ◌≤◌, Bool, true, false}
+use Rattle.std.proofs.Common.{◌||◌, cond, List, [], ◌∷◌, ◌++◌, map, Some, None}
 use Rattle.std.proofs.Common.{length, get_or, drop, add-one, refl, sym, ap, subst, ◌∙◌, arith, eq-eqb, eqb-true}
 use Rattle.std.proofs.Common.{true≢false, append-nil, append_assoc}
 use Rattle.std.proofs.lemmas.Bool.Decides.{nat_tests}
@@ -21,7 +22,8 @@ use Rattle.ot_records.specs.Tokens.{Token, Number, Named, Word, spelling}
 use Rattle.ot_records.specs.declared.word.RecordWord.TheVariants as words
 use Rattle.ot_text.specs.Pages.{Bytes, IsPut, printed}
 use Rattle.ot_text.proofs.Putting.{then, same-text}
-use Rattle.ot_entries.specs.Entries.{Node, TypeNode, TermNode, AType, ATerm, type_list, type_count, type_entry, term_entry}
+use Rattle.ot_entries.specs.Entries.{Node, TypeNode, TermNode, AType, ATerm}
+use Rattle.ot_entries.specs.Entries.{type_list, type_count, type_entry, term_entry}
 use Rattle.ot_entries.specs.Entries.{type_nodes, types_nodes, type_parts, term_nodes, term_parts, operand_nodes}
 use Rattle.ot_entries.specs.Logged.{Log, add_tokens, put, token_of, count_sequent, has_node, with_node, write_nodes}
 use Rattle.ot_entries.proofs.Noding.{nodes-append, node-there, node-absent, node-new, closed-type, closed-term}
@@ -86,11 +88,13 @@ module _ (ts : List Item) (one : IsInjective ts) where
 -- ---- one token more
 
 pub bytes-more : (us : List (Token Name)) (t : Token Name) → bytes_of us ++ token_bytes t ≡ bytes_of (us ++ t ∷ [])
-bytes-more us t = ap (λ z. bytes_of us ++ z) (sym (append-nil (token_bytes t))) ∙ sym (flat_map-append token_bytes us (t ∷ []))
+bytes-more us t = ap (λ z. bytes_of us ++ z) (sym (append-nil (token_bytes t)))
+    ∙ sym (flat_map-append token_bytes us (t ∷ []))
 
 pub shows-token : (ts : List Item) (max : ℕ) (old new : Sheet) (x : Log) (t : Token Name)
     → IsPut (token_bytes t) (printed old.page) (printed new.page)
-    → new.types.keys ≡ old.types.keys → new.terms.keys ≡ old.terms.keys → new.sequents ≡ old.sequents → Shows ts max old x
+    → new.types.keys ≡ old.types.keys → new.terms.keys ≡ old.terms.keys → new.sequents ≡ old.sequents
+    → Shows ts max old x
     → Shows ts max new (add_tokens (t ∷ []) x)
 shows-token ts max old new x t p a b c s = record {
   text = same-text (bytes-more x.tokens t) (then s.text p);
@@ -105,18 +109,21 @@ shows-token ts max old new x t p a b c s = record {
 -- ---- steps one after another
 
 abbrev pub Leads : List Item → Sheet → Sheet → (Log → Log) → (Log → Log) → Type 0
-Leads ts start now rest whole = (max : ℕ) (x : Log) → Shows ts max start x → (y : Log) × Shows ts max now y × (rest y ≡ whole x)
+Leads ts start now rest whole = (max : ℕ) (x : Log) → Shows ts max start x → (y : Log) × Shows ts max now y
+    × (rest y ≡ whole x)
 
 pub leads-start : (ts : List Item) (s : Sheet) (f g : Log → Log) → ((x : Log) → f x ≡ g x) → Leads ts s s f g
 leads-start ts s f g e = λ max x h. (x, h, e x)
 
 pub leads-step : (ts : List Item) (start old new : Sheet) (f g rest whole : Log → Log) → Leads ts start old f whole
     → Moves ts old new g → ((y : Log) → f y ≡ rest (g y)) → Leads ts start new rest whole
-leads-step ts start old new f g rest whole l m e = λ max x h. let (y, k, p) = l max x h in (g y, m max y k, sym (e y) ∙ p)
+leads-step ts start old new f g rest whole l m e = λ max x h. let (y, k, p) = l max x h in
+    (g y, m max y k, sym (e y) ∙ p)
 
 pub leads-end : (ts : List Item) (start now : Sheet) (rest whole : Log → Log) → Leads ts start now rest whole
     → ((y : Log) → rest y ≡ y) → Moves ts start now whole
-leads-end ts start now rest whole l e = λ max x h. let (y, k, p) = l max x h in subst (Shows ts max now) (sym (e y) ∙ p) k
+leads-end ts start now rest whole l e = λ max x h. let (y, k, p) = l max x h in
+    subst (Shows ts max now) (sym (e y) ∙ p) k
 
 pub moves-then : (ts : List Item) (old mid new : Sheet) (f g : Log → Log) → Moves ts old mid f → Moves ts mid new g
     → Moves ts old new (λ x. g (f x))
@@ -143,7 +150,8 @@ shows-count ts max n s x e h = record {
 pub as-operand : (ts : List Item) (old new : Sheet) (o p : code.Operand) → o ≡ p
     → Moves ts old new (λ x. add_tokens (token_of x (operand_at ts p) ∷ []) x)
     → Moves ts old new (λ x. add_tokens (token_of x (operand_at ts o) ∷ []) x)
-as-operand ts old new o p e m = subst (λ z. Moves ts old new (λ x. add_tokens (token_of x (operand_at ts z) ∷ []) x)) (sym e) m
+as-operand ts old new o p e m = subst (λ z. Moves ts old new (λ x. add_tokens (token_of x (operand_at ts z) ∷ []) x))
+    (sym e) m
 
 pub has-operand : (ts : List Item) (o p : code.Operand) → o ≡ p → HasOperand ts o → HasOperand ts p
 has-operand ts o p e h = subst (HasOperand ts) e h
@@ -170,7 +178,8 @@ tokens-more us vs x = ap (λ z. record { tokens = z; types = x.types; terms = x.
     (append_assoc x.tokens us vs)
 
 pub tokens-none : (x : Log) → add_tokens [] x ≡ x
-tokens-none x = ap (λ z. record { tokens = z; types = x.types; terms = x.terms; sequents = x.sequents }) (append-nil x.tokens)
+tokens-none x = ap (λ z. record { tokens = z; types = x.types; terms = x.terms; sequents = x.sequents })
+    (append-nil x.tokens)
 
 pub no-place : {X : Type 0} (p : X → Bool) (xs : List X) → position p xs ≡ None → length xs ≡ position_or_len p xs
 no-place p xs e = by (nat_lt (position_or_len p xs) (length xs)) refl e
@@ -191,18 +200,22 @@ pub tokens-next : (ts : List Item) (os : List code.Operand) (k : ℕ) (o : code.
     → o ≡ get_or os k o → tokens_at ts (drop k os) y
     ≡ tokens_at ts (drop (k + 1) os) (add_tokens (token_of y (operand_at ts o) ∷ []) y)
 tokens-next ts os k o y h e = ap (λ l. tokens_at ts l y) (drop-item os k o h e)
-    ∙ sym (tokens-more (token_of y (operand_at ts o) ∷ []) (map (token_of y) (map (operand_at ts) (drop (k + 1) os))) y)
+    ∙ sym (tokens-more (token_of y (operand_at ts o) ∷ []) (map (token_of y) (map (operand_at ts) (drop (k + 1) os)))
+    y)
 
-pub tokens-end : (ts : List Item) (os : List code.Operand) (k : ℕ) (y : Log) → length os ≤ k → tokens_at ts (drop k os) y ≡ y
+pub tokens-end : (ts : List Item) (os : List code.Operand) (k : ℕ) (y : Log) → length os ≤ k
+    → tokens_at ts (drop k os) y ≡ y
 tokens-end ts os k y h = ap (λ l. tokens_at ts l y) (nothing-left os k h) ∙ tokens-none y
 
 abbrev pub types_tokens : List Item → List ℕ → Log → Log
 types_tokens ts is x = add_tokens (map (token_of x) (type_list (types_at ts is))) x
 
 pub types-next : (ts : List Item) (is : List ℕ) (k i : ℕ) (y : Log) → k < length is → i ≡ get_or is k i
-    → types_tokens ts (drop k is) y ≡ types_tokens ts (drop (k + 1) is) (add_tokens (token_of y (AType (type_at ts i)) ∷ []) y)
+    → types_tokens ts (drop k is) y ≡ types_tokens ts (drop (k + 1) is)
+    (add_tokens (token_of y (AType (type_at ts i)) ∷ []) y)
 types-next ts is k i y h e = ap (λ l. types_tokens ts l y) (drop-item is k i h e)
-    ∙ sym (tokens-more (token_of y (AType (type_at ts i)) ∷ []) (map (token_of y) (type_list (types_at ts (drop (k + 1) is)))) y)
+    ∙ sym (tokens-more (token_of y (AType (type_at ts i)) ∷ [])
+    (map (token_of y) (type_list (types_at ts (drop (k + 1) is)))) y)
 
 pub types-end : (ts : List Item) (is : List ℕ) (k : ℕ) (y : Log) → length is ≤ k → types_tokens ts (drop k is) y ≡ y
 types-end ts is k y h = ap (λ l. types_tokens ts l y) (nothing-left is k h) ∙ tokens-none y
@@ -235,7 +248,8 @@ pub written-next : (ts : List Item) (is : List ℕ) (k i : ℕ) (y : Log) → k 
 written-next ts is k i y h e = ap (λ l. types_written ts l y) (drop-item is k i h e)
     ∙ nodes-append (type_nodes (type_at ts i)) (types_nodes (types_at ts (drop (k + 1) is))) y
 
-pub written-end : (ts : List Item) (is : List ℕ) (k : ℕ) (y : Log) → length is ≤ k → types_written ts (drop k is) y ≡ y
+pub written-end : (ts : List Item) (is : List ℕ) (k : ℕ) (y : Log) → length is ≤ k → types_written ts (drop k is) y
+    ≡ y
 written-end ts is k y h = ap (λ l. types_written ts l y) (nothing-left is k h)
 
 -- ---- a type and a term behind their parts
@@ -243,29 +257,36 @@ written-end ts is k y h = ap (λ l. types_written ts l y) (nothing-left is k h)
 pub as-type : (ts : List Item) (old new : Sheet) (t u : Ty Name) → t ≡ u
     → Moves ts old new (λ x. put (type_entry u) (write_nodes (type_parts u) x))
     → Moves ts old new (λ x. put (type_entry t) (write_nodes (type_parts t) x))
-as-type ts old new t u e m = subst (λ z. Moves ts old new (λ x. put (type_entry z) (write_nodes (type_parts z) x))) (sym e) m
+as-type ts old new t u e m = subst (λ z. Moves ts old new (λ x. put (type_entry z) (write_nodes (type_parts z) x)))
+    (sym e) m
 
 pub as-term : (ts : List Item) (old new : Sheet) (t u : Tm Name) → t ≡ u
     → Moves ts old new (λ x. put (term_entry u) (write_nodes (term_parts u) x))
     → Moves ts old new (λ x. put (term_entry t) (write_nodes (term_parts t) x))
-as-term ts old new t u e m = subst (λ z. Moves ts old new (λ x. put (term_entry z) (write_nodes (term_parts z) x))) (sym e) m
+as-term ts old new t u e m = subst (λ z. Moves ts old new (λ x. put (term_entry z) (write_nodes (term_parts z) x)))
+    (sym e) m
 
-pub type-there : (ts : List Item) (s : Sheet) (i : ℕ) → IsInjective ts → HasType ts i → list_any (nat_eq i) s.types.keys ≡ true
+pub type-there : (ts : List Item) (s : Sheet) (i : ℕ) → IsInjective ts → HasType ts i
+    → list_any (nat_eq i) s.types.keys ≡ true
     → Moves ts s s (write_nodes (type_nodes (type_at ts i)))
 type-there ts s i one g e = λ max x h.
-    let has = ap (list_any (same_ty names (type_at ts i))) (sym h.types) ∙ any-types ts one i s.types.keys g h.has_types ∙ e in
+    let has = ap (list_any (same_ty names (type_at ts i))) (sym h.types)
+    ∙ any-types ts one i s.types.keys g h.has_types ∙ e in
     subst (Shows ts max s) (sym (node-there (TypeNode (type_at ts i)) x h.closed has)) h
 
-pub term-there : (ts : List Item) (s : Sheet) (i : ℕ) → IsInjective ts → HasTerm ts i → list_any (nat_eq i) s.terms.keys ≡ true
+pub term-there : (ts : List Item) (s : Sheet) (i : ℕ) → IsInjective ts → HasTerm ts i
+    → list_any (nat_eq i) s.terms.keys ≡ true
     → Moves ts s s (write_nodes (term_nodes (term_at ts i)))
 term-there ts s i one g e = λ max x h.
-    let has = ap (list_any (same_tm names (term_at ts i))) (sym h.terms) ∙ any-terms ts one i s.terms.keys g h.has_terms ∙ e in
+    let has = ap (list_any (same_tm names (term_at ts i))) (sym h.terms)
+    ∙ any-terms ts one i s.terms.keys g h.has_terms ∙ e in
     subst (Shows ts max s) (sym (node-there (TermNode (term_at ts i)) x h.closed has)) h
 
 pub type-added : (ts : List Item) (old mid new : Sheet) (i : ℕ) → IsInjective ts → HasType ts i
     → list_any (nat_eq i) old.types.keys ≡ false
     → Moves ts old mid (λ x. put (type_entry (type_at ts i)) (write_nodes (type_parts (type_at ts i)) x))
-    → new.types.keys ≡ cond (list_any (nat_eq i) mid.types.keys) mid.types.keys (mid.types.keys ++ i ∷ []) → new.page ≡ mid.page
+    → new.types.keys ≡ cond (list_any (nat_eq i) mid.types.keys) mid.types.keys (mid.types.keys ++ i ∷ [])
+    → new.page ≡ mid.page
     → new.terms.keys ≡ mid.terms.keys → new.sequents ≡ mid.sequents
     → Moves ts old new (write_nodes (type_nodes (type_at ts i)))
 type-added ts old mid new i one g e m keys a b c = λ max x h.
@@ -282,7 +303,8 @@ type-added ts old mid new i one g e m keys a b c = λ max x h.
     let made = node-new n x absent in
     let shown : Shows ts max new (with_node n y) = record {
       text = subst (λ p. IsPut (bytes_of y.tokens) (Bytes [] max) (printed p)) (sym a) k.text;
-      types = ap (map (type_at ts)) more ∙ map-append (type_at ts) mid.types.keys (i ∷ []) ∙ ap (λ l. l ++ t ∷ []) k.types;
+      types = ap (map (type_at ts)) more ∙ map-append (type_at ts) mid.types.keys (i ∷ [])
+          ∙ ap (λ l. l ++ t ∷ []) k.types;
       terms = ap (map (term_at ts)) b ∙ k.terms;
       sequents = c ∙ k.sequents;
       has_types = subst (All (HasType ts)) (sym more) (all-push (HasType ts) mid.types.keys i k.has_types g);
@@ -294,7 +316,8 @@ type-added ts old mid new i one g e m keys a b c = λ max x h.
 pub term-added : (ts : List Item) (old mid new : Sheet) (i : ℕ) → IsInjective ts → HasTerm ts i
     → list_any (nat_eq i) old.terms.keys ≡ false
     → Moves ts old mid (λ x. put (term_entry (term_at ts i)) (write_nodes (term_parts (term_at ts i)) x))
-    → new.terms.keys ≡ cond (list_any (nat_eq i) mid.terms.keys) mid.terms.keys (mid.terms.keys ++ i ∷ []) → new.page ≡ mid.page
+    → new.terms.keys ≡ cond (list_any (nat_eq i) mid.terms.keys) mid.terms.keys (mid.terms.keys ++ i ∷ [])
+    → new.page ≡ mid.page
     → new.types.keys ≡ mid.types.keys → new.sequents ≡ mid.sequents
     → Moves ts old new (write_nodes (term_nodes (term_at ts i)))
 term-added ts old mid new i one g e m keys a b c = λ max x h.
@@ -312,7 +335,8 @@ term-added ts old mid new i one g e m keys a b c = λ max x h.
     let shown : Shows ts max new (with_node n y) = record {
       text = subst (λ p. IsPut (bytes_of y.tokens) (Bytes [] max) (printed p)) (sym a) k.text;
       types = ap (map (type_at ts)) b ∙ k.types;
-      terms = ap (map (term_at ts)) more ∙ map-append (term_at ts) mid.terms.keys (i ∷ []) ∙ ap (λ l. l ++ t ∷ []) k.terms;
+      terms = ap (map (term_at ts)) more ∙ map-append (term_at ts) mid.terms.keys (i ∷ [])
+          ∙ ap (λ l. l ++ t ∷ []) k.terms;
       sequents = c ∙ k.sequents;
       has_types = subst (All (HasType ts)) (sym b) k.has_types;
       has_terms = subst (All (HasTerm ts)) (sym more) (all-push (HasTerm ts) mid.terms.keys i k.has_terms g);
@@ -327,9 +351,11 @@ operands_written ts os = write_nodes (flat_map operand_nodes (map (operand_at ts
 
 pub operand-next : (ts : List Item) (os : List code.Operand) (k : ℕ) (o : code.Operand) (y : Log) → k < length os
     → o ≡ get_or os k o
-    → operands_written ts (drop k os) y ≡ operands_written ts (drop (k + 1) os) (write_nodes (operand_nodes (operand_at ts o)) y)
+    → operands_written ts (drop k os) y ≡ operands_written ts (drop (k + 1) os)
+    (write_nodes (operand_nodes (operand_at ts o)) y)
 operand-next ts os k o y h e = ap (λ l. operands_written ts l y) (drop-item os k o h e)
-    ∙ nodes-append (operand_nodes (operand_at ts o)) (flat_map operand_nodes (map (operand_at ts) (drop (k + 1) os))) y
+    ∙ nodes-append (operand_nodes (operand_at ts o)) (flat_map operand_nodes (map (operand_at ts) (drop (k + 1) os)))
+    y
 
 pub operand-end : (ts : List Item) (os : List code.Operand) (k : ℕ) (y : Log) → length os ≤ k
     → operands_written ts (drop k os) y ≡ y
@@ -345,5 +371,6 @@ moves-none ts s = λ max x h. h
 
 pub nodes-then : (ts : List Item) (old mid new : Sheet) (ns ms : List Node) → Moves ts old mid (write_nodes ns)
     → Moves ts mid new (write_nodes ms) → Moves ts old new (write_nodes (ns ++ ms))
-nodes-then ts old mid new ns ms a b = moves-as ts old new (λ x. write_nodes ms (write_nodes ns x)) (write_nodes (ns ++ ms))
+nodes-then ts old mid new ns ms a b =
+    moves-as ts old new (λ x. write_nodes ms (write_nodes ns x)) (write_nodes (ns ++ ms))
     (λ x. sym (nodes-append ns ms x)) (moves-then ts old mid new (write_nodes ns) (write_nodes ms) a b)

@@ -21,8 +21,8 @@ Derives (Ok q) ts r = IsStatementOf ts r q
 Derives (Err fault.BadStep) ts r = ⊥
 Derives (Err fault.Memory) ts r = Unit {0}
 
--- the equation of the sides that two equations don't share: the right side of the one and the left side of the other are one
--- term, or else the other way round
+-- the equation of the sides that two equations don't share: the right side of the one and the left side of the other
+-- are one term, or else the other way round
 abbrev pub outer_equation : List Item → Sides → Sides → Tm Name
 outer_equation ts e f =
     cond (nat_eq e.right f.left) (equation names (type_at ts e.ty) (term_at ts e.left) (term_at ts f.right))

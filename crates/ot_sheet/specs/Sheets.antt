@@ -46,7 +46,8 @@ pub record Shows (ts : List Item) (max : ℕ) (s : Sheet) (x : Log) : Type 0 whe
 abbrev pub Moves : List Item → Sheet → Sheet → (Log → Log) → Type 0
 Moves ts old new f = (max : ℕ) (x : Log) → Shows ts max old x → Shows ts max new (f x)
 
--- the log goes on by records that each make a sequent, the last one with this number; the table of nodes may have grown
+-- the log goes on by records that each make a sequent, the last one with this number; the table of nodes may have
+-- grown
 abbrev pub Adds : (ts us : List Item) → (old new : Sheet) → (Log → List Entry) → ℕ → Type 0
 Adds ts us old new es n = (max : ℕ) (x : Log) → Shows ts max old x
     → Shows us max new (write_sequents (es x) x) × (n ≡ (write_sequents (es x) x).sequents - 1)

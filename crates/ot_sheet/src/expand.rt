@@ -3,8 +3,8 @@ ghost use Rattle.std.specs.Prelude.{[], ◌∷◌, IfOk};
 ghost use Rattle.ot_plain.specs.Table.{Extends};
 ghost use Rattle.ot_nodes.specs.Items.{HasType, HasTerm, IsTerm, type_at, term_at};
 ghost use Rattle.ot_rules.specs.Shapes.{HasSides};
-ghost use Rattle.ot_entries.specs.Expansions.{of_term, of_two, equals_at, sym_entries, trans_entries};
-ghost use Rattle.ot_entries.specs.Expansions.{prove_hyp_entries};
+ghost use Rattle.ot_entries.specs.Expansions.{of_term, of_two, equals_at, sym_entries};
+ghost use Rattle.ot_entries.specs.Expansions.{trans_entries, prove_hyp_entries};
 ghost use Rattle.ot_sheet.specs.Sheets.{Adds};
 
 use crate::operand::Operand;

@@ -5,11 +5,10 @@ ghost use Rattle.ot_plain.specs.Trees.{TyOp};
 ghost use Rattle.ot_nodes.specs.Items.{HasName, HasType, HasTerm, name_at, type_at, types_at, term_at};
 ghost use Rattle.ot_records.specs.Tokens.{Number, Named, Word, spelling};
 ghost use Rattle.ot_text.specs.Pages.{Appended};
-ghost use Rattle.ot_entries.specs.Entries.{AType, ATerm, type_entry, term_entry, type_list};
-ghost use Rattle.ot_entries.specs.Entries.{type_parts, types_nodes, type_nodes, term_parts, term_nodes};
-ghost use Rattle.ot_entries.specs.Entries.{operand_nodes};
-ghost use Rattle.ot_entries.specs.Logged.{Log, header, put, add_tokens, token_of, write_nodes, write_entry};
-ghost use Rattle.ot_entries.specs.Logged.{count_sequent};
+ghost use Rattle.ot_entries.specs.Entries.{AType, ATerm, type_entry, term_entry, type_list, type_parts};
+ghost use Rattle.ot_entries.specs.Entries.{types_nodes, type_nodes, term_parts, term_nodes, operand_nodes};
+ghost use Rattle.ot_entries.specs.Logged.{Log, header, put, add_tokens, token_of};
+ghost use Rattle.ot_entries.specs.Logged.{write_nodes, write_entry, count_sequent};
 ghost use Rattle.ot_entries.specs.Bytes.{bytes_of};
 ghost use Rattle.ot_sheet.specs.Sheets.{operand_at, entry_at, HasOperand, Shows, Moves, Adds};
 

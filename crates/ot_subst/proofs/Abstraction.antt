@@ -1,9 +1,11 @@
 -- The steps of an abstraction: its type's instance, the test whether its binder clashes, the walk of the body.
-use Rattle.std.proofs.Common.{◌≡◌, ℕ, ◌<◌, ◌≤◌, false, List, [], ◌∷◌, length, slice_get, Some, refl, sym, ap, subst, ◌∙◌, inl, inr, arith}
+use Rattle.std.proofs.Common.{◌≡◌, ℕ, ◌<◌, ◌≤◌, false, List, [], ◌∷◌, length, slice_get}
+use Rattle.std.proofs.Common.{Some, refl, sym, ap, subst, ◌∙◌, inl, inr, arith}
 use Rattle.std.proofs.lemmas.Option.{get_or_from_slice_get, slice_get_within}
 use Rattle.ot_plain.specs.Lists.{IsMember}
 use Rattle.ot_plain.specs.Trees.{Ty, TyVar, Variable, Tm, Free, Named, NAbs}
-use Rattle.ot_plain.specs.Hol.{TypeMap, inst, inst_var, Renaming, type_at as type_for, image, nameless, named_type, IsFree, IsFreeIn, IsApart, is_shallow, depth_ty, depth_limit}
+use Rattle.ot_plain.specs.Hol.{TypeMap, inst, inst_var, Renaming, type_at as type_for, image, nameless}
+use Rattle.ot_plain.specs.Hol.{named_type, IsFree, IsFreeIn, IsApart, is_shallow, depth_ty, depth_limit}
 use Rattle.ot_plain.specs.Naming.{numbers}
 use Rattle.ot_plain.specs.Bounds.{bound_named}
 use Rattle.ot_laws.specs.Walk.{NamedMap, nameless_map}
@@ -23,28 +25,37 @@ use Rattle.ot_subst.specs.Walk.{carried, becomes, IsRenamed, AreReady, NamesBelo
 use Rattle.ot_subst.specs.Clash.{MayStay, IsUnclashing}
 use Rattle.ot_subst.specs.Memory.{IsMemory}
 use Rattle.ot_subst.proofs.Becoming.{AreTyped, deep-abs_type, deep-abs_body}
-use Rattle.ot_subst.proofs.Growing.{Grows-trans, term_at-Grows, variable_of-Grows, type_part-Grows, named_part-Grows, renaming_of-Grows, becomes_at-Grows, AreReady-Grows, IsSetUp-Grows}
+use Rattle.ot_subst.proofs.Growing.{Grows-trans, term_at-Grows, variable_of-Grows, type_part-Grows, named_part-Grows}
+use Rattle.ot_subst.proofs.Growing.{renaming_of-Grows, becomes_at-Grows, AreReady-Grows, IsSetUp-Grows}
 use Rattle.ot_subst.proofs.Walked.{IsMemory-Grows}
 use Rattle.ot_plain.proofs.Members.{IsMember-map_back}
 
 -- the new binders have their types
-pub typed-renaming : (t : TermTable) (s : Substitution) (r : List (VarKey × VarKey)) → ((p : VarKey × VarKey) → IsMember p r → IsRenamed t s p) → AreTyped (type_part t s) (renaming_of t.types r)
+pub typed-renaming : (t : TermTable) (s : Substitution) (r : List (VarKey × VarKey))
+    → ((p : VarKey × VarKey) → IsMember p r → IsRenamed t s p) → AreTyped (type_part t s) (renaming_of t.types r)
 typed-renaming t s r h p i =
-    let (q, m, e) = IsMember-map_back (λ (z : VarKey × VarKey). (variable_of t.types z.0, variable_of t.types z.1)) p r i in
-    sym (ap (λ (z : Variable ℕ × Variable ℕ). z.1.ty) e) ∙ (h q m).typed ∙ ap (λ (z : Variable ℕ × Variable ℕ). inst numbers (type_part t s) z.0.ty) e
+    let (q, m, e) = IsMember-map_back (λ (z : VarKey × VarKey). (variable_of t.types z.0, variable_of t.types z.1)) p
+    r i in
+    sym (ap (λ (z : Variable ℕ × Variable ℕ). z.1.ty) e) ∙ (h q m).typed
+    ∙ ap (λ (z : Variable ℕ × Variable ℕ). inst numbers (type_part t s) z.0.ty) e
 
 -- a binder that becomes itself need not be among those that were renamed
-kept-agree : (s : TypeMap numbers) (m : NamedMap numbers) (r : Renaming numbers) (v w : Variable ℕ) (b : Tm ℕ) → image numbers r s (nameless_map numbers m) v ≡ Free w → carried s m ((v, w) ∷ r) b ≡ carried s m r b
-kept-agree s m r v w b k = bind-agree numbers (type_for numbers s) (image numbers ((v, w) ∷ r) s (nameless_map numbers m)) (image numbers r s (nameless_map numbers m)) b same
+kept-agree : (s : TypeMap numbers) (m : NamedMap numbers) (r : Renaming numbers) (v w : Variable ℕ) (b : Tm ℕ)
+    → image numbers r s (nameless_map numbers m) v ≡ Free w → carried s m ((v, w) ∷ r) b ≡ carried s m r b
+kept-agree s m r v w b k = bind-agree numbers (type_for numbers s)
+    (image numbers ((v, w) ∷ r) s (nameless_map numbers m)) (image numbers r s (nameless_map numbers m)) b same
   where
-    same : (x : Variable ℕ) → IsFree numbers x b → image numbers ((v, w) ∷ r) s (nameless_map numbers m) x ≡ image numbers r s (nameless_map numbers m) x
+    same : (x : Variable ℕ) → IsFree numbers x b → image numbers ((v, w) ∷ r) s (nameless_map numbers m) x
+        ≡ image numbers r s (nameless_map numbers m) x
     same x i = elim (var_cases numbers tells_numbers x v) [
       | inl p ↦ rw p.0 (sym (ap (image numbers r s (nameless_map numbers m)) p.1 ∙ k))
       | inr p ↦ rw p.0
     ]
 
 -- the type was instantiated, and t became u; ty is the number of the instance
-module _ (k : ℕ) (t u : TermTable) (s : Substitution) (r : List (VarKey × VarKey)) (v : VarKey) (ty body : ℕ) (set : IsSetUp k t s r) (vin : v.ty < length t.types) (bin : body < length t.terms) (tu : Grows t u) (utable : IsTermTable u)
+module _ (k : ℕ) (t u : TermTable) (s : Substitution) (r : List (VarKey × VarKey)) (v : VarKey) (ty body : ℕ)
+    (set : IsSetUp k t s r) (vin : v.ty < length t.types) (bin : body < length t.terms) (tu : Grows t u)
+    (utable : IsTermTable u)
     (instance : slice_get u.types ty ≡ Some (inst numbers (type_part t s) (type_at t.types v.ty))) where
   pub ready-then : AreReady u s r
   ready-then = AreReady-Grows t u tu s set.ready.subst r set.ready utable
@@ -63,11 +74,15 @@ module _ (k : ℕ) (t u : TermTable) (s : Substitution) (r : List (VarKey × Var
 
   -- a variable with the instance as its type, in a later table
   module _ (name : ℕ) (x : TermTable) (ux : Grows u x) where
-    pub instance-later : variable_of x.types (record { name = name; ty = ty }) ≡ record { name = name; ty = inst numbers (type_part t s) (type_at t.types v.ty) }
-    instance-later = λ i. record { name = name; ty = (type_at-Extends u.types x.types ux.types ty instance-in ∙ instance-type) i }
+    pub instance-later : variable_of x.types (record { name = name; ty = ty })
+        ≡ record { name = name; ty = inst numbers (type_part t s) (type_at t.types v.ty) }
+    instance-later =
+        λ i. record { name = name; ty = (type_at-Extends u.types x.types ux.types ty instance-in ∙ instance-type) i }
 
-  pub instance-then : variable_of u.types (record { name = v.name; ty = ty }) ≡ inst_var numbers (type_part u s) (variable_of u.types v)
-  instance-then = (λ i. record { name = v.name; ty = instance-type i }) ∙ (λ i. inst_var numbers (sym same_types i) (sym same_binder i))
+  pub instance-then : variable_of u.types (record { name = v.name; ty = ty }) ≡ inst_var numbers (type_part u s)
+      (variable_of u.types v)
+  instance-then = (λ i. record { name = v.name; ty = instance-type i })
+      ∙ (λ i. inst_var numbers (sym same_types i) (sym same_binder i))
 
   -- what was found in u holds in t
   same_renaming : renaming_of u.types r ≡ renaming_of t.types r
@@ -83,19 +98,26 @@ module _ (k : ℕ) (t u : TermTable) (s : Substitution) (r : List (VarKey × Var
   stays-before h = record {
     itself =
         let p : (image numbers (renaming_of u.types r) (type_part u s) (variable_part u s) (variable_of u.types v) ≡ Free (inst_var numbers (type_part u s) (variable_of u.types v)))
-        ≡ (image numbers (renaming_of t.types r) (type_part t s) (variable_part t s) (variable_of t.types v) ≡ Free (inst_var numbers (type_part t s) (variable_of t.types v)))
-        = λ i. image numbers (same_renaming i) (same_types i) (nameless_map numbers (same_terms i)) (same_binder i) ≡ Free (inst_var numbers (same_types i) (same_binder i)) in
+        ≡ (image numbers (renaming_of t.types r) (type_part t s) (variable_part t s) (variable_of t.types v)
+        ≡ Free (inst_var numbers (type_part t s) (variable_of t.types v)))
+        = λ i. image numbers (same_renaming i) (same_types i) (nameless_map numbers (same_terms i)) (same_binder i)
+        ≡ Free (inst_var numbers (same_types i) (same_binder i)) in
         subst (λ (P : Type 0). P) p h.itself;
     apart =
         let p : ((x : Variable ℕ) → IsFreeIn numbers x (term_at u.terms body) → (x ≡ variable_of u.types v → ⊥) → ¬ (IsFree numbers (inst_var numbers (type_part u s) (variable_of u.types v)) (image numbers (renaming_of u.types r) (type_part u s) (variable_part u s) x)))
-        ≡ ((x : Variable ℕ) → IsFreeIn numbers x (term_at t.terms body) → (x ≡ variable_of t.types v → ⊥) → ¬ (IsFree numbers (inst_var numbers (type_part t s) (variable_of t.types v)) (image numbers (renaming_of t.types r) (type_part t s) (variable_part t s) x)))
-        = λ i. (x : Variable ℕ) → IsFreeIn numbers x (same_body i) → (x ≡ same_binder i → ⊥) → ¬ (IsFree numbers (inst_var numbers (same_types i) (same_binder i)) (image numbers (same_renaming i) (same_types i) (nameless_map numbers (same_terms i)) x)) in
+        ≡ ((x : Variable ℕ) → IsFreeIn numbers x (term_at t.terms body) → (x ≡ variable_of t.types v → ⊥)
+        → ¬ (IsFree numbers (inst_var numbers (type_part t s) (variable_of t.types v))
+        (image numbers (renaming_of t.types r) (type_part t s) (variable_part t s) x)))
+        = λ i. (x : Variable ℕ) → IsFreeIn numbers x (same_body i) → (x ≡ same_binder i → ⊥)
+        → ¬ (IsFree numbers (inst_var numbers (same_types i) (same_binder i))
+        (image numbers (same_renaming i) (same_types i) (nameless_map numbers (same_terms i)) x)) in
         subst (λ (P : Type 0). P) p h.apart;
   }
 
   pub clash-before : (r ≡ [] → ¬ (IsUnclashing u s v body)) → r ≡ [] → ¬ (IsUnclashing t s v body)
   clash-before h nil apart =
-      let p : IsUnclashing t s v body ≡ IsUnclashing u s v body = λ i. IsApart numbers (sym same_types i) (nameless_map numbers (sym same_terms i)) (sym same_binder i) (sym same_body i) in
+      let p : IsUnclashing t s v body ≡ IsUnclashing u s v body = λ i. IsApart numbers (sym same_types i)
+      (nameless_map numbers (sym same_terms i)) (sym same_binder i) (sym same_body i) in
       h nil (subst (λ (P : Type 0). P) p apart)
 
   -- the test was made, and u became w
@@ -113,41 +135,57 @@ module _ (k : ℕ) (t u : TermTable) (s : Substitution) (r : List (VarKey × Var
     body-then = omega (arith, bin, tw.terms.longer)
 
     -- a body that is too deep, where the binder stays
-    pub deep-kept : MayStay t s r v body → is_shallow numbers (becomes w s r (nameless numbers (term_at w.terms body))) ≡ false → is_shallow numbers (becomes t s r (nameless numbers (NAbs (variable_of t.types v) (term_at t.terms body)))) ≡ false
+    pub deep-kept : MayStay t s r v body
+        → is_shallow numbers (becomes w s r (nameless numbers (term_at w.terms body))) ≡ false → is_shallow numbers
+        (becomes t s r (nameless numbers (NAbs (variable_of t.types v) (term_at t.terms body)))) ≡ false
     deep-kept h deep =
-        deep-abs_body (type_part t s) (named_part t s) (renaming_of t.types r) (variable_of t.types v) (inst_var numbers (type_part t s) (variable_of t.types v)) (term_at t.terms body) refl h.apart
-        (ap (is_shallow numbers) (kept-agree (type_part t s) (named_part t s) (renaming_of t.types r) (variable_of t.types v) (inst_var numbers (type_part t s) (variable_of t.types v)) (nameless numbers (term_at t.terms body)) h.itself ∙ sym (becomes_at-Grows t w tw s set.ready.subst r set.ready.binders body bin)) ∙ deep)
+        deep-abs_body (type_part t s) (named_part t s) (renaming_of t.types r) (variable_of t.types v)
+        (inst_var numbers (type_part t s) (variable_of t.types v)) (term_at t.terms body) refl h.apart
+        (ap (is_shallow numbers)
+        (kept-agree (type_part t s) (named_part t s) (renaming_of t.types r) (variable_of t.types v)
+        (inst_var numbers (type_part t s) (variable_of t.types v)) (nameless numbers (term_at t.terms body))
+        h.itself ∙ sym (becomes_at-Grows t w tw s set.ready.subst r set.ready.binders body bin)) ∙ deep)
 
     -- the binder gets a name that is new
     module _ (name : ℕ) (new : k ≤ name) (bound : bound_named (term_at t.terms body) ≤ k) where
-      bound-binder : (r : List (VarKey × VarKey)) (p : Variable ℕ × Variable ℕ) → bound_of r ≤ k → IsMember p (renaming_of t.types r) → p.1.name < k
+      bound-binder : (r : List (VarKey × VarKey)) (p : Variable ℕ × Variable ℕ) → bound_of r ≤ k
+          → IsMember p (renaming_of t.types r) → p.1.name < k
       bound-binder [] p h i = absurd i
-      bound-binder (q ∷ r) p h (inl e) = let n : q.1.name ≡ p.1.name = ap (λ (z : Variable ℕ × Variable ℕ). z.1.name) e in omega arith
+      bound-binder (q ∷ r) p h (inl e) = let n : q.1.name ≡ p.1.name =
+          ap (λ (z : Variable ℕ × Variable ℕ). z.1.name) e in omega arith
       bound-binder (q ∷ r) p h (inr i) = bound-binder r p (omega arith) i
 
       old : IsOld k (renaming_of t.types r) (variable_part t s)
       old = record {
         binders = λ p i. bound-binder r p set.bound i;
         terms = old-terms k (named_part t s) (λ p i.
-            let (q, m, e) = IsMember-map_back (λ (z : VarKey × ℕ). (variable_of t.types z.0, term_at t.terms z.1)) p s.terms i in
-            let within : q.1 < length t.terms = All-member (λ (z : VarKey × ℕ). z.1 < length t.terms) s.terms set.ready.subst.terms q m in
+            let (q, m, e) = IsMember-map_back (λ (z : VarKey × ℕ). (variable_of t.types z.0, term_at t.terms z.1)) p
+            s.terms i in
+            let within : q.1 < length t.terms =
+            All-member (λ (z : VarKey × ℕ). z.1 < length t.terms) s.terms set.ready.subst.terms q m in
             let size = ap (λ (z : Variable ℕ × Named ℕ). bound_named z.1) e in
             let most = bound_named-term_at t.terms q.1 within in
             let all = set.names.terms in
             omega arith);
       }
 
-      pub typed-new : (variable_of w.types (record { name = name; ty = ty })).ty ≡ inst numbers (type_part t s) (variable_of t.types v).ty
+      pub typed-new : (variable_of w.types (record { name = name; ty = ty })).ty ≡ inst numbers (type_part t s)
+          (variable_of t.types v).ty
       typed-new = ap (λ (z : Variable ℕ). z.ty) (instance-later name w uw)
 
-      pub apart_new : (y : Variable ℕ) → IsFreeIn numbers y (term_at t.terms body) → (y ≡ variable_of t.types v → ⊥) → ¬ (IsFree numbers (variable_of w.types (record { name = name; ty = ty })) (image numbers (renaming_of t.types r) (type_part t s) (variable_part t s) y))
-      apart_new = apart-new k (variable_of w.types (record { name = name; ty = ty })) (variable_of t.types v) (renaming_of t.types r) (type_part t s) (variable_part t s) (term_at t.terms body) new old bound
+      pub apart_new : (y : Variable ℕ) → IsFreeIn numbers y (term_at t.terms body) → (y ≡ variable_of t.types v → ⊥)
+          → ¬ (IsFree numbers (variable_of w.types (record { name = name; ty = ty }))
+          (image numbers (renaming_of t.types r) (type_part t s) (variable_part t s) y))
+      apart_new = apart-new k (variable_of w.types (record { name = name; ty = ty })) (variable_of t.types v)
+          (renaming_of t.types r) (type_part t s) (variable_part t s) (term_at t.terms body) new old bound
 
       new-binder : IsRenamed w s (v, record { name = name; ty = ty })
       new-binder = record {
         from = omega (arith, vin, tw.types.longer);
         to = omega (arith, instance-in, uw.types.longer);
-        typed = typed-new ∙ (λ i. inst numbers (sym (type_part-Grows t w tw s set.ready.subst) i) (sym (type_at-Extends t.types w.types tw.types v.ty vin) i));
+        typed = typed-new
+            ∙ (λ i. inst numbers (sym (type_part-Grows t w tw s set.ready.subst) i)
+            (sym (type_at-Extends t.types w.types tw.types v.ty vin) i));
       }
 
       pub set_up-new : (j : ℕ) → k ≤ j → name < j → IsSetUp j w s ((v, record { name = name; ty = ty }) ∷ r)
@@ -157,23 +195,40 @@ module _ (k : ℕ) (t u : TermTable) (s : Substitution) (r : List (VarKey × Var
             ready = record {
               table = wtable;
               subst = before.ready.subst;
-              binders = λ p i. elim i [ inl e ↦ subst (IsRenamed w s) e new-binder | inr m ↦ before.ready.binders p m ];
+              binders =
+                  λ p i. elim i [ inl e ↦ subst (IsRenamed w s) e new-binder | inr m ↦ before.ready.binders p m ];
             };
             names = record { types = omega (arith, low.types); terms = omega (arith, low.terms) };
             bound = let b = set.bound in omega arith;
           }
 
-      pub deep-new : is_shallow numbers (becomes w s ((v, record { name = name; ty = ty }) ∷ r) (nameless numbers (term_at w.terms body))) ≡ false → is_shallow numbers (becomes t s r (nameless numbers (NAbs (variable_of t.types v) (term_at t.terms body)))) ≡ false
+      pub deep-new : is_shallow numbers
+          (becomes w s ((v, record { name = name; ty = ty }) ∷ r) (nameless numbers (term_at w.terms body))) ≡ false
+          → is_shallow numbers
+          (becomes t s r (nameless numbers (NAbs (variable_of t.types v) (term_at t.terms body)))) ≡ false
       deep-new deep =
-          let same : becomes w s ((v, record { name = name; ty = ty }) ∷ r) (nameless numbers (term_at w.terms body)) ≡ carried (type_part t s) (named_part t s) ((variable_of t.types v, variable_of w.types (record { name = name; ty = ty })) ∷ renaming_of t.types r) (nameless numbers (term_at t.terms body))
-          = λ i. carried (type_part-Grows t w tw s set.ready.subst i) (named_part-Grows t w tw s set.ready.subst i) ((variable_of-Grows t w tw v vin i, variable_of w.types (record { name = name; ty = ty })) ∷ renaming_of-Grows t w tw s set.ready.subst r set.ready.binders i) (nameless numbers (term_at-Grows t w tw body bin i)) in
-          deep-abs_body (type_part t s) (named_part t s) (renaming_of t.types r) (variable_of t.types v) (variable_of w.types (record { name = name; ty = ty })) (term_at t.terms body) typed-new apart_new (ap (is_shallow numbers) (sym same) ∙ deep)
+          let same : becomes w s ((v, record { name = name; ty = ty }) ∷ r) (nameless numbers (term_at w.terms body))
+          ≡ carried (type_part t s) (named_part t s)
+          ((variable_of t.types v, variable_of w.types (record { name = name; ty = ty })) ∷ renaming_of t.types r)
+          (nameless numbers (term_at t.terms body))
+          = λ i. carried (type_part-Grows t w tw s set.ready.subst i) (named_part-Grows t w tw s set.ready.subst i)
+          ((variable_of-Grows t w tw v vin i, variable_of w.types (record { name = name; ty = ty }))
+          ∷ renaming_of-Grows t w tw s set.ready.subst r set.ready.binders i)
+          (nameless numbers (term_at-Grows t w tw body bin i)) in
+          deep-abs_body (type_part t s) (named_part t s) (renaming_of t.types r) (variable_of t.types v)
+          (variable_of w.types (record { name = name; ty = ty })) (term_at t.terms body) typed-new apart_new
+          (ap (is_shallow numbers) (sym same) ∙ deep)
 
 -- nothing is remembered yet
-pub IsMemory-nil : (t : TermTable) (s : Substitution) (r : List (VarKey × VarKey)) (es : List (ℕ × ℕ)) → es ≡ [] → IsMemory t s r es
+pub IsMemory-nil : (t : TermTable) (s : Substitution) (r : List (VarKey × VarKey)) (es : List (ℕ × ℕ)) → es ≡ []
+    → IsMemory t s r es
 IsMemory-nil t s r es e = subst (IsMemory t s r) (sym e) (record { right = λ x i. absurd i; distinct = tt })
 
 -- a type that could not be instantiated
-pub deep-type : (k : ℕ) (t : TermTable) (s : Substitution) (r : List (VarKey × VarKey)) (v : VarKey) (body : ℕ) → IsSetUp k t s r → (b : Ty ℕ) → named_type numbers (NAbs (variable_of t.types v) (term_at t.terms body)) ≡ Some b → depth_limit < depth_ty numbers (inst numbers (type_part t s) (type_at t.types v.ty)) → is_shallow numbers (becomes t s r (nameless numbers (NAbs (variable_of t.types v) (term_at t.terms body)))) ≡ false
+pub deep-type : (k : ℕ) (t : TermTable) (s : Substitution) (r : List (VarKey × VarKey)) (v : VarKey) (body : ℕ)
+    → IsSetUp k t s r → (b : Ty ℕ) → named_type numbers (NAbs (variable_of t.types v) (term_at t.terms body)) ≡ Some b
+    → depth_limit < depth_ty numbers (inst numbers (type_part t s) (type_at t.types v.ty)) → is_shallow numbers
+    (becomes t s r (nameless numbers (NAbs (variable_of t.types v) (term_at t.terms body)))) ≡ false
 deep-type k t s r v body set b typed deep =
-    deep-abs_type (type_part t s) (named_part t s) set.ready.subst.typed (renaming_of t.types r) (typed-renaming t s r set.ready.binders) (variable_of t.types v) (term_at t.terms body) b typed deep
+    deep-abs_type (type_part t s) (named_part t s) set.ready.subst.typed (renaming_of t.types r)
+    (typed-renaming t s r set.ready.binders) (variable_of t.types v) (term_at t.terms body) b typed deep

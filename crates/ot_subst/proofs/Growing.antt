@@ -1,7 +1,8 @@
 -- What stays when a table grows.
 use Rattle.std.specs.Prelude.{Option, Some, None, Vec}
 use Rattle.std.specs.Global.{Global}
-use Rattle.std.proofs.Common.{◌≡◌, ℕ, ◌<◌, ◌≤◌, inl, inr, List, [], ◌∷◌, map, length, refl, sym, ap, subst, ◌∙◌, arith}
+use Rattle.std.proofs.Common.{◌≡◌, ℕ, ◌<◌, ◌≤◌, inl, inr, List, [], ◌∷◌}
+use Rattle.std.proofs.Common.{map, length, refl, sym, ap, subst, ◌∙◌, arith}
 use Rattle.std.specs.List.{All}
 use Rattle.std.proofs.lemmas.List.Elements.{All-head, All-tail}
 use Rattle.ot_plain.specs.Lists.{IsMember}
@@ -26,21 +27,30 @@ pub Grows-refl : (t : TermTable) → Grows t t
 Grows-refl t = record { types = Extends-refl t.types; terms = Extends-refl t.terms; classes = Extends-refl t.classes }
 
 pub Grows-trans : {t u v : TermTable} → Grows t u → Grows u v → Grows t v
-Grows-trans g h = record { types = Extends-trans g.types h.types; terms = Extends-trans g.terms h.terms; classes = Extends-trans g.classes h.classes }
+Grows-trans g h = record {
+  types = Extends-trans g.types h.types;
+  terms = Extends-trans g.terms h.terms;
+  classes = Extends-trans g.classes h.classes;
+}
 
-pub term_at-Grows : (t u : TermTable) → Grows t u → (i : ℕ) → i < length t.terms → term_at u.terms i ≡ term_at t.terms i
+pub term_at-Grows : (t u : TermTable) → Grows t u → (i : ℕ) → i < length t.terms
+    → term_at u.terms i ≡ term_at t.terms i
 term_at-Grows t u g i h = get_or-Extends t.terms u.terms g.terms i (NConst 0 (TyVar 0)) h
 
-pub variable_of-Grows : (t u : TermTable) → Grows t u → (v : VarKey) → v.ty < length t.types → variable_of u.types v ≡ variable_of t.types v
+pub variable_of-Grows : (t u : TermTable) → Grows t u → (v : VarKey) → v.ty < length t.types
+    → variable_of u.types v ≡ variable_of t.types v
 variable_of-Grows t u g v h = λ i. record { name = v.name; ty = type_at-Extends t.types u.types g.types v.ty h i }
 
 module _ (t u : TermTable) (g : Grows t u) where
-  named_pairs : (ps : List (VarKey × ℕ)) → All (λ p. p.0.ty < length t.types) ps → All (λ p. p.1 < length t.terms) ps → ◌≡◌ {A = List (Variable ℕ × Named ℕ)} (map (λ p. (variable_of u.types p.0, term_at u.terms p.1)) ps) (map (λ p. (variable_of t.types p.0, term_at t.terms p.1)) ps)
+  named_pairs : (ps : List (VarKey × ℕ)) → All (λ p. p.0.ty < length t.types) ps → All (λ p. p.1 < length t.terms) ps
+      → ◌≡◌ {A = List (Variable ℕ × Named ℕ)} (map (λ p. (variable_of u.types p.0, term_at u.terms p.1)) ps)
+      (map (λ p. (variable_of t.types p.0, term_at t.terms p.1)) ps)
   named_pairs [] v h = refl
   named_pairs (p ∷ ps) v h =
       let key = variable_of-Grows t u g p.0 (All-head (λ (p : VarKey × ℕ). p.0.ty < length t.types) p ps v) in
       let term = term_at-Grows t u g p.1 (All-head (λ (p : VarKey × ℕ). p.1 < length t.terms) p ps h) in
-      let rest = named_pairs ps (All-tail (λ (p : VarKey × ℕ). p.0.ty < length t.types) p ps v) (All-tail (λ (p : VarKey × ℕ). p.1 < length t.terms) p ps h) in
+      let rest = named_pairs ps (All-tail (λ (p : VarKey × ℕ). p.0.ty < length t.types) p ps v)
+      (All-tail (λ (p : VarKey × ℕ). p.1 < length t.terms) p ps h) in
       λ i. (key i, term i) ∷ rest i
 
   module _ (s : Substitution) (inside : IsSubstOf t s) where
@@ -62,10 +72,13 @@ module _ (t u : TermTable) (g : Grows t u) where
     IsRenamed-Grows p h = record {
       from = omega (arith, h.from, g.types.longer);
       to = omega (arith, h.to, g.types.longer);
-      typed = type_at-Extends t.types u.types g.types p.1.ty h.to ∙ h.typed ∙ (λ i. inst numbers (sym type_part-Grows i) (sym (type_at-Extends t.types u.types g.types p.0.ty h.from) i));
+      typed = type_at-Extends t.types u.types g.types p.1.ty h.to ∙ h.typed
+          ∙ (λ i. inst numbers (sym type_part-Grows i)
+          (sym (type_at-Extends t.types u.types g.types p.0.ty h.from) i));
     }
 
-    pub renaming_of-Grows : (r : List (VarKey × VarKey)) → ((p : VarKey × VarKey) → IsMember p r → IsRenamed t s p) → renaming_of u.types r ≡ renaming_of t.types r
+    pub renaming_of-Grows : (r : List (VarKey × VarKey)) → ((p : VarKey × VarKey) → IsMember p r → IsRenamed t s p)
+        → renaming_of u.types r ≡ renaming_of t.types r
     renaming_of-Grows [] h = refl
     renaming_of-Grows (p ∷ r) h =
         let old = variable_of-Grows t u g p.0 (h p (inl refl)).from in
@@ -73,17 +86,23 @@ module _ (t u : TermTable) (g : Grows t u) where
         let rest = renaming_of-Grows r (λ q i. h q (inr i)) in
         λ i. (old i, new i) ∷ rest i
 
-    pub becomes-Grows : (r : List (VarKey × VarKey)) → ((p : VarKey × VarKey) → IsMember p r → IsRenamed t s p) → (x : Tm ℕ) → becomes u s r x ≡ becomes t s r x
+    pub becomes-Grows : (r : List (VarKey × VarKey)) → ((p : VarKey × VarKey) → IsMember p r → IsRenamed t s p)
+        → (x : Tm ℕ) → becomes u s r x ≡ becomes t s r x
     becomes-Grows r h x = λ i. carried (type_part-Grows i) (named_part-Grows i) (renaming_of-Grows r h i) x
 
     -- a term that was there
-    pub becomes_at-Grows : (r : List (VarKey × VarKey)) → ((p : VarKey × VarKey) → IsMember p r → IsRenamed t s p) → (id : ℕ) → id < length t.terms → becomes u s r (nameless numbers (term_at u.terms id)) ≡ becomes t s r (nameless numbers (term_at t.terms id))
-    becomes_at-Grows r h id within = becomes-Grows r h (nameless numbers (term_at u.terms id)) ∙ ap (λ z. becomes t s r (nameless numbers z)) (term_at-Grows t u g id within)
+    pub becomes_at-Grows : (r : List (VarKey × VarKey)) → ((p : VarKey × VarKey) → IsMember p r → IsRenamed t s p)
+        → (id : ℕ) → id < length t.terms → becomes u s r (nameless numbers (term_at u.terms id))
+        ≡ becomes t s r (nameless numbers (term_at t.terms id))
+    becomes_at-Grows r h id within = becomes-Grows r h (nameless numbers (term_at u.terms id))
+        ∙ ap (λ z. becomes t s r (nameless numbers z)) (term_at-Grows t u g id within)
 
     pub AreReady-Grows : (r : List (VarKey × VarKey)) → AreReady t s r → IsTermTable u → AreReady u s r
-    AreReady-Grows r ready table = record { table = table; subst = IsSubstOf-Grows; binders = λ p i. IsRenamed-Grows p (ready.binders p i) }
+    AreReady-Grows r ready table =
+        record { table = table; subst = IsSubstOf-Grows; binders = λ p i. IsRenamed-Grows p (ready.binders p i) }
 
-    same_keys : (frees : List VarKey) → All (λ y. y.ty < length t.types) frees → map (variable_of u.types) frees ≡ map (variable_of t.types) frees
+    same_keys : (frees : List VarKey) → All (λ y. y.ty < length t.types) frees → map (variable_of u.types) frees
+        ≡ map (variable_of t.types) frees
     same_keys [] h = refl
     same_keys (y ∷ frees) h =
         let head = variable_of-Grows t u g y (All-head (λ (z : VarKey). z.ty < length t.types) y frees h) in
@@ -95,16 +114,22 @@ module _ (t u : TermTable) (g : Grows t u) where
       inside = λ k d i. omega (arith, h.inside k d i, g.types.longer);
       to = λ y m.
           let (p, i, f) = h.to y m in
-          let within = All-member (λ (z : VarKey). z.ty < length t.types) frees h.inside y m in
-          (p, subst (λ n. IsMember p (nameless_map numbers n)) (sym named_part-Grows) i, subst (λ v. IsFree numbers v p.1) (sym (variable_of-Grows t u g y within)) f);
-      back = λ p i x f. subst (IsMember x) (sym (same_keys frees h.inside)) (h.back p (subst (λ n. IsMember p (nameless_map numbers n)) named_part-Grows i) x f);
+          let within = All-member (λ (z : VarKey). z.ty < length t.types) frees h.inside y m in (
+            p,
+            subst (λ n. IsMember p (nameless_map numbers n)) (sym named_part-Grows) i,
+            subst
+                (λ v. IsFree numbers v p.1) (sym (variable_of-Grows t u g y within)) f,
+          );
+      back = λ p i x f. subst (IsMember x) (sym (same_keys frees h.inside))
+          (h.back p (subst (λ n. IsMember p (nameless_map numbers n)) named_part-Grows i) x f);
     }
 
     pub AreKnown-Grows : (known : Option (Vec VarKey Global)) → AreKnown t s known → AreKnown u s known
     AreKnown-Grows (Some frees) h = AreFrees-Grows frees.items h
     AreKnown-Grows None h = tt
 
-    pub IsSetUp-Grows : (j k : ℕ) (r : List (VarKey × VarKey)) → IsSetUp j t s r → j ≤ k → IsTermTable u → NamesBelow k u → IsSetUp k u s r
+    pub IsSetUp-Grows : (j k : ℕ) (r : List (VarKey × VarKey)) → IsSetUp j t s r → j ≤ k → IsTermTable u
+        → NamesBelow k u → IsSetUp k u s r
     IsSetUp-Grows j k r set le table names = record {
       ready = AreReady-Grows r set.ready table;
       names = names;
@@ -123,7 +148,8 @@ below-UpTo j k t u h up le = record {
   terms = omega (arith, h.types, h.terms, up.terms);
 }
 
-pub IsLater-trans : (ns ms ls : List Name) (t u v : TermTable) → IsLater ns ms t u → IsLater ms ls u v → IsLater ns ls t v
+pub IsLater-trans : (ns ms ls : List Name) (t u v : TermTable) → IsLater ns ms t u → IsLater ms ls u v
+    → IsLater ns ls t v
 IsLater-trans ns ms ls t u v a b = record {
   extends = Extends-trans a.extends b.extends;
   name_table = λ h. b.name_table (a.name_table h);
@@ -133,11 +159,20 @@ IsLater-trans ns ms ls t u v a b = record {
 }
 
 -- a call that leaves the names as they are
-pub IsLater-table : (j : ℕ) (ns : List Name) (t u : TermTable) → NamesBelow (length ns) t → Grows t u → IsTermTable u → NamesUpTo j t u → j ≤ length ns → IsLater ns ns t u
-IsLater-table j ns t u h g table up le = record { extends = Extends-refl ns; name_table = λ h. h; grows = g; table = table; names = below-UpTo j (length ns) t u h up le }
+pub IsLater-table : (j : ℕ) (ns : List Name) (t u : TermTable) → NamesBelow (length ns) t → Grows t u → IsTermTable u
+    → NamesUpTo j t u → j ≤ length ns → IsLater ns ns t u
+IsLater-table j ns t u h g table up le =
+    record {
+      extends = Extends-refl ns;
+      name_table = λ h. h;
+      grows = g;
+      table = table;
+      names = below-UpTo j (length ns) t u h up le;
+    }
 
 -- what was found in u holds in v too
-pub known-later : (t u v : TermTable) → Grows t u → Grows u v → (s : Substitution) (r : List (VarKey × VarKey)) → AreReady t s r → IsTermTable u
+pub known-later : (t u v : TermTable) → Grows t u → Grows u v → (s : Substitution) (r : List (VarKey × VarKey))
+    → AreReady t s r → IsTermTable u
     → (known : Option (Vec VarKey Global)) → AreKnown u s known → AreKnown v s known
 known-later t u v tu uv s r ready table known h =
     let later = AreReady-Grows t u tu s ready.subst r ready table in

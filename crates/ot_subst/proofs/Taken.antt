@@ -1,6 +1,7 @@
 -- What a node that was taken up tells of its parts, and what the memory tells of a term.
 use Rattle.std.specs.Prelude.{IfOk, OnOk, OnErr, nat_eq}
-use Rattle.std.proofs.Common.{◌≡◌, ℕ, ◌<◌, ◌≤◌, Bool, true, false, cond, List, [], ◌∷◌, length, slice_get, Some, None, Result, Ok, Err, refl, sym, ap, ◌∙◌, inl, inr, eqb-true, eq-eqb, arith}
+use Rattle.std.proofs.Common.{◌≡◌, ℕ, ◌<◌, ◌≤◌, Bool, true, false, cond, List, [], ◌∷◌, length, slice_get, Some}
+use Rattle.std.proofs.Common.{None, Result, Ok, Err, refl, sym, ap, ◌∙◌, inl, inr, eqb-true, eq-eqb, arith}
 use Rattle.std.specs.Map.{lookup}
 use Rattle.std.proofs.lemmas.Option.{get_or_from_slice_get, none-some, same_Some}
 use Rattle.ot_plain.specs.Lists.{IsMember}
@@ -43,7 +44,8 @@ more-below types j k le (Const n t) h = h
 more-below types j k le (App f x) h = (omega (arith, h.0, le), omega (arith, h.1, le))
 more-below types j k le (Abs v b) h = (h.0, omega (arith, h.1, le))
 
-module _ (t : TermTable) (id : ℕ) (n : TermNode) (tree : slice_get t.terms id ≡ Some (term_of t.types t.terms n)) where
+module _ (t : TermTable) (id : ℕ) (n : TermNode)
+    (tree : slice_get t.terms id ≡ Some (term_of t.types t.terms n)) where
   pub node-tree : term_at t.terms id ≡ term_of t.types t.terms n
   node-tree = get_or_from_slice_get t.terms id (term_of t.types t.terms n) (NConst 0 (TyVar 0)) tree
 
@@ -53,17 +55,22 @@ module _ (t : TermTable) (id : ℕ) (n : TermNode) (tree : slice_get t.terms id 
       omega (arith, bound_named-term_at t.terms id within, low.terms, size)
 
 -- ---- an application
-module _ (t w : TermTable) (s : Substitution) (r : List (VarKey × VarKey)) (ready : AreReady t s r) (f x : Named ℕ) (b : Ty ℕ) (typed : named_type numbers (NApp f x) ≡ Some b) (g y : ℕ)
-    (left : nameless numbers (term_at w.terms g) ≡ becomes t s r (nameless numbers f)) (right : nameless numbers (term_at w.terms y) ≡ becomes t s r (nameless numbers x)) where
-  pub parts-typed : (p q : Ty ℕ) × (named_type numbers (term_at w.terms g) ≡ Some (fun_ty numbers p q)) × (named_type numbers (term_at w.terms y) ≡ Some p)
+module _ (t w : TermTable) (s : Substitution) (r : List (VarKey × VarKey)) (ready : AreReady t s r) (f x : Named ℕ)
+    (b : Ty ℕ) (typed : named_type numbers (NApp f x) ≡ Some b) (g y : ℕ)
+    (left : nameless numbers (term_at w.terms g) ≡ becomes t s r (nameless numbers f))
+    (right : nameless numbers (term_at w.terms y) ≡ becomes t s r (nameless numbers x)) where
+  pub parts-typed : (p q : Ty ℕ) × (named_type numbers (term_at w.terms g) ≡ Some (fun_ty numbers p q))
+      × (named_type numbers (term_at w.terms y) ≡ Some p)
   parts-typed =
       let (a, c, d) = applied-some numbers tells_numbers (named_type numbers f) (named_type numbers x) b typed in
       let s' = type_part t s in
       let new = typed-renaming t s r ready.binders in (
         inst numbers s' a,
         inst numbers s' b,
-        result-typed s' (named_part t s) ready.subst.typed (renaming_of t.types r) new f (term_at w.terms g) (fun_ty numbers a b) c left,
-        result-typed s' (named_part t s) ready.subst.typed (renaming_of t.types r) new x (term_at w.terms y) a d right,
+        result-typed s' (named_part t s) ready.subst.typed (renaming_of t.types r) new f (term_at w.terms g)
+            (fun_ty numbers a b) c left,
+        result-typed s' (named_part t s) ready.subst.typed (renaming_of t.types r) new x (term_at w.terms y) a d
+            right,
       )
 
 -- ---- the memory
@@ -71,16 +78,20 @@ pub recalled : (es : List (ℕ × ℕ)) (id q : ℕ) → lookup (nat_eq id) es �
 recalled [] id q h = absurd (none-some q h)
 recalled (e ∷ es) id q h = go (nat_eq id e.0) refl h (recalled es id q)
   where
-    go : (b : Bool) → nat_eq id e.0 ≡ b → cond b (Some e.1) (lookup (nat_eq id) es) ≡ Some q → (lookup (nat_eq id) es ≡ Some q → IsMember (id, q) es) → IsMember (id, q) (e ∷ es)
-    go true p h f = let key : id ≡ e.0 = eqb-true id e.0 p in let value : e.1 ≡ q = same_Some e.1 q h in inl (λ i. (sym key i, value i))
+    go : (b : Bool) → nat_eq id e.0 ≡ b → cond b (Some e.1) (lookup (nat_eq id) es) ≡ Some q
+        → (lookup (nat_eq id) es ≡ Some q → IsMember (id, q) es) → IsMember (id, q) (e ∷ es)
+    go true p h f = let key : id ≡ e.0 = eqb-true id e.0 p in let value : e.1 ≡ q = same_Some e.1 q h in
+        inl (λ i. (sym key i, value i))
     go false p h f = inr (f h)
 
 pub absent-member : (es : List (ℕ × ℕ)) (id : ℕ) → lookup (nat_eq id) es ≡ None → ¬ (IsMember id (keys es))
 absent-member [] id h m = m
-absent-member (e ∷ es) id h (inl p) = none-some e.1 (sym h ∙ ap (λ b. cond b (Some e.1) (lookup (nat_eq id) es)) (eq-eqb id e.0 (sym p)))
+absent-member (e ∷ es) id h (inl p) =
+    none-some e.1 (sym h ∙ ap (λ b. cond b (Some e.1) (lookup (nat_eq id) es)) (eq-eqb id e.0 (sym p)))
 absent-member (e ∷ es) id h (inr m) = go (nat_eq id e.0) h (absent-member es id)
   where
-    go : (b : Bool) → cond b (Some e.1) (lookup (nat_eq id) es) ≡ None → (lookup (nat_eq id) es ≡ None → ¬ (IsMember id (keys es))) → ⊥
+    go : (b : Bool) → cond b (Some e.1) (lookup (nat_eq id) es) ≡ None
+        → (lookup (nat_eq id) es ≡ None → ¬ (IsMember id (keys es))) → ⊥
     go true h f = none-some e.1 (sym h)
     go false h f = f h m
 
@@ -88,12 +99,14 @@ pub absent-lookup : (es : List (ℕ × ℕ)) (id : ℕ) → ¬ (IsMember id (key
 absent-lookup [] id n = refl
 absent-lookup (e ∷ es) id n = go (nat_eq id e.0) refl (absent-lookup es id (λ m. n (inr m)))
   where
-    go : (b : Bool) → nat_eq id e.0 ≡ b → lookup (nat_eq id) es ≡ None → cond b (Some e.1) (lookup (nat_eq id) es) ≡ None
+    go : (b : Bool) → nat_eq id e.0 ≡ b → lookup (nat_eq id) es ≡ None → cond b (Some e.1) (lookup (nat_eq id) es)
+        ≡ None
     go true p f = absurd (n (inl (sym (eqb-true id e.0 p))))
     go false p f = f
 
 -- ---- a new name
-pub later-name : (ns ms : List Name) (t : TermTable) → Extends ns ms → IsNameTable ms → IsTermTable t → NamesBelow (length ns) t → IsLater ns ms t t
+pub later-name : (ns ms : List Name) (t : TermTable) → Extends ns ms → IsNameTable ms → IsTermTable t
+    → NamesBelow (length ns) t → IsLater ns ms t t
 later-name ns ms t more table terms low = record {
   extends = more;
   name_table = λ _. table;

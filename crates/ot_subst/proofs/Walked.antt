@@ -1,6 +1,7 @@
 -- A walk put together from the walks of the parts.
 use Rattle.std.specs.Prelude.{max}
-use Rattle.std.proofs.Common.{◌≡◌, ℕ, suc, ◌+◌, ◌<◌, ◌≤◌, List, [], ◌∷◌, ◌++◌, length, slice_get, Some, sym, ap, subst, ◌∙◌, ◌⊎◌, inl, inr, arith, length-append}
+use Rattle.std.proofs.Common.{◌≡◌, ℕ, suc, ◌+◌, ◌<◌, ◌≤◌, List, [], ◌∷◌, ◌++◌, length, slice_get}
+use Rattle.std.proofs.Common.{Some, sym, ap, subst, ◌∙◌, ◌⊎◌, inl, inr, arith, length-append}
 use Rattle.ot_plain.specs.Lists.{IsMember, AreDistinct}
 use Rattle.ot_plain.specs.Trees.{Variable, App, Named, NApp, NAbs}
 use Rattle.ot_plain.specs.Hol.{inst, inst_var, image, nameless, parts, HasNoClash, IsFree, IsFreeIn}
@@ -18,13 +19,15 @@ use Rattle.ot_subst.specs.Walk.{carried, becomes, HasForm, IsRenamed, AreReady}
 use Rattle.ot_subst.specs.Clash.{MayStay, IsUnclashing}
 use Rattle.ot_subst.specs.Memory.{keys, IsEntry, IsMemory, IsPartBelow, IsWalked}
 use Rattle.ot_subst.proofs.Variables.{made}
-use Rattle.ot_subst.proofs.Growing.{Grows-trans, renaming_of-Grows, term_at-Grows, variable_of-Grows, type_part-Grows, named_part-Grows, becomes_at-Grows, HasForm-Grows}
+use Rattle.ot_subst.proofs.Growing.{Grows-trans, renaming_of-Grows, term_at-Grows, variable_of-Grows}
+use Rattle.ot_subst.proofs.Growing.{type_part-Grows, named_part-Grows, becomes_at-Grows, HasForm-Grows}
 use Rattle.ot_plain.proofs.Members.{IsMember-cases, IsMember-left, IsMember-map, IsMember-map_back, IsMember-right}
 
 -- ---- what is remembered, as a table grows
 module _ (t u : TermTable) (g : Grows t u) (s : Substitution) (inside : IsSubstOf t s) where
   -- the same binders clash
-  pub no_clash-Grows : (x : ℕ) → x < length t.terms → HasNoClash numbers (type_part t s) (variable_part t s) (term_at t.terms x) → HasNoClash numbers (type_part u s) (variable_part u s) (term_at u.terms x)
+  pub no_clash-Grows : (x : ℕ) → x < length t.terms → HasNoClash numbers (type_part t s) (variable_part t s)
+      (term_at t.terms x) → HasNoClash numbers (type_part u s) (variable_part u s) (term_at u.terms x)
   no_clash-Grows x within h =
       let types = type_part-Grows t u g s inside in
       let terms = named_part-Grows t u g s inside in
@@ -39,35 +42,45 @@ module _ (t u : TermTable) (g : Grows t u) (s : Substitution) (inside : IsSubstO
           let old = h.right e m in
           record {
             within = let w = old.within in omega (arith, w, g.terms.longer);
-            form = subst (HasForm u e.1) (sym (becomes_at-Grows t u g s inside r binders e.0 old.within)) (HasForm-Grows t u g e.1 (becomes t s r (nameless numbers (term_at t.terms e.0))) old.form);
+            form = subst (HasForm u e.1) (sym (becomes_at-Grows t u g s inside r binders e.0 old.within))
+                (HasForm-Grows t u g e.1 (becomes t s r (nameless numbers (term_at t.terms e.0))) old.form);
           };
       distinct = h.distinct;
     }
 
     -- nothing is remembered
-    pub walked-leaf : (es : List (ℕ × ℕ)) (n : ℕ) (x : Named ℕ) (k q : ℕ) → IsMemory t s r es → HasForm u q (becomes t s r (nameless numbers x)) → IsWalked t u s r es es n n x k q
-    walked-leaf es n x k q h form = record { form = form; memory = IsMemory-Grows es h; known = λ e m. inl m; counted = λ _ _. omega arith }
+    pub walked-leaf : (es : List (ℕ × ℕ)) (n : ℕ) (x : Named ℕ) (k q : ℕ) → IsMemory t s r es
+        → HasForm u q (becomes t s r (nameless numbers x)) → IsWalked t u s r es es n n x k q
+    walked-leaf es n x k q h form =
+        record { form = form; memory = IsMemory-Grows es h; known = λ e m. inl m; counted = λ _ _. omega arith }
 
 -- what was remembered
-pub walked-recalled : (t : TermTable) (s : Substitution) (r : List (VarKey × VarKey)) (es : List (ℕ × ℕ)) (n id q : ℕ) → IsMemory t s r es → IsMember (id, q) es → IsWalked t t s r es es n n (term_at t.terms id) (suc id) q
-walked-recalled t s r es n id q h m = record { form = (h.right (id, q) m).form; memory = h; known = λ e i. inl i; counted = λ _ _. omega arith }
+pub walked-recalled : (t : TermTable) (s : Substitution) (r : List (VarKey × VarKey)) (es : List (ℕ × ℕ)) (n id q : ℕ)
+    → IsMemory t s r es → IsMember (id, q) es → IsWalked t t s r es es n n (term_at t.terms id) (suc id) q
+walked-recalled t s r es n id q h m =
+    record { form = (h.right (id, q) m).form; memory = h; known = λ e i. inl i; counted = λ _ _. omega arith }
 
 -- ---- an application: t becomes u, w and z
-module _ (t u w z : TermTable) (tu : Grows t u) (uw : Grows u w) (wz : Grows w z) (s : Substitution) (r : List (VarKey × VarKey)) (ready : AreReady t s r) (later : AreReady u s r) (last : AreReady w s r) (m0 m1 m2 : List (ℕ × ℕ)) (n0 n1 n2 f x g y q : ℕ) (fin : f < length t.terms) (xin : x < length t.terms)
-    (a : IsWalked t u s r m0 m1 n0 n1 (term_at t.terms f) (suc f) g) (b : IsWalked u w s r m1 m2 n1 n2 (term_at u.terms x) (suc x) y) where
+module _ (t u w z : TermTable) (tu : Grows t u) (uw : Grows u w) (wz : Grows w z) (s : Substitution)
+    (r : List (VarKey × VarKey)) (ready : AreReady t s r) (later : AreReady u s r) (last : AreReady w s r)
+    (m0 m1 m2 : List (ℕ × ℕ)) (n0 n1 n2 f x g y q : ℕ) (fin : f < length t.terms) (xin : x < length t.terms)
+    (a : IsWalked t u s r m0 m1 n0 n1 (term_at t.terms f) (suc f) g)
+    (b : IsWalked u w s r m1 m2 n1 n2 (term_at u.terms x) (suc x) y) where
   pub walked_left : nameless numbers (term_at w.terms g) ≡ becomes t s r (nameless numbers (term_at t.terms f))
   walked_left = (HasForm-Grows u w uw g (becomes t s r (nameless numbers (term_at t.terms f))) a.form).form
 
   pub walked_right : nameless numbers (term_at w.terms y) ≡ becomes t s r (nameless numbers (term_at t.terms x))
   walked_right = b.form.form ∙ becomes_at-Grows t u tu s ready.subst r ready.binders x xin
 
-  known_part : (e : ℕ × ℕ) → IsMember e m2 → IsMember e m0 ⊎ IsPartBelow t (NApp (term_at t.terms f) (term_at t.terms x)) (suc (max f x)) e.0
+  known_part : (e : ℕ × ℕ) → IsMember e m2
+      → IsMember e m0 ⊎ IsPartBelow t (NApp (term_at t.terms f) (term_at t.terms x)) (suc (max f x)) e.0
   known_part e m = elim (b.known e m) [
     | inl i ↦ elim (a.known e i) [
       | inl j ↦ inl j
       | inr p ↦ inr (record {
         below = let l = p.below in omega (arith, l);
-        part = inr (IsMember-left (term_at t.terms e.0) (parts numbers (term_at t.terms f)) (parts numbers (term_at t.terms x)) p.part);
+        part = inr (IsMember-left (term_at t.terms e.0) (parts numbers (term_at t.terms f))
+            (parts numbers (term_at t.terms x)) p.part);
       })
     ]
     | inr p ↦
@@ -77,25 +90,36 @@ module _ (t u w z : TermTable) (tu : Grows t u) (uw : Grows u w) (wz : Grows w z
         let tree = term_at-Grows t u tu x xin in
         inr (record {
           below = omega (arith, l);
-          part = inr (IsMember-right (term_at t.terms e.0) (parts numbers (term_at t.terms f)) (parts numbers (term_at t.terms x)) (subst (λ v. IsMember v (parts numbers (term_at t.terms x))) key (subst (λ v. IsMember (term_at u.terms e.0) (parts numbers v)) tree p.part)));
+          part = inr
+              (IsMember-right (term_at t.terms e.0) (parts numbers (term_at t.terms f))
+              (parts numbers (term_at t.terms x)) (subst (λ v. IsMember v (parts numbers (term_at t.terms x))) key
+              (subst (λ v. IsMember (term_at u.terms e.0) (parts numbers v)) tree p.part)));
         })
   ]
 
-  pub walked-app : slice_get z.terms q ≡ Some (NApp (term_at w.terms g) (term_at w.terms y)) → IsWalked t z s r m0 m2 n0 n2 (NApp (term_at t.terms f) (term_at t.terms x)) (suc (max f x)) q
+  pub walked-app : slice_get z.terms q ≡ Some (NApp (term_at w.terms g) (term_at w.terms y))
+      → IsWalked t z s r m0 m2 n0 n2 (NApp (term_at t.terms f) (term_at t.terms x)) (suc (max f x)) q
   walked-app at = record {
-    form = made z q (NApp (term_at w.terms g) (term_at w.terms y)) (becomes t s r (nameless numbers (NApp (term_at t.terms f) (term_at t.terms x)))) at (λ i. App (walked_left i) (walked_right i));
+    form = made z q (NApp (term_at w.terms g) (term_at w.terms y))
+        (becomes t s r (nameless numbers (NApp (term_at t.terms f) (term_at t.terms x)))) at
+        (λ i. App (walked_left i) (walked_right i));
     memory = IsMemory-Grows w z wz s last.subst r last.binders m2 b.memory;
     known = known_part;
-    counted = λ nil h. omega (arith, a.counted nil h.0, b.counted nil (no_clash-Grows t u tu s ready.subst x xin h.1));
+    counted =
+        λ nil h. omega (arith, a.counted nil h.0, b.counted nil (no_clash-Grows t u tu s ready.subst x xin h.1));
   }
 
 -- ---- an abstraction: its type is instantiated, and t becomes w; then its body, and it becomes x; then z
-module _ (t w x z : TermTable) (tw : Grows t w) (wx : Grows w x) (xz : Grows x z) (s : Substitution) (r : List (VarKey × VarKey)) (ready : AreReady t s r) (last : AreReady x s r) (v new : VarKey) (m0 m1 : List (ℕ × ℕ)) (n0 n1 body c q : ℕ) (bin : body < length t.terms) (vin : v.ty < length t.types) (nin : new.ty < length w.types) where
+module _ (t w x z : TermTable) (tw : Grows t w) (wx : Grows w x) (xz : Grows x z) (s : Substitution)
+    (r : List (VarKey × VarKey)) (ready : AreReady t s r) (last : AreReady x s r) (v new : VarKey)
+    (m0 m1 : List (ℕ × ℕ)) (n0 n1 body c q : ℕ) (bin : body < length t.terms) (vin : v.ty < length t.types)
+    (nin : new.ty < length w.types) where
   module _ (a : IsWalked w x s r m0 m1 n0 n1 (term_at w.terms body) (suc body) c) where
     body_kept : nameless numbers (term_at x.terms c) ≡ becomes t s r (nameless numbers (term_at t.terms body))
     body_kept = a.form.form ∙ becomes_at-Grows t w tw s ready.subst r ready.binders body bin
 
-    known_body : (e : ℕ × ℕ) → IsMember e m1 → IsMember e m0 ⊎ IsPartBelow t (NAbs (variable_of t.types v) (term_at t.terms body)) (suc body) e.0
+    known_body : (e : ℕ × ℕ) → IsMember e m1
+        → IsMember e m0 ⊎ IsPartBelow t (NAbs (variable_of t.types v) (term_at t.terms body)) (suc body) e.0
     known_body e m = elim (a.known e m) [
       | inl i ↦ inl i
       | inr p ↦
@@ -103,45 +127,72 @@ module _ (t w x z : TermTable) (tw : Grows t w) (wx : Grows w x) (xz : Grows x z
           let within : e.0 < length t.terms = omega (arith, l, bin) in
           let key = term_at-Grows t w tw e.0 within in
           let tree = term_at-Grows t w tw body bin in
-          inr (record { below = l; part = inr (subst (λ y. IsMember y (parts numbers (term_at t.terms body))) key (subst (λ y. IsMember (term_at w.terms e.0) (parts numbers y)) tree p.part)) })
+          inr (record {
+            below = l;
+            part = inr (subst (λ y. IsMember y (parts numbers (term_at t.terms body))) key
+                (subst (λ y. IsMember (term_at w.terms e.0) (parts numbers y)) tree p.part));
+          })
     ]
 
     -- the binder stays, with the instance of its type
-    pub kept_form : variable_of x.types new ≡ inst_var numbers (type_part t s) (variable_of t.types v) → MayStay t s r v body
-        → nameless numbers (NAbs (variable_of x.types new) (term_at x.terms c)) ≡ becomes t s r (nameless numbers (NAbs (variable_of t.types v) (term_at t.terms body)))
-    kept_form kept stays = ap (λ k. nameless numbers (NAbs k (term_at x.terms c))) kept ∙ abs-kept numbers tells_numbers (renaming_of t.types r) (type_part t s) (variable_part t s) (variable_of t.types v) (term_at t.terms body) (term_at x.terms c) stays.itself stays.apart body_kept
+    pub kept_form : variable_of x.types new ≡ inst_var numbers (type_part t s) (variable_of t.types v)
+        → MayStay t s r v body
+        → nameless numbers (NAbs (variable_of x.types new) (term_at x.terms c))
+        ≡ becomes t s r (nameless numbers (NAbs (variable_of t.types v) (term_at t.terms body)))
+    kept_form kept stays = ap (λ k. nameless numbers (NAbs k (term_at x.terms c))) kept
+        ∙ abs-kept numbers tells_numbers (renaming_of t.types r) (type_part t s) (variable_part t s)
+        (variable_of t.types v) (term_at t.terms body) (term_at x.terms c) stays.itself stays.apart body_kept
 
-    pub walked-kept : variable_of x.types new ≡ inst_var numbers (type_part t s) (variable_of t.types v) → MayStay t s r v body
-        → slice_get z.terms q ≡ Some (NAbs (variable_of x.types new) (term_at x.terms c)) → IsWalked t z s r m0 m1 n0 n1 (NAbs (variable_of t.types v) (term_at t.terms body)) (suc body) q
+    pub walked-kept : variable_of x.types new ≡ inst_var numbers (type_part t s) (variable_of t.types v)
+        → MayStay t s r v body
+        → slice_get z.terms q ≡ Some (NAbs (variable_of x.types new) (term_at x.terms c))
+        → IsWalked t z s r m0 m1 n0 n1 (NAbs (variable_of t.types v) (term_at t.terms body)) (suc body) q
     walked-kept kept stays at = record {
-      form = made z q (NAbs (variable_of x.types new) (term_at x.terms c)) (becomes t s r (nameless numbers (NAbs (variable_of t.types v) (term_at t.terms body)))) at (kept_form kept stays);
+      form = made z q (NAbs (variable_of x.types new) (term_at x.terms c))
+          (becomes t s r (nameless numbers (NAbs (variable_of t.types v) (term_at t.terms body)))) at
+          (kept_form kept stays);
       memory = IsMemory-Grows x z xz s last.subst r last.binders m1 a.memory;
       known = known_body;
       counted = λ nil h. a.counted nil (no_clash-Grows t w tw s ready.subst body bin h.1);
     }
 
   -- the binder has a new name; the body was walked with a memory of its own
-  module _ (start inner : List (ℕ × ℕ)) (from : ℕ) (h : IsMemory t s r m0) (a : IsWalked w x s ((v, new) ∷ r) start inner from n1 (term_at w.terms body) (suc body) c) where
-    body_renamed : nameless numbers (term_at x.terms c) ≡ carried (type_part t s) (named_part t s) ((variable_of t.types v, variable_of w.types new) ∷ renaming_of t.types r) (nameless numbers (term_at t.terms body))
+  module _ (start inner : List (ℕ × ℕ)) (from : ℕ) (h : IsMemory t s r m0)
+      (a : IsWalked w x s ((v, new) ∷ r) start inner from n1 (term_at w.terms body) (suc body) c) where
+    body_renamed : nameless numbers (term_at x.terms c) ≡ carried (type_part t s) (named_part t s)
+        ((variable_of t.types v, variable_of w.types new) ∷ renaming_of t.types r)
+        (nameless numbers (term_at t.terms body))
     body_renamed =
-        a.form.form ∙ (λ i. carried (type_part-Grows t w tw s ready.subst i) (named_part-Grows t w tw s ready.subst i) ((variable_of-Grows t w tw v vin i, variable_of w.types new) ∷ renaming_of-Grows t w tw s ready.subst r ready.binders i) (nameless numbers (term_at-Grows t w tw body bin i)))
+        a.form.form
+        ∙ (λ i. carried (type_part-Grows t w tw s ready.subst i) (named_part-Grows t w tw s ready.subst i)
+        ((variable_of-Grows t w tw v vin i, variable_of w.types new) ∷ renaming_of-Grows t w tw s ready.subst r
+        ready.binders i) (nameless numbers (term_at-Grows t w tw body bin i)))
 
     module _ (typed : (variable_of w.types new).ty ≡ inst numbers (type_part t s) (variable_of t.types v).ty)
-        (apart : (y : Variable ℕ) → IsFreeIn numbers y (term_at t.terms body) → (y ≡ variable_of t.types v → ⊥) → ¬ (IsFree numbers (variable_of w.types new) (image numbers (renaming_of t.types r) (type_part t s) (variable_part t s) y))) where
-      pub renamed_form : nameless numbers (NAbs (variable_of x.types new) (term_at x.terms c)) ≡ becomes t s r (nameless numbers (NAbs (variable_of t.types v) (term_at t.terms body)))
-      renamed_form = ap (λ k. nameless numbers (NAbs k (term_at x.terms c))) (variable_of-Grows w x wx new nin) ∙ abs-renamed numbers tells_numbers (renaming_of t.types r) (type_part t s) (variable_part t s) (variable_of t.types v) (variable_of w.types new) (term_at t.terms body) (term_at x.terms c) typed apart body_renamed
+        (apart : (y : Variable ℕ) → IsFreeIn numbers y (term_at t.terms body) → (y ≡ variable_of t.types v → ⊥)
+        → ¬ (IsFree numbers (variable_of w.types new)
+        (image numbers (renaming_of t.types r) (type_part t s) (variable_part t s) y))) where
+      pub renamed_form : nameless numbers (NAbs (variable_of x.types new) (term_at x.terms c))
+          ≡ becomes t s r (nameless numbers (NAbs (variable_of t.types v) (term_at t.terms body)))
+      renamed_form = ap (λ k. nameless numbers (NAbs k (term_at x.terms c))) (variable_of-Grows w x wx new nin)
+          ∙ abs-renamed numbers tells_numbers (renaming_of t.types r) (type_part t s) (variable_part t s)
+          (variable_of t.types v) (variable_of w.types new) (term_at t.terms body) (term_at x.terms c) typed apart
+          body_renamed
 
       pub walked-renamed : (r ≡ [] → ¬ (IsUnclashing t s v body))
-          → slice_get z.terms q ≡ Some (NAbs (variable_of x.types new) (term_at x.terms c)) → IsWalked t z s r m0 m0 n0 n1 (NAbs (variable_of t.types v) (term_at t.terms body)) (suc body) q
+          → slice_get z.terms q ≡ Some (NAbs (variable_of x.types new) (term_at x.terms c))
+          → IsWalked t z s r m0 m0 n0 n1 (NAbs (variable_of t.types v) (term_at t.terms body)) (suc body) q
       walked-renamed clash at = record {
-        form = made z q (NAbs (variable_of x.types new) (term_at x.terms c)) (becomes t s r (nameless numbers (NAbs (variable_of t.types v) (term_at t.terms body)))) at renamed_form;
+        form = made z q (NAbs (variable_of x.types new) (term_at x.terms c))
+            (becomes t s r (nameless numbers (NAbs (variable_of t.types v) (term_at t.terms body)))) at renamed_form;
         memory = IsMemory-Grows t z (Grows-trans tw (Grows-trans wx xz)) s ready.subst r ready.binders m0 h;
         known = λ e m. inl m;
         counted = λ nil k. absurd (clash nil k.0);
       }
 
 -- ---- the term itself, after its parts
-distinct-push : (k q : ℕ) (es : List (ℕ × ℕ)) → AreDistinct (keys es) → ¬ (IsMember k (keys es)) → AreDistinct (keys (es ++ (k, q) ∷ []))
+distinct-push : (k q : ℕ) (es : List (ℕ × ℕ)) → AreDistinct (keys es) → ¬ (IsMember k (keys es))
+    → AreDistinct (keys (es ++ (k, q) ∷ []))
 distinct-push k q [] d n = (λ i. i, tt)
 distinct-push k q (x ∷ es) d n = (away, distinct-push k q es d.1 (λ i. n (inr i)))
   where
@@ -154,7 +205,9 @@ distinct-push k q (x ∷ es) d n = (away, distinct-push k q es d.1 (λ i. n (inr
         ]
 
 -- the walk of its parts remembers parts alone
-pub still_absent : (t u : TermTable) (s : Substitution) (r : List (VarKey × VarKey)) (m0 m1 : List (ℕ × ℕ)) (n1 n2 id k q : ℕ) (x : Named ℕ) → k ≤ id → IsWalked t u s r m0 m1 n1 n2 x k q → ¬ (IsMember id (keys m0)) → ¬ (IsMember id (keys m1))
+pub still_absent : (t u : TermTable) (s : Substitution) (r : List (VarKey × VarKey)) (m0 m1 : List (ℕ × ℕ))
+    (n1 n2 id k q : ℕ) (x : Named ℕ) → k ≤ id → IsWalked t u s r m0 m1 n1 n2 x k q → ¬ (IsMember id (keys m0))
+    → ¬ (IsMember id (keys m1))
 still_absent t u s r m0 m1 n1 n2 id k q x le a absent i =
     let (e, j, p) = IsMember-map_back (λ (z : ℕ × ℕ). z.0) id m1 i in
     elim (a.known e j) [
@@ -162,7 +215,11 @@ still_absent t u s r m0 m1 n1 n2 id k q x le a absent i =
       | inr b ↦ let l = b.below in absurd (omega (arith, l, p, le))
     ]
 
-module _ (t u : TermTable) (s : Substitution) (r : List (VarKey × VarKey)) (m0 m1 m2 : List (ℕ × ℕ)) (n0 n1 n2 id k q : ℕ) (x : Named ℕ) (within : id < length t.terms) (tree : term_at t.terms id ≡ x) (above : k ≤ id) (g : Grows t u) (inside : IsSubstOf t s) (binders : (p : VarKey × VarKey) → IsMember p r → IsRenamed t s p) (absent : ¬ (IsMember id (keys m0))) (step : n1 ≤ n0 + 1) (added : m2 ≡ m1 ++ (id, q) ∷ []) (a : IsWalked t u s r m0 m1 n1 n2 x k q) where
+module _ (t u : TermTable) (s : Substitution) (r : List (VarKey × VarKey)) (m0 m1 m2 : List (ℕ × ℕ))
+    (n0 n1 n2 id k q : ℕ) (x : Named ℕ) (within : id < length t.terms) (tree : term_at t.terms id ≡ x)
+    (above : k ≤ id) (g : Grows t u) (inside : IsSubstOf t s) (binders : (p : VarKey × VarKey) → IsMember p r
+    → IsRenamed t s p) (absent : ¬ (IsMember id (keys m0))) (step : n1 ≤ n0 + 1) (added : m2 ≡ m1 ++ (id, q) ∷ [])
+    (a : IsWalked t u s r m0 m1 n1 n2 x k q) where
   same_form : becomes t s r (nameless numbers x) ≡ becomes t s r (nameless numbers (term_at t.terms id))
   same_form = ap (λ z. becomes t s r (nameless numbers z)) (sym tree)
 
@@ -185,12 +242,20 @@ module _ (t u : TermTable) (s : Substitution) (r : List (VarKey × VarKey)) (m0 
     known = λ e i. elim (IsMember-cases e m1 ((id, q) ∷ []) (subst (IsMember e) added i)) [
       | inl b ↦ elim (a.known e b) [
         | inl c ↦ inl c
-        | inr c ↦ let l = c.below in inr (record { below = omega (arith, l, above); part = subst (λ z. IsMember (term_at t.terms e.0) (parts numbers z)) (sym tree) c.part })
+        | inr c ↦ let l = c.below in
+            inr (record {
+              below = omega (arith, l, above);
+              part = subst (λ z. IsMember (term_at t.terms e.0) (parts numbers z)) (sym tree) c.part;
+            })
       ]
       | inr b ↦ elim b [
         | inl c ↦
             let n : id ≡ e.0 = ap (λ (z : ℕ × ℕ). z.0) c in
-            inr (record { below = omega arith; part = subst (λ z. IsMember (term_at t.terms z) (parts numbers (term_at t.terms id))) n (part-self numbers (term_at t.terms id)) })
+            inr (record {
+              below = omega arith;
+              part = subst (λ z. IsMember (term_at t.terms z) (parts numbers (term_at t.terms id))) n
+                  (part-self numbers (term_at t.terms id));
+            })
         | inr c ↦ absurd c
       ]
     ];

@@ -15,8 +15,10 @@ use Rattle.ot_subst.specs.Renamed.{renaming_of}
 -- the variables that are free in the terms that are put in
 pub record AreFrees (t : TermTable) (s : Substitution) (frees : List VarKey) : Type 0 where
   pub inside : All (λ y. y.ty < length t.types) frees
-  pub to : (y : VarKey) → IsMember y frees → (p : Variable ℕ × Tm ℕ) × IsMember p (variable_part t s) × IsFree numbers (variable_of t.types y) p.1
-  pub back : (p : Variable ℕ × Tm ℕ) → IsMember p (variable_part t s) → (x : Variable ℕ) → IsFree numbers x p.1 → IsMember x (map (variable_of t.types) frees)
+  pub to : (y : VarKey) → IsMember y frees → (p : Variable ℕ × Tm ℕ) × IsMember p (variable_part t s)
+      × IsFree numbers (variable_of t.types y) p.1
+  pub back : (p : Variable ℕ × Tm ℕ) → IsMember p (variable_part t s) → (x : Variable ℕ) → IsFree numbers x p.1
+      → IsMember x (map (variable_of t.types) frees)
 
 -- what was found out of them
 abbrev pub AreKnown : TermTable → Substitution → Option (Vec VarKey Global) → Type 0
@@ -31,11 +33,15 @@ abbrev pub Coincides : TermTable → Substitution → VarKey → VarKey → VarK
 Coincides t s v w x = (x ≢ v) × (inst_var numbers (type_part t s) (variable_of t.types x) ≡ variable_of t.types w)
 
 -- the binder v may stay, but for its type: it becomes itself, and captures no other variable of the body
-pub record MayStay (t : TermTable) (s : Substitution) (r : List (VarKey × VarKey)) (v : VarKey) (body : ℕ) : Type 0 where
-  pub itself : image numbers (renaming_of t.types r) (type_part t s) (variable_part t s) (variable_of t.types v) ≡ Free (inst_var numbers (type_part t s) (variable_of t.types v))
+pub record MayStay (t : TermTable) (s : Substitution) (r : List (VarKey × VarKey)) (v : VarKey) (body : ℕ) : Type
+    0 where
+  pub itself : image numbers (renaming_of t.types r) (type_part t s) (variable_part t s) (variable_of t.types v)
+      ≡ Free (inst_var numbers (type_part t s) (variable_of t.types v))
   pub apart : (x : Variable ℕ) → IsFreeIn numbers x (term_at t.terms body) → x ≢ variable_of t.types v
-      → ¬ (IsFree numbers (inst_var numbers (type_part t s) (variable_of t.types v)) (image numbers (renaming_of t.types r) (type_part t s) (variable_part t s) x))
+      → ¬ (IsFree numbers (inst_var numbers (type_part t s) (variable_of t.types v))
+      (image numbers (renaming_of t.types r) (type_part t s) (variable_part t s) x))
 
 -- it does not clash with the substitution
 abbrev pub IsUnclashing : TermTable → Substitution → VarKey → ℕ → Type 0
-IsUnclashing t s v body = IsApart numbers (type_part t s) (variable_part t s) (variable_of t.types v) (term_at t.terms body)
+IsUnclashing t s v body = IsApart numbers (type_part t s) (variable_part t s) (variable_of t.types v)
+    (term_at t.terms body)

@@ -37,14 +37,16 @@ above (Const n ty) = 0
 above (App f x) = suc (max f x)
 above (Abs v b) = suc b
 
--- a walk of the tree x, whose parts have numbers below k, found that it becomes q: what was remembered before and after,
--- and the steps before and after
-pub record IsWalked (t u : TermTable) (s : Substitution) (r : List (VarKey × VarKey)) (old new : List (ℕ × ℕ)) (from to : ℕ) (x : Named ℕ) (k q : ℕ) : Type 0 where
+-- a walk of the tree x, whose parts have numbers below k, found that it becomes q: what was remembered before and
+-- after, and the steps before and after
+pub record IsWalked (t u : TermTable) (s : Substitution) (r : List (VarKey × VarKey)) (old new : List (ℕ × ℕ))
+    (from to : ℕ) (x : Named ℕ) (k q : ℕ) : Type 0 where
   pub form : HasForm u q (becomes t s r (nameless numbers x))
   pub memory : IsMemory u s r new
   pub known : (e : ℕ × ℕ) → IsMember e new → IsMember e old ⊎ IsPartBelow t x k e.0
   -- no step without a result that is remembered, where no binder clashes
-  pub counted : r ≡ [] → HasNoClash numbers (type_part t s) (variable_part t s) x → to + length old ≤ from + length new
+  pub counted : r ≡ [] → HasNoClash numbers (type_part t s) (variable_part t s) x
+      → to + length old ≤ from + length new
 
 -- the steps that a walk of the tree x took are no more than the terms that it remembers newly, or was at work on
 pub record CountsParts (t : TermTable) (old : List (ℕ × ℕ)) (from to : ℕ) (x : Named ℕ) (k : ℕ) : Type 0 where
@@ -55,4 +57,5 @@ pub record CountsParts (t : TermTable) (old : List (ℕ × ℕ)) (from to : ℕ)
 
 -- they are so where no binder clashes
 abbrev pub IsCounted : TermTable → Substitution → List (VarKey × VarKey) → List (ℕ × ℕ) → ℕ → ℕ → Named ℕ → ℕ → Type 0
-IsCounted t s r old from to x k = r ≡ [] → HasNoClash numbers (type_part t s) (variable_part t s) x → CountsParts t old from to x k
+IsCounted t s r old from to x k = r ≡ [] → HasNoClash numbers (type_part t s) (variable_part t s) x
+    → CountsParts t old from to x k

@@ -1,5 +1,6 @@
 -- What contracts see of a substitution: its pairs, by number.
-use Rattle.std.specs.Prelude.{ℕ, ◌<◌, ◌==◌, ◌&&◌, Bool, Option, List, [], ◌∷◌, ◌++◌, map, length, is_some, if◌then◌else◌, refl}
+use Rattle.std.specs.Prelude.{ℕ, ◌<◌, ◌==◌, ◌&&◌, Bool, Option, List, [], ◌∷◌}
+use Rattle.std.specs.Prelude.{◌++◌, map, length, is_some, if◌then◌else◌, refl}
 use Rattle.std.specs.List.{All}
 use Rattle.std.specs.Map.{lookup}
 use Rattle.std.specs.Coded.{Coded, coded_list, coded×, coded_ℕ, code_by}
@@ -18,10 +19,14 @@ pub record Substitution : Type 0 where
   pub terms : List (VarKey × ℕ)
 
 abbrev pub coded_key : Coded VarKey
-coded_key = code_by (ℕ × ℕ) (coded× coded_ℕ coded_ℕ) (λ v. (v.name, v.ty)) (λ p. record { name = p.0; ty = p.1 }) (λ _. refl)
+coded_key = code_by (ℕ × ℕ) (coded× coded_ℕ coded_ℕ) (λ v. (v.name, v.ty)) (λ p. record { name = p.0; ty = p.1 })
+    (λ _. refl)
 
 abbrev pub coded_substitution : Coded Substitution
-coded_substitution = code_by (List (ℕ × ℕ) × List (VarKey × ℕ)) (coded× (coded_list (coded× coded_ℕ coded_ℕ)) (coded_list (coded× coded_key coded_ℕ))) (λ s. (s.types, s.terms)) (λ p. record { types = p.0; terms = p.1 }) (λ _. refl)
+coded_substitution =
+    code_by (List (ℕ × ℕ) × List (VarKey × ℕ))
+    (coded× (coded_list (coded× coded_ℕ coded_ℕ)) (coded_list (coded× coded_key coded_ℕ))) (λ s. (s.types, s.terms))
+    (λ p. record { types = p.0; terms = p.1 }) (λ _. refl)
 
 -- whether two variables are one
 abbrev pub same_key : VarKey → VarKey → Bool

@@ -1,12 +1,12 @@
 //! The walk that puts a substitution into a term, node by node.
-ghost use Rattle.std.specs.Prelude.{◌≡◌, ℕ, ◌<◌, ◌≤◌, ◌+◌, ◌++◌, ◌∷◌, [], suc, max, None, Some, Err, IfOk, OnOk};
-ghost use Rattle.std.specs.Prelude.{OnErr, length, slice_get, false, nat_eq};
+ghost use Rattle.std.specs.Prelude.{◌≡◌, ℕ, ◌<◌, ◌≤◌, ◌+◌, ◌++◌, ◌∷◌, [], suc, max, None, Some};
+ghost use Rattle.std.specs.Prelude.{Err, IfOk, OnOk, OnErr, length, slice_get, false, nat_eq};
 ghost use Rattle.ot_plain.specs.Trees.{Ty, NApp, NAbs};
 ghost use Rattle.ot_plain.specs.Hol.{is_shallow, nameless, named_type, fun_ty};
 ghost use Rattle.ot_plain.specs.Naming.{numbers};
 ghost use Rattle.ot_plain.specs.Bounds.{bound_named};
-ghost use Rattle.ot_term.specs.TermTable.{term_at, term_of, variable_of, is_within_limit, AreBelow, Grows, NamesUpTo};
-ghost use Rattle.ot_term.specs.TermTable.{IsTermTable};
+ghost use Rattle.ot_term.specs.TermTable.{term_at, term_of, variable_of, is_within_limit};
+ghost use Rattle.ot_term.specs.TermTable.{AreBelow, Grows, NamesUpTo, IsTermTable};
 ghost use Rattle.ot_subst.specs.Renamed.{pairs_of};
 ghost use Rattle.ot_subst.specs.Walk.{becomes, IsSetUp, IsLater};
 ghost use Rattle.ot_subst.specs.Clash.{AreKnown};

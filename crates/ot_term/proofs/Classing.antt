@@ -1,5 +1,6 @@
 -- The classes of terms: the numbers of their nameless forms.
-use Rattle.std.proofs.Common.{◌≡◌, ℕ, zero, suc, ◌<◌, ◌↔◌, Bool, position, None, List, [], ◌∷◌, ◌++◌, length, slice_get, get_or, Some, refl, sym, ap, subst, ◌∙◌, arith}
+use Rattle.std.proofs.Common.{◌≡◌, ℕ, zero, suc, ◌<◌, ◌↔◌, Bool, position, None, List, [], ◌∷◌, ◌++◌}
+use Rattle.std.proofs.Common.{length, slice_get, get_or, Some, refl, sym, ap, subst, ◌∙◌, arith}
 use Rattle.std.proofs.lemmas.Option.{none-some, same_Some, slice_get_within, get_or_from_slice_get}
 use Rattle.std.proofs.lemmas.List.{map-append}
 use Rattle.ot_plain.specs.Trees.{Ty, Tm, Bound, App, Abs, Named}
@@ -21,14 +22,16 @@ use Rattle.ot_term.specs.declared.term.TermNode.{TermNode}
 use Rattle.ot_term.specs.declared.term.TermNode.TheVariants.{Var, Const, App as AppNode, Abs as AbsNode}
 
 -- ---- what stays when a table grows
-pub class-types : (tys us : List (Ty ℕ)) → Extends tys us → (cs : List (Tm ℕ)) (t : Named ℕ) (c : ℕ) → IsClassOf tys cs t c → IsClassOf us cs t c
+pub class-types : (tys us : List (Ty ℕ)) → Extends tys us → (cs : List (Tm ℕ)) (t : Named ℕ) (c : ℕ)
+    → IsClassOf tys cs t c → IsClassOf us cs t c
 class-types tys us e cs t c h = record {
   within = h.within;
   over = over-more (length tys) (length us) e.longer (class_at cs c) h.over;
   form = spelled-grown tys us e (class_at cs c) h.over ∙ h.form;
 }
 
-pub class-grown : (tys : List (Ty ℕ)) (cs ds : List (Tm ℕ)) → Extends cs ds → (t : Named ℕ) (c : ℕ) → IsClassOf tys cs t c → IsClassOf tys ds t c
+pub class-grown : (tys : List (Ty ℕ)) (cs ds : List (Tm ℕ)) → Extends cs ds → (t : Named ℕ) (c : ℕ)
+    → IsClassOf tys cs t c → IsClassOf tys ds t c
 class-grown tys cs ds e t c h =
     let same = sym (get_or-Extends cs ds e c (Bound 0) h.within) in
     record {
@@ -38,25 +41,32 @@ class-grown tys cs ds e t c h =
     }
 
 -- ---- the list of classes
-pub class_at-entry : (es : List (TermNode × Beside)) (i c : ℕ) → slice_get (classes_of es) i ≡ Some c → (n : TermNode) × (b : Beside) × (slice_get es i ≡ Some (n, b)) × (b.class ≡ c)
+pub class_at-entry : (es : List (TermNode × Beside)) (i c : ℕ) → slice_get (classes_of es) i ≡ Some c
+    → (n : TermNode) × (b : Beside) × (slice_get es i ≡ Some (n, b)) × (b.class ≡ c)
 class_at-entry [] i c p = absurd (none-some c p)
 class_at-entry (e ∷ es) zero c p = (e.0, e.1, refl, same_Some e.1.class c p)
 class_at-entry (e ∷ es) (suc i) c p = class_at-entry es i c p
 
-pub entry-class : (es : List (TermNode × Beside)) (i : ℕ) (n : TermNode) (b : Beside) → slice_get es i ≡ Some (n, b) → slice_get (classes_of es) i ≡ Some b.class
+pub entry-class : (es : List (TermNode × Beside)) (i : ℕ) (n : TermNode) (b : Beside) → slice_get es i ≡ Some (n, b)
+    → slice_get (classes_of es) i ≡ Some b.class
 entry-class [] i n b p = absurd (none-some (n, b) p)
 entry-class (e ∷ es) zero n b p = ap (λ (e : TermNode × Beside). Some e.1.class) (same_Some e (n, b) p)
 entry-class (e ∷ es) (suc i) n b p = entry-class es i n b p
 
-pub classes-push : {S : Type 0} (same : TermNode → TermNode → Bool) (m : IndexMap TermNode Beside S) (n : TermNode) (b : Beside) → position (same n) (keys m) ≡ None
-    → (new : List (TermNode × Beside)) → new ≡ insert_entry same m.entries n b → Extends (classes_of m.entries) (classes_of new)
+pub classes-push : {S : Type 0} (same : TermNode → TermNode → Bool) (m : IndexMap TermNode Beside S) (n : TermNode)
+    (b : Beside) → position (same n) (keys m) ≡ None
+    → (new : List (TermNode × Beside)) → new ≡ insert_entry same m.entries n b
+    → Extends (classes_of m.entries) (classes_of new)
 classes-push same m n b absent new inserted =
-    let entries : new ≡ m.entries ++ (n, b) ∷ [] = inserted ∙ insert_entry-new same m n b (Missing-position (same n) m.entries absent).value in
-    let list : classes_of new ≡ classes_of m.entries ++ b.class ∷ [] = ap classes_of entries ∙ map-append (λ (e : TermNode × Beside). e.1.class) m.entries ((n, b) ∷ []) in
+    let entries : new ≡ m.entries ++ (n, b) ∷ [] =
+    inserted ∙ insert_entry-new same m n b (Missing-position (same n) m.entries absent).value in
+    let list : classes_of new ≡ classes_of m.entries ++ b.class ∷ [] = ap classes_of entries
+    ∙ map-append (λ (e : TermNode × Beside). e.1.class) m.entries ((n, b) ∷ []) in
     subst (Extends (classes_of m.entries)) (sym list) (Extends-append (classes_of m.entries) (b.class ∷ []))
 
 -- ---- two classes are one exactly where the nameless forms are
-pub are_alike : (tys : List (Ty ℕ)) (cs : List (Tm ℕ)) → IsInjective tys → IsInjective cs → (t u : Named ℕ) (c d : ℕ) → IsClassOf tys cs t c → IsClassOf tys cs u d → (c ≡ d) ↔ (nameless numbers t ≡ nameless numbers u)
+pub are_alike : (tys : List (Ty ℕ)) (cs : List (Tm ℕ)) → IsInjective tys → IsInjective cs → (t u : Named ℕ) (c d : ℕ)
+    → IsClassOf tys cs t c → IsClassOf tys cs u d → (c ≡ d) ↔ (nameless numbers t ≡ nameless numbers u)
 are_alike tys cs types forms t u c d g h = (to, back)
   where
     to : c ≡ d → nameless numbers t ≡ nameless numbers u
@@ -64,18 +74,25 @@ are_alike tys cs types forms t u c d g h = (to, back)
 
     back : nameless numbers t ≡ nameless numbers u → c ≡ d
     back e =
-        let one : class_at cs c ≡ class_at cs d = spelled-one tys types (class_at cs c) (class_at cs d) g.over h.over (g.form ∙ e ∙ sym h.form) in
+        let one : class_at cs c ≡ class_at cs d = spelled-one tys types (class_at cs c) (class_at cs d) g.over h.over
+        (g.form ∙ e ∙ sym h.form) in
         get_or-IsInjective cs forms c d (Bound 0) g.within h.within one
 
 -- ---- the class of a new node
-module _ (tys : List (Ty ℕ)) (one : IsInjective tys) (cs : List (Tm ℕ)) (ks : List ℕ) (ts : List (Named ℕ)) (classed : (i : ℕ) → i < length ts → IsClassOf tys cs (term_at ts i) (get_or ks i 0)) where
+module _ (tys : List (Ty ℕ)) (one : IsInjective tys) (cs : List (Tm ℕ)) (ks : List ℕ) (ts : List (Named ℕ))
+    (classed : (i : ℕ) → i < length ts → IsClassOf tys cs (term_at ts i) (get_or ks i 0)) where
   form-over : (n : TermNode) → AreBelow (length tys) (length ts) n → IsOver (length tys) (form_of cs ks n)
   form-over (Var v) h = number (length tys) v.ty h
   form-over (Const n t) h = number (length tys) t h
   form-over (AppNode f x) h = ((classed f h.0).over, (classed x h.1).over)
-  form-over (AbsNode v b) h = (number (length tys) v.ty h.0, over-close (length tys) 0 (variable_by v.name v.ty) (form_at cs ks b) (classed b h.1).over)
+  form-over (AbsNode v b) h = (
+    number (length tys) v.ty h.0,
+    over-close (length tys) 0 (variable_by v.name v.ty) (form_at cs ks b)
+        (classed b h.1).over,
+  )
 
-  form-is : (n : TermNode) → AreBelow (length tys) (length ts) n → spelled tys (form_of cs ks n) ≡ nameless numbers (term_of tys ts n)
+  form-is : (n : TermNode) → AreBelow (length tys) (length ts) n → spelled tys (form_of cs ks n)
+      ≡ nameless numbers (term_of tys ts n)
   form-is (Var v) h = refl
   form-is (Const n t) h = refl
   form-is (AppNode f x) h =
@@ -83,10 +100,12 @@ module _ (tys : List (Ty ℕ)) (one : IsInjective tys) (cs : List (Tm ℕ)) (ks 
       let right = (classed x h.1).form in
       λ i. App (left i) (right i)
   form-is (AbsNode v b) h =
-      let moved = spelled-close tys one 0 (variable_by v.name v.ty) (number (length tys) v.ty h.0) (form_at cs ks b) (classed b h.1).over in
+      let moved = spelled-close tys one 0 (variable_by v.name v.ty) (number (length tys) v.ty h.0) (form_at cs ks b)
+      (classed b h.1).over in
       ap (Abs (type_at tys v.ty)) (moved ∙ ap (close_at numbers 0 (variable_of tys v)) (classed b h.1).form)
 
-  pub class_new : (ds : List (Tm ℕ)) (n : TermNode) → AreBelow (length tys) (length ts) n → (c : ℕ) → slice_get ds c ≡ Some (form_of cs ks n) → IsClassOf tys ds (term_of tys ts n) c
+  pub class_new : (ds : List (Tm ℕ)) (n : TermNode) → AreBelow (length tys) (length ts) n → (c : ℕ)
+      → slice_get ds c ≡ Some (form_of cs ks n) → IsClassOf tys ds (term_of tys ts n) c
   class_new ds n h c p =
       let is : class_at ds c ≡ form_of cs ks n = get_or_from_slice_get ds c _ (Bound 0) p in
       record {

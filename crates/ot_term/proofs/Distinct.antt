@@ -26,8 +26,13 @@ kind-is TyOp TyOp = (λ h. refl, λ e. refl)
 
 pub symbol-is : (s r : Symbol) → Decides (symbol_eq s r) (s ≡ r)
 symbol-is s r =
-    Decides-like (symbol_eq s r) (λ p. λ i. record { kind = p.0 i; name = p.1 i }) (λ e. (ap (λ x. x.kind) e, ap (λ x. x.name) e)) (Decides-and (kinds.ghosts.eq s.kind r.kind) (nat_eq s.name r.name) (kind-is s.kind r.kind) (Decides-eqb s.name r.name))
+    Decides-like (symbol_eq s r) (λ p. λ i. record { kind = p.0 i; name = p.1 i })
+    (λ e. (ap (λ x. x.kind) e, ap (λ x. x.name) e))
+    (Decides-and (kinds.ghosts.eq s.kind r.kind) (nat_eq s.name r.name) (kind-is s.kind r.kind)
+    (Decides-eqb s.name r.name))
 
 pub key-is : (v w : VarKey) → Decides (key_eq v w) (v ≡ w)
 key-is v w =
-    Decides-like (key_eq v w) (λ p. λ i. record { name = p.0 i; ty = p.1 i }) (λ e. (ap (λ x. x.name) e, ap (λ x. x.ty) e)) (Decides-and (nat_eq v.name w.name) (nat_eq v.ty w.ty) (Decides-eqb v.name w.name) (Decides-eqb v.ty w.ty))
+    Decides-like (key_eq v w) (λ p. λ i. record { name = p.0 i; ty = p.1 i })
+    (λ e. (ap (λ x. x.name) e, ap (λ x. x.ty) e))
+    (Decides-and (nat_eq v.name w.name) (nat_eq v.ty w.ty) (Decides-eqb v.name w.name) (Decides-eqb v.ty w.ty))

@@ -11,6 +11,7 @@ pub not_so : {P : Type 0} → (P → ⊥) → IsTrue false ↔ P
 not_so never = (λ t. absurd (true≢false (sym t)), λ p. absurd (never p))
 
 -- the type of propositions, by its name and its arguments
-pub bool_op : (ts : List (Ty ℕ)) (n : ℕ) (args : List ℕ) (r : Bool) → (IsTrue r ↔ ((n ≡ 1) × (args ≡ []))) → IsTrue r ↔ (TyOp n (types_at ts args) ≡ bool_ty numbers)
+pub bool_op : (ts : List (Ty ℕ)) (n : ℕ) (args : List ℕ) (r : Bool) → (IsTrue r ↔ ((n ≡ 1) × (args ≡ [])))
+    → IsTrue r ↔ (TyOp n (types_at ts args) ≡ bool_ty numbers)
 bool_op ts n [] r h = (λ t. ap (λ m. TyOp m NoTys) (h.0 t).0, λ e. h.1 (cc, refl))
 bool_op ts n (i ∷ is) r h = (λ t. let empty : i ∷ is ≡ [] = (h.0 t).1 in cc, λ e. cc)

@@ -8,7 +8,11 @@ use Rattle.ot_term.specs.TermTable.{term_at, variable_of, Grows}
 use Rattle.ot_term.specs.declared.term.VarKey.{VarKey}
 
 pub Grows-trans : (s t u : TermTable) → Grows s t → Grows t u → Grows s u
-Grows-trans s t u g h = record { types = Extends-trans g.types h.types; terms = Extends-trans g.terms h.terms; classes = Extends-trans g.classes h.classes }
+Grows-trans s t u g h = record {
+  types = Extends-trans g.types h.types;
+  terms = Extends-trans g.terms h.terms;
+  classes = Extends-trans g.classes h.classes;
+}
 
 module _ (t u : TermTable) (g : Grows t u) where
   pub type_at-Grows : (i : ℕ) → i < length t.types → type_at u.types i ≡ type_at t.types i
@@ -20,5 +24,6 @@ module _ (t u : TermTable) (g : Grows t u) where
   pub variable_of-Grows : (v : VarKey) → v.ty < length t.types → variable_of u.types v ≡ variable_of t.types v
   variable_of-Grows v h = λ i. record { name = v.name; ty = type_at-Grows v.ty h i }
 
-  pub abstraction-Grows : (v : VarKey) (b : ℕ) → v.ty < length t.types → b < length t.terms → NAbs (variable_of u.types v) (term_at u.terms b) ≡ NAbs (variable_of t.types v) (term_at t.terms b)
+  pub abstraction-Grows : (v : VarKey) (b : ℕ) → v.ty < length t.types → b < length t.terms
+      → NAbs (variable_of u.types v) (term_at u.terms b) ≡ NAbs (variable_of t.types v) (term_at t.terms b)
   abstraction-Grows v b h k = λ i. NAbs (variable_of-Grows v h i) (term_at-Grows b k i)

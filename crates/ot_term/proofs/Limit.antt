@@ -16,7 +16,8 @@ use Rattle.ot_term.specs.TermTable.{is_within_limit}
 abbrev has_shallow_type : Named ℕ → Bool
 has_shallow_type t = is_shallow_type numbers (named_type numbers t)
 
-shallow_type : (t : Named ℕ) (ty : Ty ℕ) → named_type numbers t ≡ Some ty → depth_ty numbers ty ≤ depth_limit → has_shallow_type t ≡ true
+shallow_type : (t : Named ℕ) (ty : Ty ℕ) → named_type numbers t ≡ Some ty → depth_ty numbers ty ≤ depth_limit
+    → has_shallow_type t ≡ true
 shallow_type t ty h d = ap (is_shallow_type numbers) h ∙ le-leb (depth_ty numbers ty) depth_limit d
 
 -- the limit, by the named tree
@@ -24,9 +25,11 @@ named : (t : Named ℕ) → is_within_limit t ≡ is_shallow_named numbers t
 named t = shallow-nameless numbers tells_numbers t
 
 -- the depth of a term within the limit, and the types of its parts
-pub limit_parts : (t : Named ℕ) → is_within_limit t ≡ true → (named_depth numbers t ≤ depth_limit) × (list_all has_shallow_type (parts numbers t) ≡ true)
+pub limit_parts : (t : Named ℕ) → is_within_limit t ≡ true → (named_depth numbers t ≤ depth_limit)
+    × (list_all has_shallow_type (parts numbers t) ≡ true)
 limit_parts t h =
-    let p = and_parts (nat_le (named_depth numbers t) depth_limit) (list_all has_shallow_type (parts numbers t)) (sym (named t) ∙ h) in
+    let p = and_parts (nat_le (named_depth numbers t) depth_limit) (list_all has_shallow_type (parts numbers t))
+    (sym (named t) ∙ h) in
     (leb-true (named_depth numbers t) depth_limit p.0, p.1)
 
 -- ---- what is within the limit
@@ -36,13 +39,21 @@ limit-variable v d = le-leb (depth_ty numbers v.ty) depth_limit d
 pub limit-constant : (n : ℕ) (ty : Ty ℕ) → depth_ty numbers ty ≤ depth_limit → is_within_limit (NConst n ty) ≡ true
 limit-constant n ty d = le-leb (depth_ty numbers ty) depth_limit d
 
-pub limit-application : (f x : Named ℕ) (ty : Ty ℕ) → named_type numbers (NApp f x) ≡ Some ty → depth_ty numbers ty ≤ depth_limit → named_depth numbers (NApp f x) ≤ depth_limit → is_within_limit f ≡ true → is_within_limit x ≡ true → is_within_limit (NApp f x) ≡ true
+pub limit-application : (f x : Named ℕ) (ty : Ty ℕ) → named_type numbers (NApp f x) ≡ Some ty
+    → depth_ty numbers ty ≤ depth_limit → named_depth numbers (NApp f x) ≤ depth_limit → is_within_limit f ≡ true
+    → is_within_limit x ≡ true → is_within_limit (NApp f x) ≡ true
 limit-application f x ty h d n p q =
-    named (NApp f x) ∙ shallow-app numbers f x (sym (named f) ∙ p) (sym (named x) ∙ q) ∙ and_from (nat_le (named_depth numbers (NApp f x)) depth_limit) _ (le-leb _ _ n) (shallow_type (NApp f x) ty h d)
+    named (NApp f x) ∙ shallow-app numbers f x (sym (named f) ∙ p) (sym (named x) ∙ q)
+    ∙ and_from (nat_le (named_depth numbers (NApp f x)) depth_limit) _ (le-leb _ _ n)
+    (shallow_type (NApp f x) ty h d)
 
-pub limit-abstraction : (v : Variable ℕ) (b : Named ℕ) (ty : Ty ℕ) → named_type numbers (NAbs v b) ≡ Some ty → depth_ty numbers ty ≤ depth_limit → named_depth numbers (NAbs v b) ≤ depth_limit → is_within_limit b ≡ true → is_within_limit (NAbs v b) ≡ true
+pub limit-abstraction : (v : Variable ℕ) (b : Named ℕ) (ty : Ty ℕ) → named_type numbers (NAbs v b) ≡ Some ty
+    → depth_ty numbers ty ≤ depth_limit → named_depth numbers (NAbs v b) ≤ depth_limit → is_within_limit b ≡ true
+    → is_within_limit (NAbs v b) ≡ true
 limit-abstraction v b ty h d n p =
-    named (NAbs v b) ∙ shallow-abs numbers v b (sym (named b) ∙ p) ∙ and_from (nat_le (named_depth numbers (NAbs v b)) depth_limit) _ (le-leb _ _ n) (shallow_type (NAbs v b) ty h d)
+    named (NAbs v b) ∙ shallow-abs numbers v b (sym (named b) ∙ p)
+    ∙ and_from (nat_le (named_depth numbers (NAbs v b)) depth_limit) _ (le-leb _ _ n)
+    (shallow_type (NAbs v b) ty h d)
 
 -- ---- what passes the limit
 false_from : (b : Bool) → (b ≡ true → ⊥) → b ≡ false
@@ -56,13 +67,16 @@ past-depth t d = false_from (is_within_limit t) (λ h. omega (arith, (limit_part
 own_part : (t : Named ℕ) → list_all has_shallow_type (parts numbers t) ≡ true → has_shallow_type t ≡ true
 own_part (NVar v) h = (and_parts (has_shallow_type (NVar v)) true h).0
 own_part (NConst n t) h = (and_parts (has_shallow_type (NConst n t)) true h).0
-own_part (NApp f x) h = (and_parts (has_shallow_type (NApp f x)) (list_all has_shallow_type (parts numbers f ++ parts numbers x)) h).0
+own_part (NApp f x) h =
+    (and_parts (has_shallow_type (NApp f x)) (list_all has_shallow_type (parts numbers f ++ parts numbers x)) h).0
 own_part (NAbs v b) h = (and_parts (has_shallow_type (NAbs v b)) (list_all has_shallow_type (parts numbers b)) h).0
 
-pub past-type : (t : Named ℕ) (ty : Ty ℕ) → named_type numbers t ≡ Some ty → depth_limit < depth_ty numbers ty → is_within_limit t ≡ false
+pub past-type : (t : Named ℕ) (ty : Ty ℕ) → named_type numbers t ≡ Some ty → depth_limit < depth_ty numbers ty
+    → is_within_limit t ≡ false
 past-type t ty h d =
     false_from (is_within_limit t) (λ k.
-    let own : is_shallow_ty numbers ty ≡ true = sym (ap (is_shallow_type numbers) h) ∙ own_part t (limit_parts t k).1 in
+    let own : is_shallow_ty numbers ty ≡ true = sym (ap (is_shallow_type numbers) h)
+    ∙ own_part t (limit_parts t k).1 in
     omega (arith, leb-true (depth_ty numbers ty) depth_limit own))
 
 -- a function that passes it
@@ -70,6 +84,10 @@ pub past-function : (f x : Named ℕ) → is_within_limit f ≡ false → is_wit
 past-function f x h =
     false_from (is_within_limit (NApp f x)) (λ k.
     let p = limit_parts (NApp f x) k in
-    let inner = (and_parts (has_shallow_type (NApp f x)) (list_all has_shallow_type (parts numbers f ++ parts numbers x)) p.1).1 in
-    let both = and_parts (list_all has_shallow_type (parts numbers f)) (list_all has_shallow_type (parts numbers x)) (sym (list_all-append has_shallow_type (parts numbers f) (parts numbers x)) ∙ inner) in
-    both_ways (is_within_limit f) h (named f ∙ and_from (nat_le (named_depth numbers f) depth_limit) _ (le-leb _ _ (omega (arith, p.0))) both.0))
+    let inner =
+    (and_parts (has_shallow_type (NApp f x)) (list_all has_shallow_type (parts numbers f ++ parts numbers x))
+    p.1).1 in
+    let both = and_parts (list_all has_shallow_type (parts numbers f)) (list_all has_shallow_type (parts numbers x))
+    (sym (list_all-append has_shallow_type (parts numbers f) (parts numbers x)) ∙ inner) in
+    both_ways (is_within_limit f) h
+    (named f ∙ and_from (nat_le (named_depth numbers f) depth_limit) _ (le-leb _ _ (omega (arith, p.0))) both.0))

@@ -13,12 +13,15 @@ use Rattle.ot_term.specs.declared.term.TermFault.{TermFault}
 use Rattle.ot_term.specs.declared.term.TermFault.TheVariants.{Nesting}
 
 -- a refusal that is handed on as `Nesting` was one
-pub nesting_from : {T : Type 0} (r : Result T TermFault) (x : TableFault) → IsErrAnd r (λ y. y ≡ term_fault x) → r ≡ Err Nesting → x ≡ of_types.Nesting
+pub nesting_from : {T : Type 0} (r : Result T TermFault) (x : TableFault) → IsErrAnd r (λ y. y ≡ term_fault x)
+    → r ≡ Err Nesting → x ≡ of_types.Nesting
 nesting_from (Ok v) x h p = absurd h
 nesting_from (Err y) of_types.Nesting h p = refl
 nesting_from (Err y) of_types.Memory h p = let e : y ≡ Nesting = cc in cc
 
 -- an application whose argument is of the type that the function takes
-pub application-typed : (f x : Named ℕ) (tf tx a b : Ty ℕ) → named_type numbers f ≡ Some tf → tf ≡ fun_ty numbers a b → named_type numbers x ≡ Some tx → a ≡ tx → named_type numbers (NApp f x) ≡ Some b
+pub application-typed : (f x : Named ℕ) (tf tx a b : Ty ℕ) → named_type numbers f ≡ Some tf → tf ≡ fun_ty numbers a b
+    → named_type numbers x ≡ Some tx → a ≡ tx → named_type numbers (NApp f x) ≡ Some b
 application-typed f x tf tx a b p shape q same =
-    (λ i. applied numbers ((p ∙ ap Some shape) i) ((q ∙ ap Some (sym same)) i)) ∙ result_ty-fun numbers tells_numbers a b
+    (λ i. applied numbers ((p ∙ ap Some shape) i) ((q ∙ ap Some (sym same)) i))
+    ∙ result_ty-fun numbers tells_numbers a b

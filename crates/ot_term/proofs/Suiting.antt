@@ -19,10 +19,24 @@ module _ (t : TermTable) (table : IsTermTable t) where
   limit_at i h = table.limit i _ (slice_get-get_or t.terms i (NConst 0 (TyVar 0)) h)
 
   pub suits-variable : (v : VarKey) → v.ty < length t.types → Suits t.types (NVar (variable_of t.types v)) v.ty 1
-  suits-variable v h = record { below = h; typed = refl; depth = refl; limit = limit-variable (variable_of t.types v) (shallow_at v.ty h) }
+  suits-variable v h =
+      record {
+        below = h;
+        typed = refl;
+        depth = refl;
+        limit = limit-variable (variable_of t.types v)
+            (shallow_at v.ty h);
+      }
 
   pub suits-constant : (n ty : ℕ) → ty < length t.types → Suits t.types (NConst n (type_at t.types ty)) ty 1
-  suits-constant n ty h = record { below = h; typed = refl; depth = refl; limit = limit-constant n (type_at t.types ty) (shallow_at ty h) }
+  suits-constant n ty h =
+      record {
+        below = h;
+        typed = refl;
+        depth = refl;
+        limit = limit-constant n (type_at t.types ty)
+            (shallow_at ty h);
+      }
 
   pub suits-application : (f x ty depth : ℕ) → f < length t.terms → x < length t.terms → ty < length t.types
       → named_type numbers (NApp (term_at t.terms f) (term_at t.terms x)) ≡ Some (type_at t.types ty)
@@ -32,7 +46,8 @@ module _ (t : TermTable) (table : IsTermTable t) where
     below = hty;
     typed = typed;
     depth = is;
-    limit = limit-application (term_at t.terms f) (term_at t.terms x) (type_at t.types ty) typed (shallow_at ty hty) (omega (arith, is, d)) (limit_at f hf) (limit_at x hx);
+    limit = limit-application (term_at t.terms f) (term_at t.terms x) (type_at t.types ty) typed (shallow_at ty hty)
+        (omega (arith, is, d)) (limit_at f hf) (limit_at x hx);
   }
 
   pub suits-abstraction : (v : VarKey) (b ty depth : ℕ) → b < length t.terms → ty < length t.types
@@ -43,5 +58,6 @@ module _ (t : TermTable) (table : IsTermTable t) where
     below = hty;
     typed = typed;
     depth = is;
-    limit = limit-abstraction (variable_of t.types v) (term_at t.terms b) (type_at t.types ty) typed (shallow_at ty hty) (omega (arith, is, d)) (limit_at b hb);
+    limit = limit-abstraction (variable_of t.types v) (term_at t.terms b) (type_at t.types ty) typed
+        (shallow_at ty hty) (omega (arith, is, d)) (limit_at b hb);
   }

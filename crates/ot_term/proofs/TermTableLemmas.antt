@@ -1,5 +1,7 @@
 -- Lemmas on the table of terms.
-use Rattle.std.proofs.Common.{◌≡◌, ℕ, suc, ◌<◌, ◌≤◌, Bool, true, false, ◌&&◌, nat_eq, eqb-true, eq-eqb, true≢false, position, Option, None, is_some, List, [], ◌∷◌, ◌++◌, length, slice_get, get_or, Some, refl, sym, ap, subst, ◌∙◌, arith}
+use Rattle.std.proofs.Common.{◌≡◌, ℕ, suc, ◌<◌, ◌≤◌, Bool, true, false, ◌&&◌, nat_eq, eqb-true}
+use Rattle.std.proofs.Common.{eq-eqb, true≢false, position, Option, None, is_some, List, [], ◌∷◌}
+use Rattle.std.proofs.Common.{◌++◌, length, slice_get, get_or, Some, refl, sym, ap, subst, ◌∙◌, arith}
 use Rattle.std.proofs.lemmas.List.{length-map}
 use Rattle.std.proofs.lemmas.Option.{get_or_from_slice_get, slice_get-get_or, same_Some}
 use Rattle.std.specs.Cmp.Derive.{both_true}
@@ -17,7 +19,8 @@ use Rattle.ot_term.specs.Term.{TermTable}
 use Rattle.ot_term.proofs.Limit.{limit_parts}
 use Rattle.ot_term.proofs.Classing.{class-types, class-grown, class_at-entry, are_alike, class_new, classes-push}
 use Rattle.ot_term.specs.Classing.{form_of, form_with, IsFormBelow, PartsBelow}
-use Rattle.ot_term.specs.TermTable.{variable_of, term_at, term_of, terms_of, AreBelow, classes_of, Suits, IsClassOf, IsBeside, AreTermNodes, IsTermTable, IsTermSound, Grows}
+use Rattle.ot_term.specs.TermTable.{variable_of, term_at, term_of, terms_of, AreBelow, classes_of, Suits}
+use Rattle.ot_term.specs.TermTable.{IsClassOf, IsBeside, AreTermNodes, IsTermTable, IsTermSound, Grows}
 use Rattle.ot_term.specs.declared.table.Beside.{Beside}
 use Rattle.ot_term.specs.declared.term.VarKey.{VarKey}
 use Rattle.ot_term.specs.declared.term.TermNode.{TermNode}
@@ -40,7 +43,8 @@ module _ (tys : List (Ty ℕ)) where
   more_below j k le (App f x) h = (omega (arith, h.0), omega (arith, h.1))
   more_below j k le (Abs v b) h = (h.0, omega (arith, h.1))
 
-  tree_stays : (ts us : List (Named ℕ)) → Extends ts us → (n : TermNode) → AreBelow (length tys) (length ts) n → term_of tys us n ≡ term_of tys ts n
+  tree_stays : (ts us : List (Named ℕ)) → Extends ts us → (n : TermNode) → AreBelow (length tys) (length ts) n
+      → term_of tys us n ≡ term_of tys ts n
   tree_stays ts us e (Var v) h = refl
   tree_stays ts us e (Const n t) h = refl
   tree_stays ts us e (App f x) h =
@@ -51,7 +55,8 @@ module _ (tys : List (Ty ℕ)) where
       let body = get_or-Extends ts us e b (NConst 0 (TyVar 0)) h.1 in
       λ j. NAbs (variable_of tys v) (body j)
 
-  variable_same : (v w : VarKey) → (nat_eq v.name w.name && nat_eq v.ty w.ty) ≡ true → variable_of tys v ≡ variable_of tys w
+  variable_same : (v w : VarKey) → (nat_eq v.name w.name && nat_eq v.ty w.ty) ≡ true
+      → variable_of tys v ≡ variable_of tys w
   variable_same v w p =
       let parts = both (nat_eq v.name w.name) (nat_eq v.ty w.ty) p in
       let name = eqb-true v.name w.name parts.0 in
@@ -87,13 +92,16 @@ module _ (tys : List (Ty ℕ)) where
   tree_same ts (Abs v b) (Const m u) p = absurd (true≢false (sym p))
   tree_same ts (Abs v b) (App g y) p = absurd (true≢false (sym p))
 
-  same_variable : IsInjective tys → (v w : VarKey) → v.ty < length tys → w.ty < length tys → variable_of tys v ≡ variable_of tys w → (nat_eq v.name w.name && nat_eq v.ty w.ty) ≡ true
+  same_variable : IsInjective tys → (v w : VarKey) → v.ty < length tys → w.ty < length tys
+      → variable_of tys v ≡ variable_of tys w → (nat_eq v.name w.name && nat_eq v.ty w.ty) ≡ true
   same_variable types v w g h p =
       let name : v.name ≡ w.name = ap (λ v. v.name) p in
       let trees : type_at tys v.ty ≡ type_at tys w.ty = ap (λ v. v.ty) p in
-      both_true (eq-eqb v.name w.name name) (eq-eqb v.ty w.ty (get_or-IsInjective tys types v.ty w.ty (TyVar 0) g h trees))
+      both_true (eq-eqb v.name w.name name)
+      (eq-eqb v.ty w.ty (get_or-IsInjective tys types v.ty w.ty (TyVar 0) g h trees))
 
-  same_tree : IsInjective tys → (ts : List (Named ℕ)) → IsInjective ts → (m n : TermNode) → AreBelow (length tys) (length ts) m → AreBelow (length tys) (length ts) n → term_of tys ts m ≡ term_of tys ts n → node_eq m n ≡ true
+  same_tree : IsInjective tys → (ts : List (Named ℕ)) → IsInjective ts → (m n : TermNode) → AreBelow (length tys)
+      (length ts) m → AreBelow (length tys) (length ts) n → term_of tys ts m ≡ term_of tys ts n → node_eq m n ≡ true
   same_tree types ts terms (Var v) (Var w) g h p =
       let same : variable_of tys v ≡ variable_of tys w = cc in
       same_variable types v w g h same
@@ -104,11 +112,13 @@ module _ (tys : List (Ty ℕ)) where
   same_tree types ts terms (App f x) (App g y) a b p =
       let left : term_at ts f ≡ term_at ts g = cc in
       let right : term_at ts x ≡ term_at ts y = cc in
-      both_true (eq-eqb f g (get_or-IsInjective ts terms f g (NConst 0 (TyVar 0)) a.0 b.0 left)) (eq-eqb x y (get_or-IsInjective ts terms x y (NConst 0 (TyVar 0)) a.1 b.1 right))
+      both_true (eq-eqb f g (get_or-IsInjective ts terms f g (NConst 0 (TyVar 0)) a.0 b.0 left))
+      (eq-eqb x y (get_or-IsInjective ts terms x y (NConst 0 (TyVar 0)) a.1 b.1 right))
   same_tree types ts terms (Abs v x) (Abs w y) a b p =
       let same : variable_of tys v ≡ variable_of tys w = cc in
       let body : term_at ts x ≡ term_at ts y = cc in
-      both_true (same_variable types v w a.0 b.0 same) (eq-eqb x y (get_or-IsInjective ts terms x y (NConst 0 (TyVar 0)) a.1 b.1 body))
+      both_true (same_variable types v w a.0 b.0 same)
+      (eq-eqb x y (get_or-IsInjective ts terms x y (NConst 0 (TyVar 0)) a.1 b.1 body))
   same_tree types ts terms (Var v) (Const m u) a b p = cc
   same_tree types ts terms (Var v) (App g y) a b p = cc
   same_tree types ts terms (Var v) (Abs w c) a b p = cc
@@ -123,31 +133,43 @@ module _ (tys : List (Ty ℕ)) where
   same_tree types ts terms (Abs v x) (App g y) a b p = cc
 
   -- what stands beside a node, by its tree alone
-  beside_of : (cs : List (Tm ℕ)) (ts : List (Named ℕ)) (n : TermNode) (b : Beside) (t : Named ℕ) → t ≡ term_of tys ts n → Suits tys t b.ty b.depth → IsClassOf tys cs t b.class → IsBeside tys cs ts n b
-  beside_of cs ts n b t e s k = record { suits = subst (λ t. Suits tys t b.ty b.depth) e s; class = subst (λ t. IsClassOf tys cs t b.class) e k }
+  beside_of : (cs : List (Tm ℕ)) (ts : List (Named ℕ)) (n : TermNode) (b : Beside) (t : Named ℕ)
+      → t ≡ term_of tys ts n → Suits tys t b.ty b.depth → IsClassOf tys cs t b.class → IsBeside tys cs ts n b
+  beside_of cs ts n b t e s k =
+      record {
+        suits = subst (λ t. Suits tys t b.ty b.depth) e s;
+        class = subst (λ t. IsClassOf tys cs t b.class) e k;
+      }
 
-  pub laws : IsInjective tys → (cs : List (Tm ℕ)) → NodeLaws (term_of tys) (AreBelow (length tys)) (IsBeside tys cs) node_eq
+  pub laws : IsInjective tys → (cs : List (Tm ℕ)) → NodeLaws (term_of tys) (AreBelow (length tys)) (IsBeside tys cs)
+      node_eq
   laws types cs = record {
     more_below = more_below;
     tree_stays = tree_stays;
-    fits_stays = λ ts us e n b below h. beside_of cs us n b (term_of tys ts n) (sym (tree_stays ts us e n below)) h.suits h.class;
+    fits_stays = λ ts us e n b below h. beside_of cs us n b (term_of tys ts n) (sym (tree_stays ts us e n below))
+        h.suits h.class;
     tree_same = tree_same;
     same_tree = λ ts one m n d e below above fits also same. same_tree types ts one m n below above same;
   }
 
 -- ---- the types grow, and the terms stay
 module _ (tys us : List (Ty ℕ)) (e : Extends tys us) where
-  term_of-types : (ts : List (Named ℕ)) (k : ℕ) (n : TermNode) → AreBelow (length tys) k n → term_of us ts n ≡ term_of tys ts n
+  term_of-types : (ts : List (Named ℕ)) (k : ℕ) (n : TermNode) → AreBelow (length tys) k n
+      → term_of us ts n ≡ term_of tys ts n
   term_of-types ts k (Var v) h = λ j. NVar (record { name = v.name; ty = type_at-Extends tys us e v.ty h j })
   term_of-types ts k (Const n t) h = ap (NConst n) (type_at-Extends tys us e t h)
   term_of-types ts k (App f x) h = refl
-  term_of-types ts k (Abs v b) h = λ j. NAbs (record { name = v.name; ty = type_at-Extends tys us e v.ty h.0 j }) (term_at ts b)
+  term_of-types ts k (Abs v b) h = λ j. NAbs (record { name = v.name; ty = type_at-Extends tys us e v.ty h.0 j })
+      (term_at ts b)
 
-  grow-types : (es : List (TermNode × Beside)) → ((i : ℕ) (n : TermNode) (b : Beside) → slice_get es i ≡ Some (n, b) → (k : ℕ) × AreBelow (length tys) k n) → (ts : List (Named ℕ)) → grow (term_of us) ts es ≡ grow (term_of tys) ts es
+  grow-types : (es : List (TermNode × Beside))
+      → ((i : ℕ) (n : TermNode) (b : Beside) → slice_get es i ≡ Some (n, b) → (k : ℕ) × AreBelow (length tys) k n)
+      → (ts : List (Named ℕ)) → grow (term_of us) ts es ≡ grow (term_of tys) ts es
   grow-types [] below ts = refl
   grow-types (d ∷ es) below ts =
       let h = below 0 d.0 d.1 refl in
-      ap (λ t. grow (term_of us) (ts ++ t ∷ []) es) (term_of-types ts h.0 d.0 h.1) ∙ grow-types es (λ i n b p. below (suc i) n b p) (ts ++ term_of tys ts d.0 ∷ [])
+      ap (λ t. grow (term_of us) (ts ++ t ∷ []) es) (term_of-types ts h.0 d.0 h.1)
+      ∙ grow-types es (λ i n b p. below (suc i) n b p) (ts ++ term_of tys ts d.0 ∷ [])
 
   below-types : (k : ℕ) (n : TermNode) → AreBelow (length tys) k n → AreBelow (length us) k n
   below-types k (Var v) h = omega (arith, e.longer)
@@ -163,10 +185,12 @@ module _ (tys us : List (Ty ℕ)) (e : Extends tys us) where
     limit = h.limit;
   }
 
-  pub terms_of-types : (cs : List (Tm ℕ)) (es : List (TermNode × Beside)) (ts : List (Named ℕ)) → AreTermNodes tys cs es ts → terms_of us es ≡ terms_of tys es
+  pub terms_of-types : (cs : List (Tm ℕ)) (es : List (TermNode × Beside)) (ts : List (Named ℕ))
+      → AreTermNodes tys cs es ts → terms_of us es ≡ terms_of tys es
   terms_of-types cs es ts nodes = grow-types es (λ i n b p. (i, (nodes.entries i n b p).below)) []
 
-  pub sound-types : (cs : List (Tm ℕ)) (es : List (TermNode × Beside)) (ts : List (Named ℕ)) → IsTermSound tys cs es ts → IsTypeTable us → IsTermSound us cs es ts
+  pub sound-types : (cs : List (Tm ℕ)) (es : List (TermNode × Beside)) (ts : List (Named ℕ))
+      → IsTermSound tys cs es ts → IsTypeTable us → IsTermSound us cs es ts
   sound-types cs es ts sound table = record {
     nodes = record {
       same_length = sound.nodes.same_length;
@@ -176,39 +200,62 @@ module _ (tys us : List (Ty ℕ)) (e : Extends tys us) where
           record {
             tree = d.tree ∙ ap Some (sym same);
             below = below-types i n d.below;
-            fits = beside_of us cs ts n b (term_of tys ts n) (sym same) (suits-types (term_of tys ts n) b.ty b.depth d.fits.suits) (class-types tys us e cs (term_of tys ts n) b.class d.fits.class);
+            fits = beside_of us cs ts n b (term_of tys ts n) (sym same)
+                (suits-types (term_of tys ts n) b.ty b.depth d.fits.suits)
+                (class-types tys us e cs (term_of tys ts n) b.class d.fits.class);
           };
       injective = sound.nodes.injective;
     };
     forms = sound.forms;
-    table = record { types = table; injective = sound.table.injective; typed = sound.table.typed; limit = sound.table.limit; classed = sound.table.classed; alike = sound.table.alike };
+    table = record {
+      types = table;
+      injective = sound.table.injective;
+      typed = sound.table.typed;
+      limit = sound.table.limit;
+      classed = sound.table.classed;
+      alike = sound.table.alike;
+    };
   }
 
 -- ---- the nameless terms grow, and the terms stay
-pub sound-classes : (tys : List (Ty ℕ)) (cs ds : List (Tm ℕ)) (es : List (TermNode × Beside)) (ts : List (Named ℕ)) → Extends cs ds → IsInjective ds → IsTermSound tys cs es ts → IsTermSound tys ds es ts
+pub sound-classes : (tys : List (Ty ℕ)) (cs ds : List (Tm ℕ)) (es : List (TermNode × Beside)) (ts : List (Named ℕ))
+    → Extends cs ds → IsInjective ds → IsTermSound tys cs es ts → IsTermSound tys ds es ts
 sound-classes tys cs ds es ts e one sound = record {
   nodes = record {
     same_length = sound.nodes.same_length;
     entries = λ i n b p.
         let d = sound.nodes.entries i n b p in
-        record { tree = d.tree; below = d.below; fits = record { suits = d.fits.suits; class = class-grown tys cs ds e (term_of tys ts n) b.class d.fits.class } };
+        record {
+          tree = d.tree;
+          below = d.below;
+          fits = record {
+            suits = d.fits.suits;
+            class = class-grown tys cs ds e (term_of tys ts n) b.class
+                d.fits.class;
+          };
+        };
     injective = sound.nodes.injective;
   };
   forms = one;
   table = sound.table;
 }
 
-module _ (tys : List (Ty ℕ)) (cs : List (Tm ℕ)) (es : List (TermNode × Beside)) (ts : List (Named ℕ)) (nodes : AreTermNodes tys cs es ts) where
+module _ (tys : List (Ty ℕ)) (cs : List (Tm ℕ)) (es : List (TermNode × Beside)) (ts : List (Named ℕ))
+    (nodes : AreTermNodes tys cs es ts) where
   -- what stands beside a node is of the term at its number
-  pub suits_at : (i : ℕ) (n : TermNode) (b : Beside) → slice_get es i ≡ Some (n, b) → Suits tys (term_at ts i) b.ty b.depth
+  pub suits_at : (i : ℕ) (n : TermNode) (b : Beside) → slice_get es i ≡ Some (n, b)
+      → Suits tys (term_at ts i) b.ty b.depth
   suits_at i n b p =
       let e = nodes.entries i n b p in
-      subst (λ t. Suits tys t b.ty b.depth) (sym (get_or_from_slice_get ts i _ (NConst 0 (TyVar 0)) e.tree)) e.fits.suits
+      subst (λ t. Suits tys t b.ty b.depth) (sym (get_or_from_slice_get ts i _ (NConst 0 (TyVar 0)) e.tree))
+      e.fits.suits
 
-  classed_at : (i : ℕ) (n : TermNode) (b : Beside) → slice_get es i ≡ Some (n, b) → IsClassOf tys cs (term_at ts i) b.class
+  classed_at : (i : ℕ) (n : TermNode) (b : Beside) → slice_get es i ≡ Some (n, b)
+      → IsClassOf tys cs (term_at ts i) b.class
   classed_at i n b p =
       let e = nodes.entries i n b p in
-      subst (λ t. IsClassOf tys cs t b.class) (sym (get_or_from_slice_get ts i _ (NConst 0 (TyVar 0)) e.tree)) e.fits.class
+      subst (λ t. IsClassOf tys cs t b.class) (sym (get_or_from_slice_get ts i _ (NConst 0 (TyVar 0)) e.tree))
+      e.fits.class
 
   pub class_found : (i c : ℕ) → slice_get (classes_of es) i ≡ Some c → IsClassOf tys cs (term_at ts i) c
   class_found i c p =
@@ -216,19 +263,22 @@ module _ (tys : List (Ty ℕ)) (cs : List (Tm ℕ)) (es : List (TermNode × Besi
       subst (IsClassOf tys cs (term_at ts i)) e.3 (classed_at i e.0 e.1 e.2)
 
   -- what callers may know of the trees, from the facts of the nodes
-  table_from : IsInjective tys → IsInjective cs → IsTypeTable tys → IsTermTable (record { types = tys; terms = ts; classes = classes_of es })
+  table_from : IsInjective tys → IsInjective cs → IsTypeTable tys
+      → IsTermTable (record { types = tys; terms = ts; classes = classes_of es })
   table_from one forms types = record {
     types = types;
     injective = nodes.injective;
     typed = λ i u p. let s = suits i u p in (type_at tys s.0.ty, s.1.typed);
     limit = λ i u p. (suits i u p).1.limit;
     classed = length-map es (λ (e : TermNode × Beside). e.1.class) ∙ sym nodes.same_length;
-    alike = λ i j c d p q. are_alike tys cs one forms (term_at ts i) (term_at ts j) c d (class_found i c p) (class_found j d q);
+    alike = λ i j c d p q. are_alike tys cs one forms (term_at ts i) (term_at ts j) c d (class_found i c p)
+        (class_found j d q);
   }
     where
       suits : (i : ℕ) (u : Named ℕ) → slice_get ts i ≡ Some u → (b : Beside) × Suits tys u b.ty b.depth
       suits i u p =
-          let e = entry_at (term_of tys) (AreBelow (length tys)) (IsBeside tys cs) node_eq (laws tys one cs) es ts nodes i u p in
+          let e = entry_at (term_of tys) (AreBelow (length tys)) (IsBeside tys cs) node_eq (laws tys one cs) es ts
+          nodes i u p in
           let d = nodes.entries i e.0 e.1 e.2 in
           let same : u ≡ term_of tys ts e.0 = same_Some _ _ (sym p ∙ d.tree) in
           (e.1, subst (λ t. Suits tys t e.1.ty e.1.depth) (sym same) d.fits.suits)
@@ -243,85 +293,124 @@ only_parts j k (Const n t) h = tt
 only_parts j k (App f x) h = h
 only_parts j k (Abs v b) h = h.1
 
-module _ (tys : List (Ty ℕ)) (cs : List (Tm ℕ)) (es : List (TermNode × Beside)) (sound : IsTermSound tys cs es (terms_of tys es)) where
+module _ (tys : List (Ty ℕ)) (cs : List (Tm ℕ)) (es : List (TermNode × Beside))
+    (sound : IsTermSound tys cs es (terms_of tys es)) where
   -- the class of each number
-  pub class_at-number : (i : ℕ) → i < length es → IsClassOf tys cs (term_at (terms_of tys es) i) (get_or (classes_of es) i 0)
-  class_at-number i h = class_found tys cs es (terms_of tys es) sound.nodes i (get_or (classes_of es) i 0) (slice_get-get_or (classes_of es) i 0 (omega (arith, h, length-map es (λ (e : TermNode × Beside). e.1.class))))
+  pub class_at-number : (i : ℕ) → i < length es
+      → IsClassOf tys cs (term_at (terms_of tys es) i) (get_or (classes_of es) i 0)
+  class_at-number i h = class_found tys cs es (terms_of tys es) sound.nodes i (get_or (classes_of es) i 0)
+      (slice_get-get_or (classes_of es) i 0 (omega (arith, h, length-map es (λ (e : TermNode × Beside). e.1.class))))
 
   pub classes_within : (i : ℕ) → i < length es → get_or (classes_of es) i 0 < length cs
   classes_within i h = (class_at-number i h).within
 
-  pub parts_below : (t : TermTable) → table_of tys es ≡ t → (n : TermNode) → AreBelow (length t.types) (length t.terms) n → PartsBelow (length es) n
+  pub parts_below : (t : TermTable) → table_of tys es ≡ t → (n : TermNode)
+      → AreBelow (length t.types) (length t.terms) n → PartsBelow (length es) n
   parts_below t view n h =
-      let same : length t.terms ≡ length es = ap (λ (t : TermTable). length t.terms) (sym view) ∙ sound.nodes.same_length in
+      let same : length t.terms ≡ length es = ap (λ (t : TermTable). length t.terms) (sym view)
+      ∙ sound.nodes.same_length in
       subst (λ k. PartsBelow k n) same (only_parts (length t.types) (length t.terms) n h)
 
   -- the class of a node whose nameless form was added
-  pub class_added : (t : TermTable) → table_of tys es ≡ t → (ds : List (Tm ℕ)) (n : TermNode) (c : ℕ) → AreBelow (length t.types) (length t.terms) n → slice_get ds c ≡ Some (form_of cs (classes_of es) n) → IsClassOf tys ds (term_of tys (terms_of tys es) n) c
+  pub class_added : (t : TermTable) → table_of tys es ≡ t → (ds : List (Tm ℕ)) (n : TermNode) (c : ℕ)
+      → AreBelow (length t.types) (length t.terms) n → slice_get ds c ≡ Some (form_of cs (classes_of es) n)
+      → IsClassOf tys ds (term_of tys (terms_of tys es) n) c
   class_added t view ds n c h p =
-      let below : AreBelow (length tys) (length (terms_of tys es)) n = subst (λ (t : TermTable). AreBelow (length t.types) (length t.terms) n) (sym view) h in
-      class_new tys sound.table.types.injective cs (classes_of es) (terms_of tys es) (λ i k. class_at-number i (omega (arith, k, sound.nodes.same_length))) ds n below c p
+      let below : AreBelow (length tys) (length (terms_of tys es)) n =
+      subst (λ (t : TermTable). AreBelow (length t.types) (length t.terms) n) (sym view) h in
+      class_new tys sound.table.types.injective cs (classes_of es) (terms_of tys es)
+      (λ i k. class_at-number i (omega (arith, k, sound.nodes.same_length))) ds n below c p
 
 -- a depth beside a node is within the limit
 pub depth-limit : (tys : List (Ty ℕ)) (t : Named ℕ) (ty depth : ℕ) → Suits tys t ty depth → depth ≤ depth_limit
 depth-limit tys t ty depth s = omega (arith, s.depth, (limit_parts t s.limit).0)
 
 -- what an insert of a new node leaves, of the table t
-pub record PushedTerm (tys : List (Ty ℕ)) (cs : List (Tm ℕ)) (es : List (TermNode × Beside)) (t : TermTable) (n : TermNode) (new : List (TermNode × Beside)) : Type 0 where
+pub record PushedTerm (tys : List (Ty ℕ)) (cs : List (Tm ℕ)) (es : List (TermNode × Beside)) (t : TermTable)
+    (n : TermNode) (new : List (TermNode × Beside)) : Type 0 where
   pub sound : IsTermSound tys cs new (terms_of tys new)
   pub trees : terms_of tys new ≡ t.terms ++ term_of t.types t.terms n ∷ []
   pub last : slice_get (terms_of tys new) (length es) ≡ Some (term_of t.types t.terms n)
   pub grows : Grows t (record { types = tys; terms = terms_of tys new; classes = classes_of new })
 
-module _ {S : Type 0} (tys : List (Ty ℕ)) (cs : List (Tm ℕ)) (m : IndexMap TermNode Beside S) (sound : IsTermSound tys cs m.entries (terms_of tys m.entries)) (n : TermNode) where
-  pub found_term : (t : TermTable) → table_of tys m.entries ≡ t → (i : ℕ) → position (node_eq n) (keys m) ≡ Some i → slice_get t.terms i ≡ Some (term_of t.types t.terms n)
+module _ {S : Type 0} (tys : List (Ty ℕ)) (cs : List (Tm ℕ)) (m : IndexMap TermNode Beside S)
+    (sound : IsTermSound tys cs m.entries (terms_of tys m.entries)) (n : TermNode) where
+  pub found_term : (t : TermTable) → table_of tys m.entries ≡ t → (i : ℕ) → position (node_eq n) (keys m) ≡ Some i
+      → slice_get t.terms i ≡ Some (term_of t.types t.terms n)
   found_term t view i p =
       subst (λ (t : TermTable). slice_get t.terms i ≡ Some (term_of t.types t.terms n)) view
-      (found (term_of tys) (AreBelow (length tys)) (IsBeside tys cs) node_eq (laws tys sound.table.types.injective cs) m.entries (terms_of tys m.entries) sound.nodes n i p)
+      (found (term_of tys) (AreBelow (length tys)) (IsBeside tys cs) node_eq (laws tys sound.table.types.injective cs)
+      m.entries (terms_of tys m.entries) sound.nodes n i p)
 
-  pub pushed_term : (b : Beside) (new : List (TermNode × Beside)) → position (node_eq n) (keys m) ≡ None → new ≡ insert_entry node_eq m.entries n b
+  pub pushed_term : (b : Beside) (new : List (TermNode × Beside)) → position (node_eq n) (keys m) ≡ None
+      → new ≡ insert_entry node_eq m.entries n b
       → IsClassOf tys cs (term_of tys (terms_of tys m.entries) n) b.class
-      → (t : TermTable) → table_of tys m.entries ≡ t → AreBelow (length t.types) (length t.terms) n → Suits t.types (term_of t.types t.terms n) b.ty b.depth → PushedTerm tys cs m.entries t n new
+      → (t : TermTable) → table_of tys m.entries ≡ t → AreBelow (length t.types) (length t.terms) n
+      → Suits t.types (term_of t.types t.terms n) b.ty b.depth → PushedTerm tys cs m.entries t n new
   pushed_term b new absent inserted class t view =
-      let P : TermTable → Type 0 = λ t. AreBelow (length t.types) (length t.terms) n → Suits t.types (term_of t.types t.terms n) b.ty b.depth → PushedTerm tys cs m.entries t n new in
+      let P : TermTable → Type 0 = λ t. AreBelow (length t.types) (length t.terms) n
+      → Suits t.types (term_of t.types t.terms n) b.ty b.depth → PushedTerm tys cs m.entries t n new in
       subst P view (λ below suits.
       let fits : IsBeside tys cs (terms_of tys m.entries) n b = record { suits = suits; class = class } in
-      let p = pushed (term_of tys) (AreBelow (length tys)) (IsBeside tys cs) node_eq (laws tys sound.table.types.injective cs) m (terms_of tys m.entries) refl sound.nodes n b below fits absent new inserted in
+      let p = pushed (term_of tys) (AreBelow (length tys)) (IsBeside tys cs) node_eq
+      (laws tys sound.table.types.injective cs) m (terms_of tys m.entries) refl sound.nodes n b below fits absent
+      new inserted in
       record {
-        sound = record { nodes = p.sound; forms = sound.forms; table = table_from tys cs new (terms_of tys new) p.sound sound.table.types.injective sound.forms sound.table.types };
+        sound = record {
+          nodes = p.sound;
+          forms = sound.forms;
+          table = table_from tys cs new (terms_of tys new)
+              p.sound sound.table.types.injective sound.forms sound.table.types;
+        };
         trees = p.trees;
         last = p.last;
-        grows = record { types = Extends-refl tys; terms = p.extends; classes = classes-push node_eq m n b absent new inserted };
+        grows = record {
+          types = Extends-refl tys;
+          terms = p.extends;
+          classes = classes-push node_eq m n b absent new inserted;
+        };
       })
 
 -- ---- a node that is looked up, and put in where it is new
-form_below : (k m : ℕ) (ks : List ℕ) → ((i : ℕ) → i < m → get_or ks i 0 < k) → (n : TermNode) → PartsBelow m n → IsFormBelow k (form_with ks n)
+form_below : (k m : ℕ) (ks : List ℕ) → ((i : ℕ) → i < m → get_or ks i 0 < k) → (n : TermNode) → PartsBelow m n
+    → IsFormBelow k (form_with ks n)
 form_below k m ks within (Var v) h = tt
 form_below k m ks within (Const n t) h = tt
 form_below k m ks within (App f x) h = (within f h.0, within x h.1)
 form_below k m ks within (Abs v b) h = within b h
 
-module _ {S : Type 0} (tys : List (Ty ℕ)) (cs : List (Tm ℕ)) (m : IndexMap TermNode Beside S) (sound : IsTermSound tys cs m.entries (terms_of tys m.entries)) (t : TermTable) (view : table_of tys m.entries ≡ t) (n : TermNode) where
-  pub classes_below : AreBelow (length t.types) (length t.terms) n → IsFormBelow (length cs) (form_with (classes_of m.entries) n)
-  classes_below below = form_below (length cs) (length m.entries) (classes_of m.entries) (classes_within tys cs m.entries sound) n (parts_below tys cs m.entries sound t view n below)
+module _ {S : Type 0} (tys : List (Ty ℕ)) (cs : List (Tm ℕ)) (m : IndexMap TermNode Beside S)
+    (sound : IsTermSound tys cs m.entries (terms_of tys m.entries)) (t : TermTable)
+    (view : table_of tys m.entries ≡ t) (n : TermNode) where
+  pub classes_below : AreBelow (length t.types) (length t.terms) n
+      → IsFormBelow (length cs) (form_with (classes_of m.entries) n)
+  classes_below below = form_below (length cs) (length m.entries) (classes_of m.entries)
+      (classes_within tys cs m.entries sound) n (parts_below tys cs m.entries sound t view n below)
 
-  pub looked_up : ContainsKey node_eq m n → (i : ℕ) → i ≡ insert_index node_eq m n → slice_get t.terms i ≡ Some (term_of t.types t.terms n)
+  pub looked_up : ContainsKey node_eq m n → (i : ℕ) → i ≡ insert_index node_eq m n
+      → slice_get t.terms i ≡ Some (term_of t.types t.terms n)
   looked_up there i at = by (position (node_eq n) (keys m)) refl
     where
       by : (r : Option ℕ) → position (node_eq n) (keys m) ≡ r → slice_get t.terms i ≡ Some (term_of t.types t.terms n)
       by (Some j) p =
           let place : j ≡ i = sym (at ∙ (Found-position (node_eq n) m.entries j p).or_len) in
-          subst (λ k. slice_get t.terms k ≡ Some (term_of t.types t.terms n)) place (found_term tys cs m sound n t view j p)
+          subst (λ k. slice_get t.terms k ≡ Some (term_of t.types t.terms n)) place
+          (found_term tys cs m sound n t view j p)
       by None p = absurd (true≢false (sym there ∙ sym (some_index (node_eq n) m.entries) ∙ ap is_some p))
 
   -- the class was added to the nameless terms before
-  pub put_in : (ds : List (Tm ℕ)) → Extends cs ds → IsInjective ds → (b : Beside) → AreBelow (length t.types) (length t.terms) n → Suits t.types (term_of t.types t.terms n) b.ty b.depth
-      → slice_get ds b.class ≡ Some (form_of cs (classes_of m.entries) n) → get node_eq m n ≡ None → (new : List (TermNode × Beside)) → new ≡ insert_entry node_eq m.entries n b → PushedTerm tys ds m.entries t n new
+  pub put_in : (ds : List (Tm ℕ)) → Extends cs ds → IsInjective ds → (b : Beside)
+      → AreBelow (length t.types) (length t.terms) n → Suits t.types (term_of t.types t.terms n) b.ty b.depth
+      → slice_get ds b.class ≡ Some (form_of cs (classes_of m.entries) n) → get node_eq m n ≡ None
+      → (new : List (TermNode × Beside)) → new ≡ insert_entry node_eq m.entries n b
+      → PushedTerm tys ds m.entries t n new
   put_in ds more one b below suits form none new inserted =
       let class = class_added tys cs m.entries sound t view ds n b.class below form in
       let absent = index-absent (node_eq n) m.entries (absent_from_lookup (node_eq n) m.entries none) in
-      pushed_term tys ds m (sound-classes tys cs ds m.entries (terms_of tys m.entries) more one sound) n b new absent inserted class t view below suits
+      pushed_term tys ds m (sound-classes tys cs ds m.entries (terms_of tys m.entries) more one sound) n b new absent
+      inserted class t view below suits
 
 -- a new node goes last
-pub number_new : {S : Type 0} (m : IndexMap TermNode Beside S) (n : TermNode) → get node_eq m n ≡ None → (i : ℕ) → i ≡ insert_index node_eq m n → i ≡ length m.entries
+pub number_new : {S : Type 0} (m : IndexMap TermNode Beside S) (n : TermNode) → get node_eq m n ≡ None → (i : ℕ)
+    → i ≡ insert_index node_eq m n → i ≡ length m.entries
 number_new m n none i at = at ∙ or_len-absent (node_eq n) m.entries (absent_from_lookup (node_eq n) m.entries none)

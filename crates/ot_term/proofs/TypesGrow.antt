@@ -14,14 +14,17 @@ use Rattle.ot_term.proofs.TermTableLemmas.{terms_of-types, sound-types, table_of
 use Rattle.ot_term.proofs.NamesIn.{names-types}
 
 -- what a call on types leaves of the table `old`, by what it leaves of the types
-pub record TypesGrown (tys : List (Ty ℕ)) (cs : List (Tm ℕ)) (es : List (TermNode × Beside)) (old : TermTable) (us : List (Ty ℕ)) : Type 0 where
+pub record TypesGrown (tys : List (Ty ℕ)) (cs : List (Tm ℕ)) (es : List (TermNode × Beside)) (old : TermTable)
+    (us : List (Ty ℕ)) : Type 0 where
   pub sound : IsTermSound us cs es (terms_of us es)
   pub terms : terms_of us es ≡ old.terms
   pub grows : Grows old (table_of us es)
   pub table : IsTermTable (table_of us es)
   pub names : (k : ℕ) → names_in us ≤ max (names_in tys) k → NamesUpTo k old (table_of us es)
 
-pub types_grown : (tys us : List (Ty ℕ)) (cs : List (Tm ℕ)) (es : List (TermNode × Beside)) (old : TermTable) → table_of tys es ≡ old → IsTermSound tys cs es (terms_of tys es) → Extends tys us → IsTypeTable us → TypesGrown tys cs es old us
+pub types_grown : (tys us : List (Ty ℕ)) (cs : List (Tm ℕ)) (es : List (TermNode × Beside)) (old : TermTable)
+    → table_of tys es ≡ old → IsTermSound tys cs es (terms_of tys es) → Extends tys us → IsTypeTable us
+    → TypesGrown tys cs es old us
 types_grown tys us cs es old view sound e types =
     subst (λ (t : TermTable). TypesGrown tys cs es t us) view
     (let kept = terms_of-types tys us e cs es (terms_of tys es) sound.nodes in
@@ -29,7 +32,13 @@ types_grown tys us cs es old view sound e types =
     record {
       sound = now;
       terms = kept;
-      grows = record { types = e; terms = subst (Extends (terms_of tys es)) (sym kept) (Extends-refl (terms_of tys es)); classes = Extends-refl (classes_of es) };
+      grows = record {
+        types = e;
+        terms = subst (Extends (terms_of tys es)) (sym kept)
+            (Extends-refl (terms_of tys es));
+        classes = Extends-refl (classes_of es);
+      };
       table = now.table;
-      names = λ k h. names-types k tys us (terms_of tys es) (terms_of us es) (classes_of es) (table_of tys es) refl h kept;
+      names = λ k h. names-types k tys us (terms_of tys es) (terms_of us es) (classes_of es) (table_of tys es) refl h
+          kept;
     })

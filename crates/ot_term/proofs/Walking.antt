@@ -1,5 +1,6 @@
 -- How the trees inside a tree are found.
-use Rattle.std.proofs.Common.{◌≡◌, ℕ, ◌<◌, ◌⊎◌, inl, inr, true, false, List, [], ◌∷◌, ◌++◌, length, fold, refl, sym, subst, arith}
+use Rattle.std.proofs.Common.{◌≡◌, ℕ, ◌<◌, ◌⊎◌, inl, inr, true, false, List, []}
+use Rattle.std.proofs.Common.{◌∷◌, ◌++◌, length, fold, refl, sym, subst, arith}
 use Rattle.std.proofs.lemmas.Bool.{false≢true}
 use Rattle.std.specs.List.{All}
 use Rattle.std.specs.Ordering.{nat_cmp}
@@ -13,11 +14,16 @@ use Rattle.ot_plain.proofs.Members.{IsMember-cases, IsMember-last, IsMember-left
 
 module _ {X : Type 0} where
   pub member_push : (x y : X) (xs : List X) → IsMember y (xs ++ x ∷ []) → IsMember y xs ⊎ (x ≡ y)
-  member_push x y xs h = elim (IsMember-cases y xs (x ∷ []) h) [ inl a ↦ inl a | inr b ↦ elim b [ inl e ↦ inr e | inr never ↦ absurd never ] ]
+  member_push x y xs h = elim (IsMember-cases y xs (x ∷ []) h)
+      [ inl a ↦ inl a | inr b ↦ elim b [ inl e ↦ inr e | inr never ↦ absurd never ] ]
 
 -- a set of numbers with one more
 nothing_more : (ks : List ℕ) → IsSameSet ks (ks ++ [])
-nothing_more ks = record { to = λ x h. IsMember-left x ks [] h; back = λ x h. elim (IsMember-cases x ks [] h) [ inl a ↦ a | inr never ↦ absurd never ] }
+nothing_more ks =
+    record {
+      to = λ x h. IsMember-left x ks [] h;
+      back = λ x h. elim (IsMember-cases x ks [] h) [ inl a ↦ a | inr never ↦ absurd never ];
+    }
 
 pub set_one : (ks : List ℕ) (i : ℕ) → IsSameSet (insert_key nat_cmp ks i) (ks ++ i ∷ [])
 set_one ks i = added_one ks ks (i ∷ []) 0 i (insert_key nat_cmp ks i) (omega arith) refl (nothing_more ks) refl
@@ -30,17 +36,25 @@ set_with ks (i ∷ ids) =
     let one = set_one ks i in
     record {
       to = λ x h. elim (IsMember-cases x (insert_key nat_cmp ks i) ids (rest.to x h)) [
-        | inl a ↦ elim (member_push i x ks (one.to x a)) [ inl k ↦ IsMember-left x ks (i ∷ ids) k | inr e ↦ IsMember-right x ks (i ∷ ids) (inl e) ]
+        | inl a ↦ elim (member_push i x ks (one.to x a))
+            [ inl k ↦ IsMember-left x ks (i ∷ ids) k | inr e ↦ IsMember-right x ks (i ∷ ids) (inl e) ]
         | inr b ↦ IsMember-right x ks (i ∷ ids) (inr b)
       ];
       back = λ x h. rest.back x (elim (IsMember-cases x ks (i ∷ ids) h) [
         | inl a ↦ IsMember-left x (insert_key nat_cmp ks i) ids (one.back x (IsMember-left x ks (i ∷ []) a))
-        | inr b ↦ elim b [ inl e ↦ IsMember-left x (insert_key nat_cmp ks i) ids (one.back x (IsMember-right x ks (i ∷ []) (inl e))) | inr m ↦ IsMember-right x (insert_key nat_cmp ks i) ids m ]
+        | inr b ↦
+            elim b [
+              | inl e ↦ IsMember-left x (insert_key nat_cmp ks i) ids
+                  (one.back x (IsMember-right x ks (i ∷ []) (inl e)))
+              | inr m ↦ IsMember-right x (insert_key nat_cmp ks i)
+                  ids m
+            ]
       ]);
     }
 
 module _ {T : Type 0} (tree : ℕ → T) (Inside : T → T → Type 0) (len : ℕ) (IsAsked : T → Type 0) where
-  -- what the search keeps: the numbers found are above those to come, and inside the trees of these stands each tree that is not found yet
+  -- what the search keeps: the numbers found are above those to come, and inside the trees of these stands each tree
+  -- that is not found yet
   pub record IsSearch (found pending : List ℕ) : Type 0 where
     pub each_found : (x : ℕ) → IsMember x found → (x < len) × IsAsked (tree x)
     pub each_pending : (y : ℕ) → IsMember y pending → (y < len) × IsAsked (tree y)
@@ -48,7 +62,8 @@ module _ {T : Type 0} (tree : ℕ → T) (Inside : T → T → Type 0) (len : �
     pub falling : IsFalling found
     pub all : (u : T) → IsAsked u → ((x : ℕ) × IsMember x found × (tree x ≡ u)) ⊎ IsInsideSome tree Inside pending u
 
-  pub search_start : (ks : List ℕ) → ((k : ℕ) → IsMember k ks → (k < len) × IsAsked (tree k)) → ((u : T) → IsAsked u → IsInsideSome tree Inside ks u) → IsSearch [] ks
+  pub search_start : (ks : List ℕ) → ((k : ℕ) → IsMember k ks → (k < len) × IsAsked (tree k))
+      → ((u : T) → IsAsked u → IsInsideSome tree Inside ks u) → IsSearch [] ks
   search_start ks each all = record {
     each_found = λ x never. absurd never;
     each_pending = each;
@@ -59,13 +74,17 @@ module _ {T : Type 0} (tree : ℕ → T) (Inside : T → T → Type 0) (len : �
 
   falling-push : (xs : List ℕ) (y : ℕ) → IsFalling xs → ((x : ℕ) → IsMember x xs → y < x) → IsFalling (xs ++ y ∷ [])
   falling-push [] y f h = (λ z never. absurd never, tt)
-  falling-push (x ∷ xs) y f h =
-      (λ z m. elim (member_push y z xs m) [ inl a ↦ f.0 z a | inr e ↦ subst (λ z. z < x) e (h x (inl refl)) ], falling-push xs y f.1 (λ z m. h z (inr m)))
+  falling-push (x ∷ xs) y f h = (
+    λ z m. elim (member_push y z xs m) [ inl a ↦ f.0 z a | inr e ↦ subst (λ z. z < x) e (h x (inl refl)) ],
+    falling-push xs y f.1 (λ z m. h z (inr m)),
+  )
 
-  module _ (found ps : List ℕ) (k : ℕ) (qs : List ℕ) (s : IsSearch found (ps ++ k ∷ [])) (least : All (λ q. nat_cmp q k ≡ Less) ps) (adds : AddsParts tree Inside k ps qs) where
+  module _ (found ps : List ℕ) (k : ℕ) (qs : List ℕ) (s : IsSearch found (ps ++ k ∷ []))
+      (least : All (λ q. nat_cmp q k ≡ Less) ps) (adds : AddsParts tree Inside k ps qs) where
     -- what is pending now is below the number that is found
     pub all_below : (y : ℕ) → IsMember y qs → y < k
-    all_below y m = elim (adds.each y m) [ inl a ↦ less_is y k (All-member (λ q. nat_cmp q k ≡ Less) ps least y a) | inr b ↦ b.0 ]
+    all_below y m =
+        elim (adds.each y m) [ inl a ↦ less_is y k (All-member (λ q. nat_cmp q k ≡ Less) ps least y a) | inr b ↦ b.0 ]
 
     pub search_step : ((u v : T) → Inside u v → IsAsked v → IsAsked u) → IsSearch (found ++ k ∷ []) qs
     search_step closed =

@@ -28,5 +28,6 @@ var_key v = key_at v.name v.ty
 pub record AreTypesOf (tys : List (Ty ℕ)) (n : ℕ) (t : Named ℕ) (ks : List ℕ) : Type 0 where
   pub within : All (λ k. k < length tys) ks
   pub to : (k : ℕ) → IsMember k ks → IsFree numbers (variable_of tys (key_at n k)) (nameless numbers t)
-  pub back : (w : Variable ℕ) → w.name ≡ n → IsFree numbers w (nameless numbers t) → (k : ℕ) × IsMember k ks × (type_at tys k ≡ w.ty)
+  pub back : (w : Variable ℕ) → w.name ≡ n → IsFree numbers w (nameless numbers t) → (k : ℕ) × IsMember k ks
+      × (type_at tys k ≡ w.ty)
   pub once : AreDistinct ks

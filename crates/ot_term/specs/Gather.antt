@@ -23,9 +23,12 @@ own_type (NAbs v b) = Some v.ty
 
 -- the type stands inside the own type of one of the terms
 abbrev pub IsMentioned : TermTable → List ℕ → Ty ℕ → Type 0
-IsMentioned t ids u = (i : ℕ) × (ty : Ty ℕ) × IsMember i ids × (own_type (term_at t.terms i) ≡ Some ty) × IsSubtype u ty
+IsMentioned t ids u = (i : ℕ) × (ty : Ty ℕ) × IsMember i ids × (own_type (term_at t.terms i) ≡ Some ty)
+    × IsSubtype u ty
 
 -- the numbers of types stand for exactly the own types of the terms
 pub record AreOwnTypes (t : TermTable) (ids ks : List ℕ) : Type 0 where
-  pub each : (k : ℕ) → IsMember k ks → (k < length t.types) × ((i : ℕ) × IsMember i ids × (own_type (term_at t.terms i) ≡ Some (type_at t.types k)))
-  pub all : (i : ℕ) (ty : Ty ℕ) → IsMember i ids → own_type (term_at t.terms i) ≡ Some ty → (k : ℕ) × IsMember k ks × (type_at t.types k ≡ ty)
+  pub each : (k : ℕ) → IsMember k ks
+      → (k < length t.types) × ((i : ℕ) × IsMember i ids × (own_type (term_at t.terms i) ≡ Some (type_at t.types k)))
+  pub all : (i : ℕ) (ty : Ty ℕ) → IsMember i ids → own_type (term_at t.terms i) ≡ Some ty → (k : ℕ) × IsMember k ks
+      × (type_at t.types k ≡ ty)

@@ -1,5 +1,6 @@
 -- The table of terms over the table of types.
-use Rattle.std.specs.Prelude.{◌≡◌, ◌↔◌, ℕ, ◌<◌, ◌≤◌, max, Bool, true, List, map, length, slice_get, slice_index_or, Some}
+use Rattle.std.specs.Prelude.{◌≡◌, ◌↔◌, ℕ, ◌<◌, ◌≤◌, max, Bool, true, List}
+use Rattle.std.specs.Prelude.{map, length, slice_get, slice_index_or, Some}
 use Rattle.ot_plain.specs.Trees.{Ty, TyVar, Variable, Tm, Named, NVar, NConst, NApp, NAbs}
 use Rattle.ot_plain.specs.Hol.{named_type, named_depth, nameless, is_shallow}
 use Rattle.ot_plain.specs.Naming.{numbers}
@@ -55,7 +56,8 @@ pub record IsClassOf (tys : List (Ty ℕ)) (cs : List (Tm ℕ)) (t : Named ℕ) 
   pub form : spelled tys (class_at cs c) ≡ nameless numbers t
 
 -- what stands beside a node
-pub record IsBeside (tys : List (Ty ℕ)) (cs : List (Tm ℕ)) (ts : List (Named ℕ)) (n : TermNode) (b : Beside) : Type 0 where
+pub record IsBeside (tys : List (Ty ℕ)) (cs : List (Tm ℕ)) (ts : List (Named ℕ)) (n : TermNode) (b : Beside) : Type
+    0 where
   pub suits : Suits tys (term_of tys ts n) b.ty b.depth
   pub class : IsClassOf tys cs (term_of tys ts n) b.class
 
@@ -78,22 +80,24 @@ pub record NamesUpTo (k : ℕ) (old new : TermTable) : Type 0 where
   pub types : names_in new.types ≤ max (names_in old.types) k
   pub terms : names_in_terms new.terms ≤ max (max (names_in old.types) (names_in_terms old.terms)) k
 
--- what holds of each table: each type and each term once, each term well typed and within the nesting limit, and the classes
--- of two terms one exactly where their nameless forms are
+-- what holds of each table: each type and each term once, each term well typed and within the nesting limit, and the
+-- classes of two terms one exactly where their nameless forms are
 pub record IsTermTable (t : TermTable) : Type 0 where
   pub types : IsTypeTable t.types
   pub injective : IsInjective t.terms
   pub typed : (i : ℕ) (u : Named ℕ) → slice_get t.terms i ≡ Some u → (ty : Ty ℕ) × (named_type numbers u ≡ Some ty)
   pub limit : (i : ℕ) (u : Named ℕ) → slice_get t.terms i ≡ Some u → is_within_limit u ≡ true
   pub classed : length t.classes ≡ length t.terms
-  pub alike : (i j c d : ℕ) → slice_get t.classes i ≡ Some c → slice_get t.classes j ≡ Some d → (c ≡ d) ↔ (nameless numbers (term_at t.terms i) ≡ nameless numbers (term_at t.terms j))
+  pub alike : (i j c d : ℕ) → slice_get t.classes i ≡ Some c → slice_get t.classes j ≡ Some d
+      → (c ≡ d) ↔ (nameless numbers (term_at t.terms i) ≡ nameless numbers (term_at t.terms j))
 
 -- what the nodes keep, over the trees of the types and the nameless terms
 abbrev pub AreTermNodes : List (Ty ℕ) → List (Tm ℕ) → List (TermNode × Beside) → List (Named ℕ) → Type 0
 AreTermNodes tys cs es ts = IsSound (term_of tys) (AreBelow (length tys)) (IsBeside tys cs) es ts
 
 -- what the fields keep, with what callers may know of the trees
-pub record IsTermSound (tys : List (Ty ℕ)) (cs : List (Tm ℕ)) (es : List (TermNode × Beside)) (ts : List (Named ℕ)) : Type 0 where
+pub record IsTermSound (tys : List (Ty ℕ)) (cs : List (Tm ℕ)) (es : List (TermNode × Beside))
+    (ts : List (Named ℕ)) : Type 0 where
   pub nodes : AreTermNodes tys cs es ts
   pub forms : IsInjective cs
   pub table : IsTermTable (record { types = tys; terms = ts; classes = classes_of es })

@@ -1,6 +1,6 @@
 //! The table of terms as substitution sees it.
-ghost use Rattle.std.specs.Prelude.{◌≡◌, ◌≢◌, ◌↔◌, ℕ, ◌<◌, ◌+◌, ◌-◌, ◌^◌, min, max, map, Some, Err, slice_get};
-ghost use Rattle.std.specs.Prelude.{length, IfOk, OnErr, false, Decides};
+ghost use Rattle.std.specs.Prelude.{◌≡◌, ◌≢◌, ◌↔◌, ℕ, ◌<◌, ◌+◌, ◌-◌, ◌^◌, min, max, map, Some};
+ghost use Rattle.std.specs.Prelude.{Err, slice_get, length, IfOk, OnErr, false, Decides};
 ghost use Rattle.std.specs.List.{All};
 ghost use Rattle.ot_plain.specs.Lists.{IsMember, AreDistinct};
 ghost use Rattle.ot_plain.specs.Trees.{Ty, Variable, NVar, NConst, NApp, NAbs};
@@ -8,8 +8,8 @@ ghost use Rattle.ot_plain.specs.Hol.{fun_ty, named_type, nameless, IsClosed, IsF
 ghost use Rattle.ot_plain.specs.Naming.{numbers};
 ghost use Rattle.ot_type.specs.TypeTable.{type_at, images};
 ghost use Rattle.ot_term.specs.Term.{TermTable};
-ghost use Rattle.ot_term.specs.TermTable.{term_at, term_of, variable_of, is_within_limit, AreBelow, Grows, NamesUpTo};
-ghost use Rattle.ot_term.specs.TermTable.{IsTermTable};
+ghost use Rattle.ot_term.specs.TermTable.{term_at, term_of, variable_of, is_within_limit};
+ghost use Rattle.ot_term.specs.TermTable.{AreBelow, Grows, NamesUpTo, IsTermTable};
 
 use crate::steps::Steps;
 use crate::table::Terms;

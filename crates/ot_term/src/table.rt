@@ -1,6 +1,6 @@
 //! The table: its nodes, what stands beside them, and how they are read.
-ghost use Rattle.std.specs.Prelude.{◌≡◌, ◌<◌, ◌≤◌, max, [], Some, slice_get, slice_index_or, length, IfOk, IfSome};
-ghost use Rattle.std.specs.Prelude.{OnErr, Decides};
+ghost use Rattle.std.specs.Prelude.{◌≡◌, ◌<◌, ◌≤◌, max, [], Some, slice_get};
+ghost use Rattle.std.specs.Prelude.{slice_index_or, length, IfOk, IfSome, OnErr, Decides};
 ghost use Rattle.ot_plain.specs.Table.{Extends, IsInjective};
 ghost use Rattle.ot_plain.specs.Trees.{NVar};
 ghost use Rattle.ot_plain.specs.Hol.{named_type, named_depth, depth_limit};

@@ -1,4 +1,5 @@
--- What a term looks like in print, with equations apart: the text followed by further bytes gives back the form and these bytes.
+-- What a term looks like in print, with equations apart: the text followed by further bytes gives back the form and
+-- these bytes.
 use Rattle.std.specs.Prelude.{◌≡◌, ℕ, ◌==◌, Bool, true, false, cond, ◌||◌, List, [], ◌∷◌, ◌++◌, codes}
 use Rattle.std.proofs.Common.{refl, sym, ap, subst, append_assoc}
 use Rattle.ot_plain.specs.Names.{Name}
@@ -43,20 +44,24 @@ onto (AppForm f x) r = 40 ∷ onto f (32 ∷ onto x (41 ∷ r))
 onto (AbsForm t b) r = 40 ∷ 92 ∷ ty_onto t (46 ∷ 32 ∷ onto b (41 ∷ r))
 
 -- ---- the texts, followed by r
-free-text : (n : Name) (t : Ty Name) (r : List ℕ) → (name_text n ++ codes ":" ++ ty_text t) ++ r ≡ name_onto n (58 ∷ ty_onto t r)
+free-text : (n : Name) (t : Ty Name) (r : List ℕ) → (name_text n ++ codes ":" ++ ty_text t) ++ r
+    ≡ name_onto n (58 ∷ ty_onto t r)
 free-text n t r = simp append_assoc (simp (ty-onto, name-onto))
 
-con-text : (n : Name) (t : Ty Name) (r : List ℕ) → (codes "@" ++ name_text n ++ codes ":" ++ ty_text t) ++ r ≡ 64 ∷ name_onto n (58 ∷ ty_onto t r)
+con-text : (n : Name) (t : Ty Name) (r : List ℕ) → (codes "@" ++ name_text n ++ codes ":" ++ ty_text t) ++ r ≡ 64
+    ∷ name_onto n (58 ∷ ty_onto t r)
 con-text n t r = simp append_assoc (simp (ty-onto, name-onto))
 
 bound-text : (k : ℕ) (r : List ℕ) → (codes "#" ++ number_text k) ++ r ≡ 35 ∷ number_text k ++ r
 bound-text k r = refl
 
-app-text : (f x : List ℕ) (g y : List ℕ → List ℕ) (r : List ℕ) → ((r : List ℕ) → f ++ r ≡ g r) → ((r : List ℕ) → x ++ r ≡ y r)
+app-text : (f x : List ℕ) (g y : List ℕ → List ℕ) (r : List ℕ) → ((r : List ℕ) → f ++ r ≡ g r)
+    → ((r : List ℕ) → x ++ r ≡ y r)
     → (codes "(" ++ f ++ codes " " ++ x ++ codes ")") ++ r ≡ 40 ∷ g (32 ∷ y (41 ∷ r))
 app-text f x g y r hf hx = simp append_assoc (simp (hf, hx))
 
-eq-text : (f x : List ℕ) (g y : List ℕ → List ℕ) (r : List ℕ) → ((r : List ℕ) → f ++ r ≡ g r) → ((r : List ℕ) → x ++ r ≡ y r)
+eq-text : (f x : List ℕ) (g y : List ℕ → List ℕ) (r : List ℕ) → ((r : List ℕ) → f ++ r ≡ g r)
+    → ((r : List ℕ) → x ++ r ≡ y r)
     → (codes "(" ++ f ++ codes " = " ++ x ++ codes ")") ++ r ≡ 40 ∷ g (32 ∷ 61 ∷ 32 ∷ y (41 ∷ r))
 eq-text f x g y r hf hx = simp append_assoc (simp (hf, hx))
 
@@ -65,11 +70,14 @@ abs-text : (t : Ty Name) (x : List ℕ) (y : List ℕ → List ℕ) (r : List �
 abs-text t x y r hx = simp append_assoc (simp (ty-onto, hx))
 
 -- an application, by the texts of its parts
-whole-app : (f x : Tm Name) → ((r : List ℕ) → tm_text f ++ r ≡ onto (form f) r) → (is_equation names (App f x) ≡ true → (r : List ℕ) → argument_text f ++ r ≡ onto (argument_form f) r)
-    → ((r : List ℕ) → tm_text x ++ r ≡ onto (form x) r) → (r : List ℕ) → tm_text (App f x) ++ r ≡ onto (form (App f x)) r
+whole-app : (f x : Tm Name) → ((r : List ℕ) → tm_text f ++ r ≡ onto (form f) r)
+    → (is_equation names (App f x) ≡ true → (r : List ℕ) → argument_text f ++ r ≡ onto (argument_form f) r)
+    → ((r : List ℕ) → tm_text x ++ r ≡ onto (form x) r) → (r : List ℕ)
+    → tm_text (App f x) ++ r ≡ onto (form (App f x)) r
 whole-app f x hf ha hx r = go (is_equation names (App f x)) refl where
   go : (e : Bool) → is_equation names (App f x) ≡ e
-      → cond e (codes "(" ++ argument_text f ++ codes " = " ++ tm_text x ++ codes ")") (codes "(" ++ tm_text f ++ codes " " ++ tm_text x ++ codes ")") ++ r
+      → cond e (codes "(" ++ argument_text f ++ codes " = " ++ tm_text x ++ codes ")")
+      (codes "(" ++ tm_text f ++ codes " " ++ tm_text x ++ codes ")") ++ r
       ≡ onto (cond e (EqForm (argument_form f) (form x)) (AppForm (form f) (form x))) r
   go true k = eq-text (argument_text f) (tm_text x) (onto (argument_form f)) (onto (form x)) r (ha k) hx
   go false k = app-text (tm_text f) (tm_text x) (onto (form f)) (onto (form x)) r hf hx
@@ -82,7 +90,8 @@ mutual
   tm-onto (App f x) r = whole-app f x (tm-onto f) (argument-onto x f) (tm-onto x) r
   tm-onto (Abs t b) r = abs-text t (tm_text b) (onto (form b)) r (tm-onto b)
 
-  argument-onto : (x f : Tm Name) → is_equation names (App f x) ≡ true → (r : List ℕ) → argument_text f ++ r ≡ onto (argument_form f) r
+  argument-onto : (x f : Tm Name) → is_equation names (App f x) ≡ true → (r : List ℕ)
+      → argument_text f ++ r ≡ onto (argument_form f) r
   argument-onto y (Free v) h r = cc
   argument-onto y (Con n t) h r = cc
   argument-onto y (Bound k) h r = cc
@@ -112,14 +121,16 @@ pub no-term : (t : Form) (r : List ℕ) (c : ℕ) (x : List ℕ) → starts_term
 no-term t r c x h p = let w : starts_term (c ∷ x) ≡ true = subst (λ z. starts_term z ≡ true) p (starts t r) in cc
 
 -- a name_text begins with none but two bytes
-name-apart : (n : Name) (r : List ℕ) (c : ℕ) (x : List ℕ) → (33 == c) ≡ false → (34 == c) ≡ false → name_onto n r ≡ c ∷ x → ⊥
+name-apart : (n : Name) (r : List ℕ) (c : ℕ) (x : List ℕ) → (33 == c) ≡ false → (34 == c) ≡ false
+    → name_onto n r ≡ c ∷ x → ⊥
 name-apart [] r c x h k p = apart 33 c _ _ h p
 name-apart (d ∷ ds) r c x h k p = apart 34 c _ _ k p
 
 pub tail : (c : ℕ) {x y : List ℕ} → c ∷ x ≡ c ∷ y → x ≡ y
 tail c {x} {y} p = tail-same c c x y p
 
-pub form-inj : (t u : Form) (r s : List ℕ) → no_digit r ≡ true → no_digit s ≡ true → onto t r ≡ onto u s → (t ≡ u) × (r ≡ s)
+pub form-inj : (t u : Form) (r s : List ℕ) → no_digit r ≡ true → no_digit s ≡ true → onto t r ≡ onto u s
+    → (t ≡ u) × (r ≡ s)
 form-inj (FreeForm v) (FreeForm w) r s h k p =
     let n = name-inj v.name w.name _ _ p in
     let t = ty-inj v.ty w.ty r s (tail 58 n.1) in

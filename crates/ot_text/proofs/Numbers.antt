@@ -15,7 +15,8 @@ not-both : (b : Bool) → b ≡ true → not b ≡ true → ⊥
 not-both true p q = cc
 not-both false p q = cc
 
-digits-split : (xs ys r s : List ℕ) → AllDigit xs → AllDigit ys → no_digit r ≡ true → no_digit s ≡ true → xs ++ r ≡ ys ++ s → (xs ≡ ys) × (r ≡ s)
+digits-split : (xs ys r s : List ℕ) → AllDigit xs → AllDigit ys → no_digit r ≡ true → no_digit s ≡ true
+    → xs ++ r ≡ ys ++ s → (xs ≡ ys) × (r ≡ s)
 digits-split [] [] r s a b h k p = (refl, p)
 digits-split [] (y ∷ ys) r s a b h k p = absurd (not-both (is_digit y) b.0 (subst (λ z. no_digit z ≡ true) p h))
 digits-split (x ∷ xs) [] r s a b h k p = absurd (not-both (is_digit x) a.0 (subst (λ z. no_digit z ≡ true) (sym p) k))
@@ -53,7 +54,8 @@ number-same zero (suc n) p = absurd (not-zero _ (first_digits_of 10 (suc n) (ome
 number-same (suc m) zero p = absurd (not-zero _ (first_digits_of 10 (suc m) (omega arith) (omega arith)) (sym p))
 number-same (suc m) (suc n) p = same_from_digits_of 10 (suc m) (suc n) (omega arith) (glyphs-same _ _ p)
 
-pub number-inj : (m n : ℕ) (r s : List ℕ) → no_digit r ≡ true → no_digit s ≡ true → number_text m ++ r ≡ number_text n ++ s → (m ≡ n) × (r ≡ s)
+pub number-inj : (m n : ℕ) (r s : List ℕ) → no_digit r ≡ true → no_digit s ≡ true → number_text m ++ r ≡ number_text n
+    ++ s → (m ≡ n) × (r ≡ s)
 number-inj m n r s h k p =
     let e = digits-split (number_text m) (number_text n) r s (digits-of-number m) (digits-of-number n) h k p in
     (number-same m n e.0, e.1)

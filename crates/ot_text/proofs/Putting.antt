@@ -1,6 +1,8 @@
 -- One text after another.
-use Rattle.std.specs.Prelude.{◌≡◌, ℕ, suc, ◌+◌, ◌-◌, ◌<◌, ◌≤◌, Bool, true, false, cond, nat_le, List, [], ◌∷◌, ◌++◌, length, Some, ◌⊎◌}
-use Rattle.std.proofs.Common.{refl, sym, ◌∙◌, ap, subst, inl, inr, arith, append_assoc, append-nil, length-append, drop, drop-cons, get_or}
+use Rattle.std.specs.Prelude.{◌≡◌, ℕ, suc, ◌+◌, ◌-◌, ◌<◌, ◌≤◌, Bool, true, false}
+use Rattle.std.specs.Prelude.{cond, nat_le, List, [], ◌∷◌, ◌++◌, length, Some, ◌⊎◌}
+use Rattle.std.proofs.Common.{refl, sym, ◌∙◌, ap, subst, inl, inr, arith, append_assoc}
+use Rattle.std.proofs.Common.{append-nil, length-append, drop, drop-cons, get_or}
 use Rattle.std.proofs.lemmas.Bool.Decides.{nat_tests}
 use Rattle.std.proofs.Math.ListN.{drop_of_length-le}
 use Rattle.ot_text.specs.declared.fault.PrintFault.{PrintFault}
@@ -37,7 +39,8 @@ put-put x y (Bytes bs room) = go (nat_le (length x) room) refl where
       let t = false-le (length (x ++ y)) room (omega (arith, n, a, b)) in
       rw t refl
 
-  go : (e : Bool) → nat_le (length x) room ≡ e → put y (cond e (Bytes (bs ++ x) (room - length x)) Full) ≡ put (x ++ y) (Bytes bs room)
+  go : (e : Bool) → nat_le (length x) room ≡ e → put y (cond e (Bytes (bs ++ x) (room - length x)) Full)
+      ≡ put (x ++ y) (Bytes bs room)
   go true h = fits (nat_le (length y) (room - length x)) h refl
   go false h =
       let b = le-false _ _ h in
@@ -72,7 +75,8 @@ stays Full h = record { state = inr refl }
 stays NoMemory h = record { state = inl refl }
 
 -- a page that isn't stopped gives up where the text doesn't fit, or for want of memory
-pub gives-up : (x : List ℕ) (s t : Printed) (room : ℕ) (fault : PrintFault) → t ≡ stopped (Some fault) s → is_stopped s ≡ false → HasRoom s room → (fault ≡ TooLarge → room < length x) → IsPut x s t
+pub gives-up : (x : List ℕ) (s t : Printed) (room : ℕ) (fault : PrintFault) → t ≡ stopped (Some fault) s
+    → is_stopped s ≡ false → HasRoom s room → (fault ≡ TooLarge → room < length x) → IsPut x s t
 gives-up x (Bytes bs r) t room TooLarge p e h g =
     let n = g refl in
     let f = false-le (length x) r (omega (arith, n, h)) in
@@ -98,12 +102,16 @@ leaves-all {t = t} p e q = p t (same-text (sym e) q)
 abbrev pub Puts : {X : Type 0} → (List X → List ℕ) → List X → ℕ → Printed → Printed → Type 0
 Puts F xs i s0 s = Leaves (F (drop i xs)) (F xs) s0 s
 
-pub puts-more : {X : Type 0} (F : List X → List ℕ) (g : X → List ℕ) → ((x : X) (xs : List X) → F (x ∷ xs) ≡ g x ++ F xs)
-    → (xs : List X) (i : ℕ) (d : X) (s0 s t : Printed) → i < length xs → Puts F xs i s0 s → IsPut (g (get_or xs i d)) s t → Puts F xs (i + 1) s0 t
+pub puts-more : {X : Type 0} (F : List X → List ℕ) (g : X → List ℕ)
+    → ((x : X) (xs : List X) → F (x ∷ xs) ≡ g x ++ F xs)
+    → (xs : List X) (i : ℕ) (d : X) (s0 s t : Printed) → i < length xs → Puts F xs i s0 s
+    → IsPut (g (get_or xs i d)) s t → Puts F xs (i + 1) s0 t
 puts-more {X} F g e xs i d s0 s t h p q u r =
     let k : i + 1 ≡ suc i = omega arith in
-    let w : F (drop i xs) ≡ g (get_or xs i d) ++ F (drop (i + 1) xs) = ap F (drop-cons xs i d h) ∙ e _ _ ∙ ap (λ j. g (get_or xs i d) ++ F (drop j xs)) (sym k) in
+    let w : F (drop i xs) ≡ g (get_or xs i d) ++ F (drop (i + 1) xs) = ap F (drop-cons xs i d h) ∙ e _ _
+    ∙ ap (λ j. g (get_or xs i d) ++ F (drop j xs)) (sym k) in
     p u (same-text (sym w) (then q r))
 
-pub puts-all : {X : Type 0} (F : List X → List ℕ) (xs : List X) (i : ℕ) (s0 s u : Printed) → length xs ≤ i → Puts F xs i s0 s → IsPut (F []) s u → IsPut (F xs) s0 u
+pub puts-all : {X : Type 0} (F : List X → List ℕ) (xs : List X) (i : ℕ) (s0 s u : Printed) → length xs ≤ i
+    → Puts F xs i s0 s → IsPut (F []) s u → IsPut (F xs) s0 u
 puts-all F xs i s0 s u h p q = p u (same-text (ap F (sym (drop_of_length-le xs h))) q)

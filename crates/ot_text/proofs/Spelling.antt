@@ -49,7 +49,8 @@ component-onto (b ∷ bs) r =
 further-onto : (cs : List (List ℕ)) (r : List ℕ) → flat_map further_text cs ++ 34 ∷ r ≡ further_onto cs r
 further-onto [] r = refl
 further-onto (c ∷ cs) r =
-    ap (λ z. 46 ∷ z) (append_assoc (component_bytes c) (flat_map further_text cs) (34 ∷ r) ∙ component-onto c (flat_map further_text cs ++ 34 ∷ r) ∙ ap (component_onto c) (further-onto cs r))
+    ap (λ z. 46 ∷ z) (append_assoc (component_bytes c) (flat_map further_text cs) (34 ∷ r)
+    ∙ component-onto c (flat_map further_text cs ++ 34 ∷ r) ∙ ap (component_onto c) (further-onto cs r))
 
 pub name-onto : (n : Name) (r : List ℕ) → name_text n ++ r ≡ name_onto n r
 name-onto [] r = refl
@@ -63,12 +64,16 @@ name-onto (c ∷ cs) r =
     )
 
 -- ---- back
-escape-inj : (b d : ℕ) (x y : List ℕ) → cond (is_special b) (92 ∷ b ∷ x) (b ∷ x) ≡ cond (is_special d) (92 ∷ d ∷ y) (d ∷ y) → (b ≡ d) × (x ≡ y)
+escape-inj : (b d : ℕ) (x y : List ℕ) → cond (is_special b) (92 ∷ b ∷ x) (b ∷ x) ≡ cond (is_special d) (92 ∷ d ∷ y)
+    (d ∷ y) → (b ≡ d) × (x ≡ y)
 escape-inj b d x y = go (is_special b) (is_special d) refl refl where
-  go : (e f : Bool) → is_special b ≡ e → is_special d ≡ f → cond e (92 ∷ b ∷ x) (b ∷ x) ≡ cond f (92 ∷ d ∷ y) (d ∷ y) → (b ≡ d) × (x ≡ y)
+  go : (e f : Bool) → is_special b ≡ e → is_special d ≡ f → cond e (92 ∷ b ∷ x) (b ∷ x) ≡ cond f (92 ∷ d ∷ y) (d ∷ y)
+      → (b ≡ d) × (x ≡ y)
   go true true k l p = (cc, cc)
-  go true false k l p = let q : 92 ≡ d = cc in let w : is_special 92 ≡ false = subst (λ z. is_special z ≡ false) (sym q) l in cc
-  go false true k l p = let q : 92 ≡ b = cc in let w : is_special 92 ≡ false = subst (λ z. is_special z ≡ false) (sym q) k in cc
+  go true false k l p = let q : 92 ≡ d = cc in
+      let w : is_special 92 ≡ false = subst (λ z. is_special z ≡ false) (sym q) l in cc
+  go false true k l p = let q : 92 ≡ b = cc in
+      let w : is_special 92 ≡ false = subst (λ z. is_special z ≡ false) (sym q) k in cc
   go false false k l p = (cc, cc)
 
 -- a quote or a dot comes first
@@ -90,7 +95,8 @@ stop-escape b x r h p = go (is_special b) refl p where
   go true k p = let w : stops (92 ∷ b ∷ x) ≡ true = subst (λ z. stops z ≡ true) p h in cc
   go false k p = let w = stop-special b (subst (λ z. stops z ≡ true) p h) in cc
 
-component-inj : (c d r s : List ℕ) → stops r ≡ true → stops s ≡ true → component_onto c r ≡ component_onto d s → (c ≡ d) × (r ≡ s)
+component-inj : (c d r s : List ℕ) → stops r ≡ true → stops s ≡ true → component_onto c r ≡ component_onto d s
+    → (c ≡ d) × (r ≡ s)
 component-inj [] [] r s h k p = (refl, p)
 component-inj [] (d ∷ ds) r s h k p = absurd (stop-escape d (component_onto ds s) r h p)
 component-inj (b ∷ bs) [] r s h k p = absurd (stop-escape b (component_onto bs r) s k (sym p))
@@ -106,7 +112,8 @@ stops-further (c ∷ cs) r = refl
 pub tail-same : {X : Type 0} (x y : X) (xs ys : List X) → x ∷ xs ≡ y ∷ ys → xs ≡ ys
 tail-same x y xs ys p = cc
 
-pub cons-same : {X Y : Type 0} (x y : X) (xs ys : List X) (r s : Y) → x ≡ y → (xs ≡ ys) × (r ≡ s) → (x ∷ xs ≡ y ∷ ys) × (r ≡ s)
+pub cons-same : {X Y : Type 0} (x y : X) (xs ys : List X) (r s : Y) → x ≡ y → (xs ≡ ys) × (r ≡ s)
+    → (x ∷ xs ≡ y ∷ ys) × (r ≡ s)
 cons-same x y xs ys r s p q = let e = q.0 in (cc, q.1)
 
 further-inj : (cs ds : List (List ℕ)) (r s : List ℕ) → further_onto cs r ≡ further_onto ds s → (cs ≡ ds) × (r ≡ s)
@@ -114,7 +121,8 @@ further-inj [] [] r s p = (refl, tail-same 34 34 r s p)
 further-inj [] (d ∷ ds) r s p = absurd (apart 34 46 _ _ refl p)
 further-inj (c ∷ cs) [] r s p = absurd (apart 46 34 _ _ refl p)
 further-inj (c ∷ cs) (d ∷ ds) r s p =
-    let e = component-inj c d (further_onto cs r) (further_onto ds s) (stops-further cs r) (stops-further ds s) (tail-same 46 46 _ _ p) in
+    let e = component-inj c d (further_onto cs r) (further_onto ds s) (stops-further cs r) (stops-further ds s)
+    (tail-same 46 46 _ _ p) in
     cons-same c d cs ds r s e.0 (further-inj cs ds r s e.1)
 
 pub name-inj : (m n : Name) (r s : List ℕ) → name_onto m r ≡ name_onto n s → (m ≡ n) × (r ≡ s)
@@ -122,5 +130,6 @@ name-inj [] [] r s p = (refl, tail-same 33 33 r s p)
 name-inj [] (d ∷ ds) r s p = absurd (apart 33 34 _ _ refl p)
 name-inj (c ∷ cs) [] r s p = absurd (apart 34 33 _ _ refl p)
 name-inj (c ∷ cs) (d ∷ ds) r s p =
-    let e = component-inj c d (further_onto cs r) (further_onto ds s) (stops-further cs r) (stops-further ds s) (tail-same 34 34 _ _ p) in
+    let e = component-inj c d (further_onto cs r) (further_onto ds s) (stops-further cs r) (stops-further ds s)
+    (tail-same 34 34 _ _ p) in
     cons-same c d cs ds r s e.0 (further-inj cs ds r s e.1)

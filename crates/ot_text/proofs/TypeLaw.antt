@@ -1,5 +1,6 @@
 -- Types: the text followed by further bytes gives back the type and these bytes.
-use Rattle.std.specs.Prelude.{◌≡◌, ℕ, ◌==◌, Bool, true, false, cond, ◌||◌, List, [], ◌∷◌, ◌++◌, codes, Option, Some, None, is_some}
+use Rattle.std.specs.Prelude.{◌≡◌, ℕ, ◌==◌, Bool, true, false, cond, ◌||◌, List}
+use Rattle.std.specs.Prelude.{[], ◌∷◌, ◌++◌, codes, Option, Some, None, is_some}
 use Rattle.std.proofs.Common.{refl, sym, ◌∙◌, ap, subst, append_assoc}
 use Rattle.ot_plain.specs.Names.{Name}
 use Rattle.ot_plain.specs.Trees.{Ty, Tys, TyVar, TyOp, NoTys, MoreTys}
@@ -27,17 +28,22 @@ abbrev mutual
   spaced_onto (MoreTys t ts) r = 32 ∷ ty_onto t (spaced_onto ts r)
 
 -- ---- the texts, followed by r
-fun-text : (a : Ty Name) (ts : Tys Name) (r : List ℕ) → ((r : List ℕ) → ty_text a ++ r ≡ ty_onto a r) → ((r : List ℕ) → spaced_text ts ++ r ≡ spaced_onto ts r)
-    → (codes "(" ++ ty_text a ++ codes " ->" ++ spaced_text ts ++ codes ")") ++ r ≡ 40 ∷ ty_onto a (32 ∷ 45 ∷ 62 ∷ spaced_onto ts (41 ∷ r))
+fun-text : (a : Ty Name) (ts : Tys Name) (r : List ℕ) → ((r : List ℕ) → ty_text a ++ r ≡ ty_onto a r)
+    → ((r : List ℕ) → spaced_text ts ++ r ≡ spaced_onto ts r)
+    → (codes "(" ++ ty_text a ++ codes " ->" ++ spaced_text ts ++ codes ")") ++ r ≡ 40
+    ∷ ty_onto a (32 ∷ 45 ∷ 62 ∷ spaced_onto ts (41 ∷ r))
 fun-text a ts r ha hs = simp append_assoc (simp (ha, hs))
 
-op-text : (n : Name) (x : List ℕ) (y : List ℕ → List ℕ) (r : List ℕ) → ((r : List ℕ) → x ++ r ≡ y r) → (codes "(" ++ name_text n ++ x ++ codes ")") ++ r ≡ 40 ∷ name_onto n (y (41 ∷ r))
+op-text : (n : Name) (x : List ℕ) (y : List ℕ → List ℕ) (r : List ℕ) → ((r : List ℕ) → x ++ r ≡ y r)
+    → (codes "(" ++ name_text n ++ x ++ codes ")") ++ r ≡ 40 ∷ name_onto n (y (41 ∷ r))
 op-text n x y r h = simp append_assoc (simp (h, name-onto))
 
 -- an argument and those after it
-first-onto : (a : Ty Name) (ts : Tys Name) → ((r : List ℕ) → ty_text a ++ r ≡ ty_onto a r) → ((r : List ℕ) → spaced_text ts ++ r ≡ spaced_onto ts r)
+first-onto : (a : Ty Name) (ts : Tys Name) → ((r : List ℕ) → ty_text a ++ r ≡ ty_onto a r)
+    → ((r : List ℕ) → spaced_text ts ++ r ≡ spaced_onto ts r)
     → (r : List ℕ) → spaced_text (MoreTys a ts) ++ r ≡ 32 ∷ ty_onto a (spaced_onto ts r)
-first-onto a ts ha hs r = ap (λ z. 32 ∷ z) (append_assoc (ty_text a) (spaced_text ts) r ∙ ha (spaced_text ts ++ r) ∙ ap (ty_onto a) (hs r))
+first-onto a ts ha hs r =
+    ap (λ z. 32 ∷ z) (append_assoc (ty_text a) (spaced_text ts) r ∙ ha (spaced_text ts ++ r) ∙ ap (ty_onto a) (hs r))
 
 pub cond-onto : (e : Bool) (x y u v r : List ℕ) → x ++ r ≡ u → y ++ r ≡ v → cond e x y ++ r ≡ cond e u v
 cond-onto true x y u v r p q = p
@@ -50,7 +56,8 @@ mutual
   ty-onto (TyOp n (MoreTys a ts)) r =
       let ha = ty-onto a in
       let hs = spaced-onto ts in
-      cond-onto (is_fun n a ts) _ _ _ _ r (fun-text a ts r ha hs) (op-text n (spaced_text (MoreTys a ts)) (λ z. 32 ∷ ty_onto a (spaced_onto ts z)) r (first-onto a ts ha hs))
+      cond-onto (is_fun n a ts) _ _ _ _ r (fun-text a ts r ha hs)
+      (op-text n (spaced_text (MoreTys a ts)) (λ z. 32 ∷ ty_onto a (spaced_onto ts z)) r (first-onto a ts ha hs))
 
   pub spaced-onto : (ts : Tys Name) (r : List ℕ) → spaced_text ts ++ r ≡ spaced_onto ts r
   spaced-onto NoTys r = refl
@@ -93,7 +100,8 @@ ty-name_text : (t : Ty Name) (n : Name) (r s : List ℕ) → ty_onto t r ≡ nam
 ty-name_text (TyVar m) n r s p = absurd (spelling-var n s (name_onto m r) (sym p))
 ty-name_text (TyOp m NoTys) n r s p = (name-inj m n r s p).1
 ty-name_text (TyOp m (MoreTys a ts)) n r s p =
-    let c = cond-paren (is_fun m a ts) (ty_onto a (32 ∷ 45 ∷ 62 ∷ spaced_onto ts (41 ∷ r))) (name_onto m (32 ∷ ty_onto a (spaced_onto ts (41 ∷ r)))) in
+    let c = cond-paren (is_fun m a ts) (ty_onto a (32 ∷ 45 ∷ 62 ∷ spaced_onto ts (41 ∷ r)))
+    (name_onto m (32 ∷ ty_onto a (spaced_onto ts (41 ∷ r)))) in
     absurd (spelling-paren n s c.0 (sym p ∙ c.1))
 
 -- the arrow's "-" begins no type
@@ -114,19 +122,24 @@ paren-tail {x} {y} p = tail-same 40 40 x y p
 is_fun-is : (n : Name) (a : Ty Name) (ts : Tys Name) → is_fun n a ts ≡ true → n ≡ names.arrow
 is_fun-is n a ts h = go (as_fun_ty names (TyOp n (MoreTys a ts))) refl h
   where
-    go : (o : Option (Ty Name × Ty Name)) → as_fun_ty names (TyOp n (MoreTys a ts)) ≡ o → is_some o ≡ true → n ≡ names.arrow
+    go : (o : Option (Ty Name × Ty Name)) → as_fun_ty names (TyOp n (MoreTys a ts)) ≡ o → is_some o ≡ true
+        → n ≡ names.arrow
     go (Some p) e k = let w = as_fun_ty-some names tells_names (TyOp n (MoreTys a ts)) p.0 p.1 e in cc
     go None e k = cc
 
 -- two operators with arguments
 parens-inj : (n m : Name) (a b : Ty Name) (ts us : Tys Name) (r s : List ℕ)
     → ((x y : List ℕ) → ty_onto a x ≡ ty_onto b y → (a ≡ b) × (x ≡ y))
-    → ((x y : List ℕ) → no_space x ≡ true → no_space y ≡ true → spaced_onto ts x ≡ spaced_onto us y → (ts ≡ us) × (x ≡ y))
-    → ty_onto (TyOp n (MoreTys a ts)) r ≡ ty_onto (TyOp m (MoreTys b us)) s → (TyOp n (MoreTys a ts) ≡ TyOp m (MoreTys b us)) × (r ≡ s)
+    → ((x y : List ℕ) → no_space x ≡ true → no_space y ≡ true → spaced_onto ts x ≡ spaced_onto us y
+    → (ts ≡ us) × (x ≡ y))
+    → ty_onto (TyOp n (MoreTys a ts)) r ≡ ty_onto (TyOp m (MoreTys b us)) s
+    → (TyOp n (MoreTys a ts) ≡ TyOp m (MoreTys b us)) × (r ≡ s)
 parens-inj n m a b ts us r s ha hs = go (is_fun n a ts) (is_fun m b us) refl refl where
   go : (e f : Bool) → is_fun n a ts ≡ e → is_fun m b us ≡ f
-      → cond e (40 ∷ ty_onto a (32 ∷ 45 ∷ 62 ∷ spaced_onto ts (41 ∷ r))) (40 ∷ name_onto n (32 ∷ ty_onto a (spaced_onto ts (41 ∷ r))))
-      ≡ cond f (40 ∷ ty_onto b (32 ∷ 45 ∷ 62 ∷ spaced_onto us (41 ∷ s))) (40 ∷ name_onto m (32 ∷ ty_onto b (spaced_onto us (41 ∷ s))))
+      → cond e (40 ∷ ty_onto a (32 ∷ 45 ∷ 62 ∷ spaced_onto ts (41 ∷ r)))
+      (40 ∷ name_onto n (32 ∷ ty_onto a (spaced_onto ts (41 ∷ r))))
+      ≡ cond f (40 ∷ ty_onto b (32 ∷ 45 ∷ 62 ∷ spaced_onto us (41 ∷ s)))
+      (40 ∷ name_onto m (32 ∷ ty_onto b (spaced_onto us (41 ∷ s))))
       → (TyOp n (MoreTys a ts) ≡ TyOp m (MoreTys b us)) × (r ≡ s)
   go true true k l p =
       let x = ha _ _ (paren-tail p) in
@@ -146,26 +159,33 @@ mutual
   ty-inj (TyVar n) (TyVar m) r s p = let e = name-inj n m r s (tail-same 39 39 _ _ p) in (ap TyVar e.0, e.1)
   ty-inj (TyVar n) (TyOp m NoTys) r s p = absurd (spelling-var m s _ (sym p))
   ty-inj (TyVar n) (TyOp m (MoreTys b us)) r s p =
-      let c = cond-paren (is_fun m b us) (ty_onto b (32 ∷ 45 ∷ 62 ∷ spaced_onto us (41 ∷ s))) (name_onto m (32 ∷ ty_onto b (spaced_onto us (41 ∷ s)))) in
+      let c = cond-paren (is_fun m b us) (ty_onto b (32 ∷ 45 ∷ 62 ∷ spaced_onto us (41 ∷ s)))
+      (name_onto m (32 ∷ ty_onto b (spaced_onto us (41 ∷ s)))) in
       absurd (apart 39 40 _ _ refl (p ∙ c.1))
   ty-inj (TyOp n NoTys) (TyVar m) r s p = absurd (spelling-var n r _ p)
   ty-inj (TyOp n NoTys) (TyOp m NoTys) r s p = let e = name-inj n m r s p in (ap (λ z. TyOp z NoTys) e.0, e.1)
   ty-inj (TyOp n NoTys) (TyOp m (MoreTys b us)) r s p =
-      let c = cond-paren (is_fun m b us) (ty_onto b (32 ∷ 45 ∷ 62 ∷ spaced_onto us (41 ∷ s))) (name_onto m (32 ∷ ty_onto b (spaced_onto us (41 ∷ s)))) in
+      let c = cond-paren (is_fun m b us) (ty_onto b (32 ∷ 45 ∷ 62 ∷ spaced_onto us (41 ∷ s)))
+      (name_onto m (32 ∷ ty_onto b (spaced_onto us (41 ∷ s)))) in
       absurd (spelling-paren n r c.0 (p ∙ c.1))
   ty-inj (TyOp n (MoreTys a ts)) (TyVar m) r s p =
-      let c = cond-paren (is_fun n a ts) (ty_onto a (32 ∷ 45 ∷ 62 ∷ spaced_onto ts (41 ∷ r))) (name_onto n (32 ∷ ty_onto a (spaced_onto ts (41 ∷ r)))) in
+      let c = cond-paren (is_fun n a ts) (ty_onto a (32 ∷ 45 ∷ 62 ∷ spaced_onto ts (41 ∷ r)))
+      (name_onto n (32 ∷ ty_onto a (spaced_onto ts (41 ∷ r)))) in
       absurd (apart 39 40 _ _ refl (sym p ∙ c.1))
   ty-inj (TyOp n (MoreTys a ts)) (TyOp m NoTys) r s p =
-      let c = cond-paren (is_fun n a ts) (ty_onto a (32 ∷ 45 ∷ 62 ∷ spaced_onto ts (41 ∷ r))) (name_onto n (32 ∷ ty_onto a (spaced_onto ts (41 ∷ r)))) in
+      let c = cond-paren (is_fun n a ts) (ty_onto a (32 ∷ 45 ∷ 62 ∷ spaced_onto ts (41 ∷ r)))
+      (name_onto n (32 ∷ ty_onto a (spaced_onto ts (41 ∷ r)))) in
       absurd (spelling-paren m s c.0 (sym p ∙ c.1))
   ty-inj (TyOp n (MoreTys a ts)) (TyOp m (MoreTys b us)) r s p =
       parens-inj n m a b ts us r s (ty-inj a b) (spaced-inj ts us) p
 
-  pub spaced-inj : (ts us : Tys Name) (r s : List ℕ) → no_space r ≡ true → no_space s ≡ true → spaced_onto ts r ≡ spaced_onto us s → (ts ≡ us) × (r ≡ s)
+  pub spaced-inj : (ts us : Tys Name) (r s : List ℕ) → no_space r ≡ true → no_space s ≡ true
+      → spaced_onto ts r ≡ spaced_onto us s → (ts ≡ us) × (r ≡ s)
   spaced-inj NoTys NoTys r s h k p = (refl, p)
-  spaced-inj NoTys (MoreTys u us) r s h k p = let w : no_space (32 ∷ ty_onto u (spaced_onto us s)) ≡ true = subst (λ z. no_space z ≡ true) p h in cc
-  spaced-inj (MoreTys t ts) NoTys r s h k p = let w : no_space (32 ∷ ty_onto t (spaced_onto ts r)) ≡ true = subst (λ z. no_space z ≡ true) (sym p) k in cc
+  spaced-inj NoTys (MoreTys u us) r s h k p = let w : no_space (32 ∷ ty_onto u (spaced_onto us s)) ≡ true =
+      subst (λ z. no_space z ≡ true) p h in cc
+  spaced-inj (MoreTys t ts) NoTys r s h k p = let w : no_space (32 ∷ ty_onto t (spaced_onto ts r)) ≡ true =
+      subst (λ z. no_space z ≡ true) (sym p) k in cc
   spaced-inj (MoreTys t ts) (MoreTys u us) r s h k p =
       let e = ty-inj t u (spaced_onto ts r) (spaced_onto us s) (tail-same 32 32 _ _ p) in
       let f = spaced-inj ts us r s h k e.1 in

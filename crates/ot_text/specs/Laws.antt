@@ -13,11 +13,13 @@ OneType = (t u : Ty Name) → ty_text t ≡ ty_text u → t ≡ u
 
 -- two terms with one text, well typed under one list of binder types, are equal
 abbrev pub OneTerm : Type 0
-OneTerm = (l : List (Ty Name)) (t u : Tm Name) (a b : Ty Name) → type_in names l t ≡ Some a → type_in names l u ≡ Some b → tm_text t ≡ tm_text u → t ≡ u
+OneTerm = (l : List (Ty Name)) (t u : Tm Name) (a b : Ty Name) → type_in names l t ≡ Some a
+    → type_in names l u ≡ Some b → tm_text t ≡ tm_text u → t ≡ u
 
 -- two sequents with one text have one set of hypotheses and one conclusion
 abbrev pub OneSequent : Type 0
-OneSequent = (p q : Sequent Name) → IsSequent names p → IsSequent names q → sequent_text p ≡ sequent_text q → IsSameSet p.hyps q.hyps × (p.concl ≡ q.concl)
+OneSequent = (p q : Sequent Name) → IsSequent names p → IsSequent names q → sequent_text p ≡ sequent_text q
+    → IsSameSet p.hyps q.hyps × (p.concl ≡ q.concl)
 
 -- neither the order nor the repetition of hypotheses shows
 abbrev pub OneText : Type 0
@@ -38,8 +40,12 @@ OneTypeInFront = (t u : Ty Name) (r s : List ℕ) → ty_text t ++ r ≡ ty_text
 
 -- a term's text shows where it ends, where no digit stands behind it
 abbrev pub OneTermInFront : Type 0
-OneTermInFront = (l : List (Ty Name)) (t u : Tm Name) (a b : Ty Name) (r s : List ℕ) → type_in names l t ≡ Some a → type_in names l u ≡ Some b → no_digit r ≡ true → no_digit s ≡ true → tm_text t ++ r ≡ tm_text u ++ s → (t ≡ u) × (r ≡ s)
+OneTermInFront = (l : List (Ty Name)) (t u : Tm Name) (a b : Ty Name) (r s : List ℕ) → type_in names l t ≡ Some a
+    → type_in names l u ≡ Some b → no_digit r ≡ true → no_digit s ≡ true → tm_text t ++ r ≡ tm_text u ++ s
+    → (t ≡ u) × (r ≡ s)
 
 -- so does a sequent's
 abbrev pub OneSequentInFront : Type 0
-OneSequentInFront = (p q : Sequent Name) (r s : List ℕ) → IsSequent names p → IsSequent names q → no_digit r ≡ true → no_digit s ≡ true → sequent_text p ++ r ≡ sequent_text q ++ s → IsSameSet p.hyps q.hyps × (p.concl ≡ q.concl) × (r ≡ s)
+OneSequentInFront = (p q : Sequent Name) (r s : List ℕ) → IsSequent names p → IsSequent names q → no_digit r ≡ true
+    → no_digit s ≡ true → sequent_text p ++ r ≡ sequent_text q ++ s → IsSameSet p.hyps q.hyps × (p.concl ≡ q.concl)
+    × (r ≡ s)

@@ -1,5 +1,6 @@
 -- What becomes of a page on which a text is put.
-use Rattle.std.specs.Prelude.{◌≡◌, ℕ, ◌-◌, ◌≤◌, Bool, true, false, cond, nat_le, List, ◌++◌, length, Option, Some, None, ◌⊎◌}
+use Rattle.std.specs.Prelude.{◌≡◌, ℕ, ◌-◌, ◌≤◌, Bool, true, false, cond, nat_le}
+use Rattle.std.specs.Prelude.{List, ◌++◌, length, Option, Some, None, ◌⊎◌}
 use Rattle.ot_text.specs.declared.fault.PrintFault.{PrintFault}
 use Rattle.ot_text.specs.declared.fault.PrintFault.TheVariants.{TooLarge, Memory}
 use Rattle.ot_text.specs.declared.page.Page.{Page}

@@ -43,7 +43,8 @@ names_text (n ∷ ns) = name_text n ++ further_names ns
 abbrev pub head_text : Definition Name → List ℕ
 head_text (ConDef n t) = codes "const " ++ name_text n
 head_text (ListDef ps q) = codes "consts" ++ pairs_text ps ++ codes " from " ++ sequent_text q
-head_text (TyDef n abs rep vs q) = codes "type " ++ name_text n ++ codes " (" ++ names_text vs ++ codes ") abs " ++ name_text abs ++ codes " rep " ++ name_text rep ++ codes " from " ++ sequent_text q
+head_text (TyDef n abs rep vs q) = codes "type " ++ name_text n ++ codes " (" ++ names_text vs ++ codes ") abs "
+    ++ name_text abs ++ codes " rep " ++ name_text rep ++ codes " from " ++ sequent_text q
 
 abbrev pub definition_text : Definition Name → List ℕ
 definition_text d = head_text d ++ codes " : " ++ theorems_text (theorems names d)

@@ -7,7 +7,8 @@ use Rattle.std.specs.Cmp.Lexicographic.{slice_cmp}
 use Rattle.std.specs.declared.cmp.Ordering.{Ordering}
 use Rattle.ot_plain.specs.Names.{Name, spelled}
 use Rattle.ot_plain.specs.Naming.{names}
-use Rattle.ot_plain.specs.Trees.{Alphabet, Ty, Tys, TyVar, TyOp, NoTys, MoreTys, Tm, Free, Con, Bound, App, Abs, Sequent}
+use Rattle.ot_plain.specs.Trees.{Alphabet, Ty, Tys, TyVar, TyOp, NoTys, MoreTys}
+use Rattle.ot_plain.specs.Trees.{Tm, Free, Con, Bound, App, Abs, Sequent}
 use Rattle.ot_plain.specs.Hol.{as_fun_ty, as_equation}
 
 -- a name's spelling; a list without components, which is no name, has a mark of its own

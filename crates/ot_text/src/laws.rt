@@ -1,5 +1,5 @@
-ghost use Rattle.ot_text.specs.Laws.{OneType, OneTerm, OneSequent, OneText, OneTypeInFront, OneTermInFront};
-ghost use Rattle.ot_text.specs.Laws.{OneSequentInFront};
+ghost use Rattle.ot_text.specs.Laws.{OneType, OneTerm, OneSequent, OneText};
+ghost use Rattle.ot_text.specs.Laws.{OneTypeInFront, OneTermInFront, OneSequentInFront};
 
 /// A law: a text is the text of one type, of one well typed term and of one sequent. A sequent is a set of hypotheses
 /// and a conclusion: one set has one text. What stands behind a text doesn't change what it is the text of.

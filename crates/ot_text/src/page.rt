@@ -2,8 +2,8 @@
 ghost use Rattle.std.specs.Prelude.{◌≡◌, [], Some, OnOk, OnErr, Err};
 ghost use Rattle.ot_plain.specs.Names.{spelled};
 ghost use Rattle.ot_text.specs.Texts.{number_text};
-ghost use Rattle.ot_text.specs.Pages.{Bytes, Full, IsPut, is_stopped as is_stopped_at, stopped, HasRoom, IsCopied};
-ghost use Rattle.ot_text.specs.Pages.{printed};
+ghost use Rattle.ot_text.specs.Pages.{Bytes, Full, IsPut, is_stopped as is_stopped_at};
+ghost use Rattle.ot_text.specs.Pages.{stopped, HasRoom, IsCopied, printed};
 ghost use Rattle.ot_text.specs.Separated.{separator as separator_text};
 
 use crate::fault::PrintFault;

@@ -1,5 +1,6 @@
 -- A value is split exactly where it is an interpretation.
-use Rattle.std.proofs.Common.{◌≡◌, ◌≤◌, ◌+◌, ℕ, suc, List, [], ◌∷◌, ◌++◌, length, take, drop, Bool, true, false, ◌==◌, ◌&&◌, refl, sym, ap, ◌∙◌, inl, inr, arith, Some, None, append-nil}
+use Rattle.std.proofs.Common.{◌≡◌, ◌≤◌, ◌+◌, ℕ, suc, List, [], ◌∷◌, ◌++◌, length, take, drop, Bool, true}
+use Rattle.std.proofs.Common.{false, ◌==◌, ◌&&◌, refl, sym, ap, ◌∙◌, inl, inr, arith, Some, None, append-nil}
 use Rattle.std.specs.Prelude.{Option, codes, is_some, nat_le, IfSome}
 use Rattle.std.specs.Borrow.{Bor}
 use Rattle.std.specs.List.{list_all}
@@ -14,10 +15,13 @@ use Rattle.ot_plain.specs.Names.{Name}
 use Rattle.ot_plain.specs.Reading.{Reading, Done, Unended, Trails, read_from, push, dot, name_read, done_name}
 use Rattle.ot_theory.specs.declared.interpretation.SymbolWord.{SymbolWord}
 use Rattle.ot_theory.specs.declared.interpretation.SymbolWord.TheVariants.{Con, TyOp}
-use Rattle.ot_theory.specs.Interpretations.{◌>>=◌, AreBlanks, IsQuotedName, IsInterpretation, OneInterpretation, kind_text, after_word, after_blanks, kind_front, with_kind, longer, quote_len, name_at, quoted_front, whole, split_interpret, parts_value}
+use Rattle.ot_theory.specs.Interpretations.{◌>>=◌, AreBlanks, IsQuotedName, IsInterpretation, OneInterpretation}
+use Rattle.ot_theory.specs.Interpretations.{kind_text, after_word, after_blanks, kind_front, with_kind, longer}
+use Rattle.ot_theory.specs.Interpretations.{quote_len, name_at, quoted_front, whole, split_interpret, parts_value}
 
 -- what a step that answers was given
-pub bind_some : {A B : Type 0} (o : Option A) (f : A → Option B) (y : B) → (o >>= f) ≡ Some y → (x : A) × ((o ≡ Some x) × (f x ≡ Some y))
+pub bind_some : {A B : Type 0} (o : Option A) (f : A → Option B) (y : B) → (o >>= f) ≡ Some y
+    → (x : A) × ((o ≡ Some x) × (f x ≡ Some y))
 bind_some None f y e = absurd (none-some y e)
 bind_some (Some x) f y e = (x, (refl, e))
 
@@ -29,18 +33,21 @@ same_bytes xs ys e = (bytes_eq-Decides xs ys).0 e
 word_before : (word text rest : List ℕ) → after_word word text ≡ Some rest → text ≡ word ++ rest
 word_before word text rest e =
     let h = cond_some (bytes_eq (take (length word) text) word) (drop (length word) text) rest e in
-    sym (take-append-drop (length word) text) ∙ ap (λ z. z ++ drop (length word) text) (same_bytes _ _ h.0) ∙ ap (λ z. word ++ z) h.1
+    sym (take-append-drop (length word) text) ∙ ap (λ z. z ++ drop (length word) text) (same_bytes _ _ h.0)
+    ∙ ap (λ z. word ++ z) h.1
 
 -- the blanks that are dropped from a front
 front_blanks : (text : List ℕ) → (gap : List ℕ) × ((list_all is_blank gap ≡ true) × (text ≡ gap ++ trim_front text))
 front_blanks [] = ([], (refl, refl))
 front_blanks (b ∷ bs) = by_blank b bs (is_blank b) refl (front_blanks bs) where
-  by_blank : (b : ℕ) (bs : List ℕ) (t : Bool) → is_blank b ≡ t → (gap : List ℕ) × ((list_all is_blank gap ≡ true) × (bs ≡ gap ++ trim_front bs))
+  by_blank : (b : ℕ) (bs : List ℕ) (t : Bool) → is_blank b ≡ t
+      → (gap : List ℕ) × ((list_all is_blank gap ≡ true) × (bs ≡ gap ++ trim_front bs))
       → (gap : List ℕ) × ((list_all is_blank gap ≡ true) × (b ∷ bs ≡ gap ++ trim_front (b ∷ bs)))
   by_blank b bs true e h = (b ∷ h.0, (rw e h.1.0, rw e (ap (λ z. b ∷ z) h.1.1)))
   by_blank b bs false e h = ([], (refl, rw e refl))
 
-blanks_before : (text rest : List ℕ) → after_blanks text ≡ Some rest → (gap : List ℕ) × (AreBlanks gap × (text ≡ gap ++ rest))
+blanks_before : (text rest : List ℕ) → after_blanks text ≡ Some rest
+    → (gap : List ℕ) × (AreBlanks gap × (text ≡ gap ++ rest))
 blanks_before [] rest e = absurd (none-some rest e)
 blanks_before (b ∷ bs) rest e =
     let h = cond_some (is_blank b) (trim_front bs) rest e in
@@ -55,7 +62,8 @@ name_inside : (o : Option Name) → is_some o ≡ true → (name : Name) × (o �
 name_inside None e = cc
 name_inside (Some name) e = (name, refl)
 
-named : (text : List ℕ) (len : ℕ) (p : List ℕ × List ℕ) → name_at text len ≡ Some p → IsQuotedName p.0 × (text ≡ p.0 ++ p.1)
+named : (text : List ℕ) (len : ℕ) (p : List ℕ × List ℕ) → name_at text len ≡ Some p
+    → IsQuotedName p.0 × (text ≡ p.0 ++ p.1)
 named text len p e =
     let h = cond_some (nat_le len 65535 && is_some (name_read (take len text))) (take len text, drop len text) p e in
     let both = both_true (nat_le len 65535) (is_some (name_read (take len text))) h.0 in
@@ -71,28 +79,34 @@ named text len p e =
       sym (take-append-drop len text) ∙ ap (λ z. z ++ drop len text) front ∙ ap (λ z. p.0 ++ z) back,
     )
 
-name_before : (text : List ℕ) (p : List ℕ × List ℕ) → quoted_front text ≡ Some p → IsQuotedName p.0 × (text ≡ p.0 ++ p.1)
+name_before : (text : List ℕ) (p : List ℕ × List ℕ) → quoted_front text ≡ Some p
+    → IsQuotedName p.0 × (text ≡ p.0 ++ p.1)
 name_before [] p e = absurd (none-some p e)
 name_before (b ∷ bs) p e = elim (eqb_tells b 34) [
-  | inl q ↦ option_and_then_some (λ n. name_at (b ∷ bs) (n + 1)) (quote_len bs) p (rw q.0 at e) (λ n at is. named (b ∷ bs) (n + 1) p is)
+  | inl q ↦ option_and_then_some (λ n. name_at (b ∷ bs) (n + 1)) (quote_len bs) p (rw q.0 at e)
+      (λ n at is. named (b ∷ bs) (n + 1) p is)
   | inr q ↦ absurd (none-some p (rw q.0 at e))
 ]
 
 kind_before : (text : List ℕ) (p : SymbolWord × List ℕ) → kind_front text ≡ Some p → text ≡ kind_text p.0 ++ p.1
 kind_before text p e = first (after_word (codes "const") text) refl e where
-  second : (o : Option (List ℕ)) → after_word (codes "type") text ≡ o → with_kind TyOp o None ≡ Some p → text ≡ kind_text p.0 ++ p.1
+  second : (o : Option (List ℕ)) → after_word (codes "type") text ≡ o → with_kind TyOp o None ≡ Some p
+      → text ≡ kind_text p.0 ++ p.1
   second None is e = absurd (none-some p e)
   second (Some rest) is e = word_before (codes "type") text rest is ∙ ap (λ z. kind_text z.0 ++ z.1) (same_Some _ _ e)
 
-  first : (o : Option (List ℕ)) → after_word (codes "const") text ≡ o → with_kind Con o (with_kind TyOp (after_word (codes "type") text) None) ≡ Some p → text ≡ kind_text p.0 ++ p.1
+  first : (o : Option (List ℕ)) → after_word (codes "const") text ≡ o
+      → with_kind Con o (with_kind TyOp (after_word (codes "type") text) None) ≡ Some p → text ≡ kind_text p.0 ++ p.1
   first None is e = second (after_word (codes "type") text) refl e
   first (Some rest) is e = word_before (codes "const") text rest is ∙ ap (λ z. kind_text z.0 ++ z.1) (same_Some _ _ e)
 
-all_read : (kind : SymbolWord) (from to rest : List ℕ) (p : SymbolWord × List ℕ × List ℕ) → whole kind from to rest ≡ Some p → (rest ≡ []) × ((kind, from, to) ≡ p)
+all_read : (kind : SymbolWord) (from to rest : List ℕ) (p : SymbolWord × List ℕ × List ℕ) → whole kind from to rest
+    ≡ Some p → (rest ≡ []) × ((kind, from, to) ≡ p)
 all_read kind from to [] p e = (refl, same_Some _ _ e)
 all_read kind from to (b ∷ bs) p e = absurd (none-some p e)
 
-split_is : (value : List ℕ) (kind : SymbolWord) (from to : List ℕ) → split_interpret value ≡ Some (kind, from, to) → IsInterpretation value kind from to
+split_is : (value : List ℕ) (kind : SymbolWord) (from to : List ℕ) → split_interpret value ≡ Some (kind, from, to)
+    → IsInterpretation value kind from to
 split_is value kind from to e =
     let k = bind_some (kind_front value) _ _ e in
     let a = bind_some (after_blanks k.0.1) _ _ k.1.1 in
@@ -135,7 +149,8 @@ split_is value kind from to e =
 -- ---- and back
 
 -- a quoted name begins with a quote, and its other bytes are read as the name
-quote_first : (text : List ℕ) (name : Name) → name_read text ≡ Some name → (inner : List ℕ) × ((text ≡ 34 ∷ inner) × (read_from inner ≡ Done name))
+quote_first : (text : List ℕ) (name : Name) → name_read text ≡ Some name
+    → (inner : List ℕ) × ((text ≡ 34 ∷ inner) × (read_from inner ≡ Done name))
 quote_first [] name e = absurd (none-some name e)
 quote_first (b ∷ bs) name e = elim (eqb_tells b 34) [
   | inl q ↦ (bs, (ap (λ z. z ∷ bs) q.1, is_done (read_from bs) (rw q.0 at e)))
@@ -169,7 +184,8 @@ two_more : (o : Option ℕ) (n : ℕ) → o ≡ Some n → longer 2 o ≡ Some (
 two_more o n e = ap (longer 2) e ∙ ap Some (omega arith)
 
 -- the front that ends at the first quote is the name's text, whatever follows
-read_len : (inner rest : List ℕ) (name : Name) → read_from inner ≡ Done name → quote_len (inner ++ rest) ≡ Some (length inner)
+read_len : (inner rest : List ℕ) (name : Name) → read_from inner ≡ Done name → quote_len (inner ++ rest)
+    ≡ Some (length inner)
 read_len [] rest name e = absurd (not_done name e)
 read_len (b ∷ []) rest name e = elim (eqb_tells b 34) [
   | inl q ↦ ending rest q.0
@@ -195,7 +211,8 @@ read_len (b ∷ c ∷ bs) rest name e = elim (eqb_tells b 34) [
   ])
 ]
 
-named_at : (text rest : List ℕ) (len : ℕ) (n : IsQuotedName text) → length text ≡ len → name_at (text ++ rest) len ≡ Some (text, rest)
+named_at : (text rest : List ℕ) (len : ℕ) (n : IsQuotedName text) → length text ≡ len → name_at (text ++ rest) len
+    ≡ Some (text, rest)
 named_at text rest len n e =
     let front : take len (text ++ rest) ≡ text = take_at text rest len e in
     let back : drop len (text ++ rest) ≡ rest = drop_at text rest len e in
@@ -212,7 +229,8 @@ name_taken text rest n =
     ∙ ap (λ z. name_at z (length q.0 + 1)) (sym begun)
     ∙ named_at text rest (length q.0 + 1) n (ap length q.1.0 ∙ omega arith)
 
-blanks_dropped : (gap rest : List ℕ) → list_all is_blank gap ≡ true → trim_front rest ≡ rest → trim_front (gap ++ rest) ≡ rest
+blanks_dropped : (gap rest : List ℕ) → list_all is_blank gap ≡ true → trim_front rest ≡ rest
+    → trim_front (gap ++ rest) ≡ rest
 blanks_dropped [] rest all stays = stays
 blanks_dropped (b ∷ bs) rest all stays =
     let both = both_true (is_blank b) (list_all is_blank bs) all in
@@ -234,7 +252,8 @@ kind_taken : (kind : SymbolWord) (rest : List ℕ) → kind_front (kind_text kin
 kind_taken Con rest = refl
 kind_taken TyOp rest = refl
 
-split_from : (value : List ℕ) (kind : SymbolWord) (from to : List ℕ) → IsInterpretation value kind from to → split_interpret value ≡ Some (kind, from, to)
+split_from : (value : List ℕ) (kind : SymbolWord) (from to : List ℕ) → IsInterpretation value kind from to
+    → split_interpret value ≡ Some (kind, from, to)
 split_from value kind from to i =
     let third = i.third_gap ++ to in
     let second = i.second_gap ++ (codes "as" ++ third) in
@@ -242,9 +261,11 @@ split_from value kind from to i =
     let to_nil : to ++ [] ≡ to = append-nil to in
     let to_stays : trim_front to ≡ to = ap trim_front (sym to_nil) ∙ name_stays to [] i.to_named ∙ to_nil in
     let k : kind_front value ≡ Some (kind, first) = ap kind_front i.text ∙ kind_taken kind first in
-    let a : after_blanks first ≡ Some (from ++ second) = blanks_taken i.first_gap (from ++ second) i.first_blanks (name_stays from second i.from_named) in
+    let a : after_blanks first ≡ Some (from ++ second) =
+    blanks_taken i.first_gap (from ++ second) i.first_blanks (name_stays from second i.from_named) in
     let f : quoted_front (from ++ second) ≡ Some (from, second) = name_taken from second i.from_named in
-    let b : after_blanks second ≡ Some (codes "as" ++ third) = blanks_taken i.second_gap (codes "as" ++ third) i.second_blanks refl in
+    let b : after_blanks second ≡ Some (codes "as" ++ third) =
+    blanks_taken i.second_gap (codes "as" ++ third) i.second_blanks refl in
     let c : after_blanks third ≡ Some to = blanks_taken i.third_gap to i.third_blanks to_stays in
     let t : quoted_front to ≡ Some (to, []) = ap quoted_front (sym to_nil) ∙ name_taken to [] i.to_named in
     rw (k, a, f, b, c, t) refl
@@ -253,11 +274,13 @@ pub one_interpretation : OneInterpretation
 one_interpretation value kind from to = (split_is value kind from to, split_from value kind from to)
 
 -- both names of an answer
-pub names_split : (value : List ℕ) (p : SymbolWord × List ℕ × List ℕ) → split_interpret value ≡ Some p → IsQuotedName p.1 × IsQuotedName p.2
+pub names_split : (value : List ℕ) (p : SymbolWord × List ℕ × List ℕ) → split_interpret value ≡ Some p
+    → IsQuotedName p.1 × IsQuotedName p.2
 names_split value p e =
     let i = split_is value p.0 p.1 p.2 e in
     (i.from_named, i.to_named)
 
-pub names_answered : (answer : Option (SymbolWord × Bor (List ℕ) × Bor (List ℕ))) (value : List ℕ) → parts_value answer ≡ split_interpret value → IfSome answer (λ p. IsQuotedName p.1.now × IsQuotedName p.2.now)
+pub names_answered : (answer : Option (SymbolWord × Bor (List ℕ) × Bor (List ℕ))) (value : List ℕ)
+    → parts_value answer ≡ split_interpret value → IfSome answer (λ p. IsQuotedName p.1.now × IsQuotedName p.2.now)
 names_answered None value e = tt
 names_answered (Some p) value e = names_split value (p.0, p.1.now, p.2.now) (sym e)

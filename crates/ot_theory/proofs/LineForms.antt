@@ -1,5 +1,6 @@
 -- The lines of a text hold no newline, and the parts of a line's form stand in it.
-use Rattle.std.proofs.Common.{◌≡◌, ◌+◌, ℕ, List, [], ◌∷◌, ◌++◌, take, drop, Bool, true, false, refl, sym, ap, ◌∙◌, subst, arith, inl, inr, append_assoc}
+use Rattle.std.proofs.Common.{◌≡◌, ◌+◌, ℕ, List, [], ◌∷◌, ◌++◌, take, drop, Bool, true, false}
+use Rattle.std.proofs.Common.{refl, sym, ap, ◌∙◌, subst, arith, inl, inr, append_assoc}
 use Rattle.std.specs.Prelude.{◌⊎◌, codes, if◌then◌else◌}
 use Rattle.std.specs.List.{AllByRecursion}
 use Rattle.std.specs.Str.{bytes_eq}
@@ -19,7 +20,8 @@ use Rattle.ot_theory.proofs.Trims.{newlines-append, newline_free, end_kept, text
 pub record IsPlainLine (line : LineText) : Type 0 where
   pub plain : newlines line.text ≡ 0
 
-first_plain : (before : ℕ) (p : List ℕ) (ps : List (List ℕ)) → (IsWhole p) ⊎ (IsOpen p) → AllByRecursion IsPlainLine (numbered (before + 1) ps)
+first_plain : (before : ℕ) (p : List ℕ) (ps : List (List ℕ)) → (IsWhole p) ⊎ (IsOpen p)
+    → AllByRecursion IsPlainLine (numbered (before + 1) ps)
     → AllByRecursion IsPlainLine (numbered before (p ∷ ps))
 first_plain before p ps w others = by_skip (is_skipped (text_of p)) refl where
   by_skip : (b : Bool) → is_skipped (text_of p) ≡ b → AllByRecursion IsPlainLine (numbered before (p ∷ ps))
@@ -50,10 +52,12 @@ after_in text [] gap rest e = by_closing (bytes_eq rest (codes "}")) refl where
   by_closing false is = rw is tt
 after_in text (w ∷ ws) gap [] e = tt
 after_in text (w ∷ ws) gap (b ∷ bs) e = elim (eqb_tells b 58) [
-  | inl q ↦ let h = end_kept bs in rw q.0 (gap ++ b ∷ h.0, e ∙ ap (λ z. (w ∷ ws) ++ (gap ++ b ∷ z)) h.1 ∙ simp append_assoc)
+  | inl q ↦ let h = end_kept bs in
+      rw q.0 (gap ++ b ∷ h.0, e ∙ ap (λ z. (w ∷ ws) ++ (gap ++ b ∷ z)) h.1 ∙ simp append_assoc)
   | inr q ↦ rw q.0 (by_opening (bytes_eq (b ∷ bs) (codes "{")) refl)
 ] where
-  by_opening : (t : Bool) → bytes_eq (b ∷ bs) (codes "{") ≡ t → FormIn (if bytes_eq (b ∷ bs) (codes "{") then Opening (w ∷ ws) else NoForm) text
+  by_opening : (t : Bool) → bytes_eq (b ∷ bs)
+      (codes "{") ≡ t → FormIn (if bytes_eq (b ∷ bs) (codes "{") then Opening (w ∷ ws) else NoForm) text
   by_opening true is = rw is (gap ++ b ∷ bs, e)
   by_opening false is = rw is tt
 
@@ -64,9 +68,11 @@ form_in text =
     (sym (take-append-drop (identifier_len text) text) ∙ ap (λ z. take (identifier_len text) text ++ z) h.1)
 
 -- so the value of a line holds no newline
-pub value_plain : (line : LineText) (key value : List ℕ) → IsPlainLine line → form line.text ≡ Statement key value → ¬ (IsMember 10 value)
+pub value_plain : (line : LineText) (key value : List ℕ) → IsPlainLine line → form line.text ≡ Statement key value
+    → ¬ (IsMember 10 value)
 value_plain line key value p is =
-    let h : FormIn (Statement key value) line.text = subst (λ (f : LineForm). FormIn f line.text) is (form_in line.text) in
+    let h : FormIn (Statement key value) line.text =
+    subst (λ (f : LineForm). FormIn f line.text) is (form_in line.text) in
     let total : newlines line.text ≡ newlines key + (newlines h.0 + newlines value) =
     ap newlines h.1 ∙ newlines-append key (h.0 ++ value) ∙ ap (λ n. newlines key + n) (newlines-append h.0 value) in
     newline_free value (omega (arith, total, p.plain))

@@ -1,5 +1,6 @@
 -- The test of a path's text.
-use Rattle.std.proofs.Common.{◌≡◌, ◌<◌, ◌+◌, ◌-◌, ℕ, suc, List, [], ◌∷◌, ◌++◌, length, take, Bool, true, false, ◌==◌, ◌&&◌, refl, ap, ◌∙◌, inl, inr, arith, Some, None, length-append}
+use Rattle.std.proofs.Common.{◌≡◌, ◌<◌, ◌+◌, ◌-◌, ℕ, suc, List, [], ◌∷◌, ◌++◌, length, take, Bool, true}
+use Rattle.std.proofs.Common.{false, ◌==◌, ◌&&◌, refl, ap, ◌∙◌, inl, inr, arith, Some, None, length-append}
 use Rattle.std.specs.Prelude.{nat_lt, not, position, cond}
 use Rattle.std.specs.List.{prefix_len}
 use Rattle.std.specs.Str.{is_utf8}
@@ -24,7 +25,8 @@ plain_before (b ∷ bs) = elim (eqb_tells b 34) [
   | inr q ↦ rw (q.0, one_step (plain_len bs)) (λ m. elim m [ inl e ↦ q.1 e | inr k ↦ plain_before bs k ])
 ]
 
-quote_at_end : (bs : List ℕ) → plain_len bs < length bs → plain_len bs ≡ length bs - 1 → bs ≡ take (plain_len bs) bs ++ 34 ∷ []
+quote_at_end : (bs : List ℕ) → plain_len bs < length bs → plain_len bs ≡ length bs - 1 → bs ≡ take (plain_len bs) bs
+    ++ 34 ∷ []
 quote_at_end [] lt e = absurd (omega (arith, lt))
 quote_at_end (b ∷ bs) lt e = elim (eqb_tells b 34) [
   | inl q ↦
@@ -46,10 +48,12 @@ len_plain (b ∷ bs) rest none = elim (eqb_tells b 34) [
 
 path_rest : (bs : List ℕ) → is_quoted_rest bs (position (λ x. x == 34) bs) ≡ true → IsPath (34 ∷ bs)
 path_rest bs e = by_test (nat_lt (plain_len bs) (length bs)) refl e where
-  by_test : (t : Bool) → nat_lt (plain_len bs) (length bs) ≡ t → is_quoted_rest bs (cond t (Some (plain_len bs)) None) ≡ true → IsPath (34 ∷ bs)
+  by_test : (t : Bool) → nat_lt (plain_len bs) (length bs) ≡ t → is_quoted_rest bs (cond t (Some (plain_len bs)) None)
+      ≡ true → IsPath (34 ∷ bs)
   by_test false is e = cc
   by_test true is e =
-      let both = both_true (nat_lt 0 (plain_len bs) && (plain_len bs == length bs - 1)) (is_utf8 (take (plain_len bs) bs)) e in
+      let both = both_true (nat_lt 0 (plain_len bs) && (plain_len bs == length bs - 1))
+      (is_utf8 (take (plain_len bs) bs)) e in
       let place = both_true (nat_lt 0 (plain_len bs)) (plain_len bs == length bs - 1) both.0 in
       let lt : plain_len bs < length bs = grind (arith, is) in
       let last : plain_len bs ≡ length bs - 1 = grind (arith, place.1) in

@@ -1,12 +1,14 @@
 -- Sets of names and symbols, beside the lists that they stand for.
-use Rattle.std.proofs.Common.{◌≡◌, ℕ, Bool, true, false, refl, sym, ap, ◌∙◌, List, [], ◌∷◌, ◌++◌, map, append-nil, subst}
+use Rattle.std.proofs.Common.{◌≡◌, ℕ, Bool, true, false, refl, sym, ap, ◌∙◌}
+use Rattle.std.proofs.Common.{List, [], ◌∷◌, ◌++◌, map, append-nil, subst}
 use Rattle.std.specs.Prelude.{◌||◌, not, cond, codes, Result, Ok, OnOk}
 use Rattle.std.specs.Borrow.{Bor}
 use Rattle.std.specs.List.{list_any}
 use Rattle.std.specs.Str.{bytes_eq}
 use Rattle.ot_theory.specs.Values.{key_of}
 use Rattle.ot_theory.specs.Interpretations.{Symbol, symbol_of}
-use Rattle.ot_theory.specs.Theory.{TagText, BlockText, has_block, is_symbol, renamed, value_allowed, statement_allowed, statement_added, with_statement}
+use Rattle.ot_theory.specs.Theory.{TagText, BlockText, has_block, is_symbol, renamed, value_allowed}
+use Rattle.ot_theory.specs.Theory.{statement_allowed, statement_added, with_statement}
 use Rattle.ot_theory.specs.Reading.{has_symbol, HoldsSymbols, Allows}
 use Rattle.ot_theory.specs.declared.keys.Key.{Key}
 use Rattle.ot_theory.specs.declared.keys.Key.TheVariants.{Interpret}
@@ -16,7 +18,8 @@ use Rattle.ot_theory.proofs.Steps.{bind_ok}
 use Rattle.ot_theory.specs.declared.symbols.Symbols.{Symbols}
 use Rattle.ot_plain.proofs.Results.{same_Ok}
 
-pub any_map : {X Y : Type 0} (f : X → Y) (p : Y → Bool) (xs : List X) → list_any p (map f xs) ≡ list_any (λ x. p (f x)) xs
+pub any_map : {X Y : Type 0} (f : X → Y) (p : Y → Bool) (xs : List X)
+    → list_any p (map f xs) ≡ list_any (λ x. p (f x)) xs
 any_map f p [] = refl
 any_map f p (x ∷ xs) = ap (λ z. p (f x) || z) (any_map f p xs)
 
@@ -36,7 +39,9 @@ any_last p (y ∷ ys) x = ap (λ z. p y || z) (any_last p ys x) ∙ turned (p y)
 -- ---- symbols
 
 pub symbols_more : (old new : Symbols) (earlier : List TagText) (t : TagText) → HoldsSymbols old earlier
-    → ((symbol : Symbol) → has_symbol new symbol ≡ (is_symbol symbol (renamed (key_of t.key) t.value) || has_symbol old symbol)) → HoldsSymbols new (earlier ++ t ∷ [])
+    → ((symbol : Symbol)
+    → has_symbol new symbol ≡ (is_symbol symbol (renamed (key_of t.key) t.value) || has_symbol old symbol))
+    → HoldsSymbols new (earlier ++ t ∷ [])
 symbols_more old new earlier t holds more symbol =
     more symbol
     ∙ ap (λ z. is_symbol symbol (renamed (key_of t.key) t.value) || z) (holds symbol)
@@ -49,16 +54,19 @@ abbrev pub HoldNames : List (Bor (List ℕ)) → List BlockText → Type 0
 HoldNames ks blocks = (name : List ℕ) → list_any (λ k. bytes_eq name k.now) ks ≡ has_block blocks name
 
 pub name_new : (ks : List (Bor (List ℕ))) (blocks : List BlockText) (name : List ℕ) (added : Bool)
-    → HoldNames ks (blocks ++ []) → added ≡ not (list_any (λ k. bytes_eq name k.now) ks) → added ≡ true → has_block blocks name ≡ false
+    → HoldNames ks (blocks ++ []) → added ≡ not (list_any (λ k. bytes_eq name k.now) ks) → added ≡ true
+    → has_block blocks name ≡ false
 name_new ks blocks name added holds test is =
-    ap (λ z. has_block z name) (sym (append-nil blocks)) ∙ sym (holds name) ∙ negated (list_any (λ k. bytes_eq name k.now) ks) (sym test ∙ is) where
+    ap (λ z. has_block z name) (sym (append-nil blocks)) ∙ sym (holds name)
+    ∙ negated (list_any (λ k. bytes_eq name k.now) ks) (sym test ∙ is) where
       negated : (b : Bool) → not b ≡ true → b ≡ false
       negated true e = cc
       negated false e = refl
 
 pub names_more : (old new : List (Bor (List ℕ))) (key : Bor (List ℕ)) (blocks : List BlockText) (b : BlockText)
     → HoldNames old (blocks ++ []) → b.name ≡ key.now
-    → ((q : Bor (List ℕ)) → list_any (λ k. bytes_eq q.now k.now) new ≡ cond (bytes_eq key.now q.now) true (list_any (λ k. bytes_eq q.now k.now) old))
+    → ((q : Bor (List ℕ)) → list_any (λ k. bytes_eq q.now k.now) new ≡ cond (bytes_eq key.now q.now) true
+    (list_any (λ k. bytes_eq q.now k.now) old))
     → HoldNames new (blocks ++ b ∷ [])
 names_more old new key blocks b holds named more name =
     more (record { ref_ptr = key.ref_ptr; now = name })
@@ -72,7 +80,8 @@ names_more old new key blocks b holds named more name =
 
 -- whether one is `main`
 pub main_held : (ks : List (Bor (List ℕ))) (blocks : List BlockText) (text : List ℕ) (found answer : Bool)
-    → HoldNames ks (blocks ++ []) → text ≡ codes "main" → found ≡ list_any (λ k. bytes_eq text k.now) ks → found ≡ answer → has_block blocks (codes "main") ≡ answer
+    → HoldNames ks (blocks ++ []) → text ≡ codes "main" → found ≡ list_any (λ k. bytes_eq text k.now) ks
+    → found ≡ answer → has_block blocks (codes "main") ≡ answer
 main_held ks blocks text found answer holds is test says =
     ap (λ z. has_block z (codes "main")) (sym (append-nil blocks))
     ∙ sym (holds (codes "main"))
@@ -81,7 +90,8 @@ main_held ks blocks text found answer holds is test says =
     ∙ says
 
 -- the open block keeps its name
-pub name_kept : (ks : List (Bor (List ℕ))) (blocks : List BlockText) (b c : BlockText) (t : TagText) → HoldNames ks (blocks ++ b ∷ []) → statement_added b t ≡ Ok c → HoldNames ks (blocks ++ c ∷ [])
+pub name_kept : (ks : List (Bor (List ℕ))) (blocks : List BlockText) (b c : BlockText) (t : TagText)
+    → HoldNames ks (blocks ++ b ∷ []) → statement_added b t ≡ Ok c → HoldNames ks (blocks ++ c ∷ [])
 name_kept ks blocks b c t holds e name =
     let h = bind_ok (statement_allowed t b.statements) _ c e in
     holds name
@@ -91,11 +101,16 @@ name_kept ks blocks b c t holds e name =
 
 -- ---- an `interpret:` statement
 
-pub renaming_allowed_at : (k : Key) (value : List ℕ) (earlier : List TagText) (r : Result (Unit {0}) Refusal) → k ≡ Interpret → Allows r (value_allowed Interpret value earlier) → Allows r (value_allowed k value earlier)
+pub renaming_allowed_at : (k : Key) (value : List ℕ) (earlier : List TagText) (r : Result (Unit {0}) Refusal)
+    → k ≡ Interpret → Allows r (value_allowed Interpret value earlier) → Allows r (value_allowed k value earlier)
 renaming_allowed_at k value earlier r e h = subst (λ (z : Key). Allows r (value_allowed z value earlier)) (sym e) h
 
-pub renaming_added : (r : Result (Unit {0}) Refusal) (old new : Symbols) (earlier : List TagText) (t : TagText) → key_of t.key ≡ Interpret → HoldsSymbols old earlier
-    → OnOk r ((symbol : Symbol) → has_symbol new symbol ≡ (is_symbol symbol (symbol_of t.value) || has_symbol old symbol)) → OnOk r (HoldsSymbols new (earlier ++ t ∷ []))
+pub renaming_added : (r : Result (Unit {0}) Refusal) (old new : Symbols) (earlier : List TagText) (t : TagText)
+    → key_of t.key ≡ Interpret → HoldsSymbols old earlier
+    → OnOk r ((symbol : Symbol)
+    → has_symbol new symbol ≡ (is_symbol symbol (symbol_of t.value) || has_symbol old symbol))
+    → OnOk r (HoldsSymbols new (earlier ++ t ∷ []))
 renaming_added r old new earlier t e holds more =
     on_ok_weaker r (λ h. symbols_more old new earlier t holds
-    (λ symbol. h symbol ∙ ap (λ (z : Key). is_symbol symbol (renamed z t.value) || has_symbol old symbol) (sym e))) more
+    (λ symbol. h symbol ∙ ap (λ (z : Key). is_symbol symbol (renamed z t.value) || has_symbol old symbol) (sym e)))
+    more

@@ -5,7 +5,9 @@ use Rattle.std.specs.List.{AllByRecursion}
 use Rattle.ot_plain.specs.Answers.{◌>>=◌, unless}
 use Rattle.ot_theory.specs.Lines.{LineText}
 use Rattle.ot_theory.specs.Forms.{LineForm, Statement, Opening, Closing, NoForm, form}
-use Rattle.ot_theory.specs.Theory.{TagText, BlockText, TheoryText, State, has_block, statement_allowed, statement_added, with_statement, line_outside, line_inside, line_at, line_step, at_line, read_lines, finish, finish_at}
+use Rattle.ot_theory.specs.Theory.{TagText, BlockText, TheoryText, State, has_block, statement_allowed}
+use Rattle.ot_theory.specs.Theory.{statement_added, with_statement, line_outside, line_inside, line_at}
+use Rattle.ot_theory.specs.Theory.{line_step, at_line, read_lines, finish, finish_at}
 use Rattle.ot_theory.specs.declared.fault.TheoryFault.{TheoryFault}
 use Rattle.ot_theory.specs.declared.fault.TheoryFault.TheVariants.{DuplicateBlock, BadBlock, BadLine, NoMain}
 use Rattle.ot_plain.proofs.Results.{same_Ok, unless-ok}
@@ -14,7 +16,8 @@ pub err_ok : {A E : Type 0} (e : E) (x : A) → ◌≡◌ {A = Result A E} (Err 
 err_ok e x h = cc
 
 -- what a step that passes was given
-pub bind_ok : {A B E : Type 0} (r : Result A E) (f : A → Result B E) (y : B) → (r >>= f) ≡ Ok y → (x : A) × ((r ≡ Ok x) × (f x ≡ Ok y))
+pub bind_ok : {A B E : Type 0} (r : Result A E) (f : A → Result B E) (y : B) → (r >>= f) ≡ Ok y
+    → (x : A) × ((r ≡ Ok x) × (f x ≡ Ok y))
 bind_ok (Ok x) f y e = (x, (refl, e))
 bind_ok (Err d) f y e = absurd (err_ok d y e)
 
@@ -50,7 +53,8 @@ outside_step s line P on o (Opening name) is after e =
 outside_step s line P on o Closing is after e = absurd (err_ok BadBlock after e)
 outside_step s line P on o NoForm is after e = absurd (err_ok BadLine after e)
 
-inside_step : (s : State) (line : LineText) (P : State → Type 0) → OnSteps s line P → (b : BlockText) → s.open_block ≡ Some b
+inside_step : (s : State) (line : LineText) (P : State → Type 0) → OnSteps s line P → (b : BlockText)
+    → s.open_block ≡ Some b
     → (f : LineForm) → form line.text ≡ f → (after : State) → line_inside s b line.number f ≡ Ok after → P after
 inside_step s line P on b o (Statement key value) is after e =
     let h = bind_ok (statement_added b (tag_at line.number key value)) _ after e in
@@ -62,7 +66,8 @@ inside_step s line P on b o Closing is after e = subst P (same_Ok _ _ e) (on.clo
 inside_step s line P on b o NoForm is after e = absurd (err_ok BadLine after e)
 
 -- a line that passes is one of the four
-pub by_step : (s : State) (line : LineText) (after : State) (P : State → Type 0) → OnSteps s line P → line_step s line ≡ Ok after → P after
+pub by_step : (s : State) (line : LineText) (after : State) (P : State → Type 0) → OnSteps s line P
+    → line_step s line ≡ Ok after → P after
 by_step s line after P on e = by_block s.open_block refl e where
   by_block : (o : Option BlockText) → s.open_block ≡ o → line_at s o line.number (form line.text) ≡ Ok after → P after
   by_block None o e = outside_step s line P on o (form line.text) refl after e
@@ -76,8 +81,10 @@ first_line line lines s after e =
     (h.0, (at_line_ok line.number (line_step s line) h.0 h.1.0, h.1.1))
 
 -- what each of these lines keeps holds behind all of them
-pub kept : (Q : LineText → Type 0) (P : State → Type 0) → ((s : State) (line : LineText) → Q line → P s → OnSteps s line P)
-    → (lines : List LineText) (s after : State) → AllByRecursion Q lines → read_lines lines s ≡ Ok after → P s → P after
+pub kept : (Q : LineText → Type 0) (P : State → Type 0)
+    → ((s : State) (line : LineText) → Q line → P s → OnSteps s line P)
+    → (lines : List LineText) (s after : State) → AllByRecursion Q lines → read_lines lines s ≡ Ok after → P s
+    → P after
 kept Q P on [] s after q e p = subst P (same_Ok _ _ e) p
 kept Q P on (line ∷ lines) s after q e p =
     let h = first_line line lines s after e in

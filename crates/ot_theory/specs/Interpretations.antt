@@ -1,5 +1,6 @@
 -- The value of an `interpret:` statement.
-use Rattle.std.specs.Prelude.{◌≡◌, ◌≤◌, ◌<◌, ◌↔◌, ◌+◌, ℕ, List, [], ◌∷◌, ◌++◌, Bool, true, false, ◌==◌, ◌&&◌, nat_le, if◌then◌else◌, take, drop, Option, Some, None, is_some, length, codes}
+use Rattle.std.specs.Prelude.{◌≡◌, ◌≤◌, ◌<◌, ◌↔◌, ◌+◌, ℕ, List, [], ◌∷◌, ◌++◌, Bool, true, false, ◌==◌, ◌&&◌}
+use Rattle.std.specs.Prelude.{nat_le, if◌then◌else◌, take, drop, Option, Some, None, is_some, length, codes}
 use Rattle.std.specs.Borrow.{Bor}
 use Rattle.std.specs.List.{list_all}
 use Rattle.std.specs.Option.{option_map, option_and_then}
@@ -63,7 +64,8 @@ with_kind kind None other = other
 
 -- the kind that a text begins with, and the rest
 abbrev pub kind_front : List ℕ → Option (SymbolWord × List ℕ)
-kind_front text = with_kind Con (after_word (codes "const") text) (with_kind TyOp (after_word (codes "type") text) None)
+kind_front text =
+    with_kind Con (after_word (codes "const") text) (with_kind TyOp (after_word (codes "type") text) None)
 
 -- a length that is so much longer
 abbrev pub longer : ℕ → Option ℕ → Option ℕ
@@ -74,11 +76,13 @@ longer n (Some m) = Some (n + m)
 abbrev pub quote_len : List ℕ → Option ℕ
 quote_len [] = None
 quote_len (b ∷ []) = if b == 34 then Some 1 else None
-quote_len (b ∷ c ∷ bs) = if b == 34 then Some 1 else (if b == 92 then longer 2 (quote_len bs) else longer 1 (quote_len (c ∷ bs)))
+quote_len (b ∷ c ∷ bs) =
+    if b == 34 then Some 1 else (if b == 92 then longer 2 (quote_len bs) else longer 1 (quote_len (c ∷ bs)))
 
 -- the front of this length and the rest, where the front is a quoted name
 abbrev pub name_at : List ℕ → ℕ → Option (List ℕ × List ℕ)
-name_at text len = if nat_le len 65535 && is_some (name_read (take len text)) then Some (take len text, drop len text) else None
+name_at text len = if nat_le len 65535 && is_some (name_read (take len text)) then Some (take len text, drop len text)
+    else None
 
 -- the quoted name that a text begins with, and the rest
 abbrev pub quoted_front : List ℕ → Option (List ℕ × List ℕ)

@@ -34,7 +34,8 @@ StandInOrder text from [] = Unit {0}
 StandInOrder text from (part ∷ parts) =
     (place : ℕ) × ((from ≤ place) × (StandsAt text part place × StandInOrder text (place + length part.bytes) parts))
 
--- a law: so do the keys and values of a theory's tags, and the names of its blocks with the keys and values of their statements
+-- a law: so do the keys and values of a theory's tags, and the names of its blocks with the keys and values of their
+-- statements
 abbrev pub InPlace : Type 0
 InPlace =
     (text : List ℕ) → IfOk (theory text) (λ t.

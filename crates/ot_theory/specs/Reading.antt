@@ -36,7 +36,8 @@ HoldsSymbols symbols statements = (symbol : Symbol) → has_symbol symbols symbo
 
 -- the set holds exactly the names of the blocks
 abbrev pub HoldsNames : Reading → List BlockText → Type 0
-HoldsNames reading blocks = (name : List ℕ) → list_any (λ k. bytes_eq name k.now) (keys reading.names) ≡ has_block blocks name
+HoldsNames reading blocks = (name : List ℕ) → list_any (λ k. bytes_eq name k.now) (keys reading.names)
+    ≡ has_block blocks name
 
 -- ---- what was read
 

@@ -1,5 +1,6 @@
 -- The grammar of theory files, line by line.
-use Rattle.std.specs.Prelude.{ℕ, List, [], ◌∷◌, ◌++◌, Bool, false, not, length, codes, Option, Some, None, Result, Ok, Err}
+use Rattle.std.specs.Prelude.{ℕ, List, [], ◌∷◌, ◌++◌, Bool, false, not, length}
+use Rattle.std.specs.Prelude.{codes, Option, Some, None, Result, Ok, Err}
 use Rattle.std.specs.List.{list_any}
 use Rattle.std.specs.Str.{bytes_eq}
 use Rattle.ot_lines.specs.Pieces.{pieces}
@@ -11,7 +12,8 @@ use Rattle.ot_theory.specs.Interpretations.{Symbol, same_symbol, symbol_of}
 use Rattle.ot_theory.specs.declared.keys.Key.{Key}
 use Rattle.ot_theory.specs.declared.keys.Key.TheVariants.{Import, Article, Package, Interpret, Other}
 use Rattle.ot_theory.specs.declared.fault.TheoryFault.{TheoryFault}
-use Rattle.ot_theory.specs.declared.fault.TheoryFault.TheVariants.{BadLine, BadBlock, DuplicateBlock, TwoSources, NoMain, BadInterpret, DuplicateInterpret}
+use Rattle.ot_theory.specs.declared.fault.TheoryFault.TheVariants.{BadLine, BadBlock, DuplicateBlock, TwoSources}
+use Rattle.ot_theory.specs.declared.fault.TheoryFault.TheVariants.{NoMain, BadInterpret, DuplicateInterpret}
 
 -- ---- what a theory file holds
 
@@ -97,7 +99,8 @@ pub record State : Type 0 where
 
 -- a line outside the blocks
 abbrev pub line_outside : State → ℕ → LineForm → Result State TheoryFault
-line_outside s line (Statement key value) = Ok (record s { tags = s.tags ++ record { line = line; key = key; value = value } ∷ [] })
+line_outside s line (Statement key value) =
+    Ok (record s { tags = s.tags ++ record { line = line; key = key; value = value } ∷ [] })
 line_outside s line (Opening name) =
     unless DuplicateBlock (not (has_block s.blocks name)) >>= λ new.
     Ok (record s { open_block = Some (record { line = line; name = name; statements = [] }) })
@@ -107,7 +110,8 @@ line_outside s line NoForm = Err BadLine
 -- a line in the open block
 abbrev pub line_inside : State → BlockText → ℕ → LineForm → Result State TheoryFault
 line_inside s b line (Statement key value) =
-    statement_added b (record { line = line; key = key; value = value }) >>= λ more. Ok (record s { open_block = Some more })
+    statement_added b (record { line = line; key = key; value = value })
+    >>= λ more. Ok (record s { open_block = Some more })
 line_inside s b line (Opening name) = Err BadBlock
 line_inside s b line Closing = Ok (record { tags = s.tags; blocks = s.blocks ++ b ∷ []; open_block = None })
 line_inside s b line NoForm = Err BadLine

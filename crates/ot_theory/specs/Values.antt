@@ -1,5 +1,6 @@
 -- The keys of a block, and the values that are no interpretations.
-use Rattle.std.specs.Prelude.{◌≡◌, ◌<◌, ◌++◌, ◌↔◌, ℕ, List, [], ◌∷◌, Bool, true, false, ◌==◌, ◌&&◌, ◌-◌, if◌then◌else◌, length, take, codes, Option, Some, None, position, nat_lt}
+use Rattle.std.specs.Prelude.{◌≡◌, ◌<◌, ◌++◌, ◌↔◌, ℕ, List, [], ◌∷◌, Bool, true, false, ◌==◌, ◌&&◌, ◌-◌}
+use Rattle.std.specs.Prelude.{if◌then◌else◌, length, take, codes, Option, Some, None, position, nat_lt}
 use Rattle.std.specs.Str.{bytes_eq, is_utf8, IsUtf8}
 use Rattle.ot_plain.specs.Lists.{IsMember}
 use Rattle.ot_theory.specs.declared.keys.Key.{Key}

@@ -1,6 +1,6 @@
 ghost use Rattle.std.specs.Prelude.{◌≡◌, IfSome};
-ghost use Rattle.ot_theory.specs.Interpretations.{split_interpret, parts_value, after_blanks, after_word, kind_front};
-ghost use Rattle.ot_theory.specs.Interpretations.{whole, IsQuotedName};
+ghost use Rattle.ot_theory.specs.Interpretations.{split_interpret, parts_value, after_blanks};
+ghost use Rattle.ot_theory.specs.Interpretations.{after_word, kind_front, whole, IsQuotedName};
 ghost use Rattle.ot_theory.specs.Quoting.{front_value, kind_value};
 
 use crate::quoted::quoted_front;

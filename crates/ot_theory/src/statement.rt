@@ -2,8 +2,8 @@ ghost use Rattle.std.specs.Prelude.{◌≡◌, ◌∷◌, ◌++◌, ◌||◌, []
 ghost use Rattle.std.specs.List.{list_any};
 ghost use Rattle.ot_plain.specs.Answers.{unless};
 ghost use Rattle.ot_plain.specs.Reading.{name_read};
-ghost use Rattle.ot_theory.specs.Theory.{TagText, statement_added, statement_allowed, source_allowed, value_allowed};
-ghost use Rattle.ot_theory.specs.Theory.{has_source, is_symbol};
+ghost use Rattle.ot_theory.specs.Theory.{TagText, statement_added, statement_allowed};
+ghost use Rattle.ot_theory.specs.Theory.{source_allowed, value_allowed, has_source, is_symbol};
 ghost use Rattle.ot_theory.specs.Values.{key_of, is_source};
 ghost use Rattle.ot_theory.specs.Interpretations.{Symbol, symbol_of, IsQuotedName};
 ghost use Rattle.ot_theory.specs.Answers.{tag_of, tags_of, block_of};

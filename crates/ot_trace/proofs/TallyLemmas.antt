@@ -1,5 +1,7 @@
 -- Lemmas on counting the uses of steps.
-use Rattle.std.proofs.Common.{◌≡◌, ◌≢◌, ℕ, zero, suc, ◌+◌, ◌<◌, ◌≤◌, min, Bool, true, false, cond, List, [], ◌∷◌, ◌++◌, length, map, set, take, replicate, get_or, slice_get, slice_index_or, Some, inl, inr, pos, refl, sym, ap, subst, ◌∙◌, arith, eqb-true, eq-eqb, append_assoc, append-nil}
+use Rattle.std.proofs.Common.{◌≡◌, ◌≢◌, ℕ, zero, suc, ◌+◌, ◌<◌, ◌≤◌, min, Bool, true, false, cond, List, [], ◌∷◌}
+use Rattle.std.proofs.Common.{◌++◌, length, map, set, take, replicate, get_or, slice_get, slice_index_or, Some, inl}
+use Rattle.std.proofs.Common.{inr, pos, refl, sym, ap, subst, ◌∙◌, arith, eqb-true, eq-eqb, append_assoc, append-nil}
 use Rattle.std.specs.Prelude.{nat_eq}
 use Rattle.std.specs.Bool.{Decides}
 use Rattle.std.specs.List.{All, flat_map}
@@ -36,7 +38,8 @@ get-here (x ∷ xs) zero d h = refl
 get-here (x ∷ xs) (suc i) d h = get-here xs i d (omega arith)
 
 -- a value that was read
-pub read-or : {X : Type 0} (xs : List X) (i : ℕ) (x d : X) → i < length xs → x ≡ slice_index_or xs i x → x ≡ slice_index_or xs i d
+pub read-or : {X : Type 0} (xs : List X) (i : ℕ) (x d : X) → i < length xs → x ≡ slice_index_or xs i x
+    → x ≡ slice_index_or xs i d
 read-or [] i x d h p = absurd (omega arith)
 read-or (y ∷ xs) zero x d h p = p
 read-or (y ∷ xs) (suc i) x d h p = read-or xs i x d (omega arith) p
@@ -47,7 +50,9 @@ module _ {X : Type 0} (same : X → X → Bool) where
   count-append x [] zs = omega arith
   count-append x (y ∷ ys) zs = go (same x y) (count-append x ys zs)
     where
-      go : (b : Bool) → count same x (ys ++ zs) ≡ count same x ys + count same x zs → cond b (suc (count same x (ys ++ zs))) (count same x (ys ++ zs)) ≡ cond b (suc (count same x ys)) (count same x ys) + count same x zs
+      go : (b : Bool) → count same x (ys ++ zs) ≡ count same x ys + count same x zs
+          → cond b (suc (count same x (ys ++ zs))) (count same x (ys ++ zs)) ≡ cond b (suc (count same x ys))
+          (count same x ys) + count same x zs
       go true h = omega arith
       go false h = h
 
@@ -67,14 +72,19 @@ module _ (counts is : List ℕ) (t : IsTallied is counts) (id : ℕ) (inside : i
   more : count nat_eq id (is ++ id ∷ []) ≡ count nat_eq id is + 1
   more = let one = count-self id in omega (arith, count-append nat_eq id is (id ∷ []))
 
-  tallied-more : slice_index_or counts id 0 < 2 → IsTallied (is ++ id ∷ []) (set counts id (slice_index_or counts id 0 + 1))
+  tallied-more : slice_index_or counts id 0 < 2
+      → IsTallied (is ++ id ∷ []) (set counts id (slice_index_or counts id 0 + 1))
   tallied-more h = λ j l. elim (eqb_tells j id) [
     | inl e ↦
         let v = value in
         let m = more in
         let full : slice_index_or counts id 0 + 1 ≡ min 2 (count nat_eq id (is ++ id ∷ [])) = omega arith in
-        ap (slice_get (set counts id (slice_index_or counts id 0 + 1))) e.1 ∙ get_set-same counts id (slice_index_or counts id 0 + 1) inside ∙ ap Some (full ∙ ap (λ z. min 2 (count nat_eq z (is ++ id ∷ []))) (sym e.1))
-    | inr e ↦ get_set-other counts id j (slice_index_or counts id 0 + 1) e.1 ∙ t j (let k = length-set counts id (slice_index_or counts id 0 + 1) in omega arith) ∙ ap (λ n. Some (min 2 n)) (sym (other j e.1))
+        ap (slice_get (set counts id (slice_index_or counts id 0 + 1))) e.1
+        ∙ get_set-same counts id (slice_index_or counts id 0 + 1) inside
+        ∙ ap Some (full ∙ ap (λ z. min 2 (count nat_eq z (is ++ id ∷ []))) (sym e.1))
+    | inr e ↦ get_set-other counts id j (slice_index_or counts id 0 + 1) e.1
+        ∙ t j (let k = length-set counts id (slice_index_or counts id 0 + 1) in omega arith)
+        ∙ ap (λ n. Some (min 2 n)) (sym (other j e.1))
   ]
 
   tallied-full : 2 ≤ slice_index_or counts id 0 → IsTallied (is ++ id ∷ []) counts
@@ -83,47 +93,62 @@ module _ (counts is : List ℕ) (t : IsTallied is counts) (id : ℕ) (inside : i
         let v = value in
         let m = more in
         let full : min 2 (count nat_eq id is) ≡ min 2 (count nat_eq id (is ++ id ∷ [])) = omega arith in
-        t j l ∙ ap Some (ap (λ z. min 2 (count nat_eq z is)) e.1 ∙ full ∙ ap (λ z. min 2 (count nat_eq z (is ++ id ∷ []))) (sym e.1))
+        t j l ∙ ap Some (ap (λ z. min 2 (count nat_eq z is)) e.1 ∙ full
+        ∙ ap (λ z. min 2 (count nat_eq z (is ++ id ∷ []))) (sym e.1))
     | inr e ↦ t j l ∙ ap (λ n. Some (min 2 n)) (sym (other j e.1))
   ]
 
-pub tally-more : (counts is : List ℕ) → IsTallied is counts → (id : ℕ) → id < length counts → (i k : ℕ) → i ≡ id → k ≡ id → (x y : ℕ) → x ≡ slice_index_or counts i x → y ≡ slice_index_or counts k y → x < 2
+pub tally-more : (counts is : List ℕ) → IsTallied is counts → (id : ℕ) → id < length counts → (i k : ℕ) → i ≡ id
+    → k ≡ id → (x y : ℕ) → x ≡ slice_index_or counts i x → y ≡ slice_index_or counts k y → x < 2
     → IsTallied (is ++ id ∷ []) (set counts k (y + 1))
 tally-more counts is t id h i k e f x y p q l =
     let a = read-or counts id x 0 h (subst (λ z. x ≡ slice_index_or counts z x) e p) in
     let b = read-or counts id y 0 h (subst (λ z. y ≡ slice_index_or counts z y) f q) in
-    subst (λ z. IsTallied (is ++ id ∷ []) (set counts z (y + 1))) (sym f) (subst (λ z. IsTallied (is ++ id ∷ []) (set counts id (z + 1))) (sym b) (tallied-more counts is t id h (omega arith)))
+    subst (λ z. IsTallied (is ++ id ∷ []) (set counts z (y + 1))) (sym f)
+    (subst (λ z. IsTallied (is ++ id ∷ []) (set counts id (z + 1))) (sym b)
+    (tallied-more counts is t id h (omega arith)))
 
-pub tally-full : (counts is : List ℕ) → IsTallied is counts → (id : ℕ) → id < length counts → (i : ℕ) → i ≡ id → (x : ℕ) → x ≡ slice_index_or counts i x → 2 ≤ x → IsTallied (is ++ id ∷ []) counts
+pub tally-full : (counts is : List ℕ) → IsTallied is counts → (id : ℕ) → id < length counts → (i : ℕ) → i ≡ id
+    → (x : ℕ) → x ≡ slice_index_or counts i x → 2 ≤ x → IsTallied (is ++ id ∷ []) counts
 tally-full counts is t id h i e x p l =
     let a = read-or counts id x 0 h (subst (λ z. x ≡ slice_index_or counts z x) e p) in
     tallied-full counts is t id h (omega arith)
 
 -- ---- the loops
 pub tally-start : (n : ℕ) → IsTallied [] (replicate n 0)
-tally-start n = λ j h. get-replicate n j (let e : length (replicate {A = ℕ} n 0) ≡ n = length-replicate n 0 in omega arith)
+tally-start n =
+    λ j h. get-replicate n j (let e : length (replicate {A = ℕ} n 0) ≡ n = length-replicate n 0 in omega arith)
   where
     get-replicate : (m i : ℕ) → i < m → slice_get {X = ℕ} (replicate m 0) i ≡ Some 0
     get-replicate zero i h = absurd (omega arith)
     get-replicate (suc m) zero h = refl
     get-replicate (suc m) (suc i) h = get-replicate m i (omega arith)
 
-pub tally-next : (ids : List ℕ) (i : ℕ) (counts is : List ℕ) (k : ℕ) → i < length ids → k ≡ get_or ids i k → IsTallied ((is ++ take i ids) ++ k ∷ []) counts → IsTallied (is ++ take (i + 1) ids) counts
+pub tally-next : (ids : List ℕ) (i : ℕ) (counts is : List ℕ) (k : ℕ) → i < length ids → k ≡ get_or ids i k
+    → IsTallied ((is ++ take i ids) ++ k ∷ []) counts → IsTallied (is ++ take (i + 1) ids) counts
 tally-next ids i counts is k h item t =
-    subst (λ l. IsTallied l counts) (append_assoc is (take i ids) (k ∷ []) ∙ ap (λ z. is ++ z) (sym (take_more ids i k h ∙ ap (λ x. take i ids ++ x ∷ []) (sym item)))) t
+    subst (λ l. IsTallied l counts) (append_assoc is (take i ids) (k ∷ [])
+    ∙ ap (λ z. is ++ z) (sym (take_more ids i k h ∙ ap (λ x. take i ids ++ x ∷ []) (sym item)))) t
 
-pub tally-true : (counts is xs : List ℕ) (b : Bool) → b ≡ true → IsTallied (is ++ xs) counts → IsTallied (is ++ cond b xs []) counts
+pub tally-true : (counts is xs : List ℕ) (b : Bool) → b ≡ true → IsTallied (is ++ xs) counts
+    → IsTallied (is ++ cond b xs []) counts
 tally-true counts is xs b e t = subst (λ z. IsTallied (is ++ cond z xs []) counts) (sym e) t
 
-pub tally-false : (counts is xs : List ℕ) (b : Bool) → b ≡ false → IsTallied is counts → IsTallied (is ++ cond b xs []) counts
-tally-false counts is xs b e t = subst (λ z. IsTallied (is ++ cond z xs []) counts) (sym e) (subst (λ l. IsTallied l counts) (sym (append-nil is)) t)
+pub tally-false : (counts is xs : List ℕ) (b : Bool) → b ≡ false → IsTallied is counts
+    → IsTallied (is ++ cond b xs []) counts
+tally-false counts is xs b e t = subst (λ z. IsTallied (is ++ cond z xs []) counts) (sym e)
+    (subst (λ l. IsTallied l counts) (sym (append-nil is)) t)
 
 -- ---- the marked ones
-pub marked-more : (k : ℕ) (bs : List Bool) (b : Bool) → marked_from k (bs ++ b ∷ []) ≡ marked_from k bs ++ cond b ((k + length bs) ∷ []) []
+pub marked-more : (k : ℕ) (bs : List Bool) (b : Bool) → marked_from k (bs ++ b ∷ []) ≡ marked_from k bs
+    ++ cond b ((k + length bs) ∷ []) []
 marked-more k [] true = ap (λ z. z ∷ []) (let e : k ≡ k + 0 = omega arith in e)
 marked-more k [] false = refl
-marked-more k (true ∷ bs) b = ap (λ l. k ∷ l) (marked-more (suc k) bs b ∙ ap (λ z. marked_from (suc k) bs ++ cond b (z ∷ []) []) (let e : suc k + length bs ≡ k + suc (length bs) = omega arith in e))
-marked-more k (false ∷ bs) b = marked-more (suc k) bs b ∙ ap (λ z. marked_from (suc k) bs ++ cond b (z ∷ []) []) (let e : suc k + length bs ≡ k + suc (length bs) = omega arith in e)
+marked-more k (true ∷ bs) b =
+    ap (λ l. k ∷ l) (marked-more (suc k) bs b ∙ ap (λ z. marked_from (suc k) bs ++ cond b (z ∷ []) [])
+    (let e : suc k + length bs ≡ k + suc (length bs) = omega arith in e))
+marked-more k (false ∷ bs) b = marked-more (suc k) bs b ∙ ap (λ z. marked_from (suc k) bs ++ cond b (z ∷ []) [])
+    (let e : suc k + length bs ≡ k + suc (length bs) = omega arith in e)
 
 take-long : (xs : List Bool) (k : ℕ) → k < length xs → length (take k xs) ≡ k
 take-long [] k h = absurd (omega arith)
@@ -131,7 +156,8 @@ take-long (x ∷ xs) zero h = refl
 take-long (x ∷ xs) (suc k) h = ap suc (take-long xs k (omega arith))
 
 -- ---- from numbers to origins
-map-append : (ts : List (Origin ℕ)) (xs ys : List ℕ) → map (origin_at ts) (xs ++ ys) ≡ map (origin_at ts) xs ++ map (origin_at ts) ys
+map-append : (ts : List (Origin ℕ)) (xs ys : List ℕ) → map (origin_at ts) (xs ++ ys) ≡ map (origin_at ts) xs
+    ++ map (origin_at ts) ys
 map-append ts [] ys = refl
 map-append ts (x ∷ xs) ys = ap (λ l. origin_at ts x ∷ l) (map-append ts xs ys)
 
@@ -155,7 +181,8 @@ operands-below n (steps.Outcome j d) h = λ i d within. absurd (omega arith)
 
 All-more : (n : ℕ) (xs ys : List ℕ) → All (λ i. i < n) xs → All (λ i. i < n) ys → All (λ i. i < n) (xs ++ ys)
 All-more n [] ys g h = h
-All-more n (x ∷ xs) ys g h = both x (xs ++ ys) (All-head (λ i. i < n) x xs g) (All-more n xs ys (All-tail (λ i. i < n) x xs g) h)
+All-more n (x ∷ xs) ys g h =
+    both x (xs ++ ys) (All-head (λ i. i < n) x xs g) (All-more n xs ys (All-tail (λ i. i < n) x xs g) h)
   where
     both : (z : ℕ) (zs : List ℕ) → z < n → All (λ i. i < n) zs → All (λ i. i < n) (z ∷ zs)
     both z zs a b zero d within = a
@@ -173,7 +200,8 @@ pub record Tallies (ts : List (Origin ℕ)) (os : List (Origin ℕ)) (counts : L
   pub are : map (origin_at ts) numbers ≡ os
   pub tallied : IsTallied numbers counts
 
-pub tallies-roots : (ts : List (Origin ℕ)) (roots counts : List ℕ) → length counts ≡ length ts → All (λ i. i < length ts) roots → IsTallied roots counts → Tallies ts (used_so_far ts roots []) counts
+pub tallies-roots : (ts : List (Origin ℕ)) (roots counts : List ℕ) → length counts ≡ length ts
+    → All (λ i. i < length ts) roots → IsTallied roots counts → Tallies ts (used_so_far ts roots []) counts
 tallies-roots ts roots counts long inside t = record {
   length_is = long;
   numbers = roots;
@@ -182,15 +210,21 @@ tallies-roots ts roots counts long inside t = record {
   tallied = t;
 }
 
-pub tallies-more : (ts : List (Origin ℕ)) (roots : List ℕ) (marks : List Bool) (i : ℕ) (s : Step) (counts after : List ℕ) → i < length marks
+pub tallies-more : (ts : List (Origin ℕ)) (roots : List ℕ) (marks : List Bool) (i : ℕ) (s : Step)
+    (counts after : List ℕ) → i < length marks
     → slice_get ts i ≡ Some (origin_of ts s) → IsBelow (length ts) s → length after ≡ length counts
-    → ((is : List ℕ) → IsTallied is counts → IsTallied (is ++ cond (get_or marks i false) (operand_numbers s) []) after)
-    → Tallies ts (used_so_far ts roots (take i marks)) counts → Tallies ts (used_so_far ts roots (take (i + 1) marks)) after
+    → ((is : List ℕ) → IsTallied is counts → IsTallied (is ++ cond (get_or marks i false) (operand_numbers s) [])
+    after)
+    → Tallies ts (used_so_far ts roots (take i marks)) counts
+    → Tallies ts (used_so_far ts roots (take (i + 1) marks)) after
 tallies-more ts roots marks i s counts after within at below long step t = record {
   length_is = long ∙ t.length_is;
   numbers = t.numbers ++ cond (get_or marks i false) (operand_numbers s) [];
-  inside = All-more (length ts) t.numbers (cond (get_or marks i false) (operand_numbers s) []) t.inside (chosen (get_or marks i false));
-  are = map-append ts t.numbers (cond (get_or marks i false) (operand_numbers s) []) ∙ ap (λ os. os ++ map (origin_at ts) (cond (get_or marks i false) (operand_numbers s) [])) t.are ∙ append_assoc (map (origin_at ts) roots) _ _ ∙ ap (λ os. map (origin_at ts) roots ++ os) (sym longer);
+  inside = All-more (length ts) t.numbers (cond (get_or marks i false) (operand_numbers s) []) t.inside
+      (chosen (get_or marks i false));
+  are = map-append ts t.numbers (cond (get_or marks i false) (operand_numbers s) [])
+      ∙ ap (λ os. os ++ map (origin_at ts) (cond (get_or marks i false) (operand_numbers s) [])) t.are
+      ∙ append_assoc (map (origin_at ts) roots) _ _ ∙ ap (λ os. map (origin_at ts) roots ++ os) (sym longer);
   tallied = step t.numbers t.tallied;
 }
   where
@@ -201,39 +235,56 @@ tallies-more ts roots marks i s counts after within at below long step t = recor
     tree : origin_at ts i ≡ origin_of ts s
     tree = get_or_from_slice_get ts i _ (Number (pos 0)) at
 
-    one : (b : Bool) → flat_map operands (map (origin_at ts) (cond b (i ∷ []) [])) ≡ map (origin_at ts) (cond b (operand_numbers s) [])
+    one : (b : Bool) → flat_map operands (map (origin_at ts) (cond b (i ∷ []) []))
+        ≡ map (origin_at ts) (cond b (operand_numbers s) [])
     one true = append-nil (operands (origin_at ts i)) ∙ ap operands tree ∙ operands-are ts s
     one false = refl
 
-    marked : marked_from 0 (take (i + 1) marks) ≡ marked_from 0 (take i marks) ++ cond (get_or marks i false) (i ∷ []) []
+    marked : marked_from 0 (take (i + 1) marks) ≡ marked_from 0 (take i marks) ++ cond (get_or marks i false)
+        (i ∷ []) []
     marked =
         let m = take-long marks i within in
         let e : 0 + length (take i marks) ≡ i = omega (arith, m) in
-        ap (marked_from 0) (take_more marks i false within) ∙ marked-more 0 (take i marks) (get_or marks i false) ∙ ap (λ z. marked_from 0 (take i marks) ++ cond (get_or marks i false) (z ∷ []) []) e
+        ap (marked_from 0) (take_more marks i false within) ∙ marked-more 0 (take i marks) (get_or marks i false)
+        ∙ ap (λ z. marked_from 0 (take i marks) ++ cond (get_or marks i false) (z ∷ []) []) e
 
-    longer : flat_map operands (map (origin_at ts) (marked_from 0 (take (i + 1) marks))) ≡ flat_map operands (map (origin_at ts) (marked_from 0 (take i marks))) ++ map (origin_at ts) (cond (get_or marks i false) (operand_numbers s) [])
+    longer : flat_map operands (map (origin_at ts) (marked_from 0 (take (i + 1) marks)))
+        ≡ flat_map operands (map (origin_at ts) (marked_from 0 (take i marks)))
+        ++ map (origin_at ts) (cond (get_or marks i false) (operand_numbers s) [])
     longer =
-        ap (λ l. flat_map operands (map (origin_at ts) l)) marked ∙ ap (flat_map operands) (map-append ts (marked_from 0 (take i marks)) (cond (get_or marks i false) (i ∷ []) []))
-        ∙ flat_map-append operands (map (origin_at ts) (marked_from 0 (take i marks))) (map (origin_at ts) (cond (get_or marks i false) (i ∷ []) [])) ∙ ap (λ os. flat_map operands (map (origin_at ts) (marked_from 0 (take i marks))) ++ os) (one (get_or marks i false))
+        ap (λ l. flat_map operands (map (origin_at ts) l)) marked ∙ ap (flat_map operands)
+        (map-append ts (marked_from 0 (take i marks)) (cond (get_or marks i false) (i ∷ []) []))
+        ∙ flat_map-append operands (map (origin_at ts) (marked_from 0 (take i marks)))
+        (map (origin_at ts) (cond (get_or marks i false) (i ∷ []) []))
+        ∙ ap (λ os. flat_map operands (map (origin_at ts) (marked_from 0 (take i marks))) ++ os)
+        (one (get_or marks i false))
 
 -- as often as a number stands its origin does
-counts-are : (ts : List (Origin ℕ)) → IsInjective ts → (same : Origin ℕ → Origin ℕ → Bool) → ((a b : Origin ℕ) → Decides (same a b) (a ≡ b)) → (j : ℕ) → j < length ts
-    → (is : List ℕ) → All (λ i. i < length ts) is → count same (origin_at ts j) (map (origin_at ts) is) ≡ count nat_eq j is
+counts-are : (ts : List (Origin ℕ)) → IsInjective ts → (same : Origin ℕ → Origin ℕ → Bool)
+    → ((a b : Origin ℕ) → Decides (same a b) (a ≡ b)) → (j : ℕ) → j < length ts
+    → (is : List ℕ) → All (λ i. i < length ts) is → count same (origin_at ts j) (map (origin_at ts) is)
+    ≡ count nat_eq j is
 counts-are ts one same decides j within [] h = refl
 counts-are ts one same decides j within (i ∷ is) h =
     let low : i < length ts = All-head (λ i. i < length ts) i is h in
     let tail = counts-are ts one same decides j within is (All-tail (λ i. i < length ts) i is h) in
     let trees = decides (origin_at ts j) (origin_at ts i) in
     let head : same (origin_at ts j) (origin_at ts i) ≡ nat_eq j i =
-    same_from_decides {P = j ≡ i} _ _ ((λ e. origin_at-injective ts one j i within low (trees.0 e)), (λ e. trees.1 (ap (origin_at ts) e))) (eqb-true j i, eq-eqb j i)
+    same_from_decides {P = j ≡ i} _ _ (
+      (λ e. origin_at-injective ts one j i within low (trees.0 e)),
+      (λ e. trees.1 (ap (origin_at ts) e)),
+    ) (eqb-true j i, eq-eqb j i)
     in
     rw (head, tail) refl
 
-pub counts-end : (ts : List (Origin ℕ)) → IsInjective ts → (roots : List ℕ) (marks : List Bool) (counts : List ℕ) → Tallies ts (used_so_far ts roots marks) counts → AreCounts ts roots marks counts
+pub counts-end : (ts : List (Origin ℕ)) → IsInjective ts → (roots : List ℕ) (marks : List Bool) (counts : List ℕ)
+    → Tallies ts (used_so_far ts roots marks) counts → AreCounts ts roots marks counts
 counts-end ts one roots marks counts t = record {
   length_is = t.length_is;
   counted = λ same decides j within.
       let tally = t.tallied j (omega (arith, t.length_is)) in
-      let sum = count-append same (origin_at ts j) (map (origin_at ts) roots) (flat_map operands (map (origin_at ts) (marked_from 0 marks))) in
-      tally ∙ ap (λ n. Some (min 2 n)) (sym (counts-are ts one same decides j within t.numbers t.inside) ∙ ap (count same (origin_at ts j)) t.are ∙ sum);
+      let sum = count-append same (origin_at ts j) (map (origin_at ts) roots)
+      (flat_map operands (map (origin_at ts) (marked_from 0 marks))) in
+      tally ∙ ap (λ n. Some (min 2 n)) (sym (counts-are ts one same decides j within t.numbers t.inside)
+      ∙ ap (count same (origin_at ts j)) t.are ∙ sum);
 }

@@ -1,5 +1,6 @@
 -- Lemmas on the table of steps.
-use Rattle.std.proofs.Common.{◌≡◌, ℕ, ◌<◌, ◌≤◌, Bool, true, false, ◌&&◌, List, [], ◌∷◌, length, map, nat_eq, eq-eqb, eqb-true, pos, refl, sym, ap, subst, ◌∙◌, true≢false, arith}
+use Rattle.std.proofs.Common.{◌≡◌, ℕ, ◌<◌, ◌≤◌, Bool, true, false, ◌&&◌, List, [], ◌∷◌, length, map}
+use Rattle.std.proofs.Common.{nat_eq, eq-eqb, eqb-true, pos, refl, sym, ap, subst, ◌∙◌, true≢false, arith}
 use Rattle.std.specs.List.{All}
 use Rattle.std.specs.Cmp.Lexicographic.{pointwise}
 use Rattle.std.proofs.lemmas.Bool.Decides.{Decides-int_eq}
@@ -22,69 +23,85 @@ abbrev pub step_eq : Step → Step → Bool
 step_eq = derived.ghosts.eq
 
 -- ---- the origins of steps in a table that grows
-pub origin_at-Extends : (ts us : List (Origin ℕ)) → Extends ts us → (i : ℕ) → i < length ts → origin_at us i ≡ origin_at ts i
+pub origin_at-Extends : (ts us : List (Origin ℕ)) → Extends ts us → (i : ℕ) → i < length ts
+    → origin_at us i ≡ origin_at ts i
 origin_at-Extends ts us e i h = get_or-Extends ts us e i (Number (pos 0)) h
 
-pub origins_at-Extends : (ts us : List (Origin ℕ)) → Extends ts us → (is : List ℕ) → All (λ i. i < length ts) is → origins_at us is ≡ origins_at ts is
+pub origins_at-Extends : (ts us : List (Origin ℕ)) → Extends ts us → (is : List ℕ) → All (λ i. i < length ts) is
+    → origins_at us is ≡ origins_at ts is
 origins_at-Extends ts us e [] h = refl
 origins_at-Extends ts us e (i ∷ is) h =
     let head = origin_at-Extends ts us e i (All-head (λ i. i < length ts) i is h) in
     let tail = origins_at-Extends ts us e is (All-tail (λ i. i < length ts) i is h) in
     cc
 
-pub map-Extends : (ts us : List (Origin ℕ)) → Extends ts us → (is : List ℕ) → All (λ i. i < length ts) is → map (origin_at us) is ≡ map (origin_at ts) is
+pub map-Extends : (ts us : List (Origin ℕ)) → Extends ts us → (is : List ℕ) → All (λ i. i < length ts) is
+    → map (origin_at us) is ≡ map (origin_at ts) is
 map-Extends ts us e [] h = refl
 map-Extends ts us e (i ∷ is) h =
     let head = origin_at-Extends ts us e i (All-head (λ i. i < length ts) i is h) in
     let tail = map-Extends ts us e is (All-tail (λ i. i < length ts) i is h) in
     cc
 
-pub origin_of-Extends : (ts us : List (Origin ℕ)) → Extends ts us → (s : Step) → IsBelow (length ts) s → origin_of us s ≡ origin_of ts s
+pub origin_of-Extends : (ts us : List (Origin ℕ)) → Extends ts us → (s : Step) → IsBelow (length ts) s
+    → origin_of us s ≡ origin_of ts s
 origin_of-Extends ts us e (steps.Number k) h = refl
 origin_of-Extends ts us e (steps.Name n) h = refl
 origin_of-Extends ts us e (steps.Make w ops) h = ap (Make w) (origins_at-Extends ts us e ops.items h)
 origin_of-Extends ts us e (steps.Define w ops syms) h = ap (Define w) (origins_at-Extends ts us e ops.items h.0)
 origin_of-Extends ts us e (steps.Outcome j d) h = ap (Outcome j) (origin_at-Extends ts us e d h)
 
-pub HasSymbols-Extends : (ts us : List (Origin ℕ)) → Extends ts us → (s : Step) → IsBelow (length ts) s → HasSymbols ts s → HasSymbols us s
+pub HasSymbols-Extends : (ts us : List (Origin ℕ)) → Extends ts us → (s : Step) → IsBelow (length ts) s
+    → HasSymbols ts s → HasSymbols us s
 HasSymbols-Extends ts us e (steps.Number k) h p = tt
 HasSymbols-Extends ts us e (steps.Name n) h p = tt
 HasSymbols-Extends ts us e (steps.Make w ops) h p = tt
 HasSymbols-Extends ts us e (steps.Define w ops syms) h p =
-    map-Extends ts us e syms.items h.1 ∙ p ∙ ap (λ os. symbols (Define w os)) (sym (origins_at-Extends ts us e ops.items h.0))
+    map-Extends ts us e syms.items h.1 ∙ p
+    ∙ ap (λ os. symbols (Define w os)) (sym (origins_at-Extends ts us e ops.items h.0))
 HasSymbols-Extends ts us e (steps.Outcome j d) h p = tt
 
 pub IsBelow-mono : (j k : ℕ) → j ≤ k → (s : Step) → IsBelow j s → IsBelow k s
 IsBelow-mono j k le (steps.Number n) h = tt
 IsBelow-mono j k le (steps.Name n) h = tt
 IsBelow-mono j k le (steps.Make w ops) h = λ i d within. let below = h i d within in omega arith
-IsBelow-mono j k le (steps.Define w ops syms) h = ((λ i d within. let below = h.0 i d within in omega arith), (λ i d within. let below = h.1 i d within in omega arith))
+IsBelow-mono j k le (steps.Define w ops syms) h = (
+  (λ i d within. let below = h.0 i d within in omega arith),
+  (λ i d within. let below = h.1 i d within in omega arith),
+)
 IsBelow-mono j k le (steps.Outcome i d) h = omega arith
 
 -- ---- numbers of one list of origins
-pub origin_at-injective : (ts : List (Origin ℕ)) → IsInjective ts → (i j : ℕ) → i < length ts → j < length ts → origin_at ts i ≡ origin_at ts j → i ≡ j
+pub origin_at-injective : (ts : List (Origin ℕ)) → IsInjective ts → (i j : ℕ) → i < length ts → j < length ts
+    → origin_at ts i ≡ origin_at ts j → i ≡ j
 origin_at-injective ts one i j g h p = get_or-IsInjective ts one i j (Number (pos 0)) g h p
 
-origins_at-injective : (ts : List (Origin ℕ)) → IsInjective ts → (is js : List ℕ) → All (λ i. i < length ts) is → All (λ i. i < length ts) js → origins_at ts is ≡ origins_at ts js → is ≡ js
+origins_at-injective : (ts : List (Origin ℕ)) → IsInjective ts → (is js : List ℕ) → All (λ i. i < length ts) is
+    → All (λ i. i < length ts) js → origins_at ts is ≡ origins_at ts js → is ≡ js
 origins_at-injective ts one [] [] g h p = refl
 origins_at-injective ts one [] (j ∷ js) g h p = cc
 origins_at-injective ts one (i ∷ is) [] g h p = cc
 origins_at-injective ts one (i ∷ is) (j ∷ js) g h p =
     let heads : origin_at ts i ≡ origin_at ts j = cc in
     let tails : origins_at ts is ≡ origins_at ts js = cc in
-    let head : i ≡ j = origin_at-injective ts one i j (All-head (λ i. i < length ts) i is g) (All-head (λ i. i < length ts) j js h) heads in
-    let tail = origins_at-injective ts one is js (All-tail (λ i. i < length ts) i is g) (All-tail (λ i. i < length ts) j js h) tails in
+    let head : i ≡ j = origin_at-injective ts one i j (All-head (λ i. i < length ts) i is g)
+    (All-head (λ i. i < length ts) j js h) heads in
+    let tail = origins_at-injective ts one is js (All-tail (λ i. i < length ts) i is g)
+    (All-tail (λ i. i < length ts) j js h) tails in
     cc
 
-map-injective : (ts : List (Origin ℕ)) → IsInjective ts → (is js : List ℕ) → All (λ i. i < length ts) is → All (λ i. i < length ts) js → map (origin_at ts) is ≡ map (origin_at ts) js → is ≡ js
+map-injective : (ts : List (Origin ℕ)) → IsInjective ts → (is js : List ℕ) → All (λ i. i < length ts) is
+    → All (λ i. i < length ts) js → map (origin_at ts) is ≡ map (origin_at ts) js → is ≡ js
 map-injective ts one [] [] g h p = refl
 map-injective ts one [] (j ∷ js) g h p = cc
 map-injective ts one (i ∷ is) [] g h p = cc
 map-injective ts one (i ∷ is) (j ∷ js) g h p =
     let heads : origin_at ts i ≡ origin_at ts j = cc in
     let tails : map (origin_at ts) is ≡ map (origin_at ts) js = cc in
-    let head : i ≡ j = origin_at-injective ts one i j (All-head (λ i. i < length ts) i is g) (All-head (λ i. i < length ts) j js h) heads in
-    let tail = map-injective ts one is js (All-tail (λ i. i < length ts) i is g) (All-tail (λ i. i < length ts) j js h) tails in
+    let head : i ≡ j = origin_at-injective ts one i j (All-head (λ i. i < length ts) i is g)
+    (All-head (λ i. i < length ts) j js h) heads in
+    let tail = map-injective ts one is js (All-tail (λ i. i < length ts) i is g)
+    (All-tail (λ i. i < length ts) j js h) tails in
     cc
 
 -- ---- the test of words
@@ -140,20 +157,27 @@ parts true false p = absurd (true≢false (sym p))
 parts false b p = absurd (true≢false (sym p))
 
 -- steps with one origin pass the test, where definitions have their symbols
-pub same_step : (ts : List (Origin ℕ)) → IsInjective ts → (s t : Step) → IsBelow (length ts) s → IsBelow (length ts) t → HasSymbols ts s → HasSymbols ts t → origin_of ts s ≡ origin_of ts t → step_eq s t ≡ true
+pub same_step : (ts : List (Origin ℕ)) → IsInjective ts → (s t : Step) → IsBelow (length ts) s → IsBelow (length ts) t
+    → HasSymbols ts s → HasSymbols ts t → origin_of ts s ≡ origin_of ts t → step_eq s t ≡ true
 same_step ts one (steps.Number j) (steps.Number k) g h a b p = let e : j ≡ k = cc in (Decides-int_eq j k).1 e
 same_step ts one (steps.Name m) (steps.Name n) g h a b p = let e : m ≡ n = cc in eq-eqb m n e
 same_step ts one (steps.Make v xs) (steps.Make w ys) g h a b p =
     let word : v ≡ w = cc in
     let ops : origins_at ts xs.items ≡ origins_at ts ys.items = cc in
-    both (words_test.ghosts.eq v w) (pointwise nat_eq xs.items ys.items) (subst (λ w. words_test.ghosts.eq v w ≡ true) word (word-self v)) ((bytes_eq-Decides xs.items ys.items).1 (origins_at-injective ts one xs.items ys.items g h ops))
+    both (words_test.ghosts.eq v w) (pointwise nat_eq xs.items ys.items)
+    (subst (λ w. words_test.ghosts.eq v w ≡ true) word (word-self v))
+    ((bytes_eq-Decides xs.items ys.items).1 (origins_at-injective ts one xs.items ys.items g h ops))
 same_step ts one (steps.Define v xs ss) (steps.Define w ys rs) g h a b p =
     let word : v ≡ w = cc in
     let ops : origins_at ts xs.items ≡ origins_at ts ys.items = cc in
-    let same : symbols (Define v (origins_at ts xs.items)) ≡ symbols (Define w (origins_at ts ys.items)) = ap symbols p in
+    let same : symbols (Define v (origins_at ts xs.items)) ≡ symbols (Define w (origins_at ts ys.items)) =
+    ap symbols p in
     let syms : ss.items ≡ rs.items = map-injective ts one ss.items rs.items g.1 h.1 (a ∙ same ∙ sym b) in
-    both (words_test.ghosts.eq v w) (pointwise nat_eq xs.items ys.items && pointwise nat_eq ss.items rs.items) (subst (λ w. words_test.ghosts.eq v w ≡ true) word (word-self v))
-    (both (pointwise nat_eq xs.items ys.items) (pointwise nat_eq ss.items rs.items) ((bytes_eq-Decides xs.items ys.items).1 (origins_at-injective ts one xs.items ys.items g.0 h.0 ops)) ((bytes_eq-Decides ss.items rs.items).1 syms))
+    both (words_test.ghosts.eq v w) (pointwise nat_eq xs.items ys.items && pointwise nat_eq ss.items rs.items)
+    (subst (λ w. words_test.ghosts.eq v w ≡ true) word (word-self v))
+    (both (pointwise nat_eq xs.items ys.items) (pointwise nat_eq ss.items rs.items)
+    ((bytes_eq-Decides xs.items ys.items).1 (origins_at-injective ts one xs.items ys.items g.0 h.0 ops))
+    ((bytes_eq-Decides ss.items rs.items).1 syms))
 same_step ts one (steps.Outcome i d) (steps.Outcome j e) g h a b p =
     let place : i ≡ j = cc in
     let of : origin_at ts d ≡ origin_at ts e = cc in
@@ -187,7 +211,8 @@ same_origin ts (steps.Make v xs) (steps.Make w ys) p =
     let q = parts (words_test.ghosts.eq v w) (pointwise nat_eq xs.items ys.items) p in
     λ j. Make (word-from v w q.0 j) (origins_at ts ((bytes_eq-Decides xs.items ys.items).0 q.1 j))
 same_origin ts (steps.Define v xs ss) (steps.Define w ys rs) p =
-    let q = parts (words_test.ghosts.eq v w) (pointwise nat_eq xs.items ys.items && pointwise nat_eq ss.items rs.items) p in
+    let q = parts (words_test.ghosts.eq v w)
+    (pointwise nat_eq xs.items ys.items && pointwise nat_eq ss.items rs.items) p in
     let r = parts (pointwise nat_eq xs.items ys.items) (pointwise nat_eq ss.items rs.items) q.1 in
     λ j. Define (word-from v w q.0 j) (origins_at ts ((bytes_eq-Decides xs.items ys.items).0 r.0 j))
 same_origin ts (steps.Outcome i d) (steps.Outcome j e) p =

@@ -81,14 +81,19 @@ module _ {N : Type 0} (letter : Coded N) where
     pub origin_inj : (x y : Origin N) → code_origin x ≡ code_origin y → x ≡ y
     origin_inj (Number j) (Number k) p = ap Number (coded_ℤ.inj j k (ap rest p))
     origin_inj (Named n) (Named m) p = ap Named (letter.inj n m (ap rest p))
-    origin_inj (Make v os) (Make w ps) p = λ i. Make (coded_word.inj v w (ap (λ g. first (rest g)) p) i) (origins_inj os ps (ap (λ g. rest (rest g)) p) i)
-    origin_inj (Define v os) (Define w ps) p = λ i. Define (coded_word.inj v w (ap (λ g. first (rest g)) p) i) (origins_inj os ps (ap (λ g. rest (rest g)) p) i)
-    origin_inj (Outcome j d) (Outcome k e) p = λ i. Outcome (num (first (rest (p i)))) (origin_inj d e (ap (λ g. rest (rest g)) p) i)
+    origin_inj (Make v os) (Make w ps) p = λ i. Make (coded_word.inj v w (ap (λ g. first (rest g)) p) i)
+        (origins_inj os ps (ap (λ g. rest (rest g)) p) i)
+    origin_inj (Define v os) (Define w ps) p = λ i. Define (coded_word.inj v w (ap (λ g. first (rest g)) p) i)
+        (origins_inj os ps (ap (λ g. rest (rest g)) p) i)
+    origin_inj (Outcome j d) (Outcome k e) p =
+        λ i. Outcome (num (first (rest (p i)))) (origin_inj d e (ap (λ g. rest (rest g)) p) i)
     origin_inj x y p = absurd (subst (λ g. T (eqb (tag g) (tag (code_origin x)))) p tt)
 
     pub origins_inj : (x y : Origins N) → code_origins x ≡ code_origins y → x ≡ y
     origins_inj NoOrigins NoOrigins p = refl
-    origins_inj (MoreOrigins o os) (MoreOrigins q ps) p = λ i. MoreOrigins (origin_inj o q (ap (λ g. first (rest g)) p) i) (origins_inj os ps (ap (λ g. rest (rest g)) p) i)
+    origins_inj (MoreOrigins o os) (MoreOrigins q ps) p =
+        λ i. MoreOrigins (origin_inj o q (ap (λ g. first (rest g)) p) i)
+        (origins_inj os ps (ap (λ g. rest (rest g)) p) i)
     origins_inj x y p = absurd (subst (λ g. T (eqb (tag g) (tag (code_origins x)))) p tt)
 
   abbrev pub coded_origin : Coded (Origin N)

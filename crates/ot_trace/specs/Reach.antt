@@ -18,4 +18,5 @@ IsMarked marks i = slice_get marks i ≡ Some true
 -- exactly what the roots lead to is marked
 pub record MarksReached (ts : List (Origin ℕ)) (roots ds : List ℕ) (marks : List Bool) : Type 0 where
   pub length_is : length marks ≡ length ts
-  pub marked : (i : ℕ) → i < length ts → IsMarked marks i ↔ IsReached (map (origin_at ts) roots) (map (origin_at ts) ds) (origin_at ts i)
+  pub marked : (i : ℕ) → i < length ts → IsMarked marks i ↔ IsReached (map (origin_at ts) roots)
+      (map (origin_at ts) ds) (origin_at ts i)

@@ -1,7 +1,8 @@
 -- The table of steps: each number stands for an origin.
 use Rattle.std.specs.Prelude.{◌≡◌, ℕ, ◌<◌, ◌⊎◌, length, List, [], ◌∷◌, slice_index_or, map, pos}
 use Rattle.std.specs.List.{All}
-use Rattle.ot_trace.specs.Origins.{Origin, Origins, Number, Named, Make, Define, Outcome, NoOrigins, MoreOrigins, operands, symbols}
+use Rattle.ot_trace.specs.Origins.{Origin, Origins, Number, Named, Make, Define}
+use Rattle.ot_trace.specs.Origins.{Outcome, NoOrigins, MoreOrigins, operands, symbols}
 use Rattle.ot_plain.specs.Table.{IsInjective}
 use Rattle.ot_plain.specs.Lists.{IsMember}
 use Rattle.ot_plain.specs.Interned.{trees_of, IsSound}
@@ -56,7 +57,8 @@ IsPartOf p o = IsMember p (operands o) ⊎ ((j : ℕ) × (o ≡ Outcome j p))
 -- what holds of the origins of each table: each stands once, above its parts
 pub record IsStepTable (ts : List (Origin ℕ)) : Type 0 where
   pub injective : IsInjective ts
-  pub closed : (i : ℕ) (p : Origin ℕ) → i < length ts → IsPartOf p (origin_at ts i) → (k : ℕ) × (k < i) × (origin_at ts k ≡ p)
+  pub closed : (i : ℕ) (p : Origin ℕ) → i < length ts → IsPartOf p (origin_at ts i)
+      → (k : ℕ) × (k < i) × (origin_at ts k ≡ p)
 
 -- the origins of the entries
 abbrev pub origins : List (Step × Unit {0}) → List (Origin ℕ)

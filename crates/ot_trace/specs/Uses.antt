@@ -22,5 +22,7 @@ uses same roots needed o = count same o roots + count same o (flat_map operands 
 -- the uses of each step by the roots and by the marked steps, with 2 for two or more
 pub record AreCounts (ts : List (Origin ℕ)) (roots : List ℕ) (marks : List Bool) (counts : List ℕ) : Type 0 where
   pub length_is : length counts ≡ length ts
-  pub counted : (same : Origin ℕ → Origin ℕ → Bool) → ((a b : Origin ℕ) → Decides (same a b) (a ≡ b)) → (j : ℕ) → j < length ts
-      → slice_get counts j ≡ Some (min 2 (uses same (map (origin_at ts) roots) (map (origin_at ts) (marked_from 0 marks)) (origin_at ts j)))
+  pub counted : (same : Origin ℕ → Origin ℕ → Bool) → ((a b : Origin ℕ) → Decides (same a b) (a ≡ b)) → (j : ℕ)
+      → j < length ts
+      → slice_get counts j ≡ Some
+      (min 2 (uses same (map (origin_at ts) roots) (map (origin_at ts) (marked_from 0 marks)) (origin_at ts j)))

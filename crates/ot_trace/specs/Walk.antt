@@ -13,7 +13,8 @@ abbrev pub unmarked : List Bool → ℕ
 unmarked [] = 0
 unmarked (b ∷ bs) = cond b (unmarked bs) (suc (unmarked bs))
 
--- from marks ms and waiting numbers ps to ns and qs: those that are asked for are marked now, and the new ones of them wait
+-- from marks ms and waiting numbers ps to ns and qs: those that are asked for are marked now, and the new ones of
+-- them wait
 pub record Visits (IsAsked : ℕ → Type 0) (ms : List Bool) (ps : List ℕ) (ns : List Bool) (qs : List ℕ) : Type 0 where
   pub same_length : length ns ≡ length ms
   pub visited : (i : ℕ) → IsAsked i → IsMarked ns i
@@ -36,8 +37,10 @@ pub record Notes (ss : List ℕ) (d : ℕ) (first further newer more : List (ℕ
 -- noted are the definitions of each symbol of the table
 pub record AreDefiners (ts : List (Origin ℕ)) (ds : List ℕ) (first further : List (ℕ × ℕ)) : Type 0 where
   pub inside : (d : ℕ) → IsMember d ds → d < length ts
-  pub sound : (s d : ℕ) → IsNoted first further s d → IsMember d ds × IsMember (origin_at ts s) (symbols (origin_at ts d))
-  pub all : (s d : ℕ) → s < length ts → IsMember d ds → IsMember (origin_at ts s) (symbols (origin_at ts d)) → IsNoted first further s d
+  pub sound : (s d : ℕ) → IsNoted first further s d
+      → IsMember d ds × IsMember (origin_at ts s) (symbols (origin_at ts d))
+  pub all : (s d : ℕ) → s < length ts → IsMember d ds → IsMember (origin_at ts s) (symbols (origin_at ts d))
+      → IsNoted first further s d
 
 -- o leads to p: a part, or a definition of a symbol
 abbrev pub LeadsTo : List (Origin ℕ) → Origin ℕ → Origin ℕ → Type 0

@@ -1,5 +1,5 @@
-ghost use Rattle.std.specs.Prelude.{◌≡◌, ℕ, ◌<◌, ◌++◌, ◌∷◌, [], ◌⊎◌, ◌≢◌, Some, slice_get, length, IfOk, OnOk, OnErr};
-ghost use Rattle.std.specs.Prelude.{IfSome, IfNone};
+ghost use Rattle.std.specs.Prelude.{◌≡◌, ℕ, ◌<◌, ◌++◌, ◌∷◌, [], ◌⊎◌, ◌≢◌, Some};
+ghost use Rattle.std.specs.Prelude.{slice_get, length, IfOk, OnOk, OnErr, IfSome, IfNone};
 ghost use Rattle.ot_plain.specs.Table.{IsInjective};
 
 mod making;

@@ -16,7 +16,13 @@ bound_ty-type_at [] i h = let no : ⊥ = omega arith in absurd no
 bound_ty-type_at (t ∷ ts) zero h = omega arith
 bound_ty-type_at (t ∷ ts) (suc i) h = omega (arith, bound_ty-type_at ts i (omega arith))
 
-pub bound_tys-types_at : (ts : List (Ty ℕ)) (is : List ℕ) → All (λ i. i < length ts) is → bound_tys (types_at ts is) ≤ names_in ts
+pub bound_tys-types_at : (ts : List (Ty ℕ)) (is : List ℕ) → All (λ i. i < length ts) is → bound_tys (types_at ts is)
+    ≤ names_in ts
 bound_tys-types_at ts [] h = omega arith
 bound_tys-types_at ts (i ∷ is) h =
-    omega (arith, bound_ty-type_at ts i (All-head (λ i. i < length ts) i is h), bound_tys-types_at ts is (All-tail (λ i. i < length ts) i is h))
+    omega (
+      arith,
+      bound_ty-type_at ts i (All-head (λ i. i < length ts) i is h),
+      bound_tys-types_at ts is
+          (All-tail (λ i. i < length ts) i is h),
+    )

@@ -1,5 +1,7 @@
 -- Lemmas on the types inside a type.
-use Rattle.std.proofs.Common.{◌≡◌, ℕ, zero, suc, ◌+◌, ◌<◌, ◌≤◌, ◌⊎◌, inl, inr, Bool, true, false, cond, nat_lt, nat_eq, List, [], ◌∷◌, ◌++◌, length, get_or, take, max, refl, sym, ap, subst, ◌∙◌, arith, eqb-true, ltb-true}
+use Rattle.std.proofs.Common.{◌≡◌, ℕ, zero, suc, ◌+◌, ◌<◌, ◌≤◌, ◌⊎◌, inl, inr, Bool, true}
+use Rattle.std.proofs.Common.{false, cond, nat_lt, nat_eq, List, [], ◌∷◌, ◌++◌, length, get_or}
+use Rattle.std.proofs.Common.{take, max, refl, sym, ap, subst, ◌∙◌, arith, eqb-true, ltb-true}
 use Rattle.std.specs.List.{All}
 use Rattle.std.specs.Ordering.{nat_cmp, match_ordering}
 use Rattle.std.specs.declared.cmp.Ordering.{Ordering}
@@ -16,7 +18,8 @@ use Rattle.ot_plain.proofs.Members.{IsMember-cases, IsMember-last, IsMember-left
 -- ---- members
 module _ {X : Type 0} where
   pub member_push : (x y : X) (xs : List X) → IsMember y (xs ++ x ∷ []) → IsMember y xs ⊎ (x ≡ y)
-  member_push x y xs h = elim (IsMember-cases y xs (x ∷ []) h) [ inl a ↦ inl a | inr b ↦ elim b [ inl e ↦ inr e | inr never ↦ absurd never ] ]
+  member_push x y xs h = elim (IsMember-cases y xs (x ∷ []) h)
+      [ inl a ↦ inl a | inr b ↦ elim b [ inl e ↦ inr e | inr never ↦ absurd never ] ]
 
   member_at : (xs : List X) (i : ℕ) (d : X) → i < length xs → IsMember (get_or xs i d) xs
   member_at [] i d h = absurd (omega arith)
@@ -57,16 +60,21 @@ module _ (k q : ℕ) where
   insert_to [] h = elim h [ inl e ↦ inr e | inr never ↦ absurd never ]
   insert_to (x ∷ xs) h = by (insert_to xs) (nat_cmp k x) h
     where
-      by : (IsMember q (insert_key nat_cmp xs k) → IsMember q xs ⊎ (k ≡ q)) → (o : Ordering) → IsMember q (match_ordering o (k ∷ x ∷ xs) (x ∷ xs) (x ∷ insert_key nat_cmp xs k)) → IsMember q (x ∷ xs) ⊎ (k ≡ q)
+      by : (IsMember q (insert_key nat_cmp xs k) → IsMember q xs ⊎ (k ≡ q)) → (o : Ordering)
+          → IsMember q (match_ordering o (k ∷ x ∷ xs) (x ∷ xs) (x ∷ insert_key nat_cmp xs k))
+          → IsMember q (x ∷ xs) ⊎ (k ≡ q)
       by rest Less h = elim h [ inl e ↦ inr e | inr m ↦ inl m ]
       by rest Equal h = inl h
-      by rest Greater h = elim h [ inl e ↦ inl (inl e) | inr m ↦ elim (rest m) [ inl a ↦ inl (inr a) | inr e ↦ inr e ] ]
+      by rest Greater h =
+          elim h [ inl e ↦ inl (inl e) | inr m ↦ elim (rest m) [ inl a ↦ inl (inr a) | inr e ↦ inr e ] ]
 
   insert_back : (ks : List ℕ) → IsMember q ks ⊎ (k ≡ q) → IsMember q (insert_key nat_cmp ks k)
   insert_back [] h = elim h [ inl never ↦ absurd never | inr e ↦ inl e ]
   insert_back (x ∷ xs) h = by (insert_back xs) (nat_cmp k x) refl h
     where
-      by : (IsMember q xs ⊎ (k ≡ q) → IsMember q (insert_key nat_cmp xs k)) → (o : Ordering) → nat_cmp k x ≡ o → IsMember q (x ∷ xs) ⊎ (k ≡ q) → IsMember q (match_ordering o (k ∷ x ∷ xs) (x ∷ xs) (x ∷ insert_key nat_cmp xs k))
+      by : (IsMember q xs ⊎ (k ≡ q) → IsMember q (insert_key nat_cmp xs k)) → (o : Ordering) → nat_cmp k x ≡ o
+          → IsMember q (x ∷ xs) ⊎ (k ≡ q)
+          → IsMember q (match_ordering o (k ∷ x ∷ xs) (x ∷ xs) (x ∷ insert_key nat_cmp xs k))
       by rest Less p (inl m) = inr m
       by rest Less p (inr e) = inl e
       by rest Equal p (inl m) = m
@@ -75,7 +83,8 @@ module _ (k q : ℕ) where
       by rest Greater p (inr e) = inr (rest (inr e))
 
 -- the loop that adds numbers to a set
-pub added_one : (ks olds ids : List ℕ) (i k : ℕ) (new : List ℕ) → i < length ids → k ≡ get_or ids i k → IsSameSet ks (olds ++ take i ids) → new ≡ insert_key nat_cmp ks k → IsSameSet new (olds ++ take (i + 1) ids)
+pub added_one : (ks olds ids : List ℕ) (i k : ℕ) (new : List ℕ) → i < length ids → k ≡ get_or ids i k
+    → IsSameSet ks (olds ++ take i ids) → new ≡ insert_key nat_cmp ks k → IsSameSet new (olds ++ take (i + 1) ids)
 added_one ks olds ids i k new within item same is = record { to = to; back = back }
   where
     more : take (i + 1) ids ≡ take i ids ++ k ∷ []
@@ -118,25 +127,33 @@ mutual
 -- of arguments by number
 pub inside_at : (ts : List (Ty ℕ)) (y : ℕ) (is : List ℕ) → IsMember y is → IsInside (type_at ts y) (types_at ts is)
 inside_at ts y [] h = absurd h
-inside_at ts y (i ∷ is) (inl e) = inl (subst (λ k. IsSubtype (type_at ts y) (type_at ts k)) (sym e) (IsSubtype-refl (type_at ts y)))
+inside_at ts y (i ∷ is) (inl e) =
+    inl (subst (λ k. IsSubtype (type_at ts y) (type_at ts k)) (sym e) (IsSubtype-refl (type_at ts y)))
 inside_at ts y (i ∷ is) (inr h) = inr (inside_at ts y is h)
 
-inside_from : (ts : List (Ty ℕ)) (u : Ty ℕ) (is : List ℕ) → IsInside u (types_at ts is) → (y : ℕ) × IsMember y is × IsSubtype u (type_at ts y)
+inside_from : (ts : List (Ty ℕ)) (u : Ty ℕ) (is : List ℕ) → IsInside u (types_at ts is) → (y : ℕ) × IsMember y is
+    × IsSubtype u (type_at ts y)
 inside_from ts u [] h = absurd h
 inside_from ts u (i ∷ is) (inl h) = (i, inl refl, h)
 inside_from ts u (i ∷ is) (inr h) = let rest = inside_from ts u is h in (rest.0, inr rest.1, rest.2)
 
 -- what the arguments of a type add
-pub parts_of_op : (ts : List (Ty ℕ)) (i n : ℕ) (args xs ys : List ℕ) → type_at ts i ≡ TyOp n (types_at ts args) → All (λ k. k < i) args → IsSameSet ys (xs ++ args) → AddsParts ts i xs ys
+pub parts_of_op : (ts : List (Ty ℕ)) (i n : ℕ) (args xs ys : List ℕ) → type_at ts i ≡ TyOp n (types_at ts args)
+    → All (λ k. k < i) args → IsSameSet ys (xs ++ args) → AddsParts ts i xs ys
 parts_of_op ts i n args xs ys root below same = record {
   kept = λ y m. same.back y (IsMember-left y xs args m);
   each = λ y m. elim (IsMember-cases y xs args (same.to y m)) [
     | inl a ↦ inl a
-    | inr b ↦ inr (All-member (λ k. k < i) args below y b, subst (IsSubtype (type_at ts y)) (sym root) (inr (inside_at ts y args b)))
+    | inr b ↦ inr (
+      All-member (λ k. k < i) args below y b,
+      subst (IsSubtype (type_at ts y)) (sym root)
+          (inr (inside_at ts y args b)),
+    )
   ];
   all = λ u h. elim (subst (IsSubtype u) root h) [
     | inl e ↦ inl (e ∙ sym root)
-    | inr a ↦ let part = inside_from ts u args a in inr (part.0, same.back part.0 (IsMember-right part.0 xs args part.1), part.2)
+    | inr a ↦ let part = inside_from ts u args a in
+        inr (part.0, same.back part.0 (IsMember-right part.0 xs args part.1), part.2)
   ];
 }
 
@@ -148,26 +165,37 @@ pub record IsSearch (ts : List (Ty ℕ)) (t : Ty ℕ) (found pending : List ℕ)
   pub each_pending : (y : ℕ) → IsMember y pending → (y < length ts) × IsSubtype (type_at ts y) t
   pub apart : (x y : ℕ) → IsMember x found → IsMember y pending → y < x
   pub falling : IsFalling found
-  pub all : (u : Ty ℕ) → IsSubtype u t → ((x : ℕ) × IsMember x found × (type_at ts x ≡ u)) ⊎ ((y : ℕ) × IsMember y pending × IsSubtype u (type_at ts y))
+  pub all : (u : Ty ℕ) → IsSubtype u t → ((x : ℕ) × IsMember x found × (type_at ts x ≡ u))
+      ⊎ ((y : ℕ) × IsMember y pending × IsSubtype u (type_at ts y))
 
 IsFalling-push : (xs : List ℕ) (y : ℕ) → IsFalling xs → ((x : ℕ) → IsMember x xs → y < x) → IsFalling (xs ++ y ∷ [])
 IsFalling-push [] y f h = (λ z never. absurd never, tt)
-IsFalling-push (x ∷ xs) y f h =
-    (λ z m. elim (member_push y z xs m) [ inl a ↦ f.0 z a | inr e ↦ subst (λ z. z < x) e (h x (inl refl)) ], IsFalling-push xs y f.1 (λ z m. h z (inr m)))
+IsFalling-push (x ∷ xs) y f h = (
+  λ z m. elim (member_push y z xs m) [ inl a ↦ f.0 z a | inr e ↦ subst (λ z. z < x) e (h x (inl refl)) ],
+  IsFalling-push xs y f.1 (λ z m. h z (inr m)),
+)
 
 pub search_start : (ts : List (Ty ℕ)) (i : ℕ) → i < length ts → IsSearch ts (type_at ts i) [] (i ∷ [])
 search_start ts i h = record {
   each_found = λ x never. absurd never;
-  each_pending = λ y m. elim m [ inl e ↦ subst (λ y. (y < length ts) × IsSubtype (type_at ts y) (type_at ts i)) e (h, IsSubtype-refl (type_at ts i)) | inr never ↦ absurd never ];
+  each_pending =
+      λ y m. elim m [
+        | inl e ↦ subst (λ y. (y < length ts) × IsSubtype (type_at ts y) (type_at ts i)) e
+            (h, IsSubtype-refl (type_at ts i))
+        | inr never ↦ absurd never
+      ];
   apart = λ x y never m. absurd never;
   falling = tt;
   all = λ u s. inr (i, inl refl, s);
 }
 
-module _ (ts : List (Ty ℕ)) (t : Ty ℕ) (found ps : List ℕ) (k : ℕ) (qs : List ℕ) (s : IsSearch ts t found (ps ++ k ∷ [])) (least : All (λ q. nat_cmp q k ≡ Less) ps) (adds : AddsParts ts k ps qs) where
+module _ (ts : List (Ty ℕ)) (t : Ty ℕ) (found ps : List ℕ) (k : ℕ) (qs : List ℕ)
+    (s : IsSearch ts t found (ps ++ k ∷ [])) (least : All (λ q. nat_cmp q k ≡ Less) ps)
+    (adds : AddsParts ts k ps qs) where
   -- what is pending now is below the number that is found
   pub all_below : (y : ℕ) → IsMember y qs → y < k
-  all_below y m = elim (adds.each y m) [ inl a ↦ less_is y k (All-member (λ q. nat_cmp q k ≡ Less) ps least y a) | inr b ↦ b.0 ]
+  all_below y m =
+      elim (adds.each y m) [ inl a ↦ less_is y k (All-member (λ q. nat_cmp q k ≡ Less) ps least y a) | inr b ↦ b.0 ]
 
   pub search_step : IsSearch ts t (found ++ k ∷ []) qs
   search_step = record {
@@ -177,7 +205,8 @@ module _ (ts : List (Ty ℕ)) (t : Ty ℕ) (found ps : List ℕ) (k : ℕ) (qs :
     ];
     each_pending = λ y m. elim (adds.each y m) [
       | inl a ↦ s.each_pending y (IsMember-left y ps (k ∷ []) a)
-      | inr b ↦ let top = s.each_pending k (IsMember-last k ps) in (omega (arith, b.0, top.0), IsSubtype-trans (type_at ts y) (type_at ts k) t b.1 top.1)
+      | inr b ↦ let top = s.each_pending k (IsMember-last k ps) in
+          (omega (arith, b.0, top.0), IsSubtype-trans (type_at ts y) (type_at ts k) t b.1 top.1)
     ];
     apart = λ x y m n. let low = all_below y n in elim (member_push k x found m) [
       | inl a ↦ omega (arith, low, s.apart x k a (IsMember-last k ps))

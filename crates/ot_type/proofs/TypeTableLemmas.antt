@@ -1,5 +1,7 @@
 -- Lemmas on the table of types.
-use Rattle.std.proofs.Common.{◌≡◌, ℕ, ◌<◌, ◌≤◌, Bool, true, false, ◌&&◌, List, [], ◌∷◌, length, slice_get, Some, nat_eq, eq-eqb, eqb-true, Option, None, MatchOption, ◌≢◌, refl, sym, ap, subst, ◌∙◌, true≢false, arith}
+use Rattle.std.proofs.Common.{◌≡◌, ℕ, ◌<◌, ◌≤◌, Bool, true, false, ◌&&◌, List, [], ◌∷◌}
+use Rattle.std.proofs.Common.{length, slice_get, Some, nat_eq, eq-eqb, eqb-true, Option, None}
+use Rattle.std.proofs.Common.{MatchOption, ◌≢◌, refl, sym, ap, subst, ◌∙◌, true≢false, arith}
 use Rattle.std.specs.List.{All}
 use Rattle.std.specs.Cmp.Lexicographic.{pointwise}
 use Rattle.std.proofs.lemmas.Option.{get_or_from_slice_get, same_Some}
@@ -36,14 +38,16 @@ node_eq-op m n xs ys e h =
 pub type_at-Extends : (ts us : List (Ty ℕ)) → Extends ts us → (i : ℕ) → i < length ts → type_at us i ≡ type_at ts i
 type_at-Extends ts us e i h = get_or-Extends ts us e i (TyVar 0) h
 
-pub types_at-Extends : (ts us : List (Ty ℕ)) → Extends ts us → (is : List ℕ) → All (λ i. i < length ts) is → types_at us is ≡ types_at ts is
+pub types_at-Extends : (ts us : List (Ty ℕ)) → Extends ts us → (is : List ℕ) → All (λ i. i < length ts) is
+    → types_at us is ≡ types_at ts is
 types_at-Extends ts us e [] h = refl
 types_at-Extends ts us e (i ∷ is) h =
     let head = type_at-Extends ts us e i (All-head (λ i. i < length ts) i is h) in
     let tail = types_at-Extends ts us e is (All-tail (λ i. i < length ts) i is h) in
     cc
 
-pub tree_of-Extends : (ts us : List (Ty ℕ)) → Extends ts us → (n : TypeNode) → ArgsBelow (length ts) n → tree_of us n ≡ tree_of ts n
+pub tree_of-Extends : (ts us : List (Ty ℕ)) → Extends ts us → (n : TypeNode) → ArgsBelow (length ts) n
+    → tree_of us n ≡ tree_of ts n
 tree_of-Extends ts us e (Var n) h = refl
 tree_of-Extends ts us e (Op n args) h = ap (TyOp n) (types_at-Extends ts us e args.items h)
 
@@ -51,19 +55,23 @@ pub ArgsBelow-mono : (j k : ℕ) → j ≤ k → (n : TypeNode) → ArgsBelow j 
 ArgsBelow-mono j k le (Var n) h = tt
 ArgsBelow-mono j k le (Op n args) h = λ i d within. let below = h i d within in omega arith
 
-types_at-injective : (ts : List (Ty ℕ)) → IsInjective ts → (is js : List ℕ) → All (λ i. i < length ts) is → All (λ i. i < length ts) js → types_at ts is ≡ types_at ts js → is ≡ js
+types_at-injective : (ts : List (Ty ℕ)) → IsInjective ts → (is js : List ℕ) → All (λ i. i < length ts) is
+    → All (λ i. i < length ts) js → types_at ts is ≡ types_at ts js → is ≡ js
 types_at-injective ts one [] [] g h p = refl
 types_at-injective ts one [] (j ∷ js) g h p = cc
 types_at-injective ts one (i ∷ is) [] g h p = cc
 types_at-injective ts one (i ∷ is) (j ∷ js) g h p =
     let heads : type_at ts i ≡ type_at ts j = cc in
     let tails : types_at ts is ≡ types_at ts js = cc in
-    let head : i ≡ j = get_or-IsInjective ts one i j (TyVar 0) (All-head (λ i. i < length ts) i is g) (All-head (λ i. i < length ts) j js h) heads in
-    let tail = types_at-injective ts one is js (All-tail (λ i. i < length ts) i is g) (All-tail (λ i. i < length ts) j js h) tails in
+    let head : i ≡ j = get_or-IsInjective ts one i j (TyVar 0) (All-head (λ i. i < length ts) i is g)
+    (All-head (λ i. i < length ts) j js h) heads in
+    let tail = types_at-injective ts one is js (All-tail (λ i. i < length ts) i is g)
+    (All-tail (λ i. i < length ts) j js h) tails in
     cc
 
 -- nodes with one tree pass the test
-pub tree_of-injective : (ts : List (Ty ℕ)) → IsInjective ts → (m n : TypeNode) → ArgsBelow (length ts) m → ArgsBelow (length ts) n → tree_of ts m ≡ tree_of ts n → node_eq m n ≡ true
+pub tree_of-injective : (ts : List (Ty ℕ)) → IsInjective ts → (m n : TypeNode) → ArgsBelow (length ts) m
+    → ArgsBelow (length ts) n → tree_of ts m ≡ tree_of ts n → node_eq m n ≡ true
 tree_of-injective ts one (Var m) (Var n) g h p = let e : m ≡ n = cc in node_eq-var m n e
 tree_of-injective ts one (Var m) (Op n ys) g h p = cc
 tree_of-injective ts one (Op m xs) (Var n) g h p = cc
@@ -97,7 +105,8 @@ laws = record {
 }
 
 -- the fields' facts, from those of the nodes
-pub type_sound : (es : List (TypeNode × Beside)) (ts : List (Ty ℕ)) → IsSound tree_of ArgsBelow IsBeside es ts → IsTypeSound es ts
+pub type_sound : (es : List (TypeNode × Beside)) (ts : List (Ty ℕ)) → IsSound tree_of ArgsBelow IsBeside es ts
+    → IsTypeSound es ts
 type_sound es ts sound = record {
   nodes = sound;
   table = record {
@@ -106,41 +115,54 @@ type_sound es ts sound = record {
         let e = entry_at tree_of ArgsBelow IsBeside node_eq laws es ts sound i t p in
         let entry = sound.entries i e.0 e.1 e.2 in
         let same : t ≡ tree_of ts e.0 = same_Some _ _ (sym p ∙ entry.tree) in
-        subst (λ t. depth_ty numbers t ≤ depth_limit) (sym same) (subst (λ k. k ≤ depth_limit) entry.fits.depth entry.fits.shallow);
+        subst (λ t. depth_ty numbers t ≤ depth_limit) (sym same)
+        (subst (λ k. k ≤ depth_limit) entry.fits.depth entry.fits.shallow);
   };
 }
 
 -- what stands beside a number is of the tree at it
-pub described_at : (es : List (TypeNode × Beside)) (ts : List (Ty ℕ)) → IsTypeSound es ts → (i : ℕ) (n : TypeNode) (b : Beside) → slice_get es i ≡ Some (n, b) → Describes (type_at ts i) b
+pub described_at : (es : List (TypeNode × Beside)) (ts : List (Ty ℕ)) → IsTypeSound es ts
+    → (i : ℕ) (n : TypeNode) (b : Beside) → slice_get es i ≡ Some (n, b) → Describes (type_at ts i) b
 described_at es ts sound i n b p =
     let entry = sound.nodes.entries i n b p in
     subst (λ t. Describes t b) (sym (get_or_from_slice_get ts i _ (TyVar 0) entry.tree)) entry.fits
 
 -- ---- the tree of a number, by its node
-pub node_op : (ts : List (Ty ℕ)) (id : ℕ) (node : TypeNode) (n : ℕ) (a : SmallVec ℕ) (xs : List ℕ) → slice_get ts id ≡ Some (tree_of ts node) → node ≡ Op n a → xs ≡ a.items → type_at ts id ≡ TyOp n (types_at ts xs)
+pub node_op : (ts : List (Ty ℕ)) (id : ℕ) (node : TypeNode) (n : ℕ) (a : SmallVec ℕ) (xs : List ℕ) → slice_get ts id
+    ≡ Some (tree_of ts node) → node ≡ Op n a → xs ≡ a.items → type_at ts id ≡ TyOp n (types_at ts xs)
 node_op ts id node n a xs tree is items =
     get_or_from_slice_get ts id _ (TyVar 0) tree ∙ ap (tree_of ts) is ∙ ap (λ l. TyOp n (types_at ts l)) (sym items)
 
-pub node_var : (ts : List (Ty ℕ)) (id : ℕ) (node : TypeNode) (n : ℕ) → slice_get ts id ≡ Some (tree_of ts node) → node ≡ Var n → type_at ts id ≡ TyVar n
+pub node_var : (ts : List (Ty ℕ)) (id : ℕ) (node : TypeNode) (n : ℕ) → slice_get ts id ≡ Some (tree_of ts node)
+    → node ≡ Var n → type_at ts id ≡ TyVar n
 node_var ts id node n tree is = get_or_from_slice_get ts id _ (TyVar 0) tree ∙ ap (tree_of ts) is
 
 -- ---- function types
-two_args : (ts : List (Ty ℕ)) (xs : List ℕ) (a b : Ty ℕ) → types_at ts xs ≡ MoreTys a (MoreTys b NoTys) → (j : ℕ) × (k : ℕ) × (xs ≡ j ∷ k ∷ [])
+two_args : (ts : List (Ty ℕ)) (xs : List ℕ) (a b : Ty ℕ) → types_at ts xs ≡ MoreTys a (MoreTys b NoTys)
+    → (j : ℕ) × (k : ℕ) × (xs ≡ j ∷ k ∷ [])
 two_args ts [] a b p = cc
 two_args ts (j ∷ []) a b p = cc
 two_args ts (j ∷ k ∷ []) a b p = (j, k, refl)
 two_args ts (j ∷ k ∷ l ∷ xs) a b p = cc
 
-pub fun_parts : (ts : List (Ty ℕ)) (i n : ℕ) (xs : List ℕ) (node : TypeNode) (args : SmallVec ℕ) → slice_get ts i ≡ Some (tree_of ts node) → node ≡ Op n args → args.items ≡ xs → ArgsBelow i node → (r : Option (ℕ × ℕ))
+pub fun_parts : (ts : List (Ty ℕ)) (i n : ℕ) (xs : List ℕ) (node : TypeNode) (args : SmallVec ℕ) → slice_get ts i
+    ≡ Some (tree_of ts node) → node ≡ Op n args → args.items ≡ xs → ArgsBelow i node → (r : Option (ℕ × ℕ))
     → MatchOption r ((a b : ℕ) → n ≡ 0 → xs ≢ a ∷ b ∷ []) (λ p. (n ≡ 0) × (xs ≡ p.0 ∷ p.1 ∷ []))
-    → MatchOption r ((a b : Ty ℕ) → type_at ts i ≢ fun_ty numbers a b) (λ p. (type_at ts i ≡ fun_ty numbers (type_at ts p.0) (type_at ts p.1)) × (p.0 < i) × (p.1 < i))
+    → MatchOption r ((a b : Ty ℕ) → type_at ts i ≢ fun_ty numbers a b)
+    (λ p. (type_at ts i ≡ fun_ty numbers (type_at ts p.0) (type_at ts p.1)) × (p.0 < i) × (p.1 < i))
 fun_parts ts i n xs node args tree is items below None m = λ a b e.
-    let here : TyOp n (types_at ts xs) ≡ TyOp 0 (MoreTys a (MoreTys b NoTys)) = ap (λ l. TyOp n (types_at ts l)) (sym items) ∙ ap (tree_of ts) (sym is) ∙ sym (get_or_from_slice_get ts i (tree_of ts node) (TyVar 0) tree) ∙ e in
+    let here : TyOp n (types_at ts xs) ≡ TyOp 0 (MoreTys a (MoreTys b NoTys)) =
+    ap (λ l. TyOp n (types_at ts l)) (sym items) ∙ ap (tree_of ts) (sym is)
+    ∙ sym (get_or_from_slice_get ts i (tree_of ts node) (TyVar 0) tree) ∙ e in
     let arrow : n ≡ 0 = cc in
     let parts : types_at ts xs ≡ MoreTys a (MoreTys b NoTys) = cc in
     let two = two_args ts xs a b parts in
     m two.0 two.1 arrow two.2
 fun_parts ts i n xs node args tree is items below (Some p) m =
     let all : args.items ≡ p.0 ∷ p.1 ∷ [] = items ∙ m.1 in
-    let each : All (λ k. k < i) (p.0 ∷ p.1 ∷ []) = subst (All (λ k. k < i)) all (subst (ArgsBelow i) is below) in
-    (get_or_from_slice_get ts i (tree_of ts node) (TyVar 0) tree ∙ ap (tree_of ts) is ∙ (λ j. TyOp (m.0 j) (types_at ts (all j))), each 0 0 (omega arith), each 1 0 (omega arith))
+    let each : All (λ k. k < i) (p.0 ∷ p.1 ∷ []) = subst (All (λ k. k < i)) all (subst (ArgsBelow i) is below) in (
+      get_or_from_slice_get ts i (tree_of ts node) (TyVar 0) tree ∙ ap (tree_of ts) is
+          ∙ (λ j. TyOp (m.0 j) (types_at ts (all j))),
+      each 0 0 (omega arith),
+      each 1 0 (omega arith),
+    )

@@ -9,7 +9,8 @@ use Rattle.ot_type.specs.TypeTable.{type_at, types_at}
 
 -- the remembered results are those of the substitution
 pub record IsMemo (ts : List (Ty ℕ)) (s : List (ℕ × Ty ℕ)) (es : List (ℕ × ℕ)) : Type 0 where
-  pub known : (k v : ℕ) → lookup (nat_eq k) es ≡ Some v → (k < length ts) × (slice_get ts v ≡ Some (inst numbers s (type_at ts k)))
+  pub known : (k v : ℕ) → lookup (nat_eq k) es ≡ Some v
+      → (k < length ts) × (slice_get ts v ≡ Some (inst numbers s (type_at ts k)))
 
 -- each number has a result
 abbrev pub AreKnown : List (ℕ × ℕ) → List ℕ → Type 0
@@ -21,4 +22,5 @@ AreResults es ids found = AllZip (λ k v. lookup (nat_eq k) es ≡ Some v) ids f
 
 -- each argument of the type has a result
 abbrev pub KnowsArgs : List (Ty ℕ) → ℕ → List (ℕ × ℕ) → Type 0
-KnowsArgs ts id es = (n : ℕ) (args : List ℕ) → All (λ k. k < id) args → type_at ts id ≡ TyOp n (types_at ts args) → AreKnown es args
+KnowsArgs ts id es = (n : ℕ) (args : List ℕ) → All (λ k. k < id) args → type_at ts id ≡ TyOp n (types_at ts args)
+    → AreKnown es args

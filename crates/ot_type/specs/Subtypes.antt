@@ -29,4 +29,5 @@ pub record AreSubtypes (ts : List (Ty ℕ)) (t : Ty ℕ) (xs : List ℕ) : Type 
 pub record AddsParts (ts : List (Ty ℕ)) (i : ℕ) (xs ys : List ℕ) : Type 0 where
   pub kept : (y : ℕ) → IsMember y xs → IsMember y ys
   pub each : (y : ℕ) → IsMember y ys → IsMember y xs ⊎ ((y < i) × IsSubtype (type_at ts y) (type_at ts i))
-  pub all : (u : Ty ℕ) → IsSubtype u (type_at ts i) → (u ≡ type_at ts i) ⊎ ((y : ℕ) × IsMember y ys × IsSubtype u (type_at ts y))
+  pub all : (u : Ty ℕ) → IsSubtype u (type_at ts i)
+      → (u ≡ type_at ts i) ⊎ ((y : ℕ) × IsMember y ys × IsSubtype u (type_at ts y))

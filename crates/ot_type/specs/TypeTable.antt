@@ -1,5 +1,6 @@
 -- The table of types: each number stands for a tree.
-use Rattle.std.specs.Prelude.{◌≡◌, ◌&&◌, ℕ, ◌<◌, ◌≤◌, Bool, true, false, List, [], ◌∷◌, slice_get, slice_index_or, Some, map}
+use Rattle.std.specs.Prelude.{◌≡◌, ◌&&◌, ℕ, ◌<◌, ◌≤◌, Bool, true, false, List}
+use Rattle.std.specs.Prelude.{[], ◌∷◌, slice_get, slice_index_or, Some, map}
 use Rattle.std.specs.List.{All}
 use Rattle.ot_plain.specs.Trees.{Ty, Tys, TyVar, TyOp, NoTys, MoreTys}
 use Rattle.ot_plain.specs.Hol.{depth_ty, depth_limit}

@@ -1,5 +1,5 @@
-ghost use Rattle.std.specs.Prelude.{◌≡◌, ℕ, ◌<◌, ◌≤◌, ◌+◌, max, ◌∷◌, [], Some, Err, slice_get, length, IfOk, OnErr};
-ghost use Rattle.std.specs.Prelude.{MatchOption, ◌≢◌};
+ghost use Rattle.std.specs.Prelude.{◌≡◌, ℕ, ◌<◌, ◌≤◌, ◌+◌, max, ◌∷◌, [], Some, Err};
+ghost use Rattle.std.specs.Prelude.{slice_get, length, IfOk, OnErr, MatchOption, ◌≢◌};
 ghost use Rattle.std.specs.List.{All};
 ghost use Rattle.ot_plain.specs.Table.{Extends};
 ghost use Rattle.ot_plain.specs.Trees.{Ty, TyOp, TyVar};

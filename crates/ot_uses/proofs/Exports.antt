@@ -1,6 +1,7 @@
 -- The exports, one after another.
 use Rattle.std.specs.Prelude.{codes}
-use Rattle.std.proofs.Common.{◌≡◌, ℕ, suc, ◌+◌, ◌<◌, ◌≤◌, List, [], ◌++◌, map, length, drop, drop-cons, refl, sym, ap, ◌∙◌, get_or, arith}
+use Rattle.std.proofs.Common.{◌≡◌, ℕ, suc, ◌+◌, ◌<◌, ◌≤◌, List, [], ◌++◌, map, length}
+use Rattle.std.proofs.Common.{drop, drop-cons, refl, sym, ap, ◌∙◌, get_or, arith}
 use Rattle.std.proofs.Math.ListN.{drop_of_length-le}
 use Rattle.ot_text.specs.Texts.{number_text, ascending, sequent_text}
 use Rattle.ot_text.specs.Sections.{definition_text}
@@ -22,7 +23,8 @@ rest-more s es i e h at =
     ∙ (λ z. support_text (n z) (support_of (run_of s) (export_of s (sym at z))) ++ rest_text s es (n z))
 
 pub rest-end : (s : Session) (es : List code.Export) (i : ℕ) → length es ≤ i → rest_text s es i ≡ []
-rest-end s es i h = ap (λ l. supports_text (suc i) (map (support_of (run_of s)) (map (export_of s) l))) (drop_of_length-le es h)
+rest-end s es i h = ap (λ l. supports_text (suc i) (map (support_of (run_of s)) (map (export_of s) l)))
+    (drop_of_length-le es h)
 
 -- the pieces of one
 pub support-pieces : (i : ℕ) (s : Support)

@@ -69,16 +69,19 @@ module _ (s : Session) (run : IsRun s) (table : IsNameTable s.kernel.names)
   assumptions-are =
       assumptions-found s.trace steps naming (name_of-injective s.kernel.names) root
       s.definition_steps.items definitions_in marks m s.assumption_steps.items assumptions_in
-      ∙ (λ z. places_in (filter (λ p. is_among same p.1 (needed_origins same (at-is root root_in z ∷ []) (mades-are z)))
+      ∙ (λ z. places_in
+      (filter (λ p. is_among same p.1 (needed_origins same (at-is root root_in z ∷ []) (mades-are z)))
       (numbered 0 (givens-are z))))
       ∙ sym (filter-places (λ g. g.origin)
-      (λ o. is_among same o (needed_origins same (origin_of s root ∷ []) (map (λ m. m.origin) r.definitions))) 0 r.assumptions)
+      (λ o. is_among same o (needed_origins same (origin_of s root ∷ []) (map (λ m. m.origin) r.definitions))) 0
+      r.assumptions)
 
   pub definitions-are : first_places 0 marks s.definition_steps.items ≡ definition_places r (origin_of s root)
   definitions-are =
       definitions-found s.trace steps naming (name_of-injective s.kernel.names)
       root s.definition_steps.items definitions_in marks m
-      ∙ (λ z. places_in (filter (λ p. is_among same p.1 (needed_definitions same (at-is root root_in z ∷ []) (mades-are z)))
+      ∙ (λ z. places_in
+      (filter (λ p. is_among same p.1 (needed_definitions same (at-is root root_in z ∷ []) (mades-are z)))
       (firsts_by same (λ p. p.1) (numbered 0 (mades-are z)))))
       ∙ sym (firsts-places (λ m. m.origin) (λ o. is_among same o
       (needed_definitions same (origin_of s root ∷ []) (map (λ m. m.origin) r.definitions)))

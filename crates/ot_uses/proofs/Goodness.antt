@@ -1,22 +1,30 @@
 -- The value of an origin over theorems is of theorems.
 use Rattle.std.specs.Prelude.{IfOk, IsTrue, nat_lt, nat_le, ◌-◌, ◌==◌, ◌++◌, if◌then◌else◌}
 use Rattle.std.specs.List.{AllByRecursion, list_any}
-use Rattle.std.proofs.Common.{◌≡◌, ℕ, zero, suc, Bool, true, false, List, [], ◌∷◌, Result, Ok, Err, refl, length, slice_get, inl, inr, ◌⊎◌}
+use Rattle.std.proofs.Common.{◌≡◌, ℕ, zero, suc, Bool, true, false, List, [], ◌∷◌}
+use Rattle.std.proofs.Common.{Result, Ok, Err, refl, length, slice_get, inl, inr, ◌⊎◌}
 use Rattle.ot_plain.specs.Names.{Name}
 use Rattle.ot_plain.specs.Naming.{names}
 use Rattle.ot_plain.specs.Trees.{Variable, Sequent, Definition, Tm, TyVar, Free, Con, App, Abs}
-use Rattle.ot_plain.specs.Hol.{IsWellTyped, HasType, IsTyped, TypeMap, TermMap, same_var, close, is_shallow, depth_limit}
-use Rattle.ot_plain.specs.Rules.{has_type, op_rule, app_rule, abs_rule, abs_thm_rule, refl_rule, assume_rule, eq_mp_rule, app_thm_rule, deduct_antisym_rule, beta_conv_rule, subst_rule, sym_rule, trans_rule, prove_hyp_rule}
+use Rattle.ot_plain.specs.Hol.{IsWellTyped, HasType, IsTyped, TypeMap, TermMap}
+use Rattle.ot_plain.specs.Hol.{same_var, close, is_shallow, depth_limit}
+use Rattle.ot_plain.specs.Rules.{has_type, op_rule, app_rule, abs_rule, abs_thm_rule, refl_rule}
+use Rattle.ot_plain.specs.Rules.{assume_rule, eq_mp_rule, app_thm_rule, deduct_antisym_rule}
+use Rattle.ot_plain.specs.Rules.{beta_conv_rule, subst_rule, sym_rule, trans_rule, prove_hyp_rule}
 use Rattle.ot_plain.specs.Faults.{Fault, BadSubst, StackEmpty, Nesting}
 use Rattle.ot_plain.specs.Answers.{◌>>=◌, unless, some_or}
 use Rattle.ot_plain.specs.declared.command.Cmd.{Cmd}
 use Rattle.ot_plain.specs.declared.command.Cmd.TheVariants as words
 use Rattle.ot_laws.specs.Theorem.{IsTheorem}
 use Rattle.ot_laws.proofs.Tests.{tells_names, has_type-is}
-use Rattle.ot_machine.specs.Objects.{Object, Objects, list, type_op, a_type, constant, variable, term, theorem, no_objects, more_objects, nesting}
+use Rattle.ot_machine.specs.Objects.{Object, Objects, list, type_op, a_type, constant, variable}
+use Rattle.ot_machine.specs.Objects.{term, theorem, no_objects, more_objects, nesting}
 use Rattle.ot_trace.specs.Origins.{Origin, Origins, Number, Named, Make, Define, Outcome, NoOrigins, MoreOrigins}
-use Rattle.ot_machine.specs.Places.{as_list, as_term, as_theorem, as_variable, as_name, as_type, as_each, as_type_op, as_constant, arguments}
-use Rattle.ot_machine.specs.Makers.{Read, Maker, of_none, of_top, of_two, no_maker, arity, made_by, maker, consed, cons_made, op_type_made, var_made, const_term_made, app_term_made, abs_term_made, one_theorem_made, two_theorems_made, abs_thm_made, subst_made}
+use Rattle.ot_machine.specs.Places.{as_list, as_term, as_theorem, as_variable, as_name}
+use Rattle.ot_machine.specs.Places.{as_type, as_each, as_type_op, as_constant, arguments}
+use Rattle.ot_machine.specs.Makers.{Read, Maker, of_none, of_top, of_two, no_maker, arity, made_by, maker}
+use Rattle.ot_machine.specs.Makers.{consed, cons_made, op_type_made, var_made, const_term_made, app_term_made}
+use Rattle.ot_machine.specs.Makers.{abs_term_made, one_theorem_made, two_theorems_made, abs_thm_made, subst_made}
 use Rattle.ot_kernel.specs.Pairs.{with_term}
 use Rattle.ot_machine.specs.Parts.{or_bad, two_of}
 use Rattle.ot_machine.specs.Substitutions.{term_pair, types_onto, terms_onto, maps_of}
@@ -81,7 +89,8 @@ module _ (al : List (Sequent Name)) (dl : List (Definition Name)) where
   made-good (of_two f) h vs g = h (value_at 0 vs) (value_at 1 vs) (value_at-good vs g 0) (value_at-good vs g 1)
   made-good no_maker h vs g = tt
 
-  applied-good : (m : Maker) → MakerIsGood m → (vs : List Object) → AllByRecursion (IsGood al dl) vs → GoodRead (applied m vs)
+  applied-good : (m : Maker) → MakerIsGood m → (vs : List Object) → AllByRecursion (IsGood al dl) vs
+      → GoodRead (applied m vs)
   applied-good m h vs g =
       any_bind (unless StackEmpty (length vs == arity m))
       (λ x. made_by m (λ n. value_at n vs)) (IsGood al dl) (λ x. made-good m h vs g)
@@ -97,7 +106,8 @@ module _ (al : List (Sequent Name)) (dl : List (Definition Name)) where
   read-list : (r : Read) → GoodRead r → IfOk (r >>= as_list) (AreGood al dl)
   read-list r g = if_bind r as_list (IsGood al dl) (AreGood al dl) g list-good
 
-  as-theorem : (r : Result (Sequent Name) (Fault Name)) → IfOk r (IsTheorem names al dl) → GoodRead (r >>= λ q. Ok (theorem q))
+  as-theorem : (r : Result (Sequent Name) (Fault Name)) → IfOk r (IsTheorem names al dl)
+      → GoodRead (r >>= λ q. Ok (theorem q))
   as-theorem r g = if_bind r (λ q. Ok (theorem q)) (IsTheorem names al dl) (IsGood al dl) g (λ q t. t)
 
   one-good : (rule : Sequent Name → Result (Sequent Name) (Fault Name))
@@ -140,7 +150,8 @@ module _ (al : List (Sequent Name)) (dl : List (Definition Name)) where
       any_bind (r >>= as_term) (λ x. (s >>= as_term) >>= λ f. app_rule names f x >>= λ t. Ok (term t)) (IsGood al dl)
       (λ x. any_bind (s >>= as_term) (λ f. app_rule names f x >>= λ t. Ok (term t)) (IsGood al dl)
       (λ f. if_bind (app_rule names f x) (λ t. Ok (term t))
-      (λ t. (t ≡ App f x) × IsWellTyped names t × IsTrue (is_shallow names t)) (IsGood al dl) (rules.app f x) (λ t w. w.1)))
+      (λ t. (t ≡ App f x) × IsWellTyped names t × IsTrue (is_shallow names t)) (IsGood al dl) (rules.app f x)
+      (λ t w. w.1)))
     where
       rules : TermRulesAreSound names
       rules = term_rules_are_sound names tells_names
@@ -204,11 +215,13 @@ module _ (al : List (Sequent Name)) (dl : List (Definition Name)) where
       (λ maps. IsTyped names maps.1)
       (λ types. any_bind (or_bad BadSubst (as_list parts.1))
       (λ terms. types_onto [] types >>= λ s. terms_onto [] terms >>= λ m. Ok (s, m)) (λ maps. IsTyped names maps.1)
-      (λ terms. any_bind (types_onto [] types) (λ s. terms_onto [] terms >>= λ m. Ok (s, m)) (λ maps. IsTyped names maps.1)
+      (λ terms. any_bind (types_onto [] types) (λ s. terms_onto [] terms >>= λ m. Ok (s, m))
+      (λ maps. IsTyped names maps.1)
       (λ s. if_bind (terms_onto [] terms) (λ m. Ok (s, m)) (IsTyped names)
       (λ maps. IsTyped names maps.1) (terms-typed terms [] tt) (λ m w. w)))))
 
-  subst-good : ((s : TypeMap names) (m : TermMap names) (th : Sequent Name) → IsTyped names m → IsTheorem names al dl th
+  subst-good : ((s : TypeMap names) (m : TermMap names) (th : Sequent Name) → IsTyped names m
+      → IsTheorem names al dl th
       → IfOk (subst_rule names s m th) (IsTheorem names al dl))
       → MakerIsGood (of_two subst_made)
   subst-good sound r s g h =
@@ -234,7 +247,8 @@ module _ (al : List (Sequent Name)) (dl : List (Definition Name)) where
 
   var-good : MakerIsGood (of_two var_made)
   var-good r s g h =
-      any_bind (r >>= as_type) (λ t. (s >>= as_name) >>= λ n. Ok (variable (record { name = n; ty = t }))) (IsGood al dl)
+      any_bind (r >>= as_type) (λ t. (s >>= as_name) >>= λ n. Ok (variable (record { name = n; ty = t })))
+      (IsGood al dl)
       (λ t. any_bind (s >>= as_name) (λ n. Ok (variable (record { name = n; ty = t }))) (IsGood al dl) (λ n. tt))
 
   const-term-good : MakerIsGood (of_two const_term_made)
@@ -259,7 +273,8 @@ module _ (al : List (Sequent Name)) (dl : List (Definition Name)) where
   maker-good words.OpType p = op-type-good
   maker-good words.VarType p = λ r g. any_bind (r >>= as_name) (λ n. Ok (a_type (TyVar n))) (IsGood al dl) (λ n. tt)
   maker-good words.Var p = var-good
-  maker-good words.VarTerm p = λ r g. any_bind (r >>= as_variable) (λ v. Ok (term (Free v))) (IsGood al dl) (λ v. (v.ty, refl))
+  maker-good words.VarTerm p = λ r g. any_bind (r >>= as_variable) (λ v. Ok (term (Free v))) (IsGood al dl)
+      (λ v. (v.ty, refl))
   maker-good words.Const p = λ r g. any_bind (r >>= as_name) (λ n. Ok (constant n)) (IsGood al dl) (λ n. tt)
   maker-good words.ConstTerm p = const-term-good
   maker-good words.AppTerm p = app-good
@@ -304,7 +319,8 @@ module _ (al : List (Sequent Name)) (dl : List (Definition Name)) where
     pub values-good : (os : Origins Name) → HaveLeaves al dl os → IfOk (values os) (AllByRecursion (IsGood al dl))
     values-good NoOrigins l = tt
     values-good (MoreOrigins o os) l =
-        if_bind (value o) (λ v. values os >>= λ vs. Ok (v ∷ vs)) (IsGood al dl) (AllByRecursion (IsGood al dl)) (value-good o l.0)
+        if_bind (value o) (λ v. values os >>= λ vs. Ok (v ∷ vs)) (IsGood al dl) (AllByRecursion (IsGood al dl))
+        (value-good o l.0)
         (λ v g. if_bind (values os) (λ vs. Ok (v ∷ vs)) (AllByRecursion (IsGood al dl))
         (AllByRecursion (IsGood al dl)) (values-good os l.1) (λ vs gs. (g, gs)))
 

@@ -7,7 +7,8 @@ use Rattle.ot_plain.specs.Hol.{IsWellTyped}
 use Rattle.ot_plain.specs.declared.command.Cmd.{Cmd}
 use Rattle.ot_plain.specs.declared.command.Cmd.TheVariants as words
 use Rattle.ot_laws.specs.Theorem.{IsTheorem}
-use Rattle.ot_machine.specs.Objects.{Object, Objects, number, name, list, type_op, a_type, constant, variable, term, theorem, no_objects, more_objects}
+use Rattle.ot_machine.specs.Objects.{Object, Objects, number, name, list, type_op, a_type}
+use Rattle.ot_machine.specs.Objects.{constant, variable, term, theorem, no_objects, more_objects}
 use Rattle.ot_trace.specs.Origins.{Origin, Origins, Number, Named, Make, Define, Outcome, NoOrigins, MoreOrigins}
 use Rattle.ot_machine.specs.Values.{value}
 

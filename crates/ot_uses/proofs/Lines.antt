@@ -40,7 +40,8 @@ counted-pieces title n xs q =
     ∙ ap (λ k. codes "  " ++ title ++ codes ": " ++ number_text k ++ 10 ∷ indented_text xs) q
 
 -- they have at least the bytes of the texts
-pub counted-bytes : (room : ℕ) (title : List ℕ) (xs : List (List ℕ)) → room < bytes_in xs → room < length (counted_text title xs)
+pub counted-bytes : (room : ℕ) (title : List ℕ) (xs : List (List ℕ)) → room < bytes_in xs
+    → room < length (counted_text title xs)
 counted-bytes room title xs h =
     let items = indented-bytes xs in
     let n = length-append (codes "  " ++ title ++ codes ": " ++ number_text (length xs)) (10 ∷ indented_text xs) in

@@ -1,7 +1,9 @@
 -- The marked places are those of what is used.
 use Rattle.std.specs.Prelude.{◌&&◌, ◌||◌, not, pos}
 use Rattle.std.specs.List.{filter}
-use Rattle.std.proofs.Common.{◌≡◌, ◌≢◌, ℕ, zero, suc, ◌<◌, inl, inr, Bool, true, false, cond, List, [], ◌∷◌, map, set, length, slice_get, Some, refl, sym, ap, subst, ◌∙◌, get_or, get_or-set_other, get_or-set_same, true≢false, arith}
+use Rattle.std.proofs.Common.{◌≡◌, ◌≢◌, ℕ, zero, suc, ◌<◌, inl, inr, Bool, true, false, cond, List}
+use Rattle.std.proofs.Common.{[], ◌∷◌, map, set, length, slice_get, Some, refl, sym, ap, subst}
+use Rattle.std.proofs.Common.{◌∙◌, get_or, get_or-set_other, get_or-set_same, true≢false, arith}
 use Rattle.std.proofs.lemmas.Bool.Decides.{eqb_tells}
 use Rattle.std.proofs.lemmas.List.{length-set}
 use Rattle.std.proofs.lemmas.Option.{slice_get-get_or}
@@ -46,14 +48,16 @@ marked-filter : (k : ℕ) (marks : List Bool) (is : List ℕ)
 marked-filter k marks [] = refl
 marked-filter k marks (i ∷ is) = go (is_marked marks i) (marked-filter (suc k) marks is)
   where
-    go : (b : Bool) → marked_places (suc k) marks is ≡ places_in (filter (λ p. is_marked marks p.1) (numbered (suc k) is))
+    go : (b : Bool) → marked_places (suc k) marks is
+        ≡ places_in (filter (λ p. is_marked marks p.1) (numbered (suc k) is))
         → cond b (k ∷ marked_places (suc k) marks is) (marked_places (suc k) marks is)
         ≡ places_in (cond b ((k, i) ∷ filter (λ p. is_marked marks p.1) (numbered (suc k) is))
         (filter (λ p. is_marked marks p.1) (numbered (suc k) is)))
     go true e = ap (λ l. k ∷ l) e
     go false e = e
 
-module _ (ts : List (Origin ℕ)) (once_in : IsInjective ts) (f : ℕ → Name) (injective : (x y : ℕ) → f x ≡ f y → x ≡ y) (root : ℕ)
+module _ (ts : List (Origin ℕ)) (once_in : IsInjective ts) (f : ℕ → Name) (injective : (x y : ℕ) → f x ≡ f y → x ≡ y)
+    (root : ℕ)
     (ds : List ℕ) (ds_in : IsIn (length ts) ds) (marks : List Bool) (m : MarksReached ts (root ∷ []) ds marks) where
   abbrev at : ℕ → Origin Name
   at i = map_origin f (origin_at ts i)
@@ -72,7 +76,8 @@ module _ (ts : List (Origin ℕ)) (once_in : IsInjective ts) (f : ℕ → Name) 
   marked-is i h = go marks i h
     where
       go : (bs : List Bool) (i : ℕ) → i < length bs
-          → (get_or bs i false ≡ true → slice_get bs i ≡ Some true) × (slice_get bs i ≡ Some true → get_or bs i false ≡ true)
+          → (get_or bs i false ≡ true → slice_get bs i ≡ Some true)
+          × (slice_get bs i ≡ Some true → get_or bs i false ≡ true)
       go [] i h = absurd (omega arith)
       go (b ∷ bs) zero h = (λ e. ap Some e, λ e. let q : b ≡ true = cc in q)
       go (b ∷ bs) (suc i) h = go bs i (omega arith)
@@ -98,11 +103,14 @@ module _ (ts : List (Origin ℕ)) (once_in : IsInjective ts) (f : ℕ → Name) 
 
   marked-origin : (i : ℕ) → i < length ts → is_marked marks i ≡ is_among same (at i) (needed_origins same R D)
   marked-origin i h = both (is_marked marks i) (is_among same (at i) (needed_origins same R D))
-      (λ e. among-from same tells (at i) (needed_origins same R D) (reached-origin same tells R D (at i) (marked-reached i h e)))
-      (λ e. reached-marked i h (origin-reached same tells R D (at i) (among-to same tells (at i) (needed_origins same R D) e)))
+      (λ e. among-from same tells (at i) (needed_origins same R D)
+      (reached-origin same tells R D (at i) (marked-reached i h e)))
+      (λ e. reached-marked i h
+      (origin-reached same tells R D (at i) (among-to same tells (at i) (needed_origins same R D) e)))
 
   pub assumptions-found : (is : List ℕ) → IsIn (length ts) is
-      → marked_places 0 marks is ≡ places_in (filter (λ p. is_among same p.1 (needed_origins same R D)) (numbered 0 (map at is)))
+      → marked_places 0 marks is
+      ≡ places_in (filter (λ p. is_among same p.1 (needed_origins same R D)) (numbered 0 (map at is)))
   assumptions-found is inside =
       marked-filter 0 marks is
       ∙ ap places_in (filter-same (λ p. is_marked marks p.1) (λ p. is_among same (at p.1) (needed_origins same R D))
@@ -118,7 +126,8 @@ module _ (ts : List (Origin ℕ)) (once_in : IsInjective ts) (f : ℕ → Name) 
   marked-definition i here = both (is_marked marks i) (is_among same (at i) found)
       (λ e. among-from same tells (at i) found (reached-needed same tells R D
       (at i) (IsMember-map at i ds here) (marked-reached i (ds_in i here) e)))
-      (λ e. reached-marked i (ds_in i here) (needed-reached same tells R D (at i) (among-to same tells (at i) found e)).1)
+      (λ e. reached-marked i (ds_in i here)
+      (needed-reached same tells R D (at i) (among-to same tells (at i) found e)).1)
 
   once : (i j : ℕ) → i < length ts → j < length ts → at i ≡ at j → i ≡ j
   once i j h k e =
@@ -154,8 +163,10 @@ module _ (ts : List (Origin ℕ)) (once_in : IsInjective ts) (f : ℕ → Name) 
   never false = refl
 
   -- behind a definition: it is seen, and isn't marked any more
-  next : (now later : List Bool) (seen : List (Origin Name)) (x : ℕ) → IsMember x ds → Agrees now seen → length later ≡ length ts
-      → is_marked later x ≡ false → ((i : ℕ) → i ≢ x → is_marked later i ≡ is_marked now i) → Agrees later (at x ∷ seen)
+  next : (now later : List Bool) (seen : List (Origin Name)) (x : ℕ) → IsMember x ds → Agrees now seen
+      → length later ≡ length ts
+      → is_marked later x ≡ false → ((i : ℕ) → i ≢ x → is_marked later i ≡ is_marked now i)
+      → Agrees later (at x ∷ seen)
   next now later seen x here a l off other = (
     l,
     λ i h. elim (eqb_tells i x) [
@@ -171,7 +182,8 @@ module _ (ts : List (Origin ℕ)) (once_in : IsInjective ts) (f : ℕ → Name) 
     ],
   )
 
-  pub first-kept : (k : ℕ) (now : List Bool) (seen : List (Origin Name)) (is : List ℕ) → ((i : ℕ) → IsMember i is → IsMember i ds)
+  pub first-kept : (k : ℕ) (now : List Bool) (seen : List (Origin Name)) (is : List ℕ)
+      → ((i : ℕ) → IsMember i is → IsMember i ds)
       → Agrees now seen → first_places k now is ≡ places_in (kept same (λ p. at p.1) found seen (numbered k is))
   first-kept k now seen [] h a = refl
   first-kept k now seen (x ∷ is) h a =
@@ -196,7 +208,8 @@ module _ (ts : List (Origin ℕ)) (once_in : IsInjective ts) (f : ℕ → Name) 
           ≡ places_in (cond (is_among same (at x) found && not (is_among same (at x) seen)) ((k, x) ∷ others) others)
       go true e met passed =
           ap (λ l. k ∷ l) met ∙ ap (λ c. places_in (cond c ((k, x) ∷ others) others)) (sym e ∙ a.1 x (h x (inl refl)))
-      go false e met passed = passed e ∙ ap (λ c. places_in (cond c ((k, x) ∷ others) others)) (sym e ∙ a.1 x (h x (inl refl)))
+      go false e met passed =
+          passed e ∙ ap (λ c. places_in (cond c ((k, x) ∷ others) others)) (sym e ∙ a.1 x (h x (inl refl)))
 
   pub definitions-found : first_places 0 marks ds
       ≡ places_in (filter (λ p. is_among same p.1 found) (firsts_by same (λ p. p.1) (numbered 0 (map at ds))))

@@ -1,7 +1,8 @@
 -- Lists with places.
 use Rattle.std.specs.Prelude.{not}
 use Rattle.std.specs.List.{filter}
-use Rattle.std.proofs.Common.{◌≡◌, ℕ, zero, suc, ◌+◌, ◌<◌, Bool, List, [], ◌∷◌, ◌++◌, map, length, take, drop, inl, inr, refl, sym, ap, subst, ◌∙◌, get_or, arith}
+use Rattle.std.proofs.Common.{◌≡◌, ℕ, zero, suc, ◌+◌, ◌<◌, Bool, List, [], ◌∷◌, ◌++◌, map, length}
+use Rattle.std.proofs.Common.{take, drop, inl, inr, refl, sym, ap, subst, ◌∙◌, get_or, arith}
 use Rattle.ot_plain.specs.Lists.{IsMember}
 use Rattle.ot_plain.specs.Names.{Name}
 use Rattle.ot_trace.specs.Origins.{Origin}
@@ -19,7 +20,8 @@ Placed X = ℕ × X
 abbrev moved : {X Y : Type 0} → (X → Y) → Placed X → Placed Y
 moved f p = (p.0, f p.1)
 
-numbered-map : {X Y : Type 0} (f : X → Y) (k : ℕ) (xs : List X) → numbered k (map f xs) ≡ map (moved f) (numbered k xs)
+numbered-map : {X Y : Type 0} (f : X → Y) (k : ℕ) (xs : List X)
+    → numbered k (map f xs) ≡ map (moved f) (numbered k xs)
 numbered-map f k [] = refl
 numbered-map f k (x ∷ xs) = ap (λ l. (k, f x) ∷ l) (numbered-map f (suc k) xs)
 
@@ -49,7 +51,8 @@ pub firsts-places : {X : Type 0} (f : X → Origin Name) (t : Origin Name → Bo
 firsts-places f t k xs =
     sym (ap (λ l. places_in (filter (λ p. t p.1) (firsts_by same (λ p. p.1) l))) (numbered-map f k xs)
     ∙ ap (λ l. places_in (filter (λ p. t p.1) l)) (firsts-map (moved f) (λ p. p.1) (numbered k xs))
-    ∙ ap places_in (filter-map (moved f) (λ p. t p.1) (λ p. t (f p.1)) (λ p. refl) (firsts_by same (λ p. f p.1) (numbered k xs)))
+    ∙ ap places_in
+    (filter-map (moved f) (λ p. t p.1) (λ p. t (f p.1)) (λ p. refl) (firsts_by same (λ p. f p.1) (numbered k xs)))
     ∙ places-map f (filter (λ p. t (f p.1)) (firsts_by same (λ p. f p.1) (numbered k xs))))
 
 -- ---- what stands at the places
@@ -64,7 +67,8 @@ items-numbered k (x ∷ xs) = ap (λ l. x ∷ l) (items-numbered (suc k) xs)
 
 pub items-filter : {X : Type 0} (t : X → Bool) (k : ℕ) (xs : List X)
     → items_in (filter (λ p. t p.1) (numbered k xs)) ≡ filter t xs
-items-filter t k xs = sym (filter-map (λ p. p.1) t (λ p. t p.1) (λ p. refl) (numbered k xs)) ∙ ap (filter t) (items-numbered k xs)
+items-filter t k xs = sym (filter-map (λ p. p.1) t (λ p. t p.1) (λ p. refl) (numbered k xs))
+    ∙ ap (filter t) (items-numbered k xs)
 
 pub items-firsts : {X : Type 0} (of : X → Origin Name) (t : X → Bool) (k : ℕ) (xs : List X)
     → items_in (filter (λ p. t p.1) (firsts_by same (λ p. of p.1) (numbered k xs))) ≡ filter t (firsts_by same of xs)
@@ -93,7 +97,8 @@ numbered-member k [] p m = absurd m
 numbered-member k (x ∷ xs) p (inl e) = inl (ap (λ q. q.1) e)
 numbered-member k (x ∷ xs) p (inr m) = inr (numbered-member (suc k) xs p m)
 
-pub firsts-member : {X : Type 0} (of : X → Origin Name) (x : X) (xs : List X) → IsMember x (firsts_by same of xs) → IsMember x xs
+pub firsts-member : {X : Type 0} (of : X → Origin Name) (x : X) (xs : List X) → IsMember x (firsts_by same of xs)
+    → IsMember x xs
 firsts-member of x [] m = absurd m
 firsts-member of x (y ∷ ys) (inl e) = inl e
 firsts-member of x (y ∷ ys) (inr m) =
@@ -117,7 +122,8 @@ module _ {X : Type 0} (xs : List X) (ps : List (Placed X))
   pub places-inside : (i : ℕ) → IsMember i (places_in ps) → i < length xs
   places-inside i m = go ps (λ p n. n) m
     where
-      go : (qs : List (Placed X)) → ((p : Placed X) → IsMember p qs → IsMember p ps) → IsMember i (places_in qs) → i < length xs
+      go : (qs : List (Placed X)) → ((p : Placed X) → IsMember p qs → IsMember p ps) → IsMember i (places_in qs)
+          → i < length xs
       go [] h m = absurd m
       go (q ∷ qs) h (inl e) = subst (λ n. n < length xs) e (at-place q (h q (inl refl))).0
       go (q ∷ qs) h (inr m) = go qs (λ p n. h p (inr n)) m

@@ -8,7 +8,8 @@ use Rattle.ot_plain.specs.Hol.{Derivable, IsFine, Accepted}
 -- some members of a list, in their old order: what stands before one stood before it
 abbrev pub IsInOrder : {X : Type 0} → List X → List X → Type 0
 IsInOrder {X} part whole =
-    (i : ℕ) (x : X) → slice_get part i ≡ Some x → (k : ℕ) × (slice_get whole k ≡ Some x) × IsPart (take i part) (take k whole)
+    (i : ℕ) (x : X) → slice_get part i ≡ Some x → (k : ℕ) × (slice_get whole k ≡ Some x)
+    × IsPart (take i part) (take k whole)
 
 pub member_at : {X : Type 0} (xs : List X) (x : X) → IsMember x xs → (i : ℕ) × (slice_get xs i ≡ Some x)
 member_at [] x m = absurd m
@@ -45,7 +46,8 @@ module _ {N : Type 0} (alphabet : Alphabet N) where
   }
 
   -- of accepted definitions those are accepted, over any assumptions, that have their premises
-  pub accepted_part : (al bl : List (Sequent N)) (dl el : List (Definition N)) → Accepted alphabet al dl → IsInOrder el dl
+  pub accepted_part : (al bl : List (Sequent N)) (dl el : List (Definition N)) → Accepted alphabet al dl
+      → IsInOrder el dl
       → HavePremises bl el → Accepted alphabet bl el
   accepted_part al bl dl el a order premises = record {
     each = λ i d h.

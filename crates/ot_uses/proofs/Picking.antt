@@ -1,6 +1,7 @@
 -- What stands at places, one place more.
 use Rattle.std.specs.Prelude.{codes}
-use Rattle.std.proofs.Common.{◌≡◌, ℕ, zero, suc, ◌+◌, ◌<◌, ◌≤◌, List, [], ◌∷◌, ◌++◌, map, length, take, drop, length-drop, get_or, refl, sym, ap, ◌∙◌, append-nil, append_assoc, arith}
+use Rattle.std.proofs.Common.{◌≡◌, ℕ, zero, suc, ◌+◌, ◌<◌, ◌≤◌, List, [], ◌∷◌, ◌++◌, map, length, take, drop}
+use Rattle.std.proofs.Common.{length-drop, get_or, refl, sym, ap, ◌∙◌, append-nil, append_assoc, arith}
 use Rattle.std.specs.List.{All}
 use Rattle.std.proofs.lemmas.List.{take_more, map-append, drop-map}
 use Rattle.std.proofs.lemmas.Grind.{flat_map-append}
@@ -23,7 +24,8 @@ picked-more xs places i place x before after h at lt is so next =
     ∙ flat_map-append (λ j. take 1 (drop j xs)) (take i places) (place ∷ []))
 
 -- of what is mapped
-pub picked-map : {X Y : Type 0} (f : X → Y) (xs : List X) (places : List ℕ) → map f (picked xs places) ≡ picked (map f xs) places
+pub picked-map : {X Y : Type 0} (f : X → Y) (xs : List X) (places : List ℕ) → map f (picked xs places)
+    ≡ picked (map f xs) places
 picked-map f xs [] = refl
 picked-map f xs (i ∷ is) =
     map-append f (take 1 (drop i xs)) (picked xs is)
@@ -37,7 +39,8 @@ picked-map f xs (i ∷ is) =
 pub picked-all : {X : Type 0} (P : X → Type 0) (xs : List X) (places : List ℕ) → All P xs → All P (picked xs places)
 picked-all P xs [] h k d l = absurd (omega arith)
 picked-all P xs (i ∷ is) h k d l =
-    all-append (take 1 (drop i xs)) (picked xs is) (all-first (drop i xs) (all-drop i xs h)) (picked-all P xs is h) k d l
+    all-append (take 1 (drop i xs)) (picked xs is) (all-first (drop i xs) (all-drop i xs h)) (picked-all P xs is h) k
+    d l
   where
     all-append : (ys zs : List _) → All P ys → All P zs → All P (ys ++ zs)
     all-append [] zs a b k d l = b k d l
@@ -59,7 +62,8 @@ pub picked-long : {X : Type 0} (xs : List X) (places : List ℕ) → All (λ i. 
     → length (picked xs places) ≡ length places
 picked-long xs [] h = refl
 picked-long {X} xs (i ∷ is) h =
-    one (drop i xs) (let lt : i < length xs = h 0 i (omega arith) in let n = length-drop i xs in omega arith) (picked xs is)
+    one (drop i xs) (let lt : i < length xs = h 0 i (omega arith) in let n = length-drop i xs in omega arith)
+    (picked xs is)
     ∙ ap suc (picked-long xs is (λ k d l. h (suc k) d (omega arith)))
   where
     one : (ys : List X) → 0 < length ys → (zs : List X) → length (take 1 ys ++ zs) ≡ suc (length zs)
@@ -94,15 +98,19 @@ module _ {X : Type 0} (text : X → List ℕ) (items : List X) where
   abbrev pub lines_at : List ℕ → List ℕ
   lines_at places = indented_text (map text (picked items places))
 
-  pub lines-more : (places : List ℕ) (i : ℕ) (x : X) (s0 s t : Printed) → i < length places → get_or places i 0 < length items
+  pub lines-more : (places : List ℕ) (i : ℕ) (x : X) (s0 s t : Printed) → i < length places
+      → get_or places i 0 < length items
       → x ≡ get_or items (get_or places i 0) x
-      → Puts lines_at places i s0 s → IsPut (codes "    " ++ text x ++ codes "\n") s t → Puts lines_at places (i + 1) s0 t
+      → Puts lines_at places i s0 s → IsPut (codes "    " ++ text x ++ codes "\n") s t
+      → Puts lines_at places (i + 1) s0 t
   lines-more places i x s0 s t h lt is before put =
       puts-more lines_at (λ j. indented_text (map text (take 1 (drop j items)))) step places i 0 s0 s t h before
       (same-text
-      (ap (λ l. indented_text (map text l)) (sym (pick-one items (get_or places i 0) x lt ∙ ap (λ y. y ∷ []) (sym is)))) put)
+      (ap (λ l. indented_text (map text l))
+      (sym (pick-one items (get_or places i 0) x lt ∙ ap (λ y. y ∷ []) (sym is)))) put)
     where
-      step : (j : ℕ) (js : List ℕ) → lines_at (j ∷ js) ≡ indented_text (map text (take 1 (drop j items))) ++ lines_at js
+      step : (j : ℕ) (js : List ℕ) → lines_at (j ∷ js) ≡ indented_text (map text (take 1 (drop j items)))
+          ++ lines_at js
       step j js =
           ap indented_text (map-append text (take 1 (drop j items)) (picked items js))
           ∙ indented-append (map text (take 1 (drop j items))) (map text (picked items js))

@@ -1,5 +1,6 @@
 -- What stands at the places of what is used, in the lists of a session.
-use Rattle.std.proofs.Common.{◌≡◌, ℕ, zero, suc, ◌<◌, List, [], ◌∷◌, length, map, refl, sym, ap, subst, ◌∙◌, inl, inr, arith}
+use Rattle.std.proofs.Common.{◌≡◌, ℕ, zero, suc, ◌<◌, List, [], ◌∷◌, length}
+use Rattle.std.proofs.Common.{map, refl, sym, ap, subst, ◌∙◌, inl, inr, arith}
 use Rattle.std.specs.List.{All, filter}
 use Rattle.ot_plain.specs.Lists.{IsMember}
 use Rattle.ot_plain.specs.Names.{Name}
@@ -11,7 +12,8 @@ use Rattle.ot_machine.specs.States.{Given, Made, RunState}
 use Rattle.ot_machine.specs.Rows.{definitions_of}
 use Rattle.ot_machine.specs.Meaning.{origin_of, givens_of, made_of, run_of, IsRun}
 use Rattle.ot_machine.specs.declared.session.Session.{Session}
-use Rattle.ot_uses.specs.Used.{numbered, same, is_assumed, is_used, used_assumptions, used_definitions, assumption_places, definition_places}
+use Rattle.ot_uses.specs.Used.{numbered, same, is_assumed, is_used, used_assumptions}
+use Rattle.ot_uses.specs.Used.{used_definitions, assumption_places, definition_places}
 use Rattle.ot_uses.specs.Placing.{picked}
 use Rattle.ot_uses.proofs.Numbering.{places-inside, places-lead, items-filter, items-firsts, firsts-member}
 
@@ -87,12 +89,14 @@ module _ (s : Session) (run : IsRun s) (o : Origin Name) where
 
   pub assumptions-inside : All (λ i. i < length s.kernel.assumptions) (assumption_places r o)
   assumptions-inside =
-      all-of _ _ (λ i m. subst (λ n. i < n) (givens-long s s.kernel.assumptions s.assumption_steps.items run.each_assumption)
+      all-of _ _
+      (λ i m. subst (λ n. i < n) (givens-long s s.kernel.assumptions s.assumption_steps.items run.each_assumption)
       (places-inside r.assumptions givens given-part i m))
 
   pub definitions-inside : All (λ i. i < length s.kernel.definitions) (definition_places r o)
   definitions-inside =
-      all-of _ _ (λ i m. subst (λ n. i < n) (made-long s s.kernel.definitions s.definition_steps.items run.each_definition)
+      all-of _ _
+      (λ i m. subst (λ n. i < n) (made-long s s.kernel.definitions s.definition_steps.items run.each_definition)
       (places-inside r.definitions mades made-part i m))
 
   pub sequents-are : picked s.kernel.assumptions (assumption_places r o) ≡ map (λ g. g.sequent) (used_assumptions r o)

@@ -1,14 +1,16 @@
 -- What a theorem rests on suffices for it.
 use Rattle.std.specs.Prelude.{IfOk, ◌==◌, ◌&&◌}
 use Rattle.std.specs.List.{AllByRecursion, list_all}
-use Rattle.std.proofs.Common.{◌≡◌, ℕ, zero, suc, Bool, true, false, List, [], ◌∷◌, Option, Some, None, Result, Ok, Err, refl, sym, ap, subst, ◌∙◌, length, map, take, slice_get, inl, inr}
+use Rattle.std.proofs.Common.{◌≡◌, ℕ, zero, suc, Bool, true, false, List, [], ◌∷◌, Option, Some, None, Result}
+use Rattle.std.proofs.Common.{Ok, Err, refl, sym, ap, subst, ◌∙◌, length, map, take, slice_get, inl, inr}
 use Rattle.std.proofs.lemmas.Option.{same_Some}
 use Rattle.std.proofs.lemmas.List.{take-map}
 use Rattle.ot_plain.specs.Names.{Name}
 use Rattle.ot_plain.specs.Naming.{names}
 use Rattle.ot_plain.specs.Lists.{IsMember, IsPart, AreDistinct}
 use Rattle.ot_plain.specs.Trees.{Sequent, Definition, ConDef, ListDef, TyDef, Tm}
-use Rattle.ot_plain.specs.Hol.{HasType, IsSequent, Defined, Accepted, bool_ty, once_each, theorems, is_shallow_sequent}
+use Rattle.ot_plain.specs.Hol.{HasType, IsSequent, Defined, Accepted, bool_ty}
+use Rattle.ot_plain.specs.Hol.{once_each, theorems, is_shallow_sequent}
 use Rattle.ot_plain.specs.Rules.{has_type}
 use Rattle.ot_plain.specs.Faults.{Fault, StackEmpty, NotBool, Nesting}
 use Rattle.ot_plain.specs.Answers.{◌>>=◌, unless, some_or}
@@ -24,11 +26,13 @@ use Rattle.ot_trace.specs.Origins.{Origin, Origins, Number, Named, Make, Define,
 use Rattle.ot_machine.specs.Places.{as_list, as_term, as_theorem, as_name, as_each}
 use Rattle.ot_kernel.specs.Axioms.{axiom_rule}
 use Rattle.ot_machine.specs.Makers.{Read, axiom_made, maker}
-use Rattle.ot_kernel.specs.Defining.{const_definition, list_definition, type_definition, limited_definition, zipped, all_defined, all_used}
+use Rattle.ot_kernel.specs.Defining.{const_definition, list_definition, type_definition}
+use Rattle.ot_kernel.specs.Defining.{limited_definition, zipped, all_defined, all_used}
 use Rattle.ot_laws.specs.Conditions.{checked_const, checked_list, checked_type}
 use Rattle.ot_machine.specs.DefinitionLists.{pairs_of}
 use Rattle.ot_machine.specs.States.{Made}
-use Rattle.ot_machine.specs.Values.{value, values, value_at, applied, definition_of, defines, defined_by, definition_arity, theorem_of}
+use Rattle.ot_machine.specs.Values.{value, values, value_at, applied, definition_of}
+use Rattle.ot_machine.specs.Values.{defines, defined_by, definition_arity, theorem_of}
 use Rattle.ot_uses.proofs.Parted.{IsInOrder, HasPremise, HavePremises}
 use Rattle.ot_uses.proofs.Leaves.{IsGood, IsLeaf, HasLeaves, HaveLeaves}
 use Rattle.ot_machine.specs.Rows.{definitions_of}
@@ -64,16 +68,21 @@ all_bool : (hs : List (Tm Name)) → list_all (λ h. has_type names h (bool_ty n
 all_bool [] e = tt
 all_bool (h ∷ hs) e = go (has_type names h (bool_ty names)) refl e (all_bool hs)
   where
-    go : (b : Bool) → has_type names h (bool_ty names) ≡ b → (b && list_all (λ k. has_type names k (bool_ty names)) hs) ≡ true
-        → (list_all (λ k. has_type names k (bool_ty names)) hs ≡ true → AllByRecursion (λ k. HasType names k (bool_ty names)) hs)
+    go : (b : Bool) → has_type names h (bool_ty names) ≡ b
+        → (b && list_all (λ k. has_type names k (bool_ty names)) hs) ≡ true
+        → (list_all (λ k. has_type names k (bool_ty names)) hs ≡ true
+        → AllByRecursion (λ k. HasType names k (bool_ty names)) hs)
         → AllByRecursion (λ k. HasType names k (bool_ty names)) (h ∷ hs)
     go true a f next = ((has_type-is names tells_names h (bool_ty names)).0 a, next f)
     go false a f next = absurd cc
 
-rule-proposed : (hs : List (Tm Name)) (p : Tm Name) → IfOk (axiom_rule hs p) (λ q. IsSequent names q × AreDistinct q.hyps)
-rule-proposed hs p = go (has_type names p (bool_ty names)) refl (list_all (λ h. has_type names h (bool_ty names)) hs) refl
+rule-proposed : (hs : List (Tm Name)) (p : Tm Name)
+    → IfOk (axiom_rule hs p) (λ q. IsSequent names q × AreDistinct q.hyps)
+rule-proposed hs p = go (has_type names p (bool_ty names)) refl (list_all (λ h. has_type names h (bool_ty names)) hs)
+    refl
   where
-    go : (b : Bool) → has_type names p (bool_ty names) ≡ b → (c : Bool) → list_all (λ h. has_type names h (bool_ty names)) hs ≡ c
+    go : (b : Bool) → has_type names p (bool_ty names) ≡ b → (c : Bool)
+        → list_all (λ h. has_type names h (bool_ty names)) hs ≡ c
         → IfOk {E = Fault Name} (unless NotBool b
         >>= λ x. unless NotBool c >>= λ y. Ok (record { hyps = once_each names hs; concl = p }))
         (λ q. IsSequent names q × AreDistinct q.hyps)
@@ -138,7 +147,8 @@ module _ (al bl : List (Sequent Name)) (ms : List Made) (seqs : AreSequents name
       go None e = tt
       go (Some q) e =
           let (i, at) = member_at (definitions_of es) m.definition (IsMember-map (λ x. x.definition) m es here) in
-          let (k, old) = member_at (definitions_of ms) m.definition (IsMember-map (λ x. x.definition) m ms (part m here)) in
+          let (k, old) =
+          member_at (definitions_of ms) m.definition (IsMember-map (λ x. x.definition) m ms (part m here)) in
           record {
             derivable = Defined i j at e;
             sequent = accepted-sequents names tells_names al (definitions_of ms) seqs acc k m.definition old j q e;
@@ -146,14 +156,16 @@ module _ (al bl : List (Sequent Name)) (ms : List Made) (seqs : AreSequents name
           }
 
   mutual
-    stand-leaves : (es : List Made) → IsPart es ms → (o : Origin Name) → StandsOn bl es o → HasLeaves bl (definitions_of es) o
+    stand-leaves : (es : List Made) → IsPart es ms → (o : Origin Name) → StandsOn bl es o
+        → HasLeaves bl (definitions_of es) o
     stand-leaves es part (Number k) s = tt
     stand-leaves es part (Named n) s = tt
     stand-leaves es part (Make w os) s = (all-leaves es part os s.0, leaf es w os s.1)
     stand-leaves es part (Define w os) s = tt
     stand-leaves es part (Outcome j d) s = rw s.2 (outcome-good es part s.0 s.1 j)
 
-    all-leaves : (es : List Made) → IsPart es ms → (os : Origins Name) → AllStand bl es os → HaveLeaves bl (definitions_of es) os
+    all-leaves : (es : List Made) → IsPart es ms → (os : Origins Name) → AllStand bl es os
+        → HaveLeaves bl (definitions_of es) os
     all-leaves es part NoOrigins s = tt
     all-leaves es part (MoreOrigins o os) s = (stand-leaves es part o s.0, all-leaves es part os s.1)
 
@@ -165,12 +177,14 @@ module _ (al : List (Sequent Name)) (dl : List (Definition Name)) where
 
   limited-premised : (d : Definition Name) → IsPremised d → IfOk (limited_definition names d) IsPremised
   limited-premised d h =
-      any_bind (unless Nesting (list_all (is_shallow_sequent names) (theorems names d))) (λ x. Ok d) IsPremised (λ x. h)
+      any_bind (unless Nesting (list_all (is_shallow_sequent names) (theorems names d))) (λ x. Ok d) IsPremised
+      (λ x. h)
 
   by-word : (w : Cmd) (ds : List (Definition Name)) (vs : List Object) → AllByRecursion (IsGood al dl) vs
       → IfOk (defined_by w ds (λ n. value_at n vs)) IsPremised
   by-word words.DefineConst ds vs g =
-      any_bind (value_at 0 vs >>= as_term) (λ t. (value_at 1 vs >>= as_name) >>= λ n. const_definition names ds n t) IsPremised
+      any_bind (value_at 0 vs >>= as_term) (λ t. (value_at 1 vs >>= as_name) >>= λ n. const_definition names ds n t)
+      IsPremised
       (λ t. any_bind (value_at 1 vs >>= as_name) (λ n. const_definition names ds n t) IsPremised
       (λ n. any_bind (checked_const names (all_defined names ds) (all_used names ds) n t)
       (λ x. limited_definition names (ConDef n t)) IsPremised (λ x. limited-premised (ConDef n t) tt)))
@@ -179,12 +193,14 @@ module _ (al : List (Sequent Name)) (dl : List (Definition Name)) where
       >>= λ os. pairs_of os >>= λ pairs. list_definition names ds (map (λ p. p.0) pairs) (map (λ p. p.1) pairs) th)
       (IsTheorem names al dl) IsPremised (read-theorem al dl (value_at 0 vs) (value_at-good al dl vs g 0))
       (λ th t. any_bind (value_at 1 vs >>= as_list)
-      (λ os. pairs_of os >>= λ pairs. list_definition names ds (map (λ p. p.0) pairs) (map (λ p. p.1) pairs) th) IsPremised
+      (λ os. pairs_of os >>= λ pairs. list_definition names ds (map (λ p. p.0) pairs) (map (λ p. p.1) pairs) th)
+      IsPremised
       (λ os. any_bind (pairs_of os)
       (λ pairs. list_definition names ds (map (λ p. p.0) pairs) (map (λ p. p.1) pairs) th) IsPremised
       (λ pairs. any_bind
       (checked_list names (all_defined names ds) (all_used names ds) (map (λ p. p.0) pairs) (map (λ p. p.1) pairs) th)
-      (λ x. Ok (ListDef (zipped names (map (λ p. p.0) pairs) (map (λ p. p.1) pairs)) th)) IsPremised (λ x. t.derivable))))
+      (λ x. Ok (ListDef (zipped names (map (λ p. p.0) pairs) (map (λ p. p.1) pairs)) th)) IsPremised
+      (λ x. t.derivable))))
   by-word words.DefineTypeOp ds vs g =
       if_bind (value_at 0 vs >>= as_theorem) (λ th. (value_at 1 vs >>= as_list >>= as_each as_name)
       >>= λ vars. (value_at 2 vs >>= as_name)
@@ -244,7 +260,8 @@ parts_suffice al bl ms es seqs acc order made = record {
         let s = made i m here in
         let (k, old, before) = order i m here in
         let inner : IsPart (take i es) ms = λ x n. IsPart-take k ms x (before x n) in
-        let h = ok_if (definition_of s.before (Define s.word s.operands)) (HasPremise names bl (definitions_of (take i es)))
+        let h = ok_if (definition_of s.before (Define s.word s.operands))
+        (HasPremise names bl (definitions_of (take i es)))
         (premised bl (definitions_of (take i es)) s.word s.operands s.before
         (all-leaves al bl ms seqs acc (take i es) inner s.operands s.stand))
         m.definition s.accepted in

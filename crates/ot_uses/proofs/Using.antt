@@ -2,7 +2,8 @@
 use Rattle.std.specs.Prelude.{◌&&◌, not}
 use Rattle.std.specs.Bool.{Decides}
 use Rattle.std.specs.List.{All}
-use Rattle.std.proofs.Common.{◌≡◌, ℕ, zero, suc, true, false, List, [], ◌∷◌, Some, Result, Ok, refl, sym, ap, subst, ◌∙◌, map, take, slice_get, inl, inr, ◌⊎◌, arith}
+use Rattle.std.proofs.Common.{◌≡◌, ℕ, zero, suc, true, false, List, [], ◌∷◌, Some, Result, Ok, refl}
+use Rattle.std.proofs.Common.{sym, ap, subst, ◌∙◌, map, take, slice_get, inl, inr, ◌⊎◌, arith}
 use Rattle.ot_plain.specs.Names.{Name, same_name-Decides}
 use Rattle.ot_plain.specs.Naming.{names}
 use Rattle.ot_plain.specs.Lists.{IsMember, IsPart}
@@ -12,7 +13,8 @@ use Rattle.ot_plain.specs.declared.command.Cmd.{Cmd}
 use Rattle.ot_plain.specs.declared.command.Cmd.TheVariants as words
 use Rattle.ot_laws.specs.Theorem.{AreSequents}
 use Rattle.ot_laws.proofs.Tests.{cases_of}
-use Rattle.ot_trace.specs.Origins.{Origin, Origins, Number, Named, Make, Define, Outcome, NoOrigins, MoreOrigins, listed}
+use Rattle.ot_trace.specs.Origins.{Origin, Origins, Number, Named, Make, Define}
+use Rattle.ot_trace.specs.Origins.{Outcome, NoOrigins, MoreOrigins, listed}
 use Rattle.ot_trace.specs.Reach.{IsReached, Root, Operand, OfTheorem}
 use Rattle.ot_written.specs.Needed.{is_among, needed_definitions, needed_origins}
 use Rattle.ot_written.specs.Laws.{Tells}
@@ -70,7 +72,8 @@ module _ (found : List (Origin Name)) where
   -- the two cases of a definition
   test-cases : (before : List (Origin Name)) (o : Origin Name) →
       (((is_among same o found && not (is_among same o before)) ≡ true) × IsMember o found)
-      ⊎ (((is_among same o found && not (is_among same o before)) ≡ false) × (IsMember o found → ¬ (IsMember o before) → ⊥))
+      ⊎ (((is_among same o found && not (is_among same o before)) ≡ false)
+      × (IsMember o found → ¬ (IsMember o before) → ⊥))
   test-cases before o = elim (cases_of (is_among same o found) (any-member o found)) [
     | inl p ↦ elim (cases_of (is_among same o before) (any-member o before)) [
       | inl q ↦ inr (rw (p.0, q.0) refl, (λ i n. n q.1))
@@ -87,18 +90,21 @@ module _ (found : List (Origin Name)) where
       let a : IsMember n.origin found = subst (λ z. IsMember z.origin found) (sym e) i in
       let b : ¬ (IsMember n.origin before) = λ h. o (subst (λ z. IsMember z.origin before) e h) in
       let (z, m, s) = own n a b in (z, m, s ∙ ap (λ w. w.origin) e)
-  more before n front keeps own rest x (inr h) i o = elim (cases_of (same n.origin x.origin) (tells n.origin x.origin)) [
-    | inl q ↦
-        let (z, m, s) = own n (subst (λ w. IsMember w found) (sym q.1) i) (λ g. o (subst (λ w. IsMember w before) q.1 g)) in
-        (z, m, s ∙ q.1)
-    | inr q ↦ rest x h i (λ g. elim g [ inl e ↦ q.1 e | inr j ↦ o j ])
-  ]
+  more before n front keeps own rest x (inr h) i o =
+      elim (cases_of (same n.origin x.origin) (tells n.origin x.origin)) [
+        | inl q ↦
+            let (z, m, s) =
+            own n (subst (λ w. IsMember w found) (sym q.1) i) (λ g. o (subst (λ w. IsMember w before) q.1 g)) in
+            (z, m, s ∙ q.1)
+        | inr q ↦ rest x h i (λ g. elim g [ inl e ↦ q.1 e | inr j ↦ o j ])
+      ]
 
   wider : (before : List (Origin Name)) (front keeps : List Made) (n : Made) → HasKept before front keeps
       → HasKept before front (n ∷ keeps)
   wider before front keeps n h x i a b = let (z, m, s) = h x i a b in (z, inr m, s)
 
-  kept-place : (before : List (Origin Name)) (ms : List Made) (i : ℕ) (m : Made) → slice_get (rest before ms) i ≡ Some m
+  kept-place : (before : List (Origin Name)) (ms : List Made) (i : ℕ) (m : Made) → slice_get (rest before ms) i
+      ≡ Some m
       → Placed before ms (rest before ms) i m
   kept-place before [] i m e = absurd cc
   kept-place before (n ∷ ns) i m e = elim (test-cases before n.origin) [
@@ -137,10 +143,12 @@ module _ (found : List (Origin Name)) where
         rw p.0 (more before n ns (n ∷ rest (n.origin ∷ before) ns) (λ y a b. (n, inl refl, refl))
         (wider (n.origin ∷ before) ns (rest (n.origin ∷ before) ns) n (kept-all (n.origin ∷ before) ns)))
     | inr p ↦
-        rw p.0 (more before n ns (rest (n.origin ∷ before) ns) (λ y a b. absurd (p.1 a b)) (kept-all (n.origin ∷ before) ns))
+        rw p.0 (more before n ns (rest (n.origin ∷ before) ns) (λ y a b. absurd (p.1 a b))
+        (kept-all (n.origin ∷ before) ns))
   ]
 
-  kept-found : (before : List (Origin Name)) (ms : List Made) (y : Made) → IsMember y (rest before ms) → IsMember y.origin found
+  kept-found : (before : List (Origin Name)) (ms : List Made) (y : Made) → IsMember y (rest before ms)
+      → IsMember y.origin found
   kept-found before [] y h = absurd h
   kept-found before (n ∷ ns) y h = elim (test-cases before n.origin) [
     | inl p ↦
@@ -226,16 +234,19 @@ uses_suffice IsNamed r lawful acc e law = record {
         let m = IsMember-at r.assumptions i g here in
         let (os, made) = all-member (λ g. (os : Origins Name) × (g.origin ≡ Make words.Axiom os))
         r.assumptions lawful.axioms g m in
-        let v : value (Make words.Axiom os) ≡ Ok (theorem q) = ap value (sym made) ∙ given g m ∙ ap (λ z. Ok (theorem z)) is in
+        let v : value (Make words.Axiom os) ≡ Ok (theorem q) = ap value (sym made) ∙ given g m
+        ∙ ap (λ z. Ok (theorem z)) is in
         (ok_if (value (Make words.Axiom os)) IsProposed (value-axiom os) (theorem q) v).0
 
     held : (g : Given) → IsMember g r.assumptions → IsReached (o ∷ []) ds g.origin → IsMember g.sequent bl
     held g m reach =
         IsMember-map (λ g. g.sequent) g (used_assumptions r o)
         (filter-from (is_assumed r o) g r.assumptions m
-        (among-from same tells g.origin (needed_origins same (o ∷ []) ds) (reached-origin same tells (o ∷ []) ds g.origin reach)))
+        (among-from same tells g.origin (needed_origins same (o ∷ []) ds)
+        (reached-origin same tells (o ∷ []) ds g.origin reach)))
 
-    axioms : (os : Origins Name) (p : Sequent Name) → IsMember (Make words.Axiom os) (map (λ g. g.origin) r.assumptions)
+    axioms : (os : Origins Name) (p : Sequent Name)
+        → IsMember (Make words.Axiom os) (map (λ g. g.origin) r.assumptions)
         → IsReached (o ∷ []) ds (Make words.Axiom os) → value (Make words.Axiom os) ≡ Ok (theorem p) → IsMember p bl
     axioms os p m reach e =
         let (g, here, is) = IsMember-map_back (λ g. g.origin) (Make words.Axiom os) r.assumptions m in
@@ -253,7 +264,8 @@ uses_suffice IsNamed r lawful acc e law = record {
 
     es-part : IsPart es ms
     es-part y n =
-        let (i, at) = member_at es y n in let (k, old, part, has) = kept-place found [] ms i y at in IsMember-at ms k y old
+        let (i, at) = member_at es y n in let (k, old, part, has) = kept-place found [] ms i y at in
+        IsMember-at ms k y old
 
     -- of a front of the definitions, each that is reached is kept
     front : (xs keeps : List Made) → IsPart xs ms → IsPart keeps ms → HasKept found [] xs keeps → (d : Origin Name)
@@ -261,7 +273,8 @@ uses_suffice IsNamed r lawful acc e law = record {
         → (m : Made) × IsMember m keeps × (definition_of [] d ≡ Ok m.definition)
     front xs keeps part inner has d m reach =
         let (x, here, is) = IsMember-map_back (λ m. m.origin) d xs m in
-        let inside : IsMember d ds = subst (λ z. IsMember z ds) is (IsMember-map (λ m. m.origin) x ms (part x here)) in
+        let inside : IsMember d ds =
+        subst (λ z. IsMember z ds) is (IsMember-map (λ m. m.origin) x ms (part x here)) in
         let (y, kept_y, same_y) = has x here
         (subst (λ z. IsMember z found) (sym is) (reached-needed same tells (o ∷ []) ds d inside reach)) (λ h. h) in
         (y, kept_y, ap (definition_of []) (sym (same_y ∙ is)) ∙ own y (inner y kept_y))

@@ -1,4 +1,5 @@
--- A theorem of a kernel with what stands at places of the kernel's lists. Only contracts of private functions speak of it.
+-- A theorem of a kernel with what stands at places of the kernel's lists. Only contracts of private functions speak
+-- of it.
 use Rattle.std.specs.Prelude.{ℕ}
 use Rattle.ot_kernel.specs.State.{State, theorem_at}
 use Rattle.ot_uses.specs.Placing.{picked}

@@ -8,7 +8,8 @@ is_marked marks i = slice_index_or marks i false
 -- of numbers that are marked, the first at k
 abbrev pub marked_places : ℕ → List Bool → List ℕ → List ℕ
 marked_places k marks [] = []
-marked_places k marks (i ∷ is) = cond (is_marked marks i) (k ∷ marked_places (suc k) marks is) (marked_places (suc k) marks is)
+marked_places k marks (i ∷ is) =
+    cond (is_marked marks i) (k ∷ marked_places (suc k) marks is) (marked_places (suc k) marks is)
 
 -- of each such number the first place
 abbrev pub first_places : ℕ → List Bool → List ℕ → List ℕ

@@ -17,5 +17,6 @@ pub record IsSupported (s : Support) : Type 0 where
 -- so it is with each lawful export of a lawful run whose definitions are accepted
 abbrev pub UsesSuffice : (Name → Type 0) → Type 0
 UsesSuffice IsNamed =
-    (r : RunState) → IsLawfulRun IsNamed r → Accepted names (map (λ g. g.sequent) r.assumptions) (definitions_of r.definitions)
+    (r : RunState) → IsLawfulRun IsNamed r
+    → Accepted names (map (λ g. g.sequent) r.assumptions) (definitions_of r.definitions)
     → (e : Export) → IsLawfulExport (run_basis IsNamed r) e → IsSupported (support_of r e)

@@ -14,7 +14,8 @@ indented_text (x ∷ xs) = codes "    " ++ x ++ 10 ∷ indented_text xs
 abbrev pub counted_text : List ℕ → List (List ℕ) → List ℕ
 counted_text title xs = codes "  " ++ title ++ codes ": " ++ number_text (length xs) ++ 10 ∷ indented_text xs
 
--- a theorem with its number, its assumptions in the order of the bytes of their texts, and its definitions as they were accepted
+-- a theorem with its number, its assumptions in the order of the bytes of their texts, and its definitions as they
+-- were accepted
 abbrev pub support_text : ℕ → Support → List ℕ
 support_text i s = (codes "theorem " ++ number_text i ++ codes ": " ++ sequent_text s.theorem ++ 10 ∷ [])
     ++ counted_text (codes "assumptions") (ascending (map sequent_text s.assumptions))

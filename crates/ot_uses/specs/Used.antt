@@ -47,7 +47,8 @@ abbrev pub assumption_places : RunState → Origin Name → List ℕ
 assumption_places r o = places_in (filter (λ p. is_assumed r o p.1) (numbered 0 r.assumptions))
 
 abbrev pub definition_places : RunState → Origin Name → List ℕ
-definition_places r o = places_in (filter (λ p. is_used r o p.1) (firsts_by same (λ p. p.1.origin) (numbered 0 r.definitions)))
+definition_places r o =
+    places_in (filter (λ p. is_used r o p.1) (firsts_by same (λ p. p.1.origin) (numbered 0 r.definitions)))
 
 -- ---- a theorem with what it rests on
 

@@ -23,14 +23,16 @@ use Rattle.ot_values.proofs.Listing.{AreEach, each-whole, each-all, reads-each}
 
 -- ---- what was just made
 
-pub type-made : (s : Session) (ts : List Item) (step id : ℕ) (t : Ty Name) → IsType ts id t → Makes (origin_of s step) (a_type t)
+pub type-made : (s : Session) (ts : List Item) (step id : ℕ) (t : Ty Name) → IsType ts id t
+    → Makes (origin_of s step) (a_type t)
     → IsTypeOf s ts step id
 type-made s ts step id t h made = record {
   has = has-type ts id t h;
   made = subst (λ u. Makes (origin_of s step) (a_type u)) (sym (type-is ts id t h)) made;
 }
 
-pub term-made : (s : Session) (ts : List Item) (step id : ℕ) (t : Tm Name) → IsTerm ts id t → Makes (origin_of s step) (term t)
+pub term-made : (s : Session) (ts : List Item) (step id : ℕ) (t : Tm Name) → IsTerm ts id t
+    → Makes (origin_of s step) (term t)
     → IsTermOf s ts step id
 term-made s ts step id t h made = record {
   has = has-term ts id t h;
@@ -68,7 +70,8 @@ module _ (s : Session) (ts : List Item) (step : ℕ) (steps items : List ℕ) (k
     read = read-to-end (IsTermOf s ts) as_term (term_at ts) (λ i x v h e. ap as_term (h.made.is v e)) ids each;
   }
 
-  pub pairs-gathered : (ps : List (ℕ × VariableNode)) → AreEach (IsPairOf s ts) (take k items) ps → ArePairsOf s ts step ps
+  pub pairs-gathered : (ps : List (ℕ × VariableNode)) → AreEach (IsPairOf s ts) (take k items) ps
+      → ArePairsOf s ts step ps
   pairs-gathered ps each = record {
     has = each-all (IsPairOf s ts) (λ p. HasName ts p.0 × HasVariable ts p.1) (λ i x h. h.has) (take k items) ps each;
     read =
@@ -76,7 +79,8 @@ module _ (s : Session) (ts : List Item) (step : ℕ) (steps items : List ℕ) (k
         (λ (p : ℕ × VariableNode). (name_at ts p.0, variable_at ts p.1)) (λ i x v h e. h.read v e) ps each;
   }
 
-  pub type_pairs-gathered : (ps : List (ℕ × ℕ)) → AreEach (IsTypePairOf s ts) (take k items) ps → AreTypePairsOf s ts step ps
+  pub type_pairs-gathered : (ps : List (ℕ × ℕ)) → AreEach (IsTypePairOf s ts) (take k items) ps
+      → AreTypePairsOf s ts step ps
   type_pairs-gathered ps each = record {
     has = each-all (IsTypePairOf s ts) (λ p. HasName ts p.0 × HasType ts p.1) (λ i x h. h.has) (take k items) ps each;
     read =
@@ -87,7 +91,8 @@ module _ (s : Session) (ts : List Item) (step : ℕ) (steps items : List ℕ) (k
   pub term_pairs-gathered : (ps : List (VariableNode × ℕ)) → AreEach (IsTermPairOf s ts) (take k items) ps
       → AreTermPairsOf s ts step ps
   term_pairs-gathered ps each = record {
-    has = each-all (IsTermPairOf s ts) (λ p. HasVariable ts p.0 × HasTerm ts p.1) (λ i x h. h.has) (take k items) ps each;
+    has = each-all (IsTermPairOf s ts) (λ p. HasVariable ts p.0 × HasTerm ts p.1) (λ i x h. h.has) (take k items) ps
+        each;
     read =
         read-to-end (IsTermPairOf s ts) term_pair
         (λ (p : VariableNode × ℕ). (variable_at ts p.0, term_at ts p.1)) (λ i x v h e. h.read v e) ps each;

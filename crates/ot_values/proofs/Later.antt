@@ -12,7 +12,8 @@ use Rattle.ot_nodes.specs.Items.{Item, HasName, HasType, HasTerm, name_at, type_
 use Rattle.ot_nodes.specs.Changing.{variable_at, HasVariable}
 use Rattle.ot_nodes.specs.declared.node.VariableNode.{VariableNode}
 use Rattle.ot_nodes.proofs.ItemLemmas.{name-stays, type-stays, term-stays, still-name, still-type, still-term}
-use Rattle.ot_nodes.proofs.MapLemmas.{variable-stays, still-variable, type_map-stays, term_map-stays, still-types_of, still-terms_of}
+use Rattle.ot_nodes.proofs.MapLemmas.{variable-stays, still-variable, type_map-stays}
+use Rattle.ot_nodes.proofs.MapLemmas.{term_map-stays, still-types_of, still-terms_of}
 use Rattle.ot_trace.specs.Origins.{Origin}
 use Rattle.ot_machine.specs.Objects.{Objects, name, a_type, variable, term}
 use Rattle.ot_machine.specs.Places.{as_name, as_type, as_term, as_each}
@@ -34,7 +35,8 @@ map-same f g P same (x ∷ xs) h =
     let tail = map-same f g P same xs (All-tail P x xs h) in
     λ i. head i ∷ tail i
 
-reads-same : {A : Type 0} (read : Objects → Result A (Fault Name)) (o : Origin Name) (x y : A) → x ≡ y → ReadsAs read o x
+reads-same : {A : Type 0} (read : Objects → Result A (Fault Name)) (o : Origin Name) (x y : A) → x ≡ y
+    → ReadsAs read o x
     → ReadsAs read o y
 reads-same read o x y e h = record { is = λ v p. h.is v p ∙ ap Ok e }
 
@@ -116,13 +118,15 @@ module _ (s : Session) (ts us : List Item) (e : Extends ts us) where
     read = reads-same (as_each type_pair) (origin_of s step) _ _ (sym (type_map-stays ts us e ps h.has)) h.read;
   }
 
-  pub term_pairs-later : (step : ℕ) (ps : List (VariableNode × ℕ)) → AreTermPairsOf s ts step ps → AreTermPairsOf s us step ps
+  pub term_pairs-later : (step : ℕ) (ps : List (VariableNode × ℕ)) → AreTermPairsOf s ts step ps
+      → AreTermPairsOf s us step ps
   term_pairs-later step ps h = record {
     has = still-terms_of ts us e ps h.has;
     read = reads-same (as_each term_pair) (origin_of s step) _ _ (sym (term_map-stays ts us e ps h.has)) h.read;
   }
 
-  pub maps-later : (step : ℕ) (types : List (ℕ × ℕ)) (terms : List (VariableNode × ℕ)) → AreMapsOf s ts step types terms
+  pub maps-later : (step : ℕ) (types : List (ℕ × ℕ)) (terms : List (VariableNode × ℕ))
+      → AreMapsOf s ts step types terms
       → AreMapsOf s us step types terms
   maps-later step types terms h = record {
     has_types = still-types_of ts us e types h.has_types;

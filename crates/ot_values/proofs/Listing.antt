@@ -1,5 +1,6 @@
 -- The elements of lists, and lists that are read one element after another.
-use Rattle.std.specs.Prelude.{◌≡◌, ◌<◌, ◌≤◌, ◌+◌, ℕ, Bool, true, false, List, [], ◌∷◌, ◌++◌, map, length, take, Result, Ok, Err, nat_le, if◌then◌else◌}
+use Rattle.std.specs.Prelude.{◌≡◌, ◌<◌, ◌≤◌, ◌+◌, ℕ, Bool, true, false, List, [], ◌∷◌, ◌++◌}
+use Rattle.std.specs.Prelude.{map, length, take, Result, Ok, Err, nat_le, if◌then◌else◌}
 use Rattle.std.specs.List.{All}
 use Rattle.std.proofs.Common.{refl, sym, ap, subst, ◌∙◌, get_or, add-one, append_assoc, append-nil}
 use Rattle.std.proofs.Math.Seq.{take-suc}
@@ -25,7 +26,8 @@ use Rattle.ot_values.proofs.Making.{two-made}
 -- ---- the elements of a list
 
 pub nil-elements : (o : Origin Name) (os : Origins Name) → o ≡ Make words.Nil os → AreElementsOf o []
-nil-elements o os e = record { are = λ v h. (no_objects, sym (no-operands (list no_objects) os v (sym (ap value e) ∙ h)).1, tt) }
+nil-elements o os e =
+    record { are = λ v h. (no_objects, sym (no-operands (list no_objects) os v (sym (ap value e) ∙ h)).1, tt) }
 
 within : (b : Bool) (o v : Object) → ◌≡◌ {A = Read} (if b then Ok o else Err Nesting) (Ok v) → v ≡ o
 within true o v p = sym (same-ok _ _ _ refl p)
@@ -62,7 +64,8 @@ module _ (s : Session) where
   leaves-cons whole found more rest head tail e pushed h = record {
     behind = λ os elements.
         let here = h.behind (origin_of s head ∷ os) (cons-elements _ _ _ os e elements) in
-        let same = ap (λ is. map (origin_of s) is ++ os) pushed ∙ ap (λ ps. ps ++ os) (map-append (origin_of s) found (head ∷ []))
+        let same = ap (λ is. map (origin_of s) is ++ os) pushed
+        ∙ ap (λ ps. ps ++ os) (map-append (origin_of s) found (head ∷ []))
         ∙ append_assoc (map (origin_of s) found) (origin_of s head ∷ []) os in
         subst (AreElementsOf (origin_of s whole)) (sym same) here;
   }
@@ -70,7 +73,8 @@ module _ (s : Session) where
   pub leaves-nil : (whole : ℕ) (found : List ℕ) (rest : ℕ) (os : Origins Name) → origin_of s rest ≡ Make words.Nil os
       → Leaves s whole found rest → AreElementsOf (origin_of s whole) (map (origin_of s) found)
   leaves-nil whole found rest os e h =
-      subst (AreElementsOf (origin_of s whole)) (append-nil (map (origin_of s) found)) (h.behind [] (nil-elements _ os e))
+      subst (AreElementsOf (origin_of s whole)) (append-nil (map (origin_of s) found))
+      (h.behind [] (nil-elements _ os e))
 
 -- ---- one by one
 
@@ -81,7 +85,8 @@ AreEach R (i ∷ is) [] = ⊥
 AreEach R (i ∷ is) (x ∷ xs) = R i x × AreEach R is xs
 
 module _ {A : Type 0} where
-  each-later : (R Q : ℕ → A → Type 0) → ((i : ℕ) (x : A) → R i x → Q i x) → (is : List ℕ) (xs : List A) → AreEach R is xs
+  each-later : (R Q : ℕ → A → Type 0) → ((i : ℕ) (x : A) → R i x → Q i x) → (is : List ℕ) (xs : List A)
+      → AreEach R is xs
       → AreEach Q is xs
   each-later R Q later [] [] h = tt
   each-later R Q later [] (x ∷ xs) h = absurd h
@@ -96,7 +101,8 @@ module _ {A : Type 0} where
   each-push R (j ∷ is) (y ∷ xs) i x h one = (h.0, each-push R is xs i x h.1 one)
 
   -- one more of the steps
-  pub each-next : (R Q : ℕ → A → Type 0) → ((i : ℕ) (x : A) → R i x → Q i x) → (steps : List ℕ) (k i : ℕ) (xs ys : List A) (x : A)
+  pub each-next : (R Q : ℕ → A → Type 0) → ((i : ℕ) (x : A) → R i x → Q i x)
+      → (steps : List ℕ) (k i : ℕ) (xs ys : List A) (x : A)
       → k < length steps → i ≡ get_or steps k i → AreEach R (take k steps) xs → Q i x → ys ≡ xs ++ x ∷ []
       → AreEach Q (take (k + 1) steps) ys
   each-next R Q later steps k i xs ys x h item before one pushed =
@@ -107,7 +113,8 @@ module _ {A : Type 0} where
       (each-push Q (take k steps) xs i x (each-later R Q later (take k steps) xs before) one))
 
   -- all of them
-  pub each-whole : (R : ℕ → A → Type 0) (steps : List ℕ) (k : ℕ) (xs : List A) → length steps ≤ k → AreEach R (take k steps) xs
+  pub each-whole : (R : ℕ → A → Type 0) (steps : List ℕ) (k : ℕ) (xs : List A) → length steps ≤ k
+      → AreEach R (take k steps) xs
       → AreEach R steps xs
   each-whole R steps k xs h each = subst (λ l. AreEach R l xs) (take_all k steps h) each
 
@@ -133,7 +140,8 @@ module _ (s : Session) {A B : Type 0} (R : ℕ → A → Type 0) (as_one : Objec
       (λ k. p k >>= λ y. as_each as_one vs >>= λ ys. Ok (y ∷ ys)) ∙ (λ k. q k >>= λ ys. Ok (f x ∷ ys))
 
   -- a list of elements that each read as this
-  pub reads-each : (o : Origin Name) (is : List ℕ) (xs : List A) → AreElementsOf o (map (origin_of s) is) → AreEach R is xs
+  pub reads-each : (o : Origin Name) (is : List ℕ) (xs : List A) → AreElementsOf o (map (origin_of s) is)
+      → AreEach R is xs
       → ReadsAs (as_each as_one) o (map f xs)
   reads-each o is xs elements each = record {
     is = λ v h.

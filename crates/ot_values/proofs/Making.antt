@@ -14,7 +14,8 @@ use Rattle.ot_nodes.specs.Items.{Item, type_at, types_at}
 use Rattle.ot_trace.specs.Origins.{Origin, make_one, make_two}
 use Rattle.ot_machine.specs.Objects.{Object, name, type_op, a_type, constant, variable, term}
 use Rattle.ot_machine.specs.Places.{as_type, as_each, arguments}
-use Rattle.ot_machine.specs.Makers.{Read, of_top, of_two, type_op_made, op_type_made, var_type_made, var_made, var_term_made, const_made, const_term_made, app_term_made, abs_term_made}
+use Rattle.ot_machine.specs.Makers.{Read, of_top, of_two, type_op_made, op_type_made, var_type_made, var_made}
+use Rattle.ot_machine.specs.Makers.{var_term_made, const_made, const_term_made, app_term_made, abs_term_made}
 use Rattle.ot_machine.specs.Values.{value, applied}
 use Rattle.ot_machine.proofs.Tops.{same-ok}
 use Rattle.ot_values.specs.Steps.{Makes}
@@ -28,7 +29,8 @@ pub record IsOfOne (f : Read → Read) (p : Origin Name) (v : Object) : Type 0 w
   pub top_is : value p ≡ Ok top
   pub made : f (Ok top) ≡ Ok v
 
-pub one-made : (f : Read → Read) (p : Origin Name) (v : Object) → ((value p >>= λ x. Ok (x ∷ [])) >>= applied (of_top f)) ≡ Ok v
+pub one-made : (f : Read → Read) (p : Origin Name) (v : Object)
+    → ((value p >>= λ x. Ok (x ∷ [])) >>= applied (of_top f)) ≡ Ok v
     → IsOfOne f p v
 one-made f p v h = by (value p) refl h
   where
@@ -44,11 +46,13 @@ pub record IsOfTwo (f : Read → Read → Read) (p q : Origin Name) (v : Object)
   pub made : f (Ok top) (Ok below) ≡ Ok v
 
 pub two-made : (f : Read → Read → Read) (p q : Origin Name) (v : Object)
-    → ((value p >>= λ x. (value q >>= λ y. Ok (y ∷ [])) >>= λ ys. Ok (x ∷ ys)) >>= applied (of_two f)) ≡ Ok v → IsOfTwo f p q v
+    → ((value p >>= λ x. (value q >>= λ y. Ok (y ∷ [])) >>= λ ys. Ok (x ∷ ys)) >>= applied (of_two f)) ≡ Ok v
+    → IsOfTwo f p q v
 two-made f p q v h = by (value p) (value q) refl refl h
   where
     by : (r t : Read) → value p ≡ r → value q ≡ t
-        → ((r >>= λ x. (t >>= λ y. Ok (y ∷ [])) >>= λ ys. Ok (x ∷ ys)) >>= applied (of_two f)) ≡ Ok v → IsOfTwo f p q v
+        → ((r >>= λ x. (t >>= λ y. Ok (y ∷ [])) >>= λ ys. Ok (x ∷ ys)) >>= applied (of_two f)) ≡ Ok v
+        → IsOfTwo f p q v
     by (Ok x) (Ok y) e g h = record { below = x; top = y; below_is = e; top_is = g; made = h }
     by (Ok x) (Err y) e g h = absurd (cc)
     by (Err x) t e g h = absurd (cc)
@@ -65,7 +69,8 @@ one-makes f o p x y e m made = record {
 }
 
 two-makes : (f : Read → Read → Read) (o p q : Origin Name) (x y z : Object)
-    → value o ≡ ((value p >>= λ x. (value q >>= λ y. Ok (y ∷ [])) >>= λ ys. Ok (x ∷ ys)) >>= applied (of_two f)) → Makes p x
+    → value o ≡ ((value p >>= λ x. (value q >>= λ y. Ok (y ∷ [])) >>= λ ys. Ok (x ∷ ys)) >>= applied (of_two f))
+    → Makes p x
     → Makes q y
     → ((v : Object) → f (Ok y) (Ok x) ≡ Ok v → v ≡ z) → Makes o z
 two-makes f o p q x y z e m n made = record {
@@ -88,18 +93,21 @@ passes false e x y h = absurd (cc)
 
 -- ---- the words
 
-pub type_op-makes : (o p : Origin Name) (n : Name) → o ≡ make_one words.TypeOp p → value p ≡ Ok (name n) → Makes o (type_op n)
+pub type_op-makes : (o p : Origin Name) (n : Name) → o ≡ make_one words.TypeOp p → value p ≡ Ok (name n)
+    → Makes o (type_op n)
 type_op-makes o p n e h =
     one-makes type_op_made o p (name n) (type_op n) (ap value e) (named p n h) (λ v m. the-same (type_op n) v m)
 
-pub const-makes : (o p : Origin Name) (n : Name) → o ≡ make_one words.Const p → value p ≡ Ok (name n) → Makes o (constant n)
+pub const-makes : (o p : Origin Name) (n : Name) → o ≡ make_one words.Const p → value p ≡ Ok (name n)
+    → Makes o (constant n)
 const-makes o p n e h =
     one-makes const_made o p (name n) (constant n) (ap value e) (named p n h) (λ v m. the-same (constant n) v m)
 
 pub var_type-makes : (o p : Origin Name) (n : Name) → o ≡ make_one words.VarType p → value p ≡ Ok (name n)
     → Makes o (a_type (TyVar n))
 var_type-makes o p n e h =
-    one-makes var_type_made o p (name n) (a_type (TyVar n)) (ap value e) (named p n h) (λ v m. the-same (a_type (TyVar n)) v m)
+    one-makes var_type_made o p (name n) (a_type (TyVar n)) (ap value e) (named p n h)
+    (λ v m. the-same (a_type (TyVar n)) v m)
 
 arguments-at : (ts : List Item) (ids : List ℕ) → arguments (map (type_at ts) ids) ≡ types_at ts ids
 arguments-at ts [] = refl
@@ -116,7 +124,8 @@ op_type-makes ts o p q n ids e m r = record {
       >>= λ us. op_rule names n (arguments us) >>= λ t. Ok (a_type t))
       (r.is a.top a.top_is)) ∙ b in
       let d = bind-ok (op_rule names n (arguments (map (type_at ts) ids))) _ _ c in
-      the-same (a_type d.0) v d.2 ∙ ap a_type (passes _ _ _ _ d.1) ∙ ap (λ us. a_type (TyOp n us)) (arguments-at ts ids);
+      the-same (a_type d.0) v d.2 ∙ ap a_type (passes _ _ _ _ d.1)
+      ∙ ap (λ us. a_type (TyOp n us)) (arguments-at ts ids);
 }
 
 pub var-makes : (o p q : Origin Name) (n : Name) (t : Ty Name) → o ≡ make_two words.Var p q → value p ≡ Ok (name n)
@@ -130,14 +139,18 @@ pub var_term-makes : (o p : Origin Name) (w : Variable Name) → o ≡ make_one 
 var_term-makes o p w e m =
     one-makes var_term_made o p (variable w) (term (Free w)) (ap value e) m (λ v i. the-same (term (Free w)) v i)
 
-pub const_term-makes : (o p q : Origin Name) (n : Name) (t : Ty Name) → o ≡ make_two words.ConstTerm p q → Makes p (constant n)
+pub const_term-makes : (o p q : Origin Name) (n : Name) (t : Ty Name) → o ≡ make_two words.ConstTerm p q
+    → Makes p (constant n)
     → Makes q (a_type t) → Makes o (term (Con n t))
-const_term-makes o p q n t e h m = two-makes const_term_made o p q (constant n) (a_type t) (term (Con n t)) (ap value e) h m
+const_term-makes o p q n t e h m = two-makes const_term_made o p q (constant n) (a_type t) (term (Con n t))
+    (ap value e) h m
     (λ v i. the-same (term (Con n t)) v i)
 
-pub app_term-makes : (o p q : Origin Name) (f x : Tm Name) → o ≡ make_two words.AppTerm p q → Makes p (term f) → Makes q (term x)
+pub app_term-makes : (o p q : Origin Name) (f x : Tm Name) → o ≡ make_two words.AppTerm p q → Makes p (term f)
+    → Makes q (term x)
     → Makes o (term (App f x))
-app_term-makes o p q f x e m n = two-makes app_term_made o p q (term f) (term x) (term (App f x)) (ap value e) m n applied-to
+app_term-makes o p q f x e m n = two-makes app_term_made o p q (term f) (term x) (term (App f x)) (ap value e) m n
+    applied-to
   where
     applied-to : (v : Object) → app_term_made (Ok (term x)) (Ok (term f)) ≡ Ok v → v ≡ term (App f x)
     applied-to v h =
@@ -150,9 +163,11 @@ pub abs_term-makes : (o p q : Origin Name) (w : Variable Name) (t : Tm Name) →
     → Makes p (variable w)
     → Makes q (term t) → Makes o (term (Abs w.ty (close names w t)))
 abs_term-makes o p q w t e m n =
-    two-makes abs_term_made o p q (variable w) (term t) (term (Abs w.ty (close names w t))) (ap value e) m n abstracted
+    two-makes abs_term_made o p q (variable w) (term t) (term (Abs w.ty (close names w t))) (ap value e) m n
+    abstracted
   where
-    abstracted : (v : Object) → abs_term_made (Ok (term t)) (Ok (variable w)) ≡ Ok v → v ≡ term (Abs w.ty (close names w t))
+    abstracted : (v : Object) → abs_term_made (Ok (term t)) (Ok (variable w)) ≡ Ok v
+        → v ≡ term (Abs w.ty (close names w t))
     abstracted v h =
         let a = bind-ok (abs_rule names w t) _ _ h in
         the-same (term a.0) v a.2 ∙ ap term (passes _ _ _ _ a.1)

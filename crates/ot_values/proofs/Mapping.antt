@@ -1,5 +1,6 @@
 -- Lists of pairs, and the maps of a substitution, as they are read.
-use Rattle.std.specs.Prelude.{◌≡◌, ◌<◌, ◌+◌, ℕ, length, take, Bool, true, false, nat_eq, ◌||◌, is_some, Option, Some, List, [], ◌∷◌, ◌++◌, map, Ok, Err, if◌then◌else◌}
+use Rattle.std.specs.Prelude.{◌≡◌, ◌<◌, ◌+◌, ℕ, length, take, Bool, true, false, nat_eq, ◌||◌}
+use Rattle.std.specs.Prelude.{is_some, Option, Some, List, [], ◌∷◌, ◌++◌, map, Ok, Err, if◌then◌else◌}
 use Rattle.std.specs.Map.{lookup}
 use Rattle.std.specs.List.{All, list_any}
 use Rattle.std.proofs.Common.{refl, sym, ap, subst, ◌∙◌, get_or, add-one}
@@ -29,7 +30,8 @@ use Rattle.ot_machine.specs.declared.session.Session.{Session}
 use Rattle.ot_machine.proofs.Tops.{same-ok}
 use Rattle.ot_values.specs.Steps.{IsNameOf, IsTypeOf, IsVariableOf, IsTermOf}
 use Rattle.ot_values.specs.Lists.{AreElementsOf, AreMapsOf}
-use Rattle.ot_values.specs.Reading.{IsPairOf, IsTypePairOf, IsTermPairOf, AreTypePairsOf, AreTermPairsOf, with_first, add_firsts, all_first}
+use Rattle.ot_values.specs.Reading.{IsPairOf, IsTypePairOf, IsTermPairOf, AreTypePairsOf}
+use Rattle.ot_values.specs.Reading.{AreTermPairsOf, with_first, add_firsts, all_first}
 use Rattle.ot_values.proofs.Listing.{two-of}
 use Rattle.ot_plain.proofs.Results.{bind-ok}
 
@@ -39,7 +41,8 @@ abbrev two : Object → Object → Object
 two x y = list (more_objects x (more_objects y no_objects))
 
 module _ (s : Session) (ts : List Item) where
-  pub pair-read : (step p q n : ℕ) (w : VariableNode) → AreElementsOf (origin_of s step) (origin_of s p ∷ origin_of s q ∷ [])
+  pub pair-read : (step p q n : ℕ) (w : VariableNode)
+      → AreElementsOf (origin_of s step) (origin_of s p ∷ origin_of s q ∷ [])
       → IsNameOf s ts p n → IsVariableOf s ts q w → IsPairOf s ts step (n, w)
   pair-read step p q n w elements a b = record {
     has = (a.has, b.has);
@@ -83,7 +86,8 @@ both-pushed old new items pushed x p e q = p ∙ ap (λ xs. xs ++ x ∷ []) e �
 
 -- one pair more
 module _ {K V : Type 0} (same : K → K → Bool) where
-  firsts-push : (ps qs : List (K × V)) (p : K × V) → add_firsts same ps (qs ++ p ∷ []) ≡ with_first same (add_firsts same ps qs) p
+  firsts-push : (ps qs : List (K × V)) (p : K × V) → add_firsts same ps (qs ++ p ∷ [])
+      ≡ with_first same (add_firsts same ps qs) p
   firsts-push ps [] p = refl
   firsts-push ps (q ∷ qs) p = firsts-push (with_first same ps q) qs p
 
@@ -94,7 +98,8 @@ module _ {K V : Type 0} (same : K → K → Bool) where
       rw (add-one, take-suc ps k p h) (ap (λ q. take k ps ++ q ∷ []) (sym item)) in
       sym (ap (add_firsts same []) next ∙ firsts-push [] (take k ps) p)
 
-or-some : {V : Type 0} (b c : Bool) (x : V) (r : Option V) → c ≡ is_some r → (b || c) ≡ is_some (if b then Some x else r)
+or-some : {V : Type 0} (b c : Bool) (x : V) (r : Option V) → c ≡ is_some r
+    → (b || c) ≡ is_some (if b then Some x else r)
 or-some true c x r e = refl
 or-some false c x r e = e
 
@@ -151,7 +156,8 @@ module _ (ts : List Item) (once : IsInjective ts) where
   term-first : (ps : List (VariableNode × ℕ)) (p : VariableNode × ℕ) → HasTerms ts ps → HasTermPair p
       → term_map ts (with_first variable_eq ps p) ≡ with_term (term_map ts ps) (variable_at ts p.0) (term_at ts p.1)
   term-first ps p h one =
-      map-first (λ (p : VariableNode × ℕ). (variable_at ts p.0, term_at ts p.1)) (is_some (lookup (variable_eq p.0) ps)) ps p
+      map-first (λ (p : VariableNode × ℕ). (variable_at ts p.0, term_at ts p.1))
+      (is_some (lookup (variable_eq p.0) ps)) ps p
       ∙ ap (λ b. if b then term_map ts ps else term_map ts ps ++ (variable_at ts p.0, term_at ts p.1) ∷ [])
       (sym (any-terms p.0 ps one.0 h))
 
@@ -161,7 +167,8 @@ module _ (ts : List Item) (once : IsInjective ts) where
   types-firsts [] ps h g = (h, refl)
   types-firsts (q ∷ qs) ps h g =
       let one = All-head HasTypePair q qs g in
-      let rest = types-firsts qs (with_first nat_eq ps q) (all-first HasTypePair (is_some (lookup (nat_eq q.0) ps)) ps q h one)
+      let rest = types-firsts qs (with_first nat_eq ps q)
+      (all-first HasTypePair (is_some (lookup (nat_eq q.0) ps)) ps q h one)
       (All-tail HasTypePair q qs g) in
       (rest.0, rest.1 ∙ ap (λ m. fold_types m (type_map ts qs)) (type-first ps q h one))
 
@@ -196,7 +203,8 @@ terms-read m (more_objects v vs) ps r e h =
     let a = bind-ok (term_pair v) _ _ e in
     let b = bind-ok (as_each term_pair vs) _ _ a.2 in
     let g = sym
-    (ap (λ (r : Reading (Variable Name × Tm Name)). r >>= λ p. unless BadSubst (has_type names p.1 p.0.ty) >>= λ _. terms_onto
+    (ap (λ (r : Reading (Variable Name × Tm Name)). r >>= λ p. unless BadSubst (has_type names p.1 p.0.ty)
+    >>= λ _. terms_onto
     (with_term m p.0 p.1) vs) a.1) ∙ h in
     let c = bind-ok (unless BadSubst (has_type names a.0.1 a.0.0.ty)) _ _ g in
     terms-read (with_term m a.0.0 a.0.1) vs b.0 r b.1 c.2 ∙ ap (fold_terms m) (same-ok _ _ _ refl b.2)
@@ -214,18 +222,23 @@ elements-read : {A : Type 0} (read : Objects → Reading A) (v : Object) (vs : O
     → (as_list v >>= read) ≡ Ok x → read vs ≡ Ok x
 elements-read read v vs x e h = sym (ap (λ r. r >>= read) e) ∙ h
 
-all-types : (ts : List Item) → IsInjective ts → (types : List (ℕ × ℕ)) (m : TypeMap names) (vs : Objects) → HasTypes ts types
-    → types_onto [] vs ≡ Ok m → as_each type_pair vs ≡ Ok (type_map ts types) → m ≡ type_map ts (all_first nat_eq types)
+all-types : (ts : List Item) → IsInjective ts → (types : List (ℕ × ℕ)) (m : TypeMap names) (vs : Objects)
+    → HasTypes ts types
+    → types_onto [] vs ≡ Ok m → as_each type_pair vs ≡ Ok (type_map ts types)
+    → m ≡ type_map ts (all_first nat_eq types)
 all-types ts once types m vs has onto read =
-    let same : type_map ts (add_firsts nat_eq [] types) ≡ fold_types [] (type_map ts types) = (types-firsts ts once types []
+    let same : type_map ts (add_firsts nat_eq [] types) ≡ fold_types [] (type_map ts types) =
+    (types-firsts ts once types []
     (All-nil (HasTypePair ts once)) has).1 in
     same-ok _ _ _ onto (types-read [] vs (type_map ts types) read) ∙ sym same
 
 all-terms : (ts : List Item) → IsInjective ts → (terms : List (VariableNode × ℕ)) (m : TermMap names) (vs : Objects)
     → HasTerms ts terms
-    → terms_onto [] vs ≡ Ok m → as_each term_pair vs ≡ Ok (term_map ts terms) → m ≡ term_map ts (all_first variable_eq terms)
+    → terms_onto [] vs ≡ Ok m → as_each term_pair vs ≡ Ok (term_map ts terms)
+    → m ≡ term_map ts (all_first variable_eq terms)
 all-terms ts once terms m vs has onto read =
-    let same : term_map ts (add_firsts variable_eq [] terms) ≡ fold_terms [] (term_map ts terms) = (terms-firsts ts once terms []
+    let same : term_map ts (add_firsts variable_eq [] terms) ≡ fold_terms [] (term_map ts terms) =
+    (terms-firsts ts once terms []
     (All-nil (HasTermPair ts once)) has).1 in
     terms-read [] vs (term_map ts terms) m read onto ∙ sym same
 
@@ -266,10 +279,13 @@ maps-read s ts once step p q types terms elements h g = record {
   read = λ v maps is reads.
       let t = two-of _ _ _ v elements is in
       let m = maps-made t.first t.second maps (list-read maps_of v (two t.first t.second) maps t.is reads) in
-      let ps = elements-read (as_each type_pair) t.first m.types (type_map ts types) m.types_are (h.read.is t.first t.first_is) in
+      let ps = elements-read (as_each type_pair) t.first m.types (type_map ts types) m.types_are
+      (h.read.is t.first t.first_is) in
       let qs = elements-read (as_each term_pair) t.second m.terms
       (term_map ts terms) m.terms_are (g.read.is t.second t.second_is) in
-      let x : maps.0 ≡ type_map ts (all_first nat_eq types) = all-types ts once types maps.0 m.types h.has m.types_made ps in
-      let y : maps.1 ≡ term_map ts (all_first variable_eq terms) = all-terms ts once terms maps.1 m.terms g.has m.terms_made qs in
+      let x : maps.0 ≡ type_map ts (all_first nat_eq types) =
+      all-types ts once types maps.0 m.types h.has m.types_made ps in
+      let y : maps.1 ≡ term_map ts (all_first variable_eq terms) =
+      all-terms ts once terms maps.1 m.terms g.has m.terms_made qs in
       λ i. (x i, y i);
 }

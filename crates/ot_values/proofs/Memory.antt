@@ -13,7 +13,8 @@ use Rattle.ot_values.specs.declared.values.Values.{Values}
 kept-none : (P : ℕ → ℕ → Type 0) (es : List (ℕ × ℕ)) → es ≡ [] → AreKept P es
 kept-none P es e = record { each = λ step id p. absurd (none-some id (sym (ap (lookup (nat_eq step)) e) ∙ p)) }
 
-pub known-none : (s : Session) (ts : List Item) (k : Values) → k.types.entries ≡ [] → k.terms.entries ≡ [] → AreKnown s ts k
+pub known-none : (s : Session) (ts : List Item) (k : Values) → k.types.entries ≡ [] → k.terms.entries ≡ []
+    → AreKnown s ts k
 known-none s ts k e f = record {
   types = kept-none (IsTypeOf s ts) k.types.entries e;
   terms = kept-none (IsTermOf s ts) k.terms.entries f;

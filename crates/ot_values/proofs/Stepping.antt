@@ -17,7 +17,8 @@ module _ (s : Session) where
   origins-mapped [] = refl
   origins-mapped (i ∷ is) = ap (MoreOrigins (origin_of s i)) (origins-mapped is)
 
-  origin-is : (id : ℕ) (o : Origin ℕ) → slice_get s.trace id ≡ Some o → origin_of s id ≡ map_origin (name_at s.kernel) o
+  origin-is : (id : ℕ) (o : Origin ℕ) → slice_get s.trace id ≡ Some o
+      → origin_of s id ≡ map_origin (name_at s.kernel) o
   origin-is id o at = ap (map_origin (name_at s.kernel)) (get_or_from_slice_get s.trace id o (Number (pos 0)) at)
 
   pub made-is : (id : ℕ) (o : Origin ℕ) (w : Cmd) (is : List ℕ) → slice_get s.trace id ≡ Some o

@@ -16,7 +16,8 @@ use Rattle.ot_values.specs.Lists.{ReadsAs}
 -- the name and the variable of a list of the two
 pub record IsPairOf (s : Session) (ts : List Item) (step : ℕ) (p : ℕ × VariableNode) : Type 0 where
   pub has : HasName ts p.0 × HasVariable ts p.1
-  pub read : (v : Object) → value (origin_of s step) ≡ Ok v → definition_pair v ≡ Ok (name_at ts p.0, variable_at ts p.1)
+  pub read : (v : Object) → value (origin_of s step) ≡ Ok v
+      → definition_pair v ≡ Ok (name_at ts p.0, variable_at ts p.1)
 
 -- the name and the type of a list of the two
 pub record IsTypePairOf (s : Session) (ts : List Item) (step : ℕ) (p : ℕ × ℕ) : Type 0 where

@@ -3,8 +3,8 @@ ghost use Rattle.std.specs.Prelude.{◌≡◌, ◌<◌, length, IfOk, OnOk};
 ghost use Rattle.ot_plain.specs.Table.{Extends};
 ghost use Rattle.ot_machine.specs.Meaning.{IsRun};
 ghost use Rattle.ot_values.specs.Lists.{AreMapsOf};
-ghost use Rattle.ot_values.specs.Reading.{IsTypePairOf, IsTermPairOf, AreTypePairsOf, AreTermPairsOf, with_first};
-ghost use Rattle.ot_values.specs.Reading.{all_first};
+ghost use Rattle.ot_values.specs.Reading.{IsTypePairOf, IsTermPairOf, AreTypePairsOf};
+ghost use Rattle.ot_values.specs.Reading.{AreTermPairsOf, with_first, all_first};
 ghost use Rattle.ot_values.specs.Known.{AreKnown};
 
 use crate::steps::{elements, name, two_elements};

@@ -1,6 +1,7 @@
 -- What assumptions, definitions and results add to a log.
 use Rattle.std.specs.List.{All, AllByRecursion, list_all}
-use Rattle.std.proofs.Common.{Result, ◌≡◌, ℕ, Bool, true, false, List, [], ◌∷◌, ◌++◌, map, Ok, Err, sym, ap, ◌∙◌, subst}
+use Rattle.std.proofs.Common.{Result, ◌≡◌, ℕ, Bool, true, false, List, []}
+use Rattle.std.proofs.Common.{◌∷◌, ◌++◌, map, Ok, Err, sym, ap, ◌∙◌, subst}
 use Rattle.std.proofs.lemmas.List.{map-append, map_push}
 use Rattle.std.proofs.lemmas.List.Elements.{All-nil, All-cons, All-push, All-append}
 use Rattle.ot_plain.specs.Names.{Name}
@@ -28,7 +29,8 @@ use Rattle.ot_plain.proofs.Members.{All-from_members, IsMember-map, IsMember-pla
 use Rattle.ot_plain.proofs.Results.{same_Ok}
 
 -- ---- terms of theorems are well typed
-all-typed : (ts : List (Tm Name)) → AllByRecursion (λ h. IsOfType names h (bool_ty names)) ts → All (IsWellTyped names) ts
+all-typed : (ts : List (Tm Name)) → AllByRecursion (λ h. IsOfType names h (bool_ty names)) ts
+    → All (IsWellTyped names) ts
 all-typed [] h = All-nil (IsWellTyped names)
 all-typed (t ∷ ts) h = All-cons (IsWellTyped names) t ts (bool_ty names, h.0) (all-typed ts h.1)
 
@@ -71,7 +73,11 @@ module _ (ts : List Item) (h : Held) (l : IsLog ts h) where
         → makes_assumption names (Ok (sequent_at ts q)) (state_of ts h) ≡ Ok (state_of ts assumed)
     assumption-made e k =
         assumption-by true e
-        ∙ (λ i. Ok (record (state_of ts h) { sequents = sym (map_push (sequent_at ts) h.sequents q) i; assumptions = sym k i }))
+        ∙ (λ i. Ok
+        (record (state_of ts h) {
+          sequents = sym (map_push (sequent_at ts) h.sequents q) i;
+          assumptions = sym k i;
+        }))
 
     pub assumption-deep : is_sequent_within names (sequent_at ts q) ≡ false
         → makes_assumption names (Ok (sequent_at ts q)) (state_of ts h) ≡ Err stated.LogNesting
@@ -80,7 +86,8 @@ module _ (ts : List Item) (h : Held) (l : IsLog ts h) where
     pub with-assumption : (hyps : List ℕ) (concl : ℕ) → HasStatement ts q → All (HasStatement ts) al
         → assumption_step names (terms_at ts hyps) (term_at ts concl) ≡ Ok (sequent_at ts q)
         → is_sequent_within names (sequent_at ts q) ≡ true
-        → map (sequent_at ts) al ≡ kept_once names (map (sequent_at ts) h.assumptions) (sequent_at ts q) → IsLog ts assumed
+        → map (sequent_at ts) al ≡ kept_once names (map (sequent_at ts) h.assumptions) (sequent_at ts q)
+        → IsLog ts assumed
     with-assumption hyps concl has all step e k = record {
       types = l.types;
       terms = l.terms;
@@ -130,7 +137,8 @@ module _ (ts : List Item) (h : Held) (l : IsLog ts h) where
           ∙ sym (map-append (sequent_at ts) h.sequents qs) in
           definition-by true e
           ∙ (λ i. Ok
-          (record (state_of ts h) { sequents = all i; definitions = sym (map_push (accepted_at ts) h.definitions a) i }))
+          (record (state_of ts h)
+          { sequents = all i; definitions = sym (map_push (accepted_at ts) h.definitions a) i }))
 
       pub with-definition : All (HasStatement ts) qs
           → IsAcceptable (map (sequent_at ts) h.assumptions) (map (accepted_at ts) h.definitions) d
@@ -145,14 +153,16 @@ module _ (ts : List Item) (h : Held) (l : IsLog ts h) where
         sound =
             sound-here (state_of ts established) (definition-sound names tells_names (λ dl. Ok d) (state_of ts h)
             (state_of ts established)
-            (λ c is. acceptable-stated (map (sequent_at ts) h.assumptions) (map (accepted_at ts) h.definitions) c (as-given c is))
+            (λ c is. acceptable-stated (map (sequent_at ts) h.assumptions) (map (accepted_at ts) h.definitions) c
+            (as-given c is))
             (sound-stated (state_of ts h) l.sound) (definition-made e));
       }
         where
           as-given : (c : Definition Name) → ◌≡◌ {A = Result (Definition Name) stated.LogFault} (Ok d) (Ok c)
               → IsAcceptable (map (sequent_at ts) h.assumptions) (map (accepted_at ts) h.definitions) c
           as-given c is =
-              subst (IsAcceptable (map (sequent_at ts) h.assumptions) (map (accepted_at ts) h.definitions)) (same_Ok d c is) fine
+              subst (IsAcceptable (map (sequent_at ts) h.assumptions) (map (accepted_at ts) h.definitions))
+              (same_Ok d c is) fine
 
   -- a result, where it is new
   module _ (q : Statement) (ql : List Statement)

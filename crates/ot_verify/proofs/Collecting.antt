@@ -44,7 +44,8 @@ module _ {A X : Type 0} (st : LogState Name) (ask : (A → RecordForm names) →
 
   module _ (is is' : X → A → Type 0) (more : (x : X) (y : A) → is x y → is' x y) where
     -- one more
-    next-one : (xs : List X) (x : X) (k : ℕ) (o r s : Rest) → Collects st ask is xs (suc k) o r → Answered st ask is' (Ok x) r s
+    next-one : (xs : List X) (x : X) (k : ℕ) (o r s : Rest) → Collects st ask is xs (suc k) o r
+        → Answered st ask is' (Ok x) r s
         → Collects st ask is' (xs ++ x ∷ []) k o s
     next-one xs x k o r s c a = (
       c.0 ++ a.0 ∷ [],
@@ -62,10 +63,12 @@ module _ {A X : Type 0} (st : LogState Name) (ask : (A → RecordForm names) →
     collects-next xs x k old mid new None m n c a = tt
     collects-next xs x k old mid new (Some l) None n c a = absurd c
     collects-next xs x k old mid new (Some l) (Some m) None c a = a
-    collects-next xs x k old mid new (Some l) (Some m) (Some n) c a = next-one xs x k (rest old l) (rest mid m) (rest new n) c a
+    collects-next xs x k old mid new (Some l) (Some m) (Some n) c a =
+        next-one xs x k (rest old l) (rest mid m) (rest new n) c a
 
   -- all of them
-  pub collects-end : {V : Type 0} (is : X → A → Type 0) (items : V → List X) (v : V) (old new : Reader) (l m : Option (List ℕ))
+  pub collects-end : {V : Type 0} (is : X → A → Type 0) (items : V → List X) (v : V) (old new : Reader)
+      (l m : Option (List ℕ))
       → CollectsFrom st ask is (items v) 0 old new l m
       → AnsweredFrom st (ask_list ask) (λ (v : V). AreEach is (items v)) (Ok v) old new l m
   collects-end is items v old new None m c = tt
@@ -91,11 +94,14 @@ module _ {A X : Type 0} (st : LogState Name) (ask : (A → RecordForm names) →
 
 module _ {A : Type 0} (st : LogState Name) (ask : (A → RecordForm names) → RecordForm names) where
   -- the count was not read
-  pub collects-none : {Y : Type 0} (e : VerifyFault) (old new : Reader) (l m : Option (List ℕ)) (these : Y → List A → Type 0)
-      → AnsweredFrom {X = ℕ} st AskCount IsValue (Err e) old new l m → AnsweredFrom st (ask_list ask) these (Err e) old new l m
+  pub collects-none : {Y : Type 0} (e : VerifyFault) (old new : Reader) (l m : Option (List ℕ))
+      (these : Y → List A → Type 0)
+      → AnsweredFrom {X = ℕ} st AskCount IsValue (Err e) old new l m
+      → AnsweredFrom st (ask_list ask) these (Err e) old new l m
   collects-none e old new None m these a = tt
   collects-none e old new (Some l) None these a = a
-  collects-none (verify.At line f) old new (Some l) (Some m) these a = λ first next. a first (λ k. ask_each ask k next)
+  collects-none (verify.At line f) old new (Some l) (Some m) these a =
+      λ first next. a first (λ k. ask_each ask k next)
   collects-none verify.ReadFault old new (Some l) (Some m) these a = tt
   collects-none verify.Memory old new (Some l) (Some m) these a = tt
 
@@ -132,4 +138,5 @@ module _ {A B C X Y Z : Type 0} (st : LogState Name) (ask : (A → RecordForm na
 
 -- further lines were taken
 pub advances-then : (old mid new : Reader) → Advances old mid → Advances mid new → Advances old new
-advances-then old mid new a b = record { max = b.max ∙ a.max; number = omega (arith, a.number, b.number); limit = b.limit }
+advances-then old mid new a b =
+    record { max = b.max ∙ a.max; number = omega (arith, a.number, b.number); limit = b.limit }

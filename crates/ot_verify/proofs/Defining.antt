@@ -41,7 +41,8 @@ module _ (ts : List Item) (q r : Statement) (hyps : r.hyps.items ≡ q.hyps.item
   copy-same = λ i. record { hyps = terms_at ts (hyps i); concl = term_at ts (concl i) }
 
   pub copy-held : HasStatement ts q → HasStatement ts r
-  copy-held h = record { hyps = subst (All (HasTerm ts)) (sym hyps) h.hyps; concl = subst (HasTerm ts) (sym concl) h.concl }
+  copy-held h =
+      record { hyps = subst (All (HasTerm ts)) (sym hyps) h.hyps; concl = subst (HasTerm ts) (sym concl) h.concl }
 
 abbrev pub Steps : Type 0
 Steps = List (Definition Name) → Result (Definition Name) stated.LogFault
@@ -64,7 +65,8 @@ made-definition (Err step.Memory) d case r old mid new e g a =
 -- what a case gives may be next where the case is sound
 pub establishes : (made : Result (Vec Statement) StepFault) (d : Definition Name) (case : Steps) (l : LogView)
     → Defines made d (case l.state.definitions) l.items
-    → ((c : Definition Name) → case l.state.definitions ≡ Ok c → IsAcceptable names l.state.assumptions l.state.definitions c)
+    → ((c : Definition Name) → case l.state.definitions ≡ Ok c
+    → IsAcceptable names l.state.assumptions l.state.definitions c)
     → Establishes l d made
 establishes (Ok v) d case l g s = (g.0, g.1, acceptable-here l.state.assumptions l.state.definitions d (s d g.2))
 establishes (Err step.BadStep) d case l g s = tt
@@ -82,9 +84,11 @@ defines-grown l us e k d has made case g =
     (sym (definition-stays l.nodes us e d has)) g)
 
 -- a step that gives no assumption
-pub refused-assumption : (fault : StepFault) (case : Step names) (ts : List Item) (old new : LogState Name) (e : Refusal)
+pub refused-assumption : (fault : StepFault) (case : Step names) (ts : List Item) (old new : LogState Name)
+    (e : Refusal)
     → e ≡ of_step fault → Gives (Err fault) case ts → MadeBy (Err e) (makes_assumption names case) old new
 refused-assumption step.BadStep case ts old new e p g =
-    subst (λ z. MadeBy (Err z) (makes_assumption names case) old new) (sym p) (ap (λ z. makes_assumption names z old) g)
+    subst (λ z. MadeBy (Err z) (makes_assumption names case) old new) (sym p)
+    (ap (λ z. makes_assumption names z old) g)
 refused-assumption step.Memory case ts old new e p g =
     subst (λ z. MadeBy (Err z) (makes_assumption names case) old new) (sym p) tt

@@ -27,8 +27,10 @@ module _ (max : ℕ) (st now : LogState Name) (w : RecordWord) (old mid new : Re
   follows-record (Some bytes) (Some l) (Some m) (Some n) f b r = f ∙ b st ∙ r
 
   -- a record that is refused
-  stops : (e : VerifyFault) (bytes l m n : List ℕ) → log_check max bytes ≡ check names old.last (Between st) (rest old l).tokens
-      → Begins (Ok (Some w)) (rest old l) (rest mid m) → Recorded (Err e) (form names w) mid.last st now (rest mid m) (rest new n)
+  stops : (e : VerifyFault) (bytes l m n : List ℕ) → log_check max bytes ≡ check names old.last (Between st)
+      (rest old l).tokens
+      → Begins (Ok (Some w)) (rest old l) (rest mid m) → Recorded (Err e) (form names w) mid.last st now (rest mid m)
+      (rest new n)
       → Verifies (Err e) (log_check max bytes)
   stops (verify.At line fault) bytes l m n f b r = f ∙ b st ∙ r
   stops verify.ReadFault bytes l m n f b r = tt
@@ -70,7 +72,8 @@ module _ (max : ℕ) (old new : Reader) (is : old ≡ first_reader max) where
 
 -- no word of a record
 pub word-refused : (max : ℕ) (st : LogState Name) (old new : Reader) (e : VerifyFault) (all l m : Option (List ℕ))
-    → Follows max st old all l → BeginsFrom (Err e) old new l m → IfSome all (λ bytes. Verifies (Err e) (log_check max bytes))
+    → Follows max st old all l → BeginsFrom (Err e) old new l m
+    → IfSome all (λ bytes. Verifies (Err e) (log_check max bytes))
 word-refused max st old new e None l m f b = tt
 word-refused max st old new e (Some bytes) None m f b = absurd f
 word-refused max st old new e (Some bytes) (Some l) None f b = absurd b

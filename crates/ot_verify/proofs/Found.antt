@@ -18,11 +18,13 @@ use Rattle.ot_verify.specs.declared.log.Log.TheInside.{Inside}
 use Rattle.ot_verify.specs.declared.operand.NamedType.{NamedType}
 use Rattle.ot_verify.specs.declared.operand.TermPair.{TermPair}
 use Rattle.ot_verify.specs.declared.operand.ConstantPair.{ConstantPair}
-use Rattle.ot_verify.proofs.Logging.{map-none, held_of, IsKept, named-here, type-here, term-here, typed-here, held-here}
+use Rattle.ot_verify.proofs.Logging.{map-none, held_of, IsKept, named-here}
+use Rattle.ot_verify.proofs.Logging.{type-here, term-here, typed-here, held-here}
 
 -- ---- one for one
 module _ {X Y A : Type 0} (R : X → Y → Type 0) (S : X → A → Type 0) where
-  each-same : (f : Y → A) → ((x : X) (y : Y) (a : A) → R x y → S x a → f y ≡ a) → (xs : List X) (ys : List Y) (zs : List A)
+  each-same : (f : Y → A) → ((x : X) (y : Y) (a : A) → R x y → S x a → f y ≡ a)
+      → (xs : List X) (ys : List Y) (zs : List A)
       → AreEach R xs ys → AreEach S xs zs → map f ys ≡ zs
   each-same f same [] [] [] g h = refl
   each-same f same [] (y ∷ ys) zs g h = absurd g
@@ -44,7 +46,8 @@ module _ {X Y A : Type 0} (R : X → Y → Type 0) (S : X → A → Type 0) wher
       let (ys, rs) = each-found found xs zs h.1 in
       (y ∷ ys, (r, rs))
 
-each-all : {X Y : Type 0} (R : X → Y → Type 0) (P : Y → Type 0) → ((x : X) (y : Y) → R x y → P y) → (xs : List X) (ys : List Y)
+each-all : {X Y : Type 0} (R : X → Y → Type 0) (P : Y → Type 0) → ((x : X) (y : Y) → R x y → P y)
+    → (xs : List X) (ys : List Y)
     → AreEach R xs ys → All P ys
 each-all R P all [] [] g = All-nil P
 each-all R P all [] (y ∷ ys) g = absurd g
@@ -69,18 +72,21 @@ module _ (l : Inside) (now : LogView) (is : view_of l.nodes (held_of l) ≡ now)
   ts = l.nodes
 
   -- the table's types and terms, of those that were made
-  type-back : (i : ℕ) (t : Ty Name) → slice_get now.state.types i ≡ Some t → (id : ℕ) × (slice_get l.types.items i ≡ Some id)
+  type-back : (i : ℕ) (t : Ty Name) → slice_get now.state.types i ≡ Some t
+      → (id : ℕ) × (slice_get l.types.items i ≡ Some id)
   type-back i t h =
       at-back (type_at ts) l.types.items i t (subst (λ (v : LogView). slice_get v.state.types i ≡ Some t) (sym is) h)
 
-  term-back : (i : ℕ) (t : Tm Name) → slice_get now.state.terms i ≡ Some t → (id : ℕ) × (slice_get l.terms.items i ≡ Some id)
+  term-back : (i : ℕ) (t : Tm Name) → slice_get now.state.terms i ≡ Some t
+      → (id : ℕ) × (slice_get l.terms.items i ≡ Some id)
   term-back i t h =
       at-back (term_at ts) l.terms.items i t (subst (λ (v : LogView). slice_get v.state.terms i ≡ Some t) (sym is) h)
 
   -- ---- types and terms by their places
   pub types-found : (ps : List ℕ) (ids : List ℕ) (us : List (Ty Name)) → AreEach (IsAt l.types.items) ps ids
       → AreEach (IsAt now.state.types) ps us → map (type_at ts) ids ≡ us
-  types-found = each-same (IsAt l.types.items) (IsAt now.state.types) (type_at ts) (λ i id t g h. type-here l now is i id t g h)
+  types-found = each-same (IsAt l.types.items) (IsAt now.state.types) (type_at ts)
+      (λ i id t g h. type-here l now is i id t g h)
 
   pub types-there : (ps : List ℕ) (us : List (Ty Name)) → AreEach (IsAt now.state.types) ps us
       → (ids : List ℕ) × AreEach (IsAt l.types.items) ps ids
@@ -91,7 +97,8 @@ module _ (l : Inside) (now : LogView) (is : view_of l.nodes (held_of l) ≡ now)
 
   pub terms-found : (ps : List ℕ) (ids : List ℕ) (us : List (Tm Name)) → AreEach (IsAt l.terms.items) ps ids
       → AreEach (IsAt now.state.terms) ps us → map (term_at ts) ids ≡ us
-  terms-found = each-same (IsAt l.terms.items) (IsAt now.state.terms) (term_at ts) (λ i id t g h. term-here l now is i id t g h)
+  terms-found = each-same (IsAt l.terms.items) (IsAt now.state.terms) (term_at ts)
+      (λ i id t g h. term-here l now is i id t g h)
 
   pub terms-there : (ps : List ℕ) (us : List (Tm Name)) → AreEach (IsAt now.state.terms) ps us
       → (ids : List ℕ) × AreEach (IsAt l.terms.items) ps ids
@@ -139,7 +146,8 @@ module _ (l : Inside) (now : LogView) (is : view_of l.nodes (held_of l) ≡ now)
   pub type_pairs-found : (xs : List NamedType) (ps : List (ℕ × ℕ)) (s : List (Name × Ty Name))
       → AreEach (IsFoundTypePair ts l.types.items) xs ps → AreEach (IsTypePair now) xs s → type_map ts ps ≡ s
   type_pairs-found =
-      each-same (IsFoundTypePair ts l.types.items) (IsTypePair now) (λ p. (name_at ts p.0, type_at ts p.1)) (λ x p q g h.
+      each-same (IsFoundTypePair ts l.types.items) (IsTypePair now) (λ p. (name_at ts p.0, type_at ts p.1))
+      (λ x p q g h.
       let v = variable-found x (record { name = p.0; ty = p.1 }) (record { name = q.0; ty = q.1 }) g h in
       λ i. ((v i).name, (v i).ty))
 
@@ -156,11 +164,13 @@ module _ (l : Inside) (now : LogView) (is : view_of l.nodes (held_of l) ≡ now)
       (λ x p g. variable-held x (record { name = p.0; ty = p.1 }) g)
 
   pub term_pairs-found : (xs : List TermPair) (ps : List (VariableNode × ℕ)) (m : List (Variable Name × Tm Name))
-      → AreEach (IsFoundTermPair ts l.types.items l.terms.items) xs ps → AreEach (IsTermPair now) xs m → term_map ts ps ≡ m
+      → AreEach (IsFoundTermPair ts l.types.items l.terms.items) xs ps → AreEach (IsTermPair now) xs m
+      → term_map ts ps ≡ m
   term_pairs-found =
       each-same (IsFoundTermPair ts l.types.items l.terms.items)
       (IsTermPair now) (λ p. (variable_at ts p.0, term_at ts p.1)) (λ x p q g h.
-      let v = variable-found x.variable p.0 q.0 g.0 h.0 in let t = term-here l now is x.term p.1 q.1 g.1 h.1 in λ i. (v i, t i))
+      let v = variable-found x.variable p.0 q.0 g.0 h.0 in let t = term-here l now is x.term p.1 q.1 g.1 h.1 in
+      λ i. (v i, t i))
 
   pub term_pairs-there : (xs : List TermPair) (m : List (Variable Name × Tm Name)) → AreEach (IsTermPair now) xs m
       → (ps : List (VariableNode × ℕ)) × AreEach (IsFoundTermPair ts l.types.items l.terms.items) xs ps
@@ -173,15 +183,18 @@ module _ (l : Inside) (now : LogView) (is : view_of l.nodes (held_of l) ≡ now)
       each-all (IsFoundTermPair ts l.types.items l.terms.items) (λ p. HasVariable ts p.0 × HasTerm ts p.1)
       (λ x p g. (variable-held x.variable p.0 g.0, held-here l k x.term p.1 g.1))
 
-  pub constant_pairs-found : (xs : List ConstantPair) (ps : List (ℕ × VariableNode)) (qs : List (Name × Variable Name))
-      → AreEach (IsFoundConstantPair ts l.types.items) xs ps → AreEach (IsConstantPair now) xs qs → pairs_at ts ps ≡ qs
+  pub constant_pairs-found : (xs : List ConstantPair) (ps : List (ℕ × VariableNode))
+      (qs : List (Name × Variable Name))
+      → AreEach (IsFoundConstantPair ts l.types.items) xs ps → AreEach (IsConstantPair now) xs qs
+      → pairs_at ts ps ≡ qs
   constant_pairs-found =
       each-same (IsFoundConstantPair ts l.types.items) (IsConstantPair now)
       (λ p. (name_at ts p.0, variable_at ts p.1)) (λ x p q g h.
       let n = ap (name_at ts) g.1 ∙ name-is ts x.constant q.0 (named-here l now is x.constant q.0 h.0) in
       let v = variable-found x.variable p.1 q.1 g.2 h.1 in λ i. (n i, v i))
 
-  pub constant_pairs-there : (xs : List ConstantPair) (qs : List (Name × Variable Name)) → AreEach (IsConstantPair now) xs qs
+  pub constant_pairs-there : (xs : List ConstantPair) (qs : List (Name × Variable Name))
+      → AreEach (IsConstantPair now) xs qs
       → (ps : List (ℕ × VariableNode)) × AreEach (IsFoundConstantPair ts l.types.items) xs ps
   constant_pairs-there = each-found (IsFoundConstantPair ts l.types.items) (IsConstantPair now) (λ x q h.
       let (v, g) = variable-there x.variable q.1 h.1 in

@@ -1,7 +1,8 @@
 -- What a log is after each addition, over a table that grew.
 use Rattle.std.specs.Prelude.{◌&&◌, nat_le, IsErrAnd}
 use Rattle.std.specs.List.{All, list_all}
-use Rattle.std.proofs.Common.{◌≡◌, ℕ, Bool, true, false, Option, Some, List, [], ◌∷◌, ◌++◌, map, slice_get, Result, Ok, Err, sym, ap, ◌∙◌, subst, inl, inr}
+use Rattle.std.proofs.Common.{◌≡◌, ℕ, Bool, true, false, Option, Some, List, [], ◌∷◌, ◌++◌}
+use Rattle.std.proofs.Common.{map, slice_get, Result, Ok, Err, sym, ap, ◌∙◌, subst, inl, inr}
 use Rattle.std.proofs.lemmas.Bool.{and_parts}
 use Rattle.ot_plain.specs.Names.{Name}
 use Rattle.ot_plain.specs.Naming.{names}
@@ -15,7 +16,8 @@ use Rattle.ot_laws.proofs.Hypotheses.{IsMember-once_each}
 use Rattle.ot_laws.proofs.Tests.{tells_names}
 use Rattle.ot_records.specs.Tokens as stated
 use Rattle.ot_records.specs.Steps.{log_depth, is_proposition, is_sequent_within, assumption_step}
-use Rattle.ot_records.specs.State.{LogState, Change, kept_once, makes_type, makes_term, makes_sequent, makes_assumption, makes_definition, makes_result}
+use Rattle.ot_records.specs.State.{LogState, Change, kept_once, makes_type, makes_term}
+use Rattle.ot_records.specs.State.{makes_sequent, makes_assumption, makes_definition, makes_result}
 use Rattle.ot_records.proofs.StepSound.{proposition-is}
 use Rattle.ot_nodes.specs.Items.{Item, HasType, HasTerm, type_at, term_at}
 use Rattle.ot_nodes.specs.Typing.{AreTypings}
@@ -38,14 +40,18 @@ use Rattle.ot_verify.specs.Held.{Held, state_of, view_of, IsAcceptable, IsWhole,
 use Rattle.ot_verify.specs.declared.log.Log.TheInside.{Inside}
 use Rattle.ot_verify.specs.declared.log.Refusal.{Refusal}
 use Rattle.ot_verify.specs.declared.log.Refusal.TheVariants as refusals
-use Rattle.ot_verify.proofs.Adding.{sequent-typed, theorems-typed, assumption-made, assumption-deep, with-assumption, definition-made, definition-deep, with-definition, result-made, with-result}
-use Rattle.ot_verify.proofs.Logging.{held_of, IsKept, accepted-stays, still-accepted, state-stays, log-grown, log-kept, sequent-here, theorem-now, state-then, with-type, type-made, type-deep, with-term, term-made, term-deep, with-sequent, sequent-made, sequent-deep}
+use Rattle.ot_verify.proofs.Adding.{sequent-typed, theorems-typed, assumption-made, assumption-deep, with-assumption}
+use Rattle.ot_verify.proofs.Adding.{definition-made, definition-deep, with-definition, result-made, with-result}
+use Rattle.ot_verify.proofs.Logging.{held_of, IsKept, accepted-stays, still-accepted, state-stays, log-grown}
+use Rattle.ot_verify.proofs.Logging.{log-kept, sequent-here, theorem-now, state-then, with-type, type-made, type-deep}
+use Rattle.ot_verify.proofs.Logging.{with-term, term-made, term-deep, with-sequent, sequent-made, sequent-deep}
 use Rattle.ot_plain.proofs.Members.{All-from_members}
 use Rattle.ot_plain.proofs.Results.{bind-ok, same_Ok, unless-ok}
 use Rattle.std.proofs.lemmas.List.{map_push}
 
 -- a change of the same thing
-pub made-by : {A : Type 0} (f : A → Change names) (x y : A) (r : Result (Unit {0}) Refusal) (old mid new : LogState Name)
+pub made-by : {A : Type 0} (f : A → Change names) (x y : A) (r : Result (Unit {0}) Refusal)
+    (old mid new : LogState Name)
     → mid ≡ old → y ≡ x → MadeBy r (f y) mid new → MadeBy r (f x) old new
 made-by f x y r old mid new e s m = subst (λ z. MadeBy r (f x) z new) e (subst (λ z. MadeBy r (f z) mid new) s m)
 
@@ -56,10 +62,12 @@ module _ (l : Inside) (k : IsKept l.nodes l) (now : LogView) (is : view_of l.nod
     type-has = subst (λ (v : LogView). HasType v.items id) (sym is) h
 
     pub type-kept : (xs : List ℕ) → xs ≡ l.types.items ++ id ∷ []
-        → IsWhole l.nodes (record (held_of l) { types = xs }) l.typings.known.entries l.signature l.assumptions l.results
+        → IsWhole l.nodes (record (held_of l) { types = xs }) l.typings.known.entries l.signature l.assumptions
+        l.results
     type-kept xs p =
         subst
-        (λ zs. IsWhole l.nodes (record (held_of l) { types = zs }) l.typings.known.entries l.signature l.assumptions l.results)
+        (λ zs. IsWhole l.nodes (record (held_of l) { types = zs }) l.typings.known.entries l.signature l.assumptions
+        l.results)
         (sym p)
         (record {
           log = with-type l.nodes (held_of l) k.log id type-has;
@@ -72,13 +80,15 @@ module _ (l : Inside) (k : IsKept l.nodes l) (now : LogView) (is : view_of l.nod
     type-same : type_at l.nodes id ≡ type_at now.items id
     type-same = ap (λ (v : LogView). type_at v.items id) is
 
-    pub type-added : (xs : List ℕ) → xs ≡ l.types.items ++ id ∷ [] → nat_le (depth_ty names (type_at l.nodes id)) log_depth ≡ true
+    pub type-added : (xs : List ℕ) → xs ≡ l.types.items ++ id ∷ []
+        → nat_le (depth_ty names (type_at l.nodes id)) log_depth ≡ true
         → MadeBy (Ok (tt {0})) (makes_type names (type_at now.items id))
         now.state (state_of l.nodes (record (held_of l) { types = xs }))
     type-added xs p e =
         made-by (makes_type names) (type_at now.items id) (type_at l.nodes id) (Ok (tt {0}))
         now.state (state_of l.nodes (held_of l)) _ (ap (λ (v : LogView). v.state) is) type-same
-        (type-made l.nodes (held_of l) k.log id e ∙ ap (λ zs. Ok (state_of l.nodes (record (held_of l) { types = zs }))) (sym p))
+        (type-made l.nodes (held_of l) k.log id e
+        ∙ ap (λ zs. Ok (state_of l.nodes (record (held_of l) { types = zs }))) (sym p))
 
     pub type-refused : (new : LogState Name) → nat_le (depth_ty names (type_at l.nodes id)) log_depth ≡ false
         → MadeBy (Err refusals.LogNesting) (makes_type names (type_at now.items id)) now.state new
@@ -92,10 +102,12 @@ module _ (l : Inside) (k : IsKept l.nodes l) (now : LogView) (is : view_of l.nod
     term-has = subst (λ (v : LogView). HasTerm v.items id) (sym is) h
 
     pub term-kept : (xs : List ℕ) → xs ≡ l.terms.items ++ id ∷ []
-        → IsWhole l.nodes (record (held_of l) { terms = xs }) l.typings.known.entries l.signature l.assumptions l.results
+        → IsWhole l.nodes (record (held_of l) { terms = xs }) l.typings.known.entries l.signature l.assumptions
+        l.results
     term-kept xs p =
         subst
-        (λ zs. IsWhole l.nodes (record (held_of l) { terms = zs }) l.typings.known.entries l.signature l.assumptions l.results)
+        (λ zs. IsWhole l.nodes (record (held_of l) { terms = zs }) l.typings.known.entries l.signature l.assumptions
+        l.results)
         (sym p)
         (record {
           log = with-term l.nodes (held_of l) k.log id term-has;
@@ -108,13 +120,15 @@ module _ (l : Inside) (k : IsKept l.nodes l) (now : LogView) (is : view_of l.nod
     term-same : term_at l.nodes id ≡ term_at now.items id
     term-same = ap (λ (v : LogView). term_at v.items id) is
 
-    pub term-added : (xs : List ℕ) → xs ≡ l.terms.items ++ id ∷ [] → nat_le (depth_tm names (term_at l.nodes id)) log_depth ≡ true
+    pub term-added : (xs : List ℕ) → xs ≡ l.terms.items ++ id ∷ []
+        → nat_le (depth_tm names (term_at l.nodes id)) log_depth ≡ true
         → MadeBy (Ok (tt {0})) (makes_term names (term_at now.items id))
         now.state (state_of l.nodes (record (held_of l) { terms = xs }))
     term-added xs p e =
         made-by (makes_term names) (term_at now.items id) (term_at l.nodes id) (Ok (tt {0}))
         now.state (state_of l.nodes (held_of l)) _ (ap (λ (v : LogView). v.state) is) term-same
-        (term-made l.nodes (held_of l) k.log id e ∙ ap (λ zs. Ok (state_of l.nodes (record (held_of l) { terms = zs }))) (sym p))
+        (term-made l.nodes (held_of l) k.log id e
+        ∙ ap (λ zs. Ok (state_of l.nodes (record (held_of l) { terms = zs }))) (sym p))
 
     pub term-refused : (new : LogState Name) → nat_le (depth_tm names (term_at l.nodes id)) log_depth ≡ false
         → MadeBy (Err refusals.LogNesting) (makes_term names (term_at now.items id)) now.state new
@@ -124,7 +138,8 @@ module _ (l : Inside) (k : IsKept l.nodes l) (now : LogView) (is : view_of l.nod
         (term-deep l.nodes (held_of l) k.log id e)
 
 -- ---- sequents
-module _ (l : Inside) (k : IsKept l.nodes l) (now : LogView) (is : view_of l.nodes (held_of l) ≡ now) (q : Statement) where
+module _ (l : Inside) (k : IsKept l.nodes l) (now : LogView) (is : view_of l.nodes (held_of l) ≡ now)
+    (q : Statement) where
   module _ (s : Supports now (Ok q)) where
     here : Supports (view_of l.nodes (held_of l)) (Ok q)
     here = subst (λ (v : LogView). Supports v (Ok q)) (sym is) s
@@ -136,18 +151,21 @@ module _ (l : Inside) (k : IsKept l.nodes l) (now : LogView) (is : view_of l.nod
     statement-typed = sequent-typed (sequent_at l.nodes q) here.1.sequent
 
     module _ (us : List Item) (e : Extends l.nodes us) where
-      there : IsTheorem names (state_of us (held_of l)).assumptions (state_of us (held_of l)).definitions (sequent_at us q)
+      there : IsTheorem names (state_of us (held_of l)).assumptions (state_of us (held_of l)).definitions
+          (sequent_at us q)
       there =
           subst (λ (st : LogState Name). IsTheorem names st.assumptions st.definitions (sequent_at us q))
           (sym (state-stays l.nodes us e (held_of l) k.log))
-          (subst (IsTheorem names (state_of l.nodes (held_of l)).assumptions (state_of l.nodes (held_of l)).definitions)
+          (subst (IsTheorem names (state_of l.nodes (held_of l)).assumptions
+          (state_of l.nodes (held_of l)).definitions)
           (sym (sequent-stays l.nodes us e q here.0)) here.1)
 
       pub statement-kept : (es : List (Scope × Option Typed)) (xs : List Statement) → AreTypings us es
           → xs ≡ l.sequents.items ++ q ∷ []
           → IsWhole us (record (held_of l) { sequents = xs }) es l.signature l.assumptions l.results
       statement-kept es xs t p =
-          subst (λ zs. IsWhole us (record (held_of l) { sequents = zs }) es l.signature l.assumptions l.results) (sym p)
+          subst (λ zs. IsWhole us (record (held_of l) { sequents = zs }) es l.signature l.assumptions l.results)
+          (sym p)
           (record {
             log =
                 with-sequent us (held_of l) (log-grown l.nodes us e (held_of l) k.log)
@@ -165,7 +183,8 @@ module _ (l : Inside) (k : IsKept l.nodes l) (now : LogView) (is : view_of l.nod
           → is_sequent_within names (sequent_at us q) ≡ c
       within b c p t = ap (is_sequent_within names) (sequent-stays l.nodes us e q here.0) ∙ sym p ∙ t
 
-      pub statement-added : (b : Bool) (xs : List Statement) → b ≡ is_sequent_within names (sequent_at l.nodes q) → b ≡ true
+      pub statement-added : (b : Bool) (xs : List Statement) → b ≡ is_sequent_within names (sequent_at l.nodes q)
+          → b ≡ true
           → xs ≡ l.sequents.items ++ q ∷ []
           → MadeBy (Ok (tt {0})) (makes_sequent names (Ok (sequent_at now.items q)))
           now.state (state_of us (record (held_of l) { sequents = xs }))
@@ -175,7 +194,8 @@ module _ (l : Inside) (k : IsKept l.nodes l) (now : LogView) (is : view_of l.nod
           (sequent-made us (held_of l) (log-grown l.nodes us e (held_of l) k.log) q (within b true p t)
           ∙ ap (λ zs. Ok (state_of us (record (held_of l) { sequents = zs }))) (sym x))
 
-      pub statement-refused : (b : Bool) (new : LogState Name) → b ≡ is_sequent_within names (sequent_at l.nodes q) → b ≡ false
+      pub statement-refused : (b : Bool) (new : LogState Name) → b ≡ is_sequent_within names (sequent_at l.nodes q)
+          → b ≡ false
           → MadeBy (Err refusals.LogNesting) (makes_sequent names (Ok (sequent_at now.items q))) now.state new
       statement-refused b new p t =
           made-by (λ z. makes_sequent names (Ok z)) (sequent_at now.items q) (sequent_at us q)
@@ -183,8 +203,10 @@ module _ (l : Inside) (k : IsKept l.nodes l) (now : LogView) (is : view_of l.nod
           (sequent-deep us (held_of l) (log-grown l.nodes us e (held_of l) k.log) q (within b false p t))
 
 -- ---- the same lists, and what is kept beside them anew
-pub whole-same : (l : Inside) (us : List Item) (h : Held) (es : List (Scope × Option Typed)) (s : Signature) (al ql : Kept)
-    → h ≡ held_of l → IsKept us l → AreTypings us es → IsSignature us (map (accepted_at us) l.definitions.items) s → AreKeyed al
+pub whole-same : (l : Inside) (us : List Item) (h : Held) (es : List (Scope × Option Typed)) (s : Signature)
+    (al ql : Kept)
+    → h ≡ held_of l → IsKept us l → AreTypings us es → IsSignature us (map (accepted_at us) l.definitions.items) s
+    → AreKeyed al
     → AreKeyed ql → IsWhole us h es s al ql
 whole-same l us h es s al ql e k t g a q =
     subst (λ z. IsWhole us z es s al ql) (sym e)
@@ -197,16 +219,20 @@ hyps-typed : (hs : List (Tm Name)) → list_all (is_proposition names) hs ≡ tr
 hyps-typed (y ∷ hs) h x (inl e) =
     subst (IsWellTyped names) e (
       bool_ty names,
-      proposition-is names tells_names y (and_parts (is_proposition names y) (list_all (is_proposition names) hs) h).0,
+      proposition-is names tells_names y
+          (and_parts (is_proposition names y) (list_all (is_proposition names) hs) h).0,
     )
-hyps-typed (y ∷ hs) h x (inr m) = hyps-typed hs (and_parts (is_proposition names y) (list_all (is_proposition names) hs) h).1 x m
+hyps-typed (y ∷ hs) h x (inr m) =
+    hyps-typed hs (and_parts (is_proposition names y) (list_all (is_proposition names) hs) h).1 x m
 hyps-typed [] h x m = absurd m
 
-step-typed : (hyps : List (Tm Name)) (p : Tm Name) (q : Sequent Name) → assumption_step names hyps p ≡ Ok q → AreWellTyped q
+step-typed : (hyps : List (Tm Name)) (p : Tm Name) (q : Sequent Name) → assumption_step names hyps p ≡ Ok q
+    → AreWellTyped q
 step-typed hyps p q h =
     let test : Bool = is_proposition names p && list_all (is_proposition names) hyps in
     let (u, e, k) = bind-ok (unless stated.BadStep test) _ q h in
-    let both = and_parts (is_proposition names p) (list_all (is_proposition names) hyps) (unless-ok stated.BadStep test u e) in
+    let both = and_parts (is_proposition names p) (list_all (is_proposition names) hyps)
+    (unless-ok stated.BadStep test u e) in
     let made : Sequent Name = record { hyps = once_each names hyps; concl = p } in
     let typed : AreWellTyped made = record {
       hyps =
@@ -221,7 +247,8 @@ module _ (l : Inside) (k : IsKept l.nodes l) (now : LogView) (is : view_of l.nod
     (g : Gives (Ok q) (assumption_step names (terms_at now.items hyps) (term_at now.items concl)) now.items) where
   gives : Gives (Ok q) (assumption_step names (terms_at l.nodes hyps) (term_at l.nodes concl)) l.nodes
   gives =
-      subst (λ (v : LogView). Gives (Ok q) (assumption_step names (terms_at v.items hyps) (term_at v.items concl)) v.items)
+      subst (λ (v : LogView). Gives (Ok q) (assumption_step names (terms_at v.items hyps) (term_at v.items concl))
+      v.items)
       (sym is) g
 
   pub assumed-has : HasStatement l.nodes q
@@ -261,7 +288,8 @@ module _ (l : Inside) (k : IsKept l.nodes l) (now : LogView) (is : view_of l.nod
           ≡ kept_once names (map (sequent_at us) l.assumptions.statements.items) (sequent_at us q)) where
         pub assumption-kept : (es : List (Scope × Option Typed)) → AreTypings us es → AreKeyed al
             → All (HasStatement us) al.statements.items
-            → IsWhole us (record (held_of l) { sequents = xs; assumptions = al.statements.items }) es l.signature al l.results
+            → IsWhole us (record (held_of l) { sequents = xs; assumptions = al.statements.items }) es l.signature al
+            l.results
         assumption-kept es t' a all =
             subst (λ zs. IsWhole us (record (held_of l) { sequents = zs; assumptions = al.statements.items })
             es l.signature al l.results)
@@ -283,7 +311,8 @@ module _ (l : Inside) (k : IsKept l.nodes l) (now : LogView) (is : view_of l.nod
             (Ok (tt {0})) now.state (state_of us (held_of l)) _ (state-then l us now is e k) assumed-same
             (assumption-made us (held_of l) (log-grown l.nodes us e (held_of l) k.log)
             q al.statements.items (assumed-within true t) once
-            ∙ ap (λ zs. Ok (state_of us (record (held_of l) { sequents = zs; assumptions = al.statements.items }))) (sym x))
+            ∙ ap (λ zs. Ok (state_of us (record (held_of l) { sequents = zs; assumptions = al.statements.items })))
+            (sym x))
 
 -- ---- results
 module _ (l : Inside) (k : IsKept l.nodes l) (now : LogView) (is : view_of l.nodes (held_of l) ≡ now)
@@ -311,7 +340,8 @@ module _ (l : Inside) (k : IsKept l.nodes l) (now : LogView) (is : view_of l.nod
 
 -- ---- definitions
 module _ (l : Inside) (k : IsKept l.nodes l) (now : LogView) (is : view_of l.nodes (held_of l) ≡ now) (a : Accepted)
-    (hd : HasDefinition now.items a.definition) (g : Establishes now (definition_at now.items a.definition) (Ok a.theorems)) where
+    (hd : HasDefinition now.items a.definition)
+    (g : Establishes now (definition_at now.items a.definition) (Ok a.theorems)) where
   given : Establishes (view_of l.nodes (held_of l)) (definition_at l.nodes a.definition) (Ok a.theorems)
   given = subst (λ (v : LogView). Establishes v (definition_at v.items a.definition) (Ok a.theorems)) (sym is) g
 
@@ -331,7 +361,8 @@ module _ (l : Inside) (k : IsKept l.nodes l) (now : LogView) (is : view_of l.nod
     pub accepted-there : HasAccepted us a
     accepted-there = still-accepted l.nodes us e a accepted-has
 
-    acceptable-there : IsAcceptable (state_of us (held_of l)).assumptions (state_of us (held_of l)).definitions (accepted_at us a)
+    acceptable-there : IsAcceptable (state_of us (held_of l)).assumptions (state_of us (held_of l)).definitions
+        (accepted_at us a)
     acceptable-there =
         subst (λ (st : LogState Name). IsAcceptable st.assumptions st.definitions (accepted_at us a))
         (sym (state-stays l.nodes us e (held_of l) k.log))
@@ -339,10 +370,12 @@ module _ (l : Inside) (k : IsKept l.nodes l) (now : LogView) (is : view_of l.nod
         (sym (accepted-stays l.nodes us e a accepted-has)) given.2)
 
     accepted-same : accepted_at us a ≡ definition_at now.items a.definition
-    accepted-same = accepted-stays l.nodes us e a accepted-has ∙ ap (λ (v : LogView). definition_at v.items a.definition) is
+    accepted-same = accepted-stays l.nodes us e a accepted-has
+        ∙ ap (λ (v : LogView). definition_at v.items a.definition) is
 
     module _ (b : Bool) (p : b ≡ list_all (is_sequent_within names) (map (sequent_at l.nodes) a.theorems.items)) where
-      accepted-within : (c : Bool) → b ≡ c → list_all (is_sequent_within names) (map (sequent_at us) a.theorems.items) ≡ c
+      accepted-within : (c : Bool) → b ≡ c → list_all (is_sequent_within names) (map (sequent_at us) a.theorems.items)
+          ≡ c
       accepted-within c t =
           ap (list_all (is_sequent_within names)) (map-agree (HasStatement l.nodes)
           (sequent_at l.nodes) (sequent_at us) (sequent-stays l.nodes us e) a.theorems.items given.0)
@@ -355,12 +388,14 @@ module _ (l : Inside) (k : IsKept l.nodes l) (now : LogView) (is : view_of l.nod
       definition-refused new t =
           made-by (λ z. makes_definition names (λ dl. Ok z)) (definition_at now.items a.definition) (accepted_at us a)
           (Err refusals.LogNesting) now.state (state_of us (held_of l)) new (state-then l us now is e k) accepted-same
-          (definition-deep us (held_of l) (log-grown l.nodes us e (held_of l) k.log) a accepted-there (accepted-within false t))
+          (definition-deep us (held_of l) (log-grown l.nodes us e (held_of l) k.log) a accepted-there
+          (accepted-within false t))
 
       module _ (t : b ≡ true) (qs : List Statement)
           (same' : map (sequent_at us) qs ≡ map (sequent_at us) a.theorems.items) (xs : List Statement)
           (ds : List Accepted) (x : xs ≡ l.sequents.items ++ qs) (y : ds ≡ l.definitions.items ++ a ∷ []) where
-        pub definition-kept : (es : List (Scope × Option Typed)) (s : Signature) → AreTypings us es → All (HasStatement us) qs
+        pub definition-kept : (es : List (Scope × Option Typed)) (s : Signature) → AreTypings us es
+            → All (HasStatement us) qs
             → IsSignature us (map (accepted_at us) l.definitions.items ++ accepted_at us a ∷ []) s
             → IsWhole us (record (held_of l) { sequents = xs; definitions = ds }) es s l.assumptions l.results
         definition-kept es s t' all sig =
@@ -372,15 +407,18 @@ module _ (l : Inside) (k : IsKept l.nodes l) (now : LogView) (is : view_of l.nod
                   with-definition us (held_of l) (log-grown l.nodes us e (held_of l) k.log)
                   a accepted-there qs same' all acceptable-there (accepted-within true t);
               typings = t';
-              signature = subst (λ dl. IsSignature us dl s) (sym (map_push (accepted_at us) l.definitions.items a)) sig;
+              signature = subst (λ dl. IsSignature us dl s) (sym (map_push (accepted_at us) l.definitions.items a))
+                  sig;
               assumptions = k.assumptions;
               results = k.results;
             })
 
-        pub definition-added : MadeBy (Ok (tt {0})) (makes_definition names (λ dl. Ok (definition_at now.items a.definition)))
+        pub definition-added : MadeBy (Ok (tt {0}))
+            (makes_definition names (λ dl. Ok (definition_at now.items a.definition)))
             now.state (state_of us (record (held_of l) { sequents = xs; definitions = ds }))
         definition-added =
-            made-by (λ z. makes_definition names (λ dl. Ok z)) (definition_at now.items a.definition) (accepted_at us a)
+            made-by (λ z. makes_definition names (λ dl. Ok z)) (definition_at now.items a.definition)
+            (accepted_at us a)
             (Ok (tt {0})) now.state (state_of us (held_of l)) _ (state-then l us now is e k) accepted-same
             (definition-made us (held_of l) (log-grown l.nodes us e (held_of l) k.log)
             a accepted-there qs same' (accepted-within true t)

@@ -1,6 +1,7 @@
 -- A log whose table grows, and what is added to it.
 use Rattle.std.specs.Prelude.{◌≢◌, nat_le}
-use Rattle.std.proofs.Common.{◌≡◌, ℕ, Bool, true, false, List, [], ◌∷◌, ◌++◌, map, slice_get, Option, Some, None, Result, Ok, Err, sym, ap, ◌∙◌, subst, zero, suc, inl, inr}
+use Rattle.std.proofs.Common.{◌≡◌, ℕ, Bool, true, false, List, [], ◌∷◌, ◌++◌, map, slice_get, Option}
+use Rattle.std.proofs.Common.{Some, None, Result, Ok, Err, sym, ap, ◌∙◌, subst, zero, suc, inl, inr}
 use Rattle.std.proofs.lemmas.Option.{same_Some}
 use Rattle.std.proofs.lemmas.List.Elements.{All-nil, All-push, All-weaker}
 use Rattle.ot_plain.specs.Names.{Name}
@@ -43,7 +44,8 @@ use Rattle.ot_plain.proofs.Members.{IsMember-at, IsMember-cases}
 use Rattle.std.proofs.lemmas.List.{map_push}
 
 -- ---- places
-pub map-none : {X A : Type 0} (f : X → A) (xs : List X) (i : ℕ) (a : A) → slice_get xs i ≡ None → slice_get (map f xs) i ≢ Some a
+pub map-none : {X A : Type 0} (f : X → A) (xs : List X) (i : ℕ) (a : A) → slice_get xs i ≡ None
+    → slice_get (map f xs) i ≢ Some a
 map-none f [] i a h e = cc
 map-none f (y ∷ xs) zero a h e = cc
 map-none f (y ∷ xs) (suc i) a h e = map-none f xs i a h e
@@ -77,12 +79,14 @@ module _ (ts us : List Item) (e : Extends ts us) (h : Held) (l : IsLog ts h) whe
   state-stays =
       let types = map-agree (HasType ts) (type_at ts) (type_at us) (type-stays ts us e) h.types l.types in
       let terms = map-agree (HasTerm ts) (term_at ts) (term_at us) (term-stays ts us e) h.terms l.terms in
-      let sequents = map-agree (HasStatement ts) (sequent_at ts) (sequent_at us) (sequent-stays ts us e) h.sequents l.sequents in
+      let sequents = map-agree (HasStatement ts) (sequent_at ts) (sequent_at us) (sequent-stays ts us e) h.sequents
+      l.sequents in
       let assumptions = map-agree (HasStatement ts) (sequent_at ts)
       (sequent_at us) (sequent-stays ts us e) h.assumptions l.assumptions in
       let definitions = map-agree (HasAccepted ts) (accepted_at ts)
       (accepted_at us) (accepted-stays ts us e) h.definitions l.definitions in
-      let results = map-agree (HasStatement ts) (sequent_at ts) (sequent_at us) (sequent-stays ts us e) h.results l.results in
+      let results = map-agree (HasStatement ts) (sequent_at ts) (sequent_at us) (sequent-stays ts us e) h.results
+      l.results in
       λ i. record {
         types = types i;
         terms = terms i;
@@ -97,7 +101,8 @@ module _ (ts us : List Item) (e : Extends ts us) (h : Held) (l : IsLog ts h) whe
     types = All-weaker (HasType ts) (HasType us) (still-type ts us e) h.types l.types;
     terms = All-weaker (HasTerm ts) (HasTerm us) (still-term ts us e) h.terms l.terms;
     sequents = All-weaker (HasStatement ts) (HasStatement us) (still-statement ts us e) h.sequents l.sequents;
-    assumptions = All-weaker (HasStatement ts) (HasStatement us) (still-statement ts us e) h.assumptions l.assumptions;
+    assumptions = All-weaker (HasStatement ts) (HasStatement us) (still-statement ts us e) h.assumptions
+        l.assumptions;
     definitions = All-weaker (HasAccepted ts) (HasAccepted us) (still-accepted ts us e) h.definitions l.definitions;
     results = All-weaker (HasStatement ts) (HasStatement us) (still-statement ts us e) h.results l.results;
     sound = subst IsSound (sym state-stays) l.sound;
@@ -177,7 +182,8 @@ module _ (ts : List Item) (h : Held) (l : IsLog ts h) where
       → IsTheorem names (map (sequent_at ts) h.assumptions) (map (accepted_at ts) h.definitions) (sequent_at ts q)
       → IsLog ts (record h { sequents = h.sequents ++ q ∷ [] })
   with-sequent q has follows =
-      let T : Sequent Name → Type 0 = IsTheorem names (map (sequent_at ts) h.assumptions) (map (accepted_at ts) h.definitions) in
+      let T : Sequent Name → Type 0 =
+      IsTheorem names (map (sequent_at ts) h.assumptions) (map (accepted_at ts) h.definitions) in
       let more : (r : Sequent Name) → IsMember r (map (sequent_at ts) h.sequents ++ sequent_at ts q ∷ []) → T r =
       λ r m. elim (IsMember-cases r (map (sequent_at ts) h.sequents) (sequent_at ts q ∷ []) m)
       [ inl i ↦ l.sound.sequents r i | inr i ↦ elim i [ inl same ↦ subst T same follows | inr j ↦ absurd j ] ] in
@@ -189,7 +195,8 @@ module _ (ts : List Item) (h : Held) (l : IsLog ts h) where
         definitions = l.definitions;
         results = l.results;
         sound = record {
-          sequents = subst (λ ys. (r : Sequent Name) → IsMember r ys → T r) (sym (map_push (sequent_at ts) h.sequents q)) more;
+          sequents = subst (λ ys. (r : Sequent Name) → IsMember r ys → T r)
+              (sym (map_push (sequent_at ts) h.sequents q)) more;
           assumptions = l.sound.assumptions;
           accepted = l.sound.accepted;
           results = l.sound.results;
@@ -225,7 +232,8 @@ made-term t u r old mid new e s m =
 
 pub made-sequent : (made : Result Statement StepFault) (case : Step names)
     (r : Result (Unit {0}) Refusal) (old : LogState Name) (mid new : LogView)
-    → mid.state ≡ old → Gives made case mid.items → AddsSequent r made mid new → MadeBy r (makes_sequent names case) old new.state
+    → mid.state ≡ old → Gives made case mid.items → AddsSequent r made mid new
+    → MadeBy r (makes_sequent names case) old new.state
 made-sequent (Ok q) case r old mid new e g a =
     subst (λ z. MadeBy r (makes_sequent names z) old new.state) (sym g.1)
     (subst (λ z. MadeBy r (makes_sequent names (Ok (sequent_at mid.items q))) z new.state) e a)
@@ -279,7 +287,8 @@ with-typings l us es k t = record {
 }
 
 -- and what it stands for is the same
-pub state-then : (l : Inside) (us : List Item) (now : LogView) → view_of l.nodes (held_of l) ≡ now → Extends l.nodes us
+pub state-then : (l : Inside) (us : List Item) (now : LogView) → view_of l.nodes (held_of l) ≡ now
+    → Extends l.nodes us
     → IsKept l.nodes l → state_of us (held_of l) ≡ now.state
 state-then l us now is e k = state-stays l.nodes us e (held_of l) k.log ∙ ap (λ (v : LogView). v.state) is
 
@@ -291,15 +300,19 @@ module _ (l : Inside) (now : LogView) (is : view_of l.nodes (held_of l) ≡ now)
   pub named-here : (i : ℕ) (n : Name) → IsNamed now i n → IsName l.nodes i n
   named-here i n h = subst (λ (v : LogView). IsNamed v i n) (sym is) h
 
-  pub type-here : (i id : ℕ) (t : Ty Name) → slice_get l.types.items i ≡ Some id → slice_get now.state.types i ≡ Some t
+  pub type-here : (i id : ℕ) (t : Ty Name) → slice_get l.types.items i ≡ Some id → slice_get now.state.types i
+      ≡ Some t
       → type_at l.nodes id ≡ t
   type-here i id t h e =
-      found-at (type_at l.nodes) l.types.items i id t h (subst (λ (v : LogView). slice_get v.state.types i ≡ Some t) (sym is) e)
+      found-at (type_at l.nodes) l.types.items i id t h
+      (subst (λ (v : LogView). slice_get v.state.types i ≡ Some t) (sym is) e)
 
-  pub term-here : (i id : ℕ) (t : Tm Name) → slice_get l.terms.items i ≡ Some id → slice_get now.state.terms i ≡ Some t
+  pub term-here : (i id : ℕ) (t : Tm Name) → slice_get l.terms.items i ≡ Some id → slice_get now.state.terms i
+      ≡ Some t
       → term_at l.nodes id ≡ t
   term-here i id t h e =
-      found-at (term_at l.nodes) l.terms.items i id t h (subst (λ (v : LogView). slice_get v.state.terms i ≡ Some t) (sym is) e)
+      found-at (term_at l.nodes) l.terms.items i id t h
+      (subst (λ (v : LogView). slice_get v.state.terms i ≡ Some t) (sym is) e)
 
   pub sequent-here : (i : ℕ) (q : Statement) (s : Sequent Name) → slice_get l.sequents.items i ≡ Some q
       → slice_get now.state.sequents i ≡ Some s → sequent_at l.nodes q ≡ s
@@ -309,13 +322,16 @@ module _ (l : Inside) (now : LogView) (is : view_of l.nodes (held_of l) ≡ now)
 
   pub no-type : (i : ℕ) (t : Ty Name) → slice_get l.types.items i ≡ None → slice_get now.state.types i ≢ Some t
   no-type i t h e =
-      map-none (type_at l.nodes) l.types.items i t h (subst (λ (v : LogView). slice_get v.state.types i ≡ Some t) (sym is) e)
+      map-none (type_at l.nodes) l.types.items i t h
+      (subst (λ (v : LogView). slice_get v.state.types i ≡ Some t) (sym is) e)
 
   pub no-term : (i : ℕ) (t : Tm Name) → slice_get l.terms.items i ≡ None → slice_get now.state.terms i ≢ Some t
   no-term i t h e =
-      map-none (term_at l.nodes) l.terms.items i t h (subst (λ (v : LogView). slice_get v.state.terms i ≡ Some t) (sym is) e)
+      map-none (term_at l.nodes) l.terms.items i t h
+      (subst (λ (v : LogView). slice_get v.state.terms i ≡ Some t) (sym is) e)
 
-  pub no-sequent : (i : ℕ) (s : Sequent Name) → slice_get l.sequents.items i ≡ None → slice_get now.state.sequents i ≢ Some s
+  pub no-sequent : (i : ℕ) (s : Sequent Name) → slice_get l.sequents.items i ≡ None
+      → slice_get now.state.sequents i ≢ Some s
   no-sequent i s h e =
       map-none (sequent_at l.nodes) l.sequents.items i s h
       (subst (λ (v : LogView). slice_get v.state.sequents i ≡ Some s) (sym is) e)
@@ -323,7 +339,8 @@ module _ (l : Inside) (now : LogView) (is : view_of l.nodes (held_of l) ≡ now)
 -- a sequent of the log is a theorem, in the table that grew too
 pub theorem-here : (l : Inside) (us : List Item) → Extends l.nodes us → IsKept l.nodes l → (i : ℕ) (q : Statement)
     → slice_get l.sequents.items i ≡ Some q
-    → IsTheorem names (state_of us (held_of l)).assumptions (state_of us (held_of l)).definitions (sequent_at l.nodes q)
+    → IsTheorem names (state_of us (held_of l)).assumptions (state_of us (held_of l)).definitions
+    (sequent_at l.nodes q)
 theorem-here l us e k i q h =
     subst (λ (s : LogState Name). IsTheorem names s.assumptions s.definitions (sequent_at l.nodes q))
     (sym (state-stays l.nodes us e (held_of l) k.log))
@@ -336,15 +353,18 @@ pub statement-here : (l : Inside) → IsKept l.nodes l → (i : ℕ) (q : Statem
     → HasStatement l.nodes q
 statement-here l k i q h = All-slice_get (HasStatement l.nodes) l.sequents.items i q k.log.sequents h
 
-pub typed-here : (l : Inside) → IsKept l.nodes l → (i id : ℕ) → slice_get l.types.items i ≡ Some id → HasType l.nodes id
+pub typed-here : (l : Inside) → IsKept l.nodes l → (i id : ℕ) → slice_get l.types.items i ≡ Some id
+    → HasType l.nodes id
 typed-here l k i id h = All-slice_get (HasType l.nodes) l.types.items i id k.log.types h
 
-pub held-here : (l : Inside) → IsKept l.nodes l → (i id : ℕ) → slice_get l.terms.items i ≡ Some id → HasTerm l.nodes id
+pub held-here : (l : Inside) → IsKept l.nodes l → (i id : ℕ) → slice_get l.terms.items i ≡ Some id
+    → HasTerm l.nodes id
 held-here l k i id h = All-slice_get (HasTerm l.nodes) l.terms.items i id k.log.terms h
 
 -- a sequent of the log is a theorem
 pub theorem-now : (l : Inside) → IsKept l.nodes l → (i : ℕ) (q : Statement) → slice_get l.sequents.items i ≡ Some q
-    → IsTheorem names (state_of l.nodes (held_of l)).assumptions (state_of l.nodes (held_of l)).definitions (sequent_at l.nodes q)
+    → IsTheorem names (state_of l.nodes (held_of l)).assumptions (state_of l.nodes (held_of l)).definitions
+    (sequent_at l.nodes q)
 theorem-now l k i q h =
     k.log.sound.sequents (sequent_at l.nodes q)
     (IsMember-at (map (sequent_at l.nodes) l.sequents.items) i
@@ -375,4 +395,5 @@ nothing-whole ts h es s al ql e t g a q = record {
 -- names may have been met
 pub met : (l : Inside) (us : List Item) (now : LogView) → view_of l.nodes (held_of l) ≡ now → Extends l.nodes us
     → IsKept l.nodes l → MeetsNames now (view_of us (held_of l))
-met l us now is e k = record { items = subst (λ (v : LogView). Extends v.items us) is e; state = state-then l us now is e k }
+met l us now is e k =
+    record { items = subst (λ (v : LogView). Extends v.items us) is e; state = state-then l us now is e k }

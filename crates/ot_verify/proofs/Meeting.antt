@@ -20,12 +20,15 @@ module _ (l m : LogView) where
   named-later i n a h = a.items.keeps i _ h
 
   pub variable-later : (x : NamedType) (v : Variable Name) → MeetsNames l m → IsVariable l x v → IsVariable m x v
-  variable-later x v a h = (named-later x.name v.name a h.0, ap (λ (s : LogState Name). slice_get s.types x.ty) a.state ∙ h.1)
+  variable-later x v a h =
+      (named-later x.name v.name a h.0, ap (λ (s : LogState Name). slice_get s.types x.ty) a.state ∙ h.1)
 
   pub type_pair-later : (x : NamedType) (p : Name × Ty Name) → MeetsNames l m → IsTypePair l x p → IsTypePair m x p
-  type_pair-later x p a h = (named-later x.name p.0 a h.0, ap (λ (s : LogState Name). slice_get s.types x.ty) a.state ∙ h.1)
+  type_pair-later x p a h =
+      (named-later x.name p.0 a h.0, ap (λ (s : LogState Name). slice_get s.types x.ty) a.state ∙ h.1)
 
-  pub term_pair-later : (x : TermPair) (p : Variable Name × Tm Name) → MeetsNames l m → IsTermPair l x p → IsTermPair m x p
+  pub term_pair-later : (x : TermPair) (p : Variable Name × Tm Name) → MeetsNames l m → IsTermPair l x p
+      → IsTermPair m x p
   term_pair-later x p a h = (
     variable-later x.variable p.0 a h.0,
     ap (λ (s : LogState Name). slice_get s.terms x.term) a.state ∙ h.1,

@@ -18,7 +18,8 @@ module _ (st : LogState Name) (view : LogView) (old new : Reader) where
   numbered n id (Some l) None a e = a
   numbered n id (Some l) (Some m) a e = (a.0, e ∙ ap (λ m. Some (NameItem m)) a.1, a.2)
 
-  pub numbered-stop : (e : VerifyFault) (l m : Option (List ℕ)) → AnsweredFrom {X = Name} st AskName IsValue (Err e) old new l m
+  pub numbered-stop : (e : VerifyFault) (l m : Option (List ℕ))
+      → AnsweredFrom {X = Name} st AskName IsValue (Err e) old new l m
       → AnsweredFrom {X = ℕ} st AskName (IsNamed view) (Err e) old new l m
   numbered-stop e None m a = tt
   numbered-stop e (Some l) None a = a

@@ -1,5 +1,6 @@
 -- What was found for the elements of a list, one after another.
-use Rattle.std.proofs.Common.{◌≡◌, Option, Some, None, refl, Err, ℕ, zero, suc, ◌+◌, ◌<◌, ◌≤◌, List, [], ◌∷◌, ◌++◌, length, get_or, take, sym, subst, arith}
+use Rattle.std.proofs.Common.{◌≡◌, Option, Some, None, refl, Err, ℕ, zero, suc, ◌+◌, ◌<◌, ◌≤◌}
+use Rattle.std.proofs.Common.{List, [], ◌∷◌, ◌++◌, length, get_or, take, sym, subst, arith}
 use Rattle.std.proofs.lemmas.List.{take_more, take_all}
 use Rattle.ot_plain.specs.Names.{Name}
 use Rattle.ot_plain.specs.Naming.{names}
@@ -33,7 +34,8 @@ module _ {X Y : Type 0} (is : X → Y → Type 0) where
   each-all xs i ys h a = subst (λ zs. AreEach is zs ys) (take_all i xs h) a
 
   -- one that stands for nothing
-  pub each-none : (xs : List X) (i : ℕ) (x : X) → i < length xs → x ≡ get_or xs i x → ((y : Y) → is x y → ⊥) → (ys : List Y)
+  pub each-none : (xs : List X) (i : ℕ) (x : X) → i < length xs → x ≡ get_or xs i x → ((y : Y) → is x y → ⊥)
+      → (ys : List Y)
       → AreEach is xs ys → ⊥
   each-none [] i x h p fails ys a = absurd (omega arith)
   each-none (z ∷ xs) i x h p fails [] a = a
@@ -41,7 +43,8 @@ module _ {X Y : Type 0} (is : X → Y → Type 0) where
   each-none (z ∷ xs) (suc i) x h p fails (y ∷ ys) a = each-none xs i x (omega arith) p fails ys a.1
 
 -- a refusal of what stands for something can only be want of memory
-pub missed : {X Y : Type 0} (is : X → Y → Type 0) (e : Refusal) (xs : List X) (c : Change names) (old new : LogState Name)
+pub missed : {X Y : Type 0} (is : X → Y → Type 0) (e : Refusal) (xs : List X) (c : Change names)
+    (old new : LogState Name)
     → FindsEach is (Err e) xs → (ys : List Y) × AreEach is xs ys → MadeBy (Err e) c old new
 missed is refusals.NoSuch xs c old new f g = absurd (f g.0 g.1)
 missed is refusals.Memory xs c old new f g = tt

@@ -31,17 +31,20 @@ recorded-on (Err verify.Memory) f g first st now old mid new e h = tt
 pub answered-then : {A X : Type 0} (st now : LogState Name) (ask : (A → RecordForm names) → RecordForm names)
     (is : X → A → Type 0) (x : X) (next : A → RecordForm names) (first : ℕ)
     (q : Result (Unit {0}) VerifyFault) (old mid new : Reader) (l m n : Option (List ℕ))
-    → AnsweredFrom st ask is (Ok x) old mid l m → ((a : A) → is x a → RecordedFrom q (next a) first st now mid new m n)
+    → AnsweredFrom st ask is (Ok x) old mid l m
+    → ((a : A) → is x a → RecordedFrom q (next a) first st now mid new m n)
     → RecordedFrom q (ask next) first st now old new l n
 answered-then st now ask is x next first q old mid new None m n a h = tt
 answered-then st now ask is x next first q old mid new (Some l) None n a h = absurd a
 answered-then st now ask is x next first q old mid new (Some l) (Some m) None a h = h a.0 a.1
 answered-then st now ask is x next first q old mid new (Some l) (Some m) (Some n) a h =
-    recorded-on q (ask next) (next a.0) first st now (rest old l) (rest mid m) (rest new n) (a.2 first next) (h a.0 a.1)
+    recorded-on q (ask next) (next a.0) first st now (rest old l) (rest mid m) (rest new n) (a.2 first next)
+    (h a.0 a.1)
 
 -- what was asked for was not read
 pub answered-stop : {A X : Type 0} (st now : LogState Name) (ask : (A → RecordForm names) → RecordForm names)
-    (is : X → A → Type 0) (e : VerifyFault) (next : A → RecordForm names) (first : ℕ) (old new : Reader) (l m : Option (List ℕ))
+    (is : X → A → Type 0) (e : VerifyFault) (next : A → RecordForm names) (first : ℕ) (old new : Reader)
+    (l m : Option (List ℕ))
     → AnsweredFrom {X = X} st ask is (Err e) old new l m → RecordedFrom (Err e) (ask next) first st now old new l m
 answered-stop st now ask is e next first old new None m a = tt
 answered-stop st now ask is e next first old new (Some l) None a = a
@@ -55,7 +58,8 @@ makes-ok : (change : Change names) (first : ℕ) (st now : LogState Name) (r : R
 makes-ok change first st now r e =
     ap (λ z. go_on names (at_line names first z >>= λ s. Ok (Between s)) (λ p. check names r.last p r.tokens)) e
 
-makes-err : (change : Change names) (first : ℕ) (st : LogState Name) (fault : stated.LogFault) (r : Rest) → change st ≡ Err fault
+makes-err : (change : Change names) (first : ℕ) (st : LogState Name) (fault : stated.LogFault) (r : Rest)
+    → change st ≡ Err fault
     → outcome_in first st (Makes change) r ≡ Stops first fault
 makes-err change first st fault r e =
     ap (λ z. go_on names (at_line names first z >>= λ s. Ok (Between s)) (λ p. check names r.last p r.tokens)) e
@@ -65,11 +69,13 @@ pub made-ok : (change : Change names) (first : ℕ) (st now : LogState Name) (r 
 made-ok change first st now r None m = tt
 made-ok change first st now r (Some l) m = makes-ok change first st now (rest r l) m
 
-pub made-refused : (change : Change names) (first : ℕ) (st now : LogState Name) (r : Reader) (l : Option (List ℕ)) (e : Refusal)
+pub made-refused : (change : Change names) (first : ℕ) (st now : LogState Name) (r : Reader) (l : Option (List ℕ))
+    (e : Refusal)
     → MadeBy (Err e) change st now → RecordedFrom (Err (refused first e)) (Makes change) first st now r r l l
 made-refused change first st now r None e m = tt
 made-refused change first st now r (Some l) refusals.BadStep m = makes-err change first st stated.BadStep (rest r l) m
-made-refused change first st now r (Some l) refusals.LogNesting m = makes-err change first st stated.LogNesting (rest r l) m
+made-refused change first st now r (Some l) refusals.LogNesting m =
+    makes-err change first st stated.LogNesting (rest r l) m
 made-refused change first st now r (Some l) refusals.NoSuch m = absurd m
 made-refused change first st now r (Some l) refusals.Memory m = tt
 

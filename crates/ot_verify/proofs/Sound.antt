@@ -10,10 +10,12 @@ use Rattle.ot_records.proofs.DefinitionSound as definitions
 use Rattle.ot_verify.specs.Held.{IsSound, HasPremise, IsAcceptable}
 
 pub sound-stated : (st : LogState Name) → IsSound st → records.IsSound names st
-sound-stated st s = record { sequents = s.sequents; assumptions = s.assumptions; accepted = s.accepted; results = s.results }
+sound-stated st s =
+    record { sequents = s.sequents; assumptions = s.assumptions; accepted = s.accepted; results = s.results }
 
 pub sound-here : (st : LogState Name) → records.IsSound names st → IsSound st
-sound-here st s = record { sequents = s.sequents; assumptions = s.assumptions; accepted = s.accepted; results = s.results }
+sound-here st s =
+    record { sequents = s.sequents; assumptions = s.assumptions; accepted = s.accepted; results = s.results }
 
 pub premise-stated : (d : Definition Name) → HasPremise d → laws.HasPremise names d
 premise-stated (ConDef n t) h = h
@@ -25,7 +27,8 @@ premise-here (ConDef n t) h = h
 premise-here (ListDef ps q) h = h
 premise-here (TyDef n abs rep vs q) h = h
 
-pub acceptable-stated : (al : List (Sequent Name)) (dl : List (Definition Name)) (d : Definition Name) → IsAcceptable al dl d
+pub acceptable-stated : (al : List (Sequent Name)) (dl : List (Definition Name)) (d : Definition Name)
+    → IsAcceptable al dl d
     → definitions.IsAcceptable names al dl d
 acceptable-stated al dl d a = record { next = a.next; premise = premise-stated d a.premise }
 

@@ -19,18 +19,21 @@ abbrev pub Answered : {A X : Type 0} → LogState Name → ((A → RecordForm na
     → Result X VerifyFault → Rest → Rest → Type 0
 Answered {A} {X} st ask is (Ok x) old new =
     (a : A) × is x a
-    × ((first : ℕ) (next : A → RecordForm names) → outcome_in first st (ask next) old ≡ outcome_in first st (next a) new)
+    × ((first : ℕ) (next : A → RecordForm names) → outcome_in first st (ask next) old
+    ≡ outcome_in first st (next a) new)
 Answered {A} {X} st ask is (Err (verify.At line f)) old new =
     (first : ℕ) (next : A → RecordForm names) → outcome_in first st (ask next) old ≡ Stops line (fault_of f)
 Answered st ask is (Err verify.ReadFault) old new = Unit {0}
 Answered st ask is (Err verify.Memory) old new = Unit {0}
 
 -- where the source tells its bytes; one that tells them goes on to do so
-abbrev pub AnsweredFrom : {A X : Type 0} → LogState Name → ((A → RecordForm names) → RecordForm names) → (X → A → Type 0)
+abbrev pub AnsweredFrom : {A X : Type 0} → LogState Name → ((A → RecordForm names) → RecordForm names)
+    → (X → A → Type 0)
     → Result X VerifyFault → Reader → Reader → Option (List ℕ) → Option (List ℕ) → Type 0
 AnsweredFrom st ask is result old new None left' = Unit {0}
 AnsweredFrom st ask is result old new (Some left) None = ⊥
-AnsweredFrom st ask is result old new (Some left) (Some left') = Answered st ask is result (rest old left) (rest new left')
+AnsweredFrom st ask is result old new (Some left) (Some left') =
+    Answered st ask is result (rest old left) (rest new left')
 
 -- the value itself
 abbrev pub IsValue : {A : Type 0} → A → A → Type 0
@@ -47,15 +50,18 @@ AreEach is (x ∷ xs) (y ∷ ys) = is x y × AreEach is xs ys
 AreEach is _ _ = ⊥
 
 -- items were read for a record that asks for so many more
-abbrev pub Collects : {A X : Type 0} → LogState Name → ((A → RecordForm names) → RecordForm names) → (X → A → Type 0) → List X → ℕ
+abbrev pub Collects : {A X : Type 0} → LogState Name → ((A → RecordForm names) → RecordForm names) → (X → A → Type 0)
+    → List X → ℕ
     → Rest → Rest → Type 0
 Collects {A} {X} st ask is xs k old new =
     (ys : List A) × AreEach is xs ys
     × ((first : ℕ) (next : List A → RecordForm names)
     → outcome_in first st (ask_list ask next) old ≡ outcome_in first st (ask_each ask k (λ us. next (ys ++ us))) new)
 
-abbrev pub CollectsFrom : {A X : Type 0} → LogState Name → ((A → RecordForm names) → RecordForm names) → (X → A → Type 0) → List X
+abbrev pub CollectsFrom : {A X : Type 0} → LogState Name → ((A → RecordForm names) → RecordForm names)
+    → (X → A → Type 0) → List X
     → ℕ → Reader → Reader → Option (List ℕ) → Option (List ℕ) → Type 0
 CollectsFrom st ask is xs k old new None left' = Unit {0}
 CollectsFrom st ask is xs k old new (Some left) None = ⊥
-CollectsFrom st ask is xs k old new (Some left) (Some left') = Collects st ask is xs k (rest old left) (rest new left')
+CollectsFrom st ask is xs k old new (Some left) (Some left') =
+    Collects st ask is xs k (rest old left) (rest new left')

@@ -36,4 +36,5 @@ abbrev pub IsFoundTermPair : List Item → List ℕ → List ℕ → TermPair �
 IsFoundTermPair ts types terms x p = IsFoundVariable ts types x.variable p.0 × (slice_get terms x.term ≡ Some p.1)
 
 abbrev pub IsFoundConstantPair : List Item → List ℕ → ConstantPair → ℕ × VariableNode → Type 0
-IsFoundConstantPair ts types x p = HasName ts x.constant × (p.0 ≡ x.constant) × IsFoundVariable ts types x.variable p.1
+IsFoundConstantPair ts types x p = HasName ts x.constant × (p.0 ≡ x.constant)
+    × IsFoundVariable ts types x.variable p.1

@@ -79,7 +79,8 @@ pub record IsLog (ts : List Item) (h : Held) : Type 0 where
   pub sound : IsSound (state_of ts h)
 
 -- and what is kept beside: types of terms, the symbols of the definitions, keys of assumptions and results
-pub record IsWhole (ts : List Item) (h : Held) (es : List (Scope × Option Typed)) (s : Signature) (al ql : Kept) : Type 0 where
+pub record IsWhole (ts : List Item) (h : Held) (es : List (Scope × Option Typed)) (s : Signature)
+    (al ql : Kept) : Type 0 where
   pub log : IsLog ts h
   pub typings : AreTypings ts es
   pub signature : IsSignature ts (map (accepted_at ts) h.definitions) s
@@ -88,7 +89,8 @@ pub record IsWhole (ts : List Item) (h : Held) (es : List (Scope × Option Typed
 
 -- a sequent that was made is of the table, and follows
 abbrev pub Supports : LogView → Result Statement StepFault → Type 0
-Supports l (Ok q) = HasStatement l.items q × IsTheorem names l.state.assumptions l.state.definitions (sequent_at l.items q)
+Supports l (Ok q) = HasStatement l.items q × IsTheorem names l.state.assumptions l.state.definitions
+    (sequent_at l.items q)
 Supports l (Err e) = Unit {0}
 
 -- the refusal of a step
@@ -98,7 +100,8 @@ of_step step.Memory = refusals.Memory
 
 -- the sequent was added, within the limit; a refusal stays
 abbrev pub AddsSequent : Result (Unit {0}) Refusal → Result Statement StepFault → LogView → LogView → Type 0
-AddsSequent result (Ok q) old new = MadeBy result (makes_sequent names (Ok (sequent_at old.items q))) old.state new.state
+AddsSequent result (Ok q) old new = MadeBy result (makes_sequent names (Ok (sequent_at old.items q))) old.state
+    new.state
 AddsSequent result (Err e) old new = result ≡ Err (of_step e)
 
 -- the theorems of a definition that may be next
@@ -109,7 +112,8 @@ Establishes l d (Ok v) =
 Establishes l d (Err e) = Unit {0}
 
 -- the definition was added with its theorems, within the limit; a refusal stays
-abbrev pub AddsDefinition : Result (Unit {0}) Refusal → Definition Name → Result (Vec Statement) StepFault → LogView → LogView
+abbrev pub AddsDefinition : Result (Unit {0}) Refusal → Definition Name → Result (Vec Statement) StepFault → LogView
+    → LogView
     → Type 0
 AddsDefinition result d (Ok v) old new = MadeBy result (makes_definition names (λ dl. Ok d)) old.state new.state
 AddsDefinition result d (Err e) old new = result ≡ Err (of_step e)

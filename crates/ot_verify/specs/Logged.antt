@@ -31,7 +31,8 @@ pub record LogView : Type 0 where
 abbrev coded_state : Coded (LogState Name)
 coded_state =
     code_by (List (Ty Name)
-    × (List (Tm Name) × (List (Sequent Name) × (List (Sequent Name) × (List (Definition Name) × List (Sequent Name))))))
+    × (List (Tm Name)
+    × (List (Sequent Name) × (List (Sequent Name) × (List (Definition Name) × List (Sequent Name))))))
     (coded× (coded_list (coded_ty coded_name))
     (coded× (coded_list (coded_tm coded_name))
     (coded× (coded_list (coded_sequent coded_name))
@@ -95,14 +96,16 @@ settled_at first (Ok u) = Ok u
 settled_at first (Err e) = Err (refused first e)
 
 -- a record was read and made what it makes, or the check stops
-abbrev pub Recorded : Result (Unit {0}) VerifyFault → RecordForm names → ℕ → LogState Name → LogState Name → Rest → Rest → Type 0
+abbrev pub Recorded : Result (Unit {0}) VerifyFault → RecordForm names → ℕ → LogState Name → LogState Name → Rest
+    → Rest → Type 0
 Recorded (Ok u) f first st now old new = outcome_in first st f old ≡ check names new.last (Between now) new.tokens
 Recorded (Err (verify.At line fault)) f first st now old new = outcome_in first st f old ≡ Stops line (fault_of fault)
 Recorded (Err verify.ReadFault) f first st now old new = Unit {0}
 Recorded (Err verify.Memory) f first st now old new = Unit {0}
 
 -- where the source tells its bytes; one that tells them goes on to do so
-abbrev pub RecordedFrom : Result (Unit {0}) VerifyFault → RecordForm names → ℕ → LogState Name → LogState Name → Reader → Reader
+abbrev pub RecordedFrom : Result (Unit {0}) VerifyFault → RecordForm names → ℕ → LogState Name → LogState Name
+    → Reader → Reader
     → Option (List ℕ) → Option (List ℕ) → Type 0
 RecordedFrom result f first st now old new None left' = Unit {0}
 RecordedFrom result f first st now old new (Some left) None = ⊥

@@ -2,8 +2,8 @@
 ghost use Rattle.std.specs.Prelude.{◌≡◌, ◌↔◌, ℕ, IsTrue};
 ghost use Rattle.std.specs.List.{All};
 ghost use Rattle.ot_nodes.specs.Items.{HasName};
-ghost use Rattle.ot_verify.specs.Finding.{Finds, FindsEach, IsFoundVariable, IsFoundTypePair, IsFoundTermPair};
-ghost use Rattle.ot_verify.specs.Finding.{IsFoundConstantPair};
+ghost use Rattle.ot_verify.specs.Finding.{Finds, FindsEach, IsFoundVariable, IsFoundTypePair};
+ghost use Rattle.ot_verify.specs.Finding.{IsFoundTermPair, IsFoundConstantPair};
 ghost use Rattle.ot_verify.specs.Asking.{IsAt};
 
 use crate::log::{Refusal, at};

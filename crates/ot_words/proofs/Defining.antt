@@ -1,7 +1,8 @@
 -- Definitions and their theorems.
 use Rattle.std.specs.List.{All, flat_map, list_all}
 use Rattle.std.specs.Prelude.{IsErrAnd, is_some}
-use Rattle.std.proofs.Common.{◌≡◌, ℕ, suc, List, [], ◌∷◌, ◌++◌, map, length, Result, Ok, Err, OnOk, refl, sym, ap, subst, ◌∙◌}
+use Rattle.std.proofs.Common.{◌≡◌, ℕ, suc, List, [], ◌∷◌, ◌++◌, map, length}
+use Rattle.std.proofs.Common.{Result, Ok, Err, OnOk, refl, sym, ap, subst, ◌∙◌}
 use Rattle.std.proofs.lemmas.List.{map-append}
 use Rattle.std.proofs.lemmas.List.Elements.{All-nil, All-cons, All-head, All-tail, All-append}
 use Rattle.ot_plain.specs.Names.{Name}
@@ -48,12 +49,15 @@ use Rattle.ot_plain.proofs.Results.{bind-ok, same_Ok}
 -- ---- what is accepted
 
 limited-is : (d e : Definition Name) → limited_definition names d ≡ Ok e → d ≡ e
-limited-is d e h = let (u, p, k) = bind-ok (unless Nesting (list_all (is_shallow_sequent names) (theorems names d))) _ e h in
+limited-is d e h = let (u, p, k) = bind-ok (unless Nesting (list_all (is_shallow_sequent names) (theorems names d))) _
+    e h in
     same_Ok d e k
 
-const-is : (ds : List (Definition Name)) (n : Name) (t : Tm Name) (d : Definition Name) → const_definition names ds n t ≡ Ok d
+const-is : (ds : List (Definition Name)) (n : Name) (t : Tm Name) (d : Definition Name)
+    → const_definition names ds n t ≡ Ok d
     → ConDef n t ≡ d
-const-is ds n t d h = let (u, p, k) = bind-ok (checked_const names (all_defined names ds) (all_used names ds) n t) _ d h in
+const-is ds n t d h = let (u, p, k) = bind-ok (checked_const names (all_defined names ds) (all_used names ds) n t) _ d
+    h in
     limited-is (ConDef n t) d k
 
 zipped-pairs : (ps : List (Name × Variable Name)) → zipped names (map (λ p. p.0) ps) (map (λ p. p.1) ps) ≡ ps
@@ -89,7 +93,8 @@ defines-taken r e d x step ts h g k = handed r e h (defines-memory e d x step ts
 pub constant-taken : (n : Name) (t : Tm Name) → IsWellTyped names t → (ds : List (Definition Name))
     → HasResult (defines words.DefineConst ds (name n ∷ term t ∷ [])) → constant_step names [] n t ≡ Ok (ConDef n t)
 constant-taken n t w ds h =
-    let after : Result (Unit {0}) (Fault Name) → Result (Definition Name) LogFault = λ r. or_bad r >>= λ _. Ok (ConDef n t) in
+    let after : Result (Unit {0}) (Fault Name) → Result (Definition Name) LogFault =
+    λ r. or_bad r >>= λ _. Ok (ConDef n t) in
     let checked = checked_const names [] [] n t in
     let (u, p, k) = bind-ok checked _ h.0 (const_definition-fewer [] ds (none-fewer ds) n t h.0 h.1) in
     ap (λ b. unless BadStep b >>= λ _. after checked) (ap is_some w.1) ∙ ap after p
@@ -100,14 +105,17 @@ pub constants-taken : (ps : List (Name × Variable Name)) (q : Sequent Name) (os
 constants-taken ps q os r ds h =
     let ns = map (λ (p : Name × Variable Name). p.0) ps in
     let vs = map (λ (p : Name × Variable Name). p.1) ps in
-    let accepted = sym (ap (λ z. z >>= λ pairs. list_definition names ds (map (λ p. p.0) pairs) (map (λ p. p.1) pairs) q) r)
+    let accepted =
+    sym (ap (λ z. z >>= λ pairs. list_definition names ds (map (λ p. p.0) pairs) (map (λ p. p.1) pairs) q) r)
     ∙ h.1 in
     let (u, p, k) = bind-ok (checked_list names [] [] ns vs q) _ h.0
     (list_definition-fewer [] ds (none-fewer ds) ns vs q h.0 accepted) in
-    let after : Result (Unit {0}) (Fault Name) → Result (Definition Name) LogFault = λ r. or_bad r >>= λ _. Ok (ListDef ps q) in
+    let after : Result (Unit {0}) (Fault Name) → Result (Definition Name) LogFault =
+    λ r. or_bad r >>= λ _. Ok (ListDef ps q) in
     ap after p
 
-pub type_operator-taken : (n abs rep : Name) (vars : List Name) (q : Sequent Name) (os : Objects) → as_each as_name os ≡ Ok vars
+pub type_operator-taken : (n abs rep : Name) (vars : List Name) (q : Sequent Name) (os : Objects)
+    → as_each as_name os ≡ Ok vars
     → (ds : List (Definition Name))
     → HasResult (defines words.DefineTypeOp ds (name n ∷ name abs ∷ name rep ∷ list os ∷ theorem q ∷ []))
     → type_operator_step names [] n abs rep vars q ≡ Ok (TyDef n abs rep vars q)
@@ -122,20 +130,23 @@ type_operator-taken n abs rep vars q os r ds h =
 -- ---- numbers of the table
 
 module _ (ts : List Item) where
-  has-constants : (ps : List (ℕ × VariableNode)) → HasPairs ts ps → All (HasOperand ts) (flat_map constant_operands ps)
+  has-constants : (ps : List (ℕ × VariableNode)) → HasPairs ts ps
+      → All (HasOperand ts) (flat_map constant_operands ps)
   has-constants [] h = All-nil (HasOperand ts)
   has-constants (p ∷ ps) h =
       let P : ℕ × VariableNode → Type 0 = λ p. HasName ts p.0 × HasVariable ts p.1 in
       let here = All-head P p ps h in
       let rest = has-constants ps (All-tail P p ps h) in
-      All-cons (HasOperand ts) (operand.Name p.0) (operand.Name p.1.name ∷ operand.Type p.1.ty ∷ flat_map constant_operands ps)
+      All-cons (HasOperand ts) (operand.Name p.0)
+      (operand.Name p.1.name ∷ operand.Type p.1.ty ∷ flat_map constant_operands ps)
       here.0
       (All-cons (HasOperand ts) (operand.Name p.1.name) (operand.Type p.1.ty ∷ flat_map constant_operands ps) here.1.0
       (All-cons (HasOperand ts) (operand.Type p.1.ty) (flat_map constant_operands ps) here.1.1 rest))
 
   has-names : (is : List ℕ) → All (HasName ts) is → All (HasOperand ts) (map operand.Name is)
   has-names [] h = All-nil (HasOperand ts)
-  has-names (i ∷ is) h = All-cons (HasOperand ts) (operand.Name i) (map operand.Name is) (All-head (HasName ts) i is h)
+  has-names (i ∷ is) h =
+      All-cons (HasOperand ts) (operand.Name i) (map operand.Name is) (All-head (HasName ts) i is h)
       (has-names is (All-tail (HasName ts) i is h))
 
   last : (i : ℕ) → All (HasOperand ts) (operand.Sequent i ∷ [])
@@ -146,7 +157,8 @@ module _ (ts : List Item) where
       → All (HasOperand ts) ops
   has-list ps k i ops e h =
       let front = flat_map constant_operands ps in
-      subst (All (HasOperand ts)) (sym e) (All-cons (HasOperand ts) (operand.Count k) (front ++ operand.Sequent i ∷ []) tt
+      subst (All (HasOperand ts)) (sym e)
+      (All-cons (HasOperand ts) (operand.Count k) (front ++ operand.Sequent i ∷ []) tt
       (All-append (HasOperand ts) front (operand.Sequent i ∷ []) (has-constants ps h) (last i)))
 
   pub has-type_operator : (n abs rep k i : ℕ) (vars : List ℕ) (ops : List code.Operand)
@@ -172,7 +184,8 @@ module _ (ts : List Item) where
   constants-operands : (ps : List (ℕ × VariableNode))
       → map (operand_at ts) (flat_map constant_operands ps) ≡ flat_map constant_pair (pairs_at ts ps)
   constants-operands [] = refl
-  constants-operands (p ∷ ps) = ap (λ l. AName (name_at ts p.0) ∷ AName (name_at ts p.1.name) ∷ AType (type_at ts p.1.ty) ∷ l)
+  constants-operands (p ∷ ps) =
+      ap (λ l. AName (name_at ts p.0) ∷ AName (name_at ts p.1.name) ∷ AType (type_at ts p.1.ty) ∷ l)
       (constants-operands ps)
 
   names-operands : (is : List ℕ) → map (operand_at ts) (map operand.Name is) ≡ map AName (names_at ts is)
@@ -214,7 +227,8 @@ module _ (ts : List Item) where
 
 -- ---- the records
 
-module _ (ts us : List Item) (e : Extends ts us) (a b : Sheet) (qs : List Statement) (has : All (HasStatement us) qs) where
+module _ (ts us : List Item) (e : Extends ts us) (a b : Sheet) (qs : List Statement)
+    (has : All (HasStatement us) qs) where
   grown : (f : Log → Log) → Moves ts a b f → (max : ℕ) (x : Log) → Shows ts max a x → Shows us max b (f x)
   grown f m = λ max x s. shows-grown ts us max b (f x) e (m max x s)
 
@@ -237,7 +251,8 @@ module _ (ts us : List Item) (e : Extends ts us) (a b : Sheet) (qs : List Statem
         (grown (write_entry (constants_entry ps i)) m);
     has = has;
     theorems_are = λ ds d h. are ∙ ap (theorems names)
-        (list-is ds ps q d (sym (ap (λ z. z >>= λ pairs. list_definition names ds (map (λ p. p.0) pairs) (map (λ p. p.1) pairs) q)
+        (list-is ds ps q d
+        (sym (ap (λ z. z >>= λ pairs. list_definition names ds (map (λ p. p.0) pairs) (map (λ p. p.1) pairs) q)
         r) ∙ h));
   }
 
@@ -251,7 +266,8 @@ module _ (ts us : List Item) (e : Extends ts us) (a b : Sheet) (qs : List Statem
         (grown (write_entry (type_operator_entry n abs rep vars i)) m);
     has = has;
     theorems_are = λ ds d h. are ∙ ap (theorems names)
-        (type-is ds n abs rep vars q d (sym (ap (λ z. z >>= λ vars. type_definition names ds n abs rep vars q) r) ∙ h));
+        (type-is ds n abs rep vars q d (sym (ap (λ z. z >>= λ vars. type_definition names ds n abs rep vars q) r)
+        ∙ h));
   }
 
 pub on-ok : {E : Type 0} {P Q : Type 0} (r : Result (Unit {0}) E) → (P → Q) → OnOk r P → OnOk r Q

@@ -37,7 +37,8 @@ use Rattle.ot_words.proofs.Recorded.{adds-grown, axiom-value, subst-value}
 module _ (ts : List Item) where
   pub has-terms : (is : List ℕ) → All (HasTerm ts) is → All (HasOperand ts) (map operand.Term is)
   has-terms [] h = All-nil (HasOperand ts)
-  has-terms (i ∷ is) h = All-cons (HasOperand ts) (operand.Term i) (map operand.Term is) (All-head (HasTerm ts) i is h)
+  has-terms (i ∷ is) h =
+      All-cons (HasOperand ts) (operand.Term i) (map operand.Term is) (All-head (HasTerm ts) i is h)
       (has-terms is (All-tail (HasTerm ts) i is h))
 
   pub has-types : (ps : List (ℕ × ℕ)) → HasTypes ts ps → All (HasOperand ts) (flat_map type_operands ps)
@@ -55,7 +56,8 @@ module _ (ts : List Item) where
       let P : VariableNode × ℕ → Type 0 = λ p. HasVariable ts p.0 × HasTerm ts p.1 in
       let here = All-head P p ps h in
       let rest = has-pairs ps (All-tail P p ps h) in
-      All-cons (HasOperand ts) (operand.Name p.0.name) (operand.Type p.0.ty ∷ operand.Term p.1 ∷ flat_map term_operands ps)
+      All-cons (HasOperand ts) (operand.Name p.0.name)
+      (operand.Type p.0.ty ∷ operand.Term p.1 ∷ flat_map term_operands ps)
       here.0.0
       (All-cons (HasOperand ts) (operand.Type p.0.ty) (operand.Term p.1 ∷ flat_map term_operands ps) here.0.1
       (All-cons (HasOperand ts) (operand.Term p.1) (flat_map term_operands ps) here.1 rest))
@@ -64,7 +66,8 @@ module _ (ts : List Item) where
       → ops ≡ operand.Term p ∷ operand.Count k ∷ map operand.Term is → HasTerm ts p → All (HasTerm ts) is
       → All (HasOperand ts) ops
   has-assumption p k is ops e h l =
-      subst (All (HasOperand ts)) (sym e) (All-cons (HasOperand ts) (operand.Term p) (operand.Count k ∷ map operand.Term is) h
+      subst (All (HasOperand ts)) (sym e)
+      (All-cons (HasOperand ts) (operand.Term p) (operand.Count k ∷ map operand.Term is) h
       (All-cons (HasOperand ts) (operand.Count k) (map operand.Term is) tt (has-terms is l)))
 
   pub has-subst : (i k m : ℕ) (types : List (ℕ × ℕ)) (terms : List (VariableNode × ℕ)) (ops : List code.Operand)
@@ -75,7 +78,8 @@ module _ (ts : List Item) where
       subst (All (HasOperand ts)) (sym e)
       (All-cons (HasOperand ts) (operand.Sequent i)
       (operand.Count k ∷ (flat_map type_operands types ++ operand.Count m ∷ flat_map term_operands terms)) tt
-      (All-cons (HasOperand ts) (operand.Count k) (flat_map type_operands types ++ operand.Count m ∷ flat_map term_operands terms)
+      (All-cons (HasOperand ts) (operand.Count k)
+      (flat_map type_operands types ++ operand.Count m ∷ flat_map term_operands terms)
       tt
       (All-append (HasOperand ts) (flat_map type_operands types) (operand.Count m ∷ flat_map term_operands terms)
       (has-types types h)
@@ -87,14 +91,16 @@ module _ (ts : List Item) where
   terms-operands [] = refl
   terms-operands (i ∷ is) = ap (λ l. ATerm (term_at ts i) ∷ l) (terms-operands is)
 
-  types-operands : (ps : List (ℕ × ℕ)) → map (operand_at ts) (flat_map type_operands ps) ≡ flat_map type_pair (type_map ts ps)
+  types-operands : (ps : List (ℕ × ℕ)) → map (operand_at ts) (flat_map type_operands ps)
+      ≡ flat_map type_pair (type_map ts ps)
   types-operands [] = refl
   types-operands (p ∷ ps) = ap (λ l. AName (name_at ts p.0) ∷ AType (type_at ts p.1) ∷ l) (types-operands ps)
 
   pairs-operands : (ps : List (VariableNode × ℕ))
       → map (operand_at ts) (flat_map term_operands ps) ≡ flat_map term_pair (term_map ts ps)
   pairs-operands [] = refl
-  pairs-operands (p ∷ ps) = ap (λ l. AName (name_at ts p.0.name) ∷ AType (type_at ts p.0.ty) ∷ ATerm (term_at ts p.1) ∷ l)
+  pairs-operands (p ∷ ps) =
+      ap (λ l. AName (name_at ts p.0.name) ∷ AType (type_at ts p.0.ty) ∷ ATerm (term_at ts p.1) ∷ l)
       (pairs-operands ps)
 
   map-long : {X Y : Type 0} (f : X → Y) (xs : List X) → length (map f xs) ≡ length xs
@@ -102,7 +108,8 @@ module _ (ts : List Item) where
   map-long f (x ∷ xs) = ap suc (map-long f xs)
 
   pub assumption-is : (p : ℕ) (sorted : List ℕ) (hyps : List (Tm Name)) (ops : List code.Operand)
-      → ops ≡ operand.Term p ∷ operand.Count (length sorted) ∷ map operand.Term sorted → map (term_at ts) sorted ≡ by_text hyps
+      → ops ≡ operand.Term p ∷ operand.Count (length sorted) ∷ map operand.Term sorted → map (term_at ts) sorted
+      ≡ by_text hyps
       → entry_at ts records.Assumption ops ≡ assumption_entry hyps (term_at ts p)
   assumption-is p sorted hyps ops e s =
       ap (entry_at ts records.Assumption) e
@@ -125,8 +132,10 @@ module _ (ts : List Item) where
       long : length types ≡ length (type_map ts types)
       long = sym (map-long {Y = Name × Ty Name} (λ p. (name_at ts p.0, type_at ts p.1)) types)
 
-      all : map (operand_at ts) (flat_map type_operands types ++ operand.Count (length terms) ∷ flat_map term_operands terms)
-          ≡ flat_map type_pair (type_map ts types) ++ Count (length (term_map ts terms)) ∷ flat_map term_pair (term_map ts terms)
+      all : map (operand_at ts)
+          (flat_map type_operands types ++ operand.Count (length terms) ∷ flat_map term_operands terms)
+          ≡ flat_map type_pair (type_map ts types) ++ Count (length (term_map ts terms))
+          ∷ flat_map term_pair (term_map ts terms)
       all = map-append (operand_at ts) (flat_map type_operands types)
           (operand.Count (length terms) ∷ flat_map term_operands terms)
           ∙ (λ j. types-operands types j ++ Count (sym (map-long {Y = Variable Name × Tm Name}
@@ -138,7 +147,8 @@ module _ (ts us : List Item) (e : Extends ts us) (a b : Sheet) (n : ℕ) (q : St
   pub axiom-records : (hyps : List ℕ) (p : ℕ) (ops : List code.Operand) (os : Objects)
       → entry_at ts records.Assumption ops ≡ assumption_entry (terms_at ts hyps) (term_at ts p)
       → Adds ts ts a b (λ x. entry_at ts records.Assumption ops ∷ []) n
-      → Gives (Ok q) (assumption_step names (terms_at ts hyps) (term_at ts p)) us → as_each as_term os ≡ Ok (terms_at ts hyps)
+      → Gives (Ok q) (assumption_step names (terms_at ts hyps) (term_at ts p)) us
+      → as_each as_term os ≡ Ok (terms_at ts hyps)
       → Records ts us a b words.Axiom (list os ∷ term (term_at ts p) ∷ []) [] (record { statement = q; number = n })
   axiom-records hyps p ops os is A g r =
       let hs = terms_at ts hyps in
@@ -147,21 +157,25 @@ module _ (ts us : List Item) (e : Extends ts us) (a b : Sheet) (n : ℕ) (q : St
             (subst (λ z. Adds ts ts a b (λ x. read (λ hyps. assumption_entry hyps t ∷ []) z) n) (sym r)
             (subst (λ z. Adds ts ts a b (λ x. z ∷ []) n) is A));
         has = g.0;
-        value = subst (λ z. IsTheoremOf (z >>= λ hyps. axiom_rule hyps t >>= λ q. Ok (theorem q)) (sequent_at us q)) (sym r)
+        value = subst (λ z. IsTheoremOf (z >>= λ hyps. axiom_rule hyps t >>= λ q. Ok (theorem q)) (sequent_at us q))
+            (sym r)
             (axiom-value hs t (sequent_at us q) g.1);
       }
 
-  pub subst-records : (types : List (ℕ × ℕ)) (terms : List (VariableNode × ℕ)) (th : Statement) (i : ℕ) (ops : List code.Operand)
+  pub subst-records : (types : List (ℕ × ℕ)) (terms : List (VariableNode × ℕ)) (th : Statement) (i : ℕ)
+      (ops : List code.Operand)
       (os : Objects) → entry_at ts records.Subst ops ≡ subst_entry (type_map ts types) (term_map ts terms) i
       → Adds ts ts a b (λ x. entry_at ts records.Subst ops ∷ []) n
       → Gives (Ok q) (subst_step names (type_map ts types) (term_map ts terms) (sequent_at ts th)) us
       → maps_of os ≡ Ok (type_map ts types, term_map ts terms)
-      → Records ts us a b words.Subst (list os ∷ theorem (sequent_at ts th) ∷ []) (i ∷ []) (record { statement = q; number = n })
+      → Records ts us a b words.Subst (list os ∷ theorem (sequent_at ts th) ∷ []) (i ∷ [])
+      (record { statement = q; number = n })
   subst-records types terms th i ops os is A g r =
       let s = type_map ts types in
       let m = term_map ts terms in
       let one = sequent_at ts th in record {
-        adds = adds-grown ts us a b (λ x. theorem_entries x.sequents words.Subst (list os ∷ theorem one ∷ []) (i ∷ [])) n e
+        adds = adds-grown ts us a b
+            (λ x. theorem_entries x.sequents words.Subst (list os ∷ theorem one ∷ []) (i ∷ [])) n e
             (subst (λ z. Adds ts ts a b (λ x. read (λ maps. subst_entry maps.0 maps.1 i ∷ []) z) n) (sym r)
             (subst (λ z. Adds ts ts a b (λ x. z ∷ []) n) is A));
         has = g.0;

@@ -1,13 +1,15 @@
 -- The records of words and their sequents, over plain values.
 use Rattle.std.specs.Prelude.{not, ◌&&◌, ◌-◌, nat_eq, IsErrAnd}
 use Rattle.std.specs.List.{list_all}
-use Rattle.std.proofs.Common.{◌≡◌, ℕ, Bool, true, cond, List, [], ◌∷◌, map, Option, Some, Result, Ok, Err, refl, sym, ap, subst}
+use Rattle.std.proofs.Common.{◌≡◌, ℕ, Bool, true, cond, List, [], ◌∷◌, map}
+use Rattle.std.proofs.Common.{Option, Some, Result, Ok, Err, refl, sym, ap, subst}
 use Rattle.std.proofs.Common.{◌∙◌}
 use Rattle.ot_plain.specs.Names.{Name}
 use Rattle.ot_plain.specs.Naming.{names}
 use Rattle.ot_plain.specs.Table.{Extends, IsInjective}
 use Rattle.ot_plain.specs.Trees.{Ty, Tm, App, Abs, Sequent}
-use Rattle.ot_plain.specs.Hol.{TypeMap, TermMap, bool_ty, type_of, equation, opened, sequent_of, subst_tm, once_each, same_tm}
+use Rattle.ot_plain.specs.Hol.{TypeMap, TermMap, bool_ty, type_of, equation}
+use Rattle.ot_plain.specs.Hol.{opened, sequent_of, subst_tm, once_each, same_tm}
 use Rattle.ot_plain.specs.Hol.{is_in, as_equation}
 use Rattle.ot_plain.specs.Faults.{Fault, NotBool}
 use Rattle.ot_plain.specs.Answers.{◌>>=◌, unless}
@@ -18,7 +20,8 @@ use Rattle.ot_plain.specs.declared.command.Cmd.TheVariants as words
 use Rattle.ot_laws.proofs.Tests.{tells_names}
 use Rattle.ot_laws.proofs.Steps.{within_limit-ok}
 use Rattle.ot_records.specs.Tokens.{LogFault, BadStep}
-use Rattle.ot_records.specs.Steps.{Step, is_well_typed, is_proposition, refl_step, beta_step, subst_step, assumption_step}
+use Rattle.ot_records.specs.Steps.{Step, is_well_typed, is_proposition, refl_step}
+use Rattle.ot_records.specs.Steps.{beta_step, subst_step, assumption_step}
 use Rattle.ot_records.specs.Steps.{first_pairs}
 use Rattle.ot_entries.specs.Entries.{Entry}
 use Rattle.ot_entries.specs.Logged.{Log, write_sequents}
@@ -48,11 +51,14 @@ use Rattle.ot_plain.proofs.Results.{bind-ok, same_Ok, unless-ok}
 
 -- ---- tables that grow
 
-pub adds-grown : (ts us : List Item) (a b : Sheet) (es : Log → List Entry) (n : ℕ) → Extends ts us → Adds ts ts a b es n
+pub adds-grown : (ts us : List Item) (a b : Sheet) (es : Log → List Entry) (n : ℕ) → Extends ts us
+    → Adds ts ts a b es n
     → Adds ts us a b es n
-adds-grown ts us a b es n e h = λ max x s. let r = h max x s in (shows-grown ts us max b (write_sequents (es x) x) e r.0, r.1)
+adds-grown ts us a b es n e h = λ max x s. let r = h max x s in
+    (shows-grown ts us max b (write_sequents (es x) x) e r.0, r.1)
 
-pub adds-later : (ts us vs : List Item) (a b : Sheet) (es : Log → List Entry) (n : ℕ) → Extends ts us → Adds us vs a b es n
+pub adds-later : (ts us vs : List Item) (a b : Sheet) (es : Log → List Entry) (n : ℕ) → Extends ts us
+    → Adds us vs a b es n
     → Adds ts vs a b es n
 adds-later ts us vs a b es n e h = λ max x s. h max x (shows-grown ts us max a x e s)
 
@@ -92,9 +98,12 @@ beta-value t q s = theorem-of (beta_conv_rule names t) q (λ r p. go t s r p)
 pub subst-value : (s : TypeMap names) (m : TermMap names) (a q : Sequent Name) → subst_step names s m a ≡ Ok q
     → IsTheoremOf (subst_rule names s m a >>= λ r. Ok (theorem r)) q
 subst-value s m a q h = theorem-of (subst_rule names s m a) q (λ r p.
-    let made : (Tm Name → Tm Name) → Sequent Name = λ f. record { hyps = once_each names (map f a.hyps); concl = f a.concl } in
-    let same : subst_tm names s (first_pairs names m) ≡ subst_tm names s m = λ i t. subst-first names tells_names s m t i in
-    let (u, e, k) = bind-ok (unless BadStep (list_all (λ p. has_type names p.1 p.0.ty) (first_pairs names m))) _ q h in
+    let made : (Tm Name → Tm Name) → Sequent Name =
+    λ f. record { hyps = once_each names (map f a.hyps); concl = f a.concl } in
+    let same : subst_tm names s (first_pairs names m) ≡ subst_tm names s m =
+    λ i t. subst-first names tells_names s m t i in
+    let (u, e, k) = bind-ok (unless BadStep (list_all (λ p. has_type names p.1 p.0.ty) (first_pairs names m))) _ q
+    h in
     sym (same_Ok (made (subst_tm names s (first_pairs names m))) q k) ∙ ap made same
     ∙ (within_limit-ok names tells_names (made (subst_tm names s m)) r p).1)
 
@@ -110,20 +119,23 @@ axiom-value hyps p q h = theorem-of (axiom_rule hyps p) q (λ r k.
 -- ---- what isn't refused
 
 -- a fault that is handed on
-pub handed : {A : Type 0} (r : Result A StepFault) (e : StepFault) → IsErrAnd r (λ x. x ≡ e) → e ≡ fault.Memory → IsNotRefused r
+pub handed : {A : Type 0} (r : Result A StepFault) (e : StepFault) → IsErrAnd r (λ x. x ≡ e) → e ≡ fault.Memory
+    → IsNotRefused r
 handed {A} (Ok a) e h m = tt
 handed {A} (Err x) e h m = subst (λ z. IsNotRefused {A = A} (Err z)) (sym (h ∙ m)) tt
 
 pub err-ok : {A : Type 0} (x : A) → ◌≡◌ {A = Result A LogFault} (Err BadStep) (Ok x) → ⊥
 err-ok x h = cc
 
-gives-memory : (e : StepFault) (step : Step names) (ts : List Item) (q : Sequent Name) → Gives (Err e) step ts → step ≡ Ok q
+gives-memory : (e : StepFault) (step : Step names) (ts : List Item) (q : Sequent Name) → Gives (Err e) step ts
+    → step ≡ Ok q
     → e ≡ fault.Memory
 gives-memory fault.BadStep step ts q g k = absurd (err-ok q (sym g ∙ k))
 gives-memory fault.Memory step ts q g k = refl
 
 -- a step that gives a sequent isn't refused
-pub gives-taken : {A : Type 0} (r : Result A StepFault) (e : StepFault) (step : Step names) (ts : List Item) (q : Sequent Name)
+pub gives-taken : {A : Type 0} (r : Result A StepFault) (e : StepFault) (step : Step names) (ts : List Item)
+    (q : Sequent Name)
     → IsErrAnd r (λ x. x ≡ e) → Gives (Err e) step ts → step ≡ Ok q → IsNotRefused r
 gives-taken r e step ts q h g k = handed r e h (gives-memory e step ts q g k)
 
@@ -147,7 +159,8 @@ axiom-ruled hyps p q h =
     ap (λ z. unless BadStep z >>= λ _. Ok made) b ∙ ap Ok (same_Ok made q l)
 
 -- the words that make something of a term alone
-pub one-term : (w : Cmd) (t : Tm Name) (o : Object) → (w ≡ words.Refl → ⊥) → (w ≡ words.Assume → ⊥) → (w ≡ words.BetaConv → ⊥)
+pub one-term : (w : Cmd) (t : Tm Name) (o : Object) → (w ≡ words.Refl → ⊥) → (w ≡ words.Assume → ⊥)
+    → (w ≡ words.BetaConv → ⊥)
     → applied (maker w) (term t ∷ []) ≡ Ok o → ⊥
 one-term words.Refl t o a b c e = a refl
 one-term words.Assume t o a b c e = b refl
@@ -168,7 +181,8 @@ two-theorems _ q r o a b c d e h = absurd (cc)
 -- ---- a word's records
 
 module _ (ts us : List Item) (a b : Sheet) (n : ℕ) (q : Statement) (e : Extends ts us) where
-  pub made-records : (w : Cmd) (vs : List Object) (is : List ℕ) → Adds ts ts a b (λ x. theorem_entries x.sequents w vs is) n
+  pub made-records : (w : Cmd) (vs : List Object) (is : List ℕ)
+      → Adds ts ts a b (λ x. theorem_entries x.sequents w vs is) n
       → HasStatement us q → IsTheoremOf (applied (maker w) vs) (sequent_at us q)
       → Records ts us a b w vs is (record { statement = q; number = n })
   made-records w vs is A h v = record {
@@ -194,7 +208,8 @@ module _ (ts mid us : List Item) (e : Extends ts mid) (f : Extends mid us) (a b 
             let z = A max x k in
             subst (λ o. Shows us max b (write_sequents (sym_of x.sequents o i) x)
             × (n ≡ (write_sequents (sym_of x.sequents o i) x).sequents - 1)) (sym are.is) (
-              shows-grown mid us max b (write_sequents (sym_entries x.sequents (type_at ts s.ty) (term_at ts s.left) i) x) f z.0,
+              shows-grown mid us max b
+                  (write_sequents (sym_entries x.sequents (type_at ts s.ty) (term_at ts s.left) i) x) f z.0,
               z.1,
             );
         has = m.0;
@@ -238,20 +253,28 @@ chain-by ts one e f b g h p = same-terms ts one e.right f.left g.right h.left �
 abbrev pub is_lower : Sequent Name → Sequent Name → Bool
 is_lower a b = not (is_in names b.concl a.hyps) && is_in names a.concl b.hyps
 
-pub proved-records : (ts : List Item) (a b : Sheet) (n : ℕ) (q : Statement) (one two : Sequent Name) (i j : ℕ) (t : Bool)
+pub proved-records : (ts : List Item) (a b : Sheet) (n : ℕ) (q : Statement) (one two : Sequent Name) (i j : ℕ)
+    (t : Bool)
     → is_lower one two ≡ t
     → Adds ts ts a b (λ x. cond t (prove_hyp_entries x.sequents i j) (prove_hyp_entries x.sequents j i)) n
     → IsStatementOf ts (cond t (proved_hyp names one two) (proved_hyp names two one)) q
-    → Records ts ts a b words.ProveHyp (theorem one ∷ theorem two ∷ []) (i ∷ j ∷ []) (record { statement = q; number = n })
+    → Records ts ts a b words.ProveHyp (theorem one ∷ theorem two ∷ []) (i ∷ j ∷ [])
+    (record { statement = q; number = n })
 proved-records ts a b n q one two i j t e A m = record {
-  adds = subst (λ t. Adds ts ts a b (λ x. cond t (prove_hyp_entries x.sequents i j) (prove_hyp_entries x.sequents j i)) n) (sym e)
+  adds = subst
+      (λ t. Adds ts ts a b (λ x. cond t (prove_hyp_entries x.sequents i j) (prove_hyp_entries x.sequents j i)) n)
+      (sym e)
       A;
   has = m.0;
   value = theorem-of (prove_hyp_rule names one two) (sequent_at ts q)
       (λ r p. m.1 ∙ ap (λ t. cond t (proved_hyp names one two) (proved_hyp names two one)) (sym e) ∙ same_Ok _ r p);
 }
 
-pub records-later : (ts us vs : List Item) (a b : Sheet) → Extends ts us → (w : Cmd) (os : List Object) (is : List ℕ) (m : Made)
+pub records-later : (ts us vs : List Item) (a b : Sheet) → Extends ts us
+    → (w : Cmd) (os : List Object) (is : List ℕ) (m : Made)
     → Records us vs a b w os is m → Records ts vs a b w os is m
-records-later ts us vs a b e w os is m r = record
-    { adds = adds-later ts us vs a b (λ x. theorem_entries x.sequents w os is) m.number e r.adds; has = r.has; value = r.value }
+records-later ts us vs a b e w os is m r = record {
+  adds = adds-later ts us vs a b (λ x. theorem_entries x.sequents w os is) m.number e r.adds;
+  has = r.has;
+  value = r.value;
+}

@@ -48,19 +48,21 @@ AcceptsDefinition r w vs = (ds : List (Definition Name)) → HasResult (defines 
 abbrev pub IsTheoremOf : Read → Sequent Name → Type 0
 IsTheoremOf r q = (o : Object) → r ≡ Ok o → o ≡ theorem q
 
--- the records of a word were added, for operands with these values, and numbers of theorems among these; the last one's
--- sequent is what the word makes of the values. The table of nodes may have grown
+-- the records of a word were added, for operands with these values, and numbers of theorems among these; the last
+-- one's sequent is what the word makes of the values. The table of nodes may have grown
 pub record Records
     (ts us : List Item) (old new : Sheet) (w : Cmd) (vs : List Object) (is : List ℕ) (m : Made) : Type 0 where
   pub adds : Adds ts us old new (λ x. theorem_entries x.sequents w vs is) m.number
   pub has : HasStatement us m.statement
   pub value : IsTheoremOf (applied (maker w) vs) (sequent_at us m.statement)
 
--- the record of a definition was added, for operands with these values, and numbers of theorems among these; the sequents
--- are the theorems of what the word defines, after whatever definitions it is accepted
+-- the record of a definition was added, for operands with these values, and numbers of theorems among these; the
+-- sequents are the theorems of what the word defines, after whatever definitions it is accepted
 pub record Defined
-    (ts us : List Item) (old new : Sheet) (w : Cmd) (vs : List Object) (is : List ℕ) (qs : List Statement) : Type 0 where
-  pub adds : (max : ℕ) (x : Log) → Shows ts max old x → Shows us max new (write_entries (definition_entries w vs is) x)
+    (ts us : List Item) (old new : Sheet) (w : Cmd) (vs : List Object) (is : List ℕ) (qs : List Statement) : Type
+    0 where
+  pub adds : (max : ℕ) (x : Log) → Shows ts max old x
+      → Shows us max new (write_entries (definition_entries w vs is) x)
   pub has : All (HasStatement us) qs
   pub theorems_are : (ds : List (Definition Name)) (d : Definition Name) → defines w ds vs ≡ Ok d
       → map (sequent_at us) qs ≡ theorems names d

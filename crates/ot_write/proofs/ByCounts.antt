@@ -1,5 +1,6 @@
 -- The text by counts is the article of the names.
-use Rattle.std.proofs.Common.{◌≡◌, ◌≢◌, ℕ, zero, suc, ◌<◌, ◌≤◌, ◌⊎◌, inl, inr, Bool, false, List, [], ◌∷◌, ◌++◌, length, map, arith, refl, sym, ap, subst, ◌∙◌}
+use Rattle.std.proofs.Common.{◌≡◌, ◌≢◌, ℕ, zero, suc, ◌<◌, ◌≤◌, ◌⊎◌, inl, inr, Bool, false, List}
+use Rattle.std.proofs.Common.{[], ◌∷◌, ◌++◌, length, map, arith, refl, sym, ap, subst, ◌∙◌}
 use Rattle.std.specs.Prelude.{min, nat_le}
 use Rattle.std.specs.Bool.{Decides}
 use Rattle.std.specs.List.{All, flat_map}
@@ -35,7 +36,8 @@ told n k small = elim (bool_cases (nat_le n k)) [
 ]
 
 -- an origin is in the table or it isn't
-in-table : (ts : List (Origin ℕ)) (o : Origin ℕ) → ((i : ℕ) × (i < length ts) × (origin_at ts i ≡ o)) ⊎ ((i : ℕ) → i < length ts → origin_at ts i ≢ o)
+in-table : (ts : List (Origin ℕ)) (o : Origin ℕ) → ((i : ℕ) × (i < length ts) × (origin_at ts i ≡ o))
+    ⊎ ((i : ℕ) → i < length ts → origin_at ts i ≢ o)
 in-table [] o = inr (λ i h. absurd (omega arith))
 in-table (t ∷ ts) o = elim (bool_cases (same t o)) [
   | inl e ↦ inl (0, omega arith, (same-is t o).0 e)
@@ -45,14 +47,17 @@ in-table (t ∷ ts) o = elim (bool_cases (same t o)) [
   ]
 ]
   where
-    outside : (t : Origin ℕ) (ts : List (Origin ℕ)) (o : Origin ℕ) → same t o ≡ false → ((i : ℕ) → i < length ts → origin_at ts i ≢ o) → (i : ℕ) → i < length (t ∷ ts) → origin_at (t ∷ ts) i ≢ o
+    outside : (t : Origin ℕ) (ts : List (Origin ℕ)) (o : Origin ℕ) → same t o ≡ false
+        → ((i : ℕ) → i < length ts → origin_at ts i ≢ o) → (i : ℕ) → i < length (t ∷ ts) → origin_at (t ∷ ts) i ≢ o
     outside t ts o e n zero h = λ p. let q = (same-is t o).1 p in absurd (cc)
     outside t ts o e n (suc i) h = n i (omega arith)
 
 -- the origins of the exports' root steps are their roots
-pub roots-are : (ts : List (Origin ℕ)) (es : List code.Roots) → map (origin_at ts) (flat_map root_steps es) ≡ roots_of (map (roots_at ts) es)
+pub roots-are : (ts : List (Origin ℕ)) (es : List code.Roots) → map (origin_at ts) (flat_map root_steps es)
+    ≡ roots_of (map (roots_at ts) es)
 roots-are ts [] = refl
-roots-are ts (e ∷ es) = ap (λ l. origin_at ts e.theorem ∷ origin_at ts e.list ∷ origin_at ts e.term ∷ l) (roots-are ts es)
+roots-are ts (e ∷ es) = ap (λ l. origin_at ts e.theorem ∷ origin_at ts e.list ∷ origin_at ts e.term ∷ l)
+    (roots-are ts es)
 
 -- lines over numbers are the lines over their names
 number-names : (ns : List Name) (ls : List (Line ℕ)) → number_lines ns ls ≡ bytes_of (map (line_with (name_of ns)) ls)
@@ -62,8 +67,10 @@ number-names ns (l ∷ ls) = ap (λ z. line_bytes (line_with (name_of ns) l) ++ 
 tells-names : (a b : Origin Name) → Decides (same_origin names.same a b) (a ≡ b)
 tells-names = same-origin-law names.same same_name-Decides
 
-module _ (ns : List Name) (ts : List (Origin ℕ)) (table : IsStepTable ts) (ds : List ℕ) (es : List code.Roots) (roots_in : IsIn (length ts) (flat_map root_steps es)) (ds_in : IsIn (length ts) ds)
-    (marks : List Bool) (m : MarksReached ts (flat_map root_steps es) ds marks) (counts : List ℕ) (c : AreCounts ts (flat_map root_steps es) marks counts) where
+module _ (ns : List Name) (ts : List (Origin ℕ)) (table : IsStepTable ts) (ds : List ℕ) (es : List code.Roots)
+    (roots_in : IsIn (length ts) (flat_map root_steps es)) (ds_in : IsIn (length ts) ds)
+    (marks : List Bool) (m : MarksReached ts (flat_map root_steps es) ds marks) (counts : List ℕ)
+    (c : AreCounts ts (flat_map root_steps es) marks counts) where
   abbrev R : List (Origin ℕ)
   R = map (origin_at ts) (flat_map root_steps es)
 
@@ -72,9 +79,13 @@ module _ (ns : List Name) (ts : List (Origin ℕ)) (table : IsStepTable ts) (ds 
 
   capped : (o : Origin ℕ) → count_of ts counts o ≡ min 2 (u.use_count same R D o)
   capped o = elim (in-table ts o) [
-    | inl r ↦ ap (count_of ts counts) (sym r.2) ∙ count-at ts counts r.0 _ (once-at ts table) r.1 (c.counted same same-is r.0 r.1)
-        ∙ ap (min 2) (sym (uses-marked ts table (flat_map root_steps es) ds roots_in ds_in marks m (origin_at ts r.0))) ∙ ap (λ z. min 2 (u.use_count same R D z)) r.2
-    | inr n ↦ count-none ts counts o n ∙ ap (min 2) (sym (uses-outside ts table (flat_map root_steps es) ds roots_in ds_in marks m o n))
+    | inl r ↦ ap (count_of ts counts) (sym r.2)
+        ∙ count-at ts counts r.0 _ (once-at ts table) r.1 (c.counted same same-is r.0 r.1)
+        ∙ ap (min 2)
+        (sym (uses-marked ts table (flat_map root_steps es) ds roots_in ds_in marks m (origin_at ts r.0)))
+        ∙ ap (λ z. min 2 (u.use_count same R D z)) r.2
+    | inr n ↦ count-none ts counts o n
+        ∙ ap (min 2) (sym (uses-outside ts table (flat_map root_steps es) ds roots_in ds_in marks m o n))
   ]
 
   two : (o : Origin ℕ) → nat_le 2 (count_of ts counts o) ≡ u.is_shared same R D o
@@ -86,13 +97,18 @@ module _ (ns : List Name) (ts : List (Origin ℕ)) (table : IsStepTable ts) (ds 
   needed-is : map (origin_at ts) (taken marks ds) ≡ needed_definitions same R D
   needed-is = taken-needed ts table (flat_map root_steps es) ds roots_in ds_in marks m
 
-  by-counts : counted_bytes (given ns ts counts) (taken marks ds) es ≡ number_lines ns (u.article same D (map (roots_at ts) es)).lines
-  by-counts = (λ i. number_lines ns (w.written same (λ o. two o i) (λ o. one o i) (needed-is i) (map (roots_at ts) es)).lines)
-      ∙ ap (λ roots. number_lines ns (w.written same (u.is_shared same roots D) (u.has_use same roots D) (needed_definitions same roots D) (map (roots_at ts) es)).lines) (roots-are ts es)
+  by-counts : counted_bytes (given ns ts counts) (taken marks ds) es
+      ≡ number_lines ns (u.article same D (map (roots_at ts) es)).lines
+  by-counts =
+      (λ i. number_lines ns (w.written same (λ o. two o i) (λ o. one o i) (needed-is i) (map (roots_at ts) es)).lines)
+      ∙ ap (λ roots. number_lines ns (w.written same (u.is_shared same roots D) (u.has_use same roots D)
+      (needed_definitions same roots D) (map (roots_at ts) es)).lines) (roots-are ts es)
 
   pub counted-article : counted_bytes (given ns ts counts) (taken marks ds) es ≡ article_bytes ns ts ds es
   counted-article = by-counts ∙ number-names ns (u.article same D (map (roots_at ts) es)).lines
-      ∙ ap bytes_of (sym (renamed-article-law (name_of ns) (name_of-injective ns) (same_origin names.same) same tells-names same-is D (map (roots_at ts) es)))
+      ∙ ap bytes_of
+      (sym (renamed-article-law (name_of ns) (name_of-injective ns) (same_origin names.same) same tells-names
+      same-is D (map (roots_at ts) es)))
 
 -- ---- numbers inside
 

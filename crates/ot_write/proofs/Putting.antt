@@ -34,7 +34,8 @@ put-put x y (Bytes bs room) = go (nat_le (length x) room) refl where
       let t = false-le (length (x ++ y)) room (omega (arith, n, a, b)) in
       rw t refl
 
-  go : (e : Bool) → nat_le (length x) room ≡ e → put y (cond e (Bytes (bs ++ x) (room - length x)) Full) ≡ put (x ++ y) (Bytes bs room)
+  go : (e : Bool) → nat_le (length x) room ≡ e → put y (cond e (Bytes (bs ++ x) (room - length x)) Full)
+      ≡ put (x ++ y) (Bytes bs room)
   go true h = fits (nat_le (length y) (room - length x)) h refl
   go false h =
       let b = le-false _ _ h in
@@ -54,7 +55,8 @@ put-none Full = refl
 
 pub whole-text : (x bs : List ℕ) (max room : ℕ) → Bytes bs room ≡ put x (Bytes [] max) → (bs ≡ x) × (length x ≤ max)
 whole-text x bs max room h = go (nat_le (length x) max) refl h where
-  go : (e : Bool) → nat_le (length x) max ≡ e → Bytes bs room ≡ cond e (Bytes x (max - length x)) Full → (bs ≡ x) × (length x ≤ max)
+  go : (e : Bool) → nat_le (length x) max ≡ e → Bytes bs room ≡ cond e (Bytes x (max - length x)) Full
+      → (bs ≡ x) × (length x ≤ max)
   go true k w = (cc, le-true _ _ k)
   go false k w = cc
 

@@ -1,5 +1,6 @@
 -- What the writer's code stands for.
-use Rattle.std.specs.Prelude.{◌≡◌, ℕ, suc, ◌+◌, ◌<◌, Bool, cond, List, [], ◌∷◌, map, set, length, nat_eq, nat_le, Option, Some, slice_get, slice_index_or, false}
+use Rattle.std.specs.Prelude.{◌≡◌, ℕ, suc, ◌+◌, ◌<◌, Bool, cond, List, [], ◌∷◌, map, set, length}
+use Rattle.std.specs.Prelude.{nat_eq, nat_le, Option, Some, slice_get, slice_index_or, false}
 use Rattle.std.specs.List.{AllByRecursion, flat_map}
 use Rattle.ot_plain.specs.Names.{Name}
 use Rattle.ot_plain.specs.Naming.{name_of}
@@ -70,13 +71,15 @@ pub record Shows (g : Given) (max : ℕ) (x : Writer) (t : Text ℕ) : Type 0 wh
 -- the key of each step
 pub record HasKeys (ts : List (Origin ℕ)) (keys : List (Option ℕ)) (stored : List ℕ) : Type 0 where
   pub long : length keys ≡ length ts
-  pub each : (i : ℕ) → i < length ts → slice_get keys i ≡ Some (w.key_of same (origin_at ts i) (map (origin_at ts) stored))
+  pub each : (i : ℕ) → i < length ts
+      → slice_get keys i ≡ Some (w.key_of same (origin_at ts i) (map (origin_at ts) stored))
 
 -- the end of a definition: its word, its theorems, and what it pushed below them
 abbrev pub end_definition : Given → Cmd → Origins ℕ → Text ℕ → Text ℕ
 end_definition g c os t =
     w.pops same (keep g) (used g) (w.symbol_count c)
-    (w.outcomes same (keep g) (used g) (o.Define c os) (w.theorem_count c) (w.make same (o.Define c os) (w.Order c) t))
+    (w.outcomes same (keep g) (used g) (o.Define c os) (w.theorem_count c)
+    (w.make same (o.Define c os) (w.Order c) t))
 
 -- what a task does to a text
 abbrev pub close : Given → Origin ℕ → Text ℕ → Text ℕ
@@ -126,13 +129,15 @@ Moves g old new f = (max : ℕ) (t : Text ℕ) → Shows g max old t → Shows g
 
 -- one task is done: the tasks that were put in its place do the same
 abbrev pub Replaces : Given → Writer → Writer → List Task → List Task → (Text ℕ → Text ℕ) → Type 0
-Replaces g old new before after f = (max : ℕ) (t : Text ℕ) → Shows g max old t → (u : Text ℕ) × Shows g max new u × (rest g after u ≡ rest g before (f t))
+Replaces g old new before after f = (max : ℕ) (t : Text ℕ) → Shows g max old t → (u : Text ℕ) × Shows g max new u
+    × (rest g after u ≡ rest g before (f t))
 
 -- what is done for an origin without a key
 abbrev pub begin : Given → Origin ℕ → Text ℕ → Text ℕ
 begin g (o.Number k) t = w.put same (w.Numeral k) t
 begin g (o.Named n) t = w.keep_made same (keep g) (o.Named n) (w.make same (o.Named n) (w.Spelled n) t)
-begin g (o.Make c os) t = w.keep_made same (keep g) (o.Make c os) (w.make same (o.Make c os) (w.Order c) (w.emit_all same (keep g) os t))
+begin g (o.Make c os) t =
+    w.keep_made same (keep g) (o.Make c os) (w.make same (o.Make c os) (w.Order c) (w.emit_all same (keep g) os t))
 begin g (o.Define c os) t = t
 begin g (o.Outcome j d) t = t
 
@@ -140,7 +145,9 @@ begin g (o.Outcome j d) t = t
 
 -- the bytes of an article with these definitions, of these exports
 abbrev pub counted_bytes : Given → List ℕ → List code.Roots → List ℕ
-counted_bytes g ds es = number_lines g.names (w.written same (keep g) (used g) (map (origin_at g.trees) ds) (map (roots_at g.trees) es)).lines
+counted_bytes g ds es =
+    number_lines g.names
+    (w.written same (keep g) (used g) (map (origin_at g.trees) ds) (map (roots_at g.trees) es)).lines
 
 -- ---- which definitions are written
 

@@ -1,19 +1,19 @@
 //! The writer of origins, with a work list of its own.
-ghost use Rattle.std.specs.Prelude.{◌≡◌, ◌+◌, ◌<◌, ◌++◌, ◌∷◌, [], ℕ, List, cond, length, map, nat_le, reverse, OnOk};
-ghost use Rattle.std.specs.Prelude.{IfOk, pos};
+ghost use Rattle.std.specs.Prelude.{◌≡◌, ◌+◌, ◌<◌, ◌++◌, ◌∷◌, [], ℕ, List, cond};
+ghost use Rattle.std.specs.Prelude.{length, map, nat_le, reverse, OnOk, IfOk, pos};
 ghost use Rattle.ot_plain.specs.Names.{Name};
 ghost use Rattle.ot_trace.specs.Origins as origin;
 ghost use Rattle.ot_trace.specs.Origins.{Origin};
 ghost use Rattle.ot_trace.specs.Trace.{IsStepTable, origin_at};
 ghost use Rattle.ot_plain.specs.declared.command.Cmd.TheVariants as words;
-ghost use Rattle.ot_written.specs.Written.{put, make, store, keep_made, emit, emit_definition, emit_exports, pops};
-ghost use Rattle.ot_written.specs.Written.{theorem_count, symbol_count};
+ghost use Rattle.ot_written.specs.Written.{put, make, store, keep_made, emit, emit_definition};
+ghost use Rattle.ot_written.specs.Written.{emit_exports, pops, theorem_count, symbol_count};
 ghost use Rattle.ot_written.specs.Written as written;
 ghost use Rattle.ot_write.specs.Bytes.{AreNamed, AreRootsInside, roots_at};
 ghost use Rattle.ot_write.specs.Limited.{Bytes, limited};
 ghost use Rattle.ot_write.specs.declared.writer.Task.TheVariants as task;
-ghost use Rattle.ot_write.specs.Emitting.{Given, HasKeys, IsInside, Moves, Replaces, begin, close, cost, given, keep};
-ghost use Rattle.ot_write.specs.Emitting.{used, perform, place_of, rest, same, stored_from, task_cost, total};
+ghost use Rattle.ot_write.specs.Emitting.{Given, HasKeys, IsInside, Moves, Replaces, begin, close, cost, given};
+ghost use Rattle.ot_write.specs.Emitting.{keep, used, perform, place_of, rest, same, stored_from, task_cost, total};
 
 use crate::roots::Roots;
 use crate::text::Text;

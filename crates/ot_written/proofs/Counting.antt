@@ -1,5 +1,6 @@
 -- How often an element stands in a list.
-use Rattle.std.proofs.Common.{◌≡◌, ◌≢◌, ℕ, suc, ◌+◌, ◌<◌, ◌≤◌, inl, inr, Bool, true, false, cond, List, [], ◌∷◌, ◌++◌, refl, sym, ap, subst, ◌∙◌, arith}
+use Rattle.std.proofs.Common.{◌≡◌, ◌≢◌, ℕ, suc, ◌+◌, ◌<◌, ◌≤◌, inl, inr, Bool, true, false}
+use Rattle.std.proofs.Common.{cond, List, [], ◌∷◌, ◌++◌, refl, sym, ap, subst, ◌∙◌, arith}
 use Rattle.std.specs.Bool.{Decides}
 use Rattle.std.specs.List.{flat_map}
 use Rattle.ot_plain.specs.Lists.{IsMember, AreDistinct}
@@ -13,7 +14,8 @@ module _ {X : Type 0} (same : X → X → Bool) (same-is : (a b : X) → Decides
   count-append x [] ys = omega arith
   count-append x (y ∷ xs) ys = go (same x y) (count-append x xs ys)
     where
-      go : (b : Bool) → counted x (xs ++ ys) ≡ counted x xs + counted x ys → cond b (suc (counted x (xs ++ ys))) (counted x (xs ++ ys)) ≡ cond b (suc (counted x xs)) (counted x xs) + counted x ys
+      go : (b : Bool) → counted x (xs ++ ys) ≡ counted x xs + counted x ys → cond b (suc (counted x (xs ++ ys)))
+          (counted x (xs ++ ys)) ≡ cond b (suc (counted x xs)) (counted x xs) + counted x ys
       go true e = omega arith
       go false e = e
 
@@ -21,7 +23,8 @@ module _ {X : Type 0} (same : X → X → Bool) (same-is : (a b : X) → Decides
   pub count-moved : (x y : X) (xs ys : List X) → counted x (y ∷ xs) + counted x ys ≡ counted x xs + counted x (y ∷ ys)
   count-moved x y xs ys = go (same x y)
     where
-      go : (b : Bool) → cond b (suc (counted x xs)) (counted x xs) + counted x ys ≡ counted x xs + cond b (suc (counted x ys)) (counted x ys)
+      go : (b : Bool) → cond b (suc (counted x xs)) (counted x xs) + counted x ys ≡ counted x xs
+          + cond b (suc (counted x ys)) (counted x ys)
       go true = omega arith
       go false = refl
 
@@ -41,18 +44,27 @@ module _ {X : Type 0} (same : X → X → Bool) (same-is : (a b : X) → Decides
   count-member x (y ∷ xs) (inr m) = let h = count-member x xs m in let k = count-more x y xs in omega arith
 
   -- taking one element out
-  pub without-one : (f : X → List X) (y : X) (zs : List X) → IsMember y zs → (ws : List X) × ((x : X) → IsMember x zs → x ≢ y → IsMember x ws) × ((a : X) → counted a (flat_map f zs) ≡ counted a (f y) + counted a (flat_map f ws))
+  pub without-one : (f : X → List X) (y : X) (zs : List X) → IsMember y zs
+      → (ws : List X) × ((x : X) → IsMember x zs → x ≢ y → IsMember x ws)
+      × ((a : X) → counted a (flat_map f zs) ≡ counted a (f y) + counted a (flat_map f ws))
   without-one f y [] m = elim m [ ]
-  without-one f y (z ∷ zs) (inl e) = (zs, λ x m n. elim m [ inl p ↦ absurd (n (sym p ∙ e)) | inr p ↦ p ], λ a. count-append a (f z) (flat_map f zs) ∙ ap (λ q. counted a (f q) + counted a (flat_map f zs)) e)
+  without-one f y (z ∷ zs) (inl e) = (
+    zs,
+    λ x m n. elim m [ inl p ↦ absurd (n (sym p ∙ e)) | inr p ↦ p ],
+    λ a. count-append a (f z) (flat_map f zs)
+        ∙ ap (λ q. counted a (f q) + counted a (flat_map f zs)) e,
+  )
   without-one f y (z ∷ zs) (inr m) =
       let r = without-one f y zs m in (
         z ∷ r.0,
         λ x m n. elim m [ inl p ↦ inl p | inr p ↦ inr (r.1 x p n) ],
-        λ a. let p = count-append a (f z) (flat_map f zs) in let q = count-append a (f z) (flat_map f r.0) in let h = r.2 a in omega arith,
+        λ a. let p = count-append a (f z) (flat_map f zs) in let q = count-append a (f z) (flat_map f r.0) in
+            let h = r.2 a in omega arith,
       )
 
   -- distinct members have no more together than the list
-  pub sum-part : (f : X → List X) (ms zs : List X) → AreDistinct ms → ((x : X) → IsMember x ms → IsMember x zs) → (a : X) → counted a (flat_map f ms) ≤ counted a (flat_map f zs)
+  pub sum-part : (f : X → List X) (ms zs : List X) → AreDistinct ms → ((x : X) → IsMember x ms → IsMember x zs)
+      → (a : X) → counted a (flat_map f ms) ≤ counted a (flat_map f zs)
   sum-part f [] zs d h a = omega arith
   sum-part f (y ∷ ms) zs d h a =
       let r = without-one f y zs (h y (inl refl)) in

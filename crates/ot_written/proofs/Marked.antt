@@ -7,7 +7,8 @@ use Rattle.ot_trace.specs.Trace.{origin_at}
 use Rattle.ot_trace.specs.Reach.{IsReached}
 
 -- these are the numbers of all that roots lead to, each once
-pub record AreMarked (n : ℕ) (tree : ℕ → Origin ℕ) (ops : ℕ → List ℕ) (roots : List ℕ) (ds : List (Origin ℕ)) (marked : List ℕ) : Type 0 where
+pub record AreMarked (n : ℕ) (tree : ℕ → Origin ℕ) (ops : ℕ → List ℕ) (roots : List ℕ) (ds : List (Origin ℕ))
+    (marked : List ℕ) : Type 0 where
   pub once : (i j : ℕ) → i < n → j < n → tree i ≡ tree j → i ≡ j
   pub operands_are : (i : ℕ) → i < n → operands (tree i) ≡ map tree (ops i)
   pub operands_in : (i j : ℕ) → i < n → IsMember j (ops i) → j < n
@@ -22,6 +23,7 @@ pub record IsTable (ts : List (Origin ℕ)) (ops : ℕ → List ℕ) (roots ds :
   pub injective : IsInjective ts
   pub operands_are : (i : ℕ) → i < length ts → operands (origin_at ts i) ≡ map (origin_at ts) (ops i)
   pub operands_in : (i j : ℕ) → i < length ts → IsMember j (ops i) → j < length ts
-  pub theorem_in : (i j : ℕ) (d : Origin ℕ) → i < length ts → origin_at ts i ≡ Outcome j d → (k : ℕ) × (k < length ts) × (origin_at ts k ≡ d)
+  pub theorem_in : (i j : ℕ) (d : Origin ℕ) → i < length ts → origin_at ts i ≡ Outcome j d → (k : ℕ) × (k < length ts)
+      × (origin_at ts k ≡ d)
   pub roots_in : (i : ℕ) → IsMember i roots → i < length ts
   pub definitions_in : (i : ℕ) → IsMember i ds → i < length ts

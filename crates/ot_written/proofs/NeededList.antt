@@ -1,5 +1,6 @@
 -- The needed origins, for each way to store that stores enough.
-use Rattle.std.proofs.Common.{◌≡◌, suc, ◌≤◌, inl, inr, Bool, true, false, cond, List, [], ◌∷◌, ◌++◌, refl, sym, subst, ◌∙◌, true≢false, arith}
+use Rattle.std.proofs.Common.{◌≡◌, suc, ◌≤◌, inl, inr, Bool, true, false, cond, List}
+use Rattle.std.proofs.Common.{[], ◌∷◌, ◌++◌, refl, sym, subst, ◌∙◌, true≢false, arith}
 use Rattle.std.specs.Bool.{Decides}
 use Rattle.std.specs.Prelude.{nat_le}
 use Rattle.std.proofs.lemmas.Bool.Decides.{nat_tests}
@@ -16,8 +17,10 @@ use Rattle.ot_written.proofs.Parts.{part-self, part-operand}
 use Rattle.ot_written.proofs.Counting.{count-append}
 use Rattle.ot_written.proofs.NeededDefinitions.{firsts-to, firsts-from, needed-reached}
 
-module _ {N : Type 0} (same : Origin N → Origin N → Bool) (same-is : (a b : Origin N) → Decides (same a b) (a ≡ b)) where
-  count-none : (x : Origin N) (xs : List (Origin N)) → ((y : Origin N) → IsMember y xs → ¬ (x ≡ y)) → count same x xs ≡ 0
+module _ {N : Type 0} (same : Origin N → Origin N → Bool)
+    (same-is : (a b : Origin N) → Decides (same a b) (a ≡ b)) where
+  count-none : (x : Origin N) (xs : List (Origin N)) → ((y : Origin N) → IsMember y xs → ¬ (x ≡ y))
+      → count same x xs ≡ 0
   count-none x [] h = refl
   count-none x (y ∷ xs) h = go (same x y) refl (count-none x xs (λ z m. h z (inr m)))
     where
@@ -49,16 +52,25 @@ module _ {N : Type 0} (same : Origin N → Origin N → Bool) (same-is : (a b : 
     abbrev needed : List (Origin N)
     needed = needed_origins same roots ds
 
-    pub needed-list : ((d : Origin N) → IsMember d ds → IsDefine d) → IsEnough same roots ds keep → IsNeededList same keep (found ++ roots) needed
+    pub needed-list : ((d : Origin N) → IsMember d ds → IsDefine d) → IsEnough same roots ds keep
+        → IsNeededList same keep (found ++ roots) needed
     needed-list defines enough = record {
-      only = λ o m. member-flat_map o parts (found ++ roots) (firsts-to same same-is o (flat_map parts (found ++ roots)) m);
-      has_roots = λ o m. firsts-from same same-is o (flat_map parts (found ++ roots)) (flat_map-member o o parts (found ++ roots) m (part-self o));
-      closed = λ o p m n. let r = member-flat_map o parts (found ++ roots) (firsts-to same same-is o (flat_map parts (found ++ roots)) m) in firsts-from same same-is p (flat_map parts (found ++ roots)) (flat_map-member p r.0 parts (found ++ roots) r.1 (part-operand r.0 o p r.2 n));
+      only = λ o m. member-flat_map o parts (found ++ roots)
+          (firsts-to same same-is o (flat_map parts (found ++ roots)) m);
+      has_roots = λ o m. firsts-from same same-is o (flat_map parts (found ++ roots))
+          (flat_map-member o o parts (found ++ roots) m (part-self o));
+      closed = λ o p m n. let r =
+          member-flat_map o parts (found ++ roots) (firsts-to same same-is o (flat_map parts (found ++ roots)) m) in
+          firsts-from same same-is p (flat_map parts (found ++ roots))
+          (flat_map-member p r.0 parts (found ++ roots) r.1 (part-operand r.0 o p r.2 n));
       once = λ o m made e.
-          let none : count same o found ≡ 0 = count-none o found (λ d i. define-made o d made (defines d (needed-reached same same-is roots ds d i).0)) in
+          let none : count same o found ≡ 0 =
+          count-none o found
+          (λ d i. define-made o d made (defines d (needed-reached same same-is roots ds d i).0)) in
           let both = count-append same same-is o found roots in
           elim (bool_cases (nat_le 2 (use_count same roots ds o))) [
-            | inl two ↦ (let h : 2 ≤ use_count same roots ds o = grind (arith, nat_tests) in absurd (true≢false (sym (enough o m h) ∙ sym (stores-keep keep o made) ∙ e)))
+            | inl two ↦ (let h : 2 ≤ use_count same roots ds o = grind (arith, nat_tests) in
+                absurd (true≢false (sym (enough o m h) ∙ sym (stores-keep keep o made) ∙ e)))
             | inr few ↦ (let h : use_count same roots ds o ≤ 1 = grind (arith, nat_tests) in omega arith)
           ];
     }

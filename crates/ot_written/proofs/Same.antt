@@ -18,7 +18,8 @@ command-back _ = refl
 
 word-is : (c d : Cmd) → Decides (same_word c d) (c ≡ d)
 word-is c d = (
-  λ h. let e = sym (command-back c) ∙ ap command_of ((bytes_eq-Decides (spelling c) (spelling d)).0 h) ∙ command-back d in cc,
+  λ h. let e = sym (command-back c) ∙ ap command_of ((bytes_eq-Decides (spelling c) (spelling d)).0 h)
+      ∙ command-back d in cc,
   λ e. (bytes_eq-Decides (spelling c) (spelling d)).1 (ap spelling e),
 )
 
@@ -60,13 +61,17 @@ module _ {N : Type 0} (same_name : N → N → Bool) (name-is : (a b : N) → De
     origin-self : (a : Origin N) → same_origin same_name a a ≡ true
     origin-self (Number k) = (Decides-int_eq k k).1 refl
     origin-self (Named n) = (name-is n n).1 refl
-    origin-self (Make c os) = and-both (same_word c c) (same_origins same_name os os) ((word-is c c).1 refl) (origins-self os)
-    origin-self (Define c os) = and-both (same_word c c) (same_origins same_name os os) ((word-is c c).1 refl) (origins-self os)
+    origin-self (Make c os) = and-both (same_word c c) (same_origins same_name os os) ((word-is c c).1 refl)
+        (origins-self os)
+    origin-self (Define c os) = and-both (same_word c c) (same_origins same_name os os) ((word-is c c).1 refl)
+        (origins-self os)
     origin-self (Outcome j d) = and-both (nat_eq j j) (same_origin same_name d d) ((eq-is j j).1 refl) (origin-self d)
 
     origins-self : (os : Origins N) → same_origins same_name os os ≡ true
     origins-self NoOrigins = refl
-    origins-self (MoreOrigins o os) = and-both (same_origin same_name o o) (same_origins same_name os os) (origin-self o) (origins-self os)
+    origins-self (MoreOrigins o os) = and-both (same_origin same_name o o) (same_origins same_name os os)
+        (origin-self o) (origins-self os)
 
 pub same-origin-law : {N : Type 0} → SameOriginLaw N
-same-origin-law same_name name-is a b = (origin-to same_name name-is a b, λ e. ap (same_origin same_name a) (sym e) ∙ origin-self same_name name-is a)
+same-origin-law same_name name-is a b =
+    (origin-to same_name name-is a b, λ e. ap (same_origin same_name a) (sym e) ∙ origin-self same_name name-is a)

@@ -15,17 +15,21 @@ Tells {N} same = (a b : Origin N) → Decides (same a b) (a ≡ b)
 
 -- the test of origins is one
 abbrev pub SameOriginLaw : Type 0 → Type 0
-SameOriginLaw N = (same_name : N → N → Bool) → ((a b : N) → Decides (same_name a b) (a ≡ b)) → Tells (same_origin same_name)
+SameOriginLaw N = (same_name : N → N → Bool) → ((a b : N) → Decides (same_name a b) (a ≡ b))
+    → Tells (same_origin same_name)
 
--- the needed definitions are those that the roots need; among themselves they are all needed; and needed is what is reached
+-- the needed definitions are those that the roots need; among themselves they are all needed; and needed is what is
+-- reached
 abbrev pub NeededSetLaw : Type 0 → Type 0
-NeededSetLaw N = (same : Origin N → Origin N → Bool) → Tells same → (roots ds : List (Origin N)) → IsNeededSet same roots ds (needed_definitions same roots ds)
+NeededSetLaw N = (same : Origin N → Origin N → Bool) → Tells same → (roots ds : List (Origin N))
+    → IsNeededSet same roots ds (needed_definitions same roots ds)
     × (needed_definitions same roots (needed_definitions same roots ds) ≡ needed_definitions same roots ds)
     × ((o : Origin N) → IsMember o (needed_origins same roots ds) ↔ IsReached roots ds o)
 
 -- to store what is shared is enough, and so is to store all
 abbrev pub StoredEnoughLaw : Type 0 → Type 0
-StoredEnoughLaw N = (same : Origin N → Origin N → Bool) (roots ds : List (Origin N)) → IsEnough same roots ds (is_shared same roots ds) × IsEnough same roots ds (λ o. true)
+StoredEnoughLaw N = (same : Origin N → Origin N → Bool) (roots ds : List (Origin N))
+    → IsEnough same roots ds (is_shared same roots ds) × IsEnough same roots ds (λ o. true)
 
 -- roots with other names
 abbrev pub roots_with : {M N : Type 0} → (M → N) → Roots M → Roots N
@@ -33,5 +37,8 @@ roots_with f e = record { theorem = map_origin f e.theorem; list = map_origin f 
 
 -- the article over names is the article over their numbers, with the names on its lines
 abbrev pub RenamedArticleLaw : Type 0 → Type 0 → Type 0
-RenamedArticleLaw M N = (f : M → N) → ((x y : M) → f x ≡ f y → x ≡ y) → (same : Origin N → Origin N → Bool) (same_one : Origin M → Origin M → Bool) → Tells same → Tells same_one
-    → (ds : List (Origin M)) (es : List (Roots M)) → (article same (map (map_origin f) ds) (map (roots_with f) es)).lines ≡ map (line_with f) (article same_one ds es).lines
+RenamedArticleLaw M N = (f : M → N) → ((x y : M) → f x ≡ f y → x ≡ y)
+    → (same : Origin N → Origin N → Bool) (same_one : Origin M → Origin M → Bool) → Tells same → Tells same_one
+    → (ds : List (Origin M)) (es : List (Roots M))
+    → (article same (map (map_origin f) ds) (map (roots_with f) es)).lines
+    ≡ map (line_with f) (article same_one ds es).lines

@@ -3,7 +3,8 @@ use Rattle.std.specs.Prelude.{pos, ℕ, zero, suc, ℤ, Bool, cond, List, [], �
 use Rattle.std.specs.Option.{option_map}
 use Rattle.ot_plain.specs.declared.command.Cmd.{Cmd}
 use Rattle.ot_plain.specs.declared.command.Cmd.TheVariants as words
-use Rattle.ot_trace.specs.Origins.{Origin, Origins, Number, Named, Make, Define, Outcome, NoOrigins, MoreOrigins, Roots}
+use Rattle.ot_trace.specs.Origins.{Origin, Origins, Number, Named, Make, Define}
+use Rattle.ot_trace.specs.Origins.{Outcome, NoOrigins, MoreOrigins, Roots}
 
 -- a line of the text: a number, a name or a command word
 pub data Line (N : Type 0) : Type 0 where
@@ -46,7 +47,11 @@ module _ {N : Type 0} (same : Origin N → Origin N → Bool) where
 
   -- o gets the next key
   abbrev pub store : Origin N → Text N → Text N
-  store o t = record { lines = (t.lines ++ Numeral (pos (length t.stored)) ∷ []) ++ Order words.Def ∷ []; stored = t.stored ++ o ∷ []; made = t.made }
+  store o t = record {
+    lines = (t.lines ++ Numeral (pos (length t.stored)) ∷ []) ++ Order words.Def ∷ [];
+    stored = t.stored ++ o ∷ [];
+    made = t.made;
+  }
 
   -- by its key, where it has one
   abbrev pub recalled : Option ℕ → (Text N → Text N) → Text N → Text N
@@ -61,8 +66,10 @@ module _ {N : Type 0} (same : Origin N → Origin N → Bool) where
     abbrev mutual
       pub emit : Origin N → Text N → Text N
       emit (Number k) t = recalled (key_of (Number k) t.stored) (λ u. put (Numeral k) u) t
-      emit (Named n) t = recalled (key_of (Named n) t.stored) (λ u. keep_made (Named n) (make (Named n) (Spelled n) u)) t
-      emit (Make c os) t = recalled (key_of (Make c os) t.stored) (λ u. keep_made (Make c os) (make (Make c os) (Order c) (emit_all os u))) t
+      emit (Named n) t =
+          recalled (key_of (Named n) t.stored) (λ u. keep_made (Named n) (make (Named n) (Spelled n) u)) t
+      emit (Make c os) t = recalled (key_of (Make c os) t.stored)
+          (λ u. keep_made (Make c os) (make (Make c os) (Order c) (emit_all os u))) t
       emit (Define c os) t = recalled (key_of (Define c os) t.stored) (λ u. u) t
       emit (Outcome j d) t = recalled (key_of (Outcome j d) t.stored) (λ u. u) t
 
@@ -79,10 +86,13 @@ module _ {N : Type 0} (same : Origin N → Origin N → Bool) where
       -- the theorems of a definition from the last to the first: one that has a use is stored
       abbrev pub outcomes : Origin N → ℕ → Text N → Text N
       outcomes d zero t = t
-      outcomes d (suc j) t = outcomes d j (put (Order words.Pop) (cond (used (Outcome (suc j) d)) (store (Outcome (suc j) d) t) t))
+      outcomes d (suc j) t =
+          outcomes d j (put (Order words.Pop) (cond (used (Outcome (suc j) d)) (store (Outcome (suc j) d) t) t))
 
       abbrev pub emit_definition : Origin N → Text N → Text N
-      emit_definition (Define c os) t = pops (symbol_count c) (outcomes (Define c os) (theorem_count c) (make (Define c os) (Order c) (emit_all os t)))
+      emit_definition (Define c os) t =
+          pops (symbol_count c)
+          (outcomes (Define c os) (theorem_count c) (make (Define c os) (Order c) (emit_all os t)))
       emit_definition _ t = t
 
       abbrev pub emit_definitions : List (Origin N) → Text N → Text N

@@ -13,4 +13,5 @@ pub returns-clause-free_in_names : goal.returns-clause-free_in_names
 returns-clause-free_in_names c = λ v t. (free-nameless names tells_names v t, nameless-free names tells_names v t)
 
 pub returns-clause-free_in_numbers : goal.returns-clause-free_in_numbers
-returns-clause-free_in_numbers c = λ v t. (free-nameless numbers tells_numbers v t, nameless-free numbers tells_numbers v t)
+returns-clause-free_in_numbers c =
+    λ v t. (free-nameless numbers tells_numbers v t, nameless-free numbers tells_numbers v t)

@@ -1,6 +1,6 @@
 // What the run takes for a sequent that an article states as an axiom.
-ghost use Rattle.std.specs.Prelude.{◌≡◌, ◌<◌, ◌≤◌, length, map, None, Ok, Err, IfOk, IfSome, OnErr, MatchBool};
-ghost use Rattle.std.specs.Prelude.{vec_len};
+ghost use Rattle.std.specs.Prelude.{◌≡◌, ◌<◌, ◌≤◌, length, map, None, Ok, Err};
+ghost use Rattle.std.specs.Prelude.{IfOk, IfSome, OnErr, MatchBool, vec_len};
 ghost use Rattle.std.specs.List.{All};
 ghost use Rattle.std.specs.Option.{option_map};
 ghost use Rattle.ot_plain.specs.Faults.{NotBool};

@@ -8,8 +8,8 @@ ghost use Rattle.ot_machine.specs.Places.{pushed};
 ghost use Rattle.ot_machine.specs.Meaning.{IsOf};
 ghost use Rattle.ot_machine.specs.Answers.{Turns};
 ghost use Rattle.ot_machine.specs.Step.{on_article, on_stack};
-ghost use Rattle.ot_machine.specs.Rows.{making, nil_row, hd_tl_row, pop_row, version_row, def_row, ref_row};
-ghost use Rattle.ot_machine.specs.Rows.{remove_row};
+ghost use Rattle.ot_machine.specs.Rows.{making, nil_row, hd_tl_row, pop_row};
+ghost use Rattle.ot_machine.specs.Rows.{version_row, def_row, ref_row, remove_row};
 
 use crate::fault::Fault;
 use crate::machine::Machine;

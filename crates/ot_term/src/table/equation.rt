@@ -1,6 +1,6 @@
 //! Equations: how they are made, and how they are taken apart.
-ghost use Rattle.std.specs.Prelude.{◌≡◌, ◌≢◌, ◌↔◌, ℕ, ◌<◌, [], Some, Err, slice_get, length, IfOk, IfNone, IfSome};
-ghost use Rattle.std.specs.Prelude.{IsTrue, false};
+ghost use Rattle.std.specs.Prelude.{◌≡◌, ◌≢◌, ◌↔◌, ℕ, ◌<◌, [], Some, Err, slice_get};
+ghost use Rattle.std.specs.Prelude.{length, IfOk, IfNone, IfSome, IsTrue, false};
 ghost use Rattle.ot_plain.specs.Trees.{Ty, Named, NConst};
 ghost use Rattle.ot_plain.specs.Hol.{bool_ty, named_type, depth_ty, depth_limit};
 ghost use Rattle.ot_plain.specs.Naming.{numbers};

@@ -1,5 +1,5 @@
-ghost use Rattle.std.specs.Prelude.{◌≡◌, ◌<◌, ◌++◌, ◌∷◌, [], ◌⊎◌, Some, slice_get, slice_index_or, length, map, IfOk};
-ghost use Rattle.std.specs.Prelude.{OnOk, OnErr};
+ghost use Rattle.std.specs.Prelude.{◌≡◌, ◌<◌, ◌++◌, ◌∷◌, [], ◌⊎◌, Some, slice_get};
+ghost use Rattle.std.specs.Prelude.{slice_index_or, length, map, IfOk, OnOk, OnErr};
 ghost use Rattle.std.specs.List.{All};
 ghost use Rattle.ot_plain.specs.Table.{IsInjective};
 ghost use Rattle.ot_trace.specs.Origins.{Make, Define, operand, symbols};

@@ -13,12 +13,15 @@ use Rattle.ot_define.proofs.lists.check_all_closed.Goals as goal
 pub returns-in_err-check_closed_but : goal.returns-in_err-check_closed_but
 returns-in_err-check_closed_but c =
     let p = λ (t : ℕ). is_closed numbers (tm_at c.args.terms.now.terms t) in
-    let one = checks-one p c.args.ts.now c.loop-t.t-index c.t-item.result c.in_err-check_closed_but.field-0.0 NotClosed c.loop-t-test.true c.t-item.is c.in_err-check_closed_but.ensures in
+    let one = checks-one p c.args.ts.now c.loop-t.t-index c.t-item.result c.in_err-check_closed_but.field-0.0
+    NotClosed c.loop-t-test.true c.t-item.is c.in_err-check_closed_but.ensures in
     let all : Checks (Err c.in_err-check_closed_but.field-0.0) (unless NotClosed (list_all (is_closed numbers) (map (tm_at c.args.terms.now.terms) c.args.ts.now))) =
-    subst (λ b. Checks (Err c.in_err-check_closed_but.field-0.0) (unless NotClosed b)) (sym (list_all-map (is_closed numbers) (tm_at c.args.terms.now.terms) c.args.ts.now)) one in
+    subst (λ b. Checks (Err c.in_err-check_closed_but.field-0.0) (unless NotClosed b))
+    (sym (list_all-map (is_closed numbers) (tm_at c.args.terms.now.terms) c.args.ts.now)) one in
     search (rules, all)
 
 pub returns : goal.returns
 returns c =
     let p = λ (t : ℕ). is_closed numbers (tm_at c.args.terms.now.terms t) in
-    ap (unless NotClosed) (list_all-map (is_closed numbers) (tm_at c.args.terms.now.terms) c.args.ts.now ∙ ap (list_all p) (sym (take_all c.loop-t.t-index c.args.ts.now (omega arith))) ∙ c.loop-t.invariant)
+    ap (unless NotClosed) (list_all-map (is_closed numbers) (tm_at c.args.terms.now.terms) c.args.ts.now
+    ∙ ap (list_all p) (sym (take_all c.loop-t.t-index c.args.ts.now (omega arith))) ∙ c.loop-t.invariant)

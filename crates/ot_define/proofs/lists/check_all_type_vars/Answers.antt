@@ -13,12 +13,15 @@ use Rattle.ot_define.proofs.lists.check_all_type_vars.Goals as goal
 pub returns-in_err-check_type_vars : goal.returns-in_err-check_type_vars
 returns-in_err-check_type_vars c =
     let p = λ (t : ℕ). keeps_type_vars numbers (tm_at c.args.terms.now.terms t) in
-    let one = checks-one p c.args.ts.now c.loop-t.t-index c.t-item.result c.in_err-check_type_vars.field-0.0 TypeVarEscapes c.loop-t-test.true c.t-item.is c.in_err-check_type_vars.ensures in
+    let one = checks-one p c.args.ts.now c.loop-t.t-index c.t-item.result c.in_err-check_type_vars.field-0.0
+    TypeVarEscapes c.loop-t-test.true c.t-item.is c.in_err-check_type_vars.ensures in
     let all : Checks (Err c.in_err-check_type_vars.field-0.0) (unless TypeVarEscapes (list_all (keeps_type_vars numbers) (map (tm_at c.args.terms.now.terms) c.args.ts.now))) =
-    subst (λ b. Checks (Err c.in_err-check_type_vars.field-0.0) (unless TypeVarEscapes b)) (sym (list_all-map (keeps_type_vars numbers) (tm_at c.args.terms.now.terms) c.args.ts.now)) one in
+    subst (λ b. Checks (Err c.in_err-check_type_vars.field-0.0) (unless TypeVarEscapes b))
+    (sym (list_all-map (keeps_type_vars numbers) (tm_at c.args.terms.now.terms) c.args.ts.now)) one in
     search (rules, all)
 
 pub returns : goal.returns
 returns c =
     let p = λ (t : ℕ). keeps_type_vars numbers (tm_at c.args.terms.now.terms t) in
-    ap (unless TypeVarEscapes) (list_all-map (keeps_type_vars numbers) (tm_at c.args.terms.now.terms) c.args.ts.now ∙ ap (list_all p) (sym (take_all c.loop-t.t-index c.args.ts.now (omega arith))) ∙ c.loop-t.invariant)
+    ap (unless TypeVarEscapes) (list_all-map (keeps_type_vars numbers) (tm_at c.args.terms.now.terms) c.args.ts.now
+    ∙ ap (list_all p) (sym (take_all c.loop-t.t-index c.args.ts.now (omega arith))) ∙ c.loop-t.invariant)

@@ -20,7 +20,8 @@ returns-in_err-check_all_closed c =
     let kept = unless TypeVarEscapes (list_all (keeps_type_vars numbers) ts) in
     let first = checks-stop e (unless NotClosed terms) (unless NotClosed rest) c.in_err-check_all_closed.ensures in
     let all : Checks (Err e) (checked_given numbers vs ts concl) =
-    checks-stop e (unless NotClosed (terms && rest)) kept (subst (Checks (Err e)) (sym (unless-both {E = Fault ℕ} NotClosed terms rest)) first) in
+    checks-stop e (unless NotClosed (terms && rest)) kept
+    (subst (Checks (Err e)) (sym (unless-both {E = Fault ℕ} NotClosed terms rest)) first) in
     search (rules, all)
 
 pub returns-in_err-check_closed_but : goal.returns-in_err-check_closed_but
@@ -32,16 +33,19 @@ returns-in_err-check_closed_but c =
     let terms = list_all (is_closed numbers) ts in
     let rest = is_closed_but numbers vs concl in
     let kept = unless TypeVarEscapes (list_all (keeps_type_vars numbers) ts) in
-    let first = checks-then (Err e) (unless NotClosed terms) (unless NotClosed rest) c.in_ok-check_all_closed.ensures c.in_err-check_closed_but.ensures in
+    let first = checks-then (Err e) (unless NotClosed terms) (unless NotClosed rest) c.in_ok-check_all_closed.ensures
+    c.in_err-check_closed_but.ensures in
     let all : Checks (Err e) (checked_given numbers vs ts concl) =
-    checks-stop e (unless NotClosed (terms && rest)) kept (subst (Checks (Err e)) (sym (unless-both {E = Fault ℕ} NotClosed terms rest)) first) in
+    checks-stop e (unless NotClosed (terms && rest)) kept
+    (subst (Checks (Err e)) (sym (unless-both {E = Fault ℕ} NotClosed terms rest)) first) in
     search (rules, all)
 
 pub returns : goal.returns
 returns c =
     let ts = map (tm_at c.args.terms.now.terms) c.args.given.now in
     let terms = list_all (is_closed numbers) ts in
-    let rest = is_closed_but numbers (map (variable_of c.args.terms.now.types) c.args.vars.now) (tm_at c.args.terms.now.terms c.args.concl) in
+    let rest = is_closed_but numbers (map (variable_of c.args.terms.now.types) c.args.vars.now)
+    (tm_at c.args.terms.now.terms c.args.concl) in
     let kept = unless TypeVarEscapes (list_all (keeps_type_vars numbers) ts) in
     let r = c.check_all_type_vars.result in
     let first = ap (λ (x : Stated). x >>= λ _. unless NotClosed rest) c.in_ok-check_all_closed.ensures in

@@ -12,5 +12,7 @@ use Rattle.ot_define.proofs.lists.check_pairs.Goals as goal
 pub returns : goal.returns
 returns c =
     checks-unless c.pass_if.result c.in_ok-paired.paired
-    (are_distinct nat_eq c.args.names.now && are_distinct (same_var numbers) (map (variable_of c.args.terms.now.types) c.args.vars.now) && (length c.args.hyps.now == length c.args.vars.now))
+    (are_distinct nat_eq c.args.names.now && are_distinct (same_var numbers)
+    (map (variable_of c.args.terms.now.types) c.args.vars.now)
+    && (length c.args.hyps.now == length c.args.vars.now))
     code.BadDefinitionList BadDefinitionList refl c.in_ok-paired.ensures c.pass_if.ensures

@@ -9,6 +9,7 @@ use Rattle.ot_define.proofs.lists.only_given.Given as goal
 
 abbrev pub invariant-loop-hyp : goal.invariant-loop-hyp
 invariant-loop-hyp l = record {
-  given : given numbers (map (tm_at l.terms.terms) (take l.hyp-index l.hyps)) (variable_of l.terms.types l.v) ≡ listed (option_map (tm_at l.terms.terms) l.found);
+  given : given numbers (map (tm_at l.terms.terms) (take l.hyp-index l.hyps)) (variable_of l.terms.types l.v)
+      ≡ listed (option_map (tm_at l.terms.terms) l.found);
   inside : IfSome l.found (λ t. t < length l.terms.terms);
 }

@@ -9,6 +9,9 @@ use Rattle.ot_define.proofs.lists.terms_given.Given as goal
 
 abbrev pub invariant-loop-v : goal.invariant-loop-v
 invariant-loop-v l = record {
-  given : terms_given numbers (map (tm_at l.terms.terms) l.hyps) (map (variable_of l.terms.types) l.vars) ≡ option_map (λ ts. map (tm_at l.terms.terms) l.given.items ++ ts) (terms_given numbers (map (tm_at l.terms.terms) l.hyps) (map (variable_of l.terms.types) (drop l.v-index l.vars)));
+  given : terms_given numbers (map (tm_at l.terms.terms) l.hyps) (map (variable_of l.terms.types) l.vars)
+      ≡ option_map (λ ts. map (tm_at l.terms.terms) l.given.items ++ ts)
+      (terms_given numbers (map (tm_at l.terms.terms) l.hyps)
+      (map (variable_of l.terms.types) (drop l.v-index l.vars)));
   inside : All (λ i. i < length l.terms.terms) l.given.items;
 }

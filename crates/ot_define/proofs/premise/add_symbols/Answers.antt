@@ -16,4 +16,6 @@ returns c =
     let old = c.args.symbols.now.keys in
     let more = symbols_tm numbers (tm_at c.args.terms.now.terms c.args.t) in
     let all = added old c.in_ok-more.more.items more c.in_ok-more.ensures.symbols in
-    OnOk-map c.add_all.result _ _ (λ e. subst (λ (ks : List Symbol). IsSameSet (map symbol_of ks) (map symbol_of old ++ more)) (sym (e ∙ ap (fold (insert_key symbol_eq) old) c.as_slice.ensures.value)) all) c.add_all.ensures.ok
+    OnOk-map c.add_all.result _ _
+    (λ e. subst (λ (ks : List Symbol). IsSameSet (map symbol_of ks) (map symbol_of old ++ more))
+    (sym (e ∙ ap (fold (insert_key symbol_eq) old) c.as_slice.ensures.value)) all) c.add_all.ensures.ok

@@ -19,6 +19,9 @@ pub returns : goal.returns
 returns c =
     let tys = c.args.terms.now.types in
     let t = tm_at c.args.terms.now.terms c.args.t in
-    checks-unless c.pass_if.result c.in_ok-closed.closed (is_closed_but numbers (map (variable_of tys) c.args.vars.now) t) code.NotClosed NotClosed refl
-    (c.in_ok-closed.ensures ∙ ap (list_all (λ (v : VarKey). list_any (key_eq v) c.args.vars.now)) c.as_slice.ensures.value ∙ closed-keys tys c.types-types.ensures.table.types.injective c.in_ok-free.free.items c.args.vars.now t c.in_ok-free.ensures.within c.requires.vars c.in_ok-free.ensures.free)
+    checks-unless c.pass_if.result c.in_ok-closed.closed
+    (is_closed_but numbers (map (variable_of tys) c.args.vars.now) t) code.NotClosed NotClosed refl
+    (c.in_ok-closed.ensures ∙ ap (list_all (λ (v : VarKey). list_any (key_eq v) c.args.vars.now))
+    c.as_slice.ensures.value ∙ closed-keys tys c.types-types.ensures.table.types.injective c.in_ok-free.free.items
+    c.args.vars.now t c.in_ok-free.ensures.within c.requires.vars c.in_ok-free.ensures.free)
     c.pass_if.ensures

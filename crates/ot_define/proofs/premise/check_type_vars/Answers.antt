@@ -16,7 +16,13 @@ use Rattle.ot_define.proofs.premise.check_type_vars.Goals as goal
 
 pub returns : goal.returns
 returns c =
-    let own = subst (λ (tys : List (Ty ℕ)). IsSameSet c.in_ok-own.own.items (vars_ty numbers (type_at tys c.type_of.result))) c.types.ensures.types c.in_ok-own.ensures.names in
-    checks-unless c.pass_if.result c.in_ok-kept.kept (keeps_type_vars numbers (tm_at c.args.terms.now.terms c.args.t)) code.TypeVarEscapes TypeVarEscapes refl
-    (c.in_ok-kept.ensures ∙ (λ i. list_all (λ (n : ℕ). list_any (nat_eq n) (c.as_slice-2.ensures.value i)) (c.as_slice.ensures.value i)) ∙ type-kept c.args.terms.now.types (term_at c.args.terms.now.terms c.args.t) c.type_of.result c.in_ok-all.all.items c.in_ok-own.own.items c.type_of.ensures.typed c.in_ok-all.ensures.names own)
+    let own =
+    subst (λ (tys : List (Ty ℕ)). IsSameSet c.in_ok-own.own.items
+    (vars_ty numbers (type_at tys c.type_of.result))) c.types.ensures.types c.in_ok-own.ensures.names in
+    checks-unless c.pass_if.result c.in_ok-kept.kept (keeps_type_vars numbers (tm_at c.args.terms.now.terms c.args.t))
+    code.TypeVarEscapes TypeVarEscapes refl
+    (c.in_ok-kept.ensures
+    ∙ (λ i. list_all (λ (n : ℕ). list_any (nat_eq n) (c.as_slice-2.ensures.value i)) (c.as_slice.ensures.value i))
+    ∙ type-kept c.args.terms.now.types (term_at c.args.terms.now.terms c.args.t) c.type_of.result
+    c.in_ok-all.all.items c.in_ok-own.own.items c.type_of.ensures.typed c.in_ok-all.ensures.names own)
     c.pass_if.ensures

@@ -7,4 +7,5 @@ use Rattle.ot_define.specs.Answers.{tm_at}
 use Rattle.ot_define.proofs.premise.symbols_in.Given as goal
 
 abbrev pub invariant-loop-hyp : goal.invariant-loop-hyp
-invariant-loop-hyp l = IsSameSet (map symbol_of l.symbols.keys) (symbols_all numbers (map (tm_at l.terms.terms) (take l.hyp-index l.hyps)))
+invariant-loop-hyp l = IsSameSet (map symbol_of l.symbols.keys)
+    (symbols_all numbers (map (tm_at l.terms.terms) (take l.hyp-index l.hyps)))

@@ -5,4 +5,5 @@ use Rattle.ot_define.proofs.sets.are_distinct.Goals as goal
 
 pub returns : goal.returns
 returns g c =
-    ap (λ n. nat_eq n (length c.args.items.now)) (c.len.ensures.len ∙ ap length c.in_ok-set.ensures) ∙ distinct-count g.T.PartialEq.eq c.requires numbers c.args.items.now
+    ap (λ n. nat_eq n (length c.args.items.now)) (c.len.ensures.len ∙ ap length c.in_ok-set.ensures)
+    ∙ distinct-count g.T.PartialEq.eq c.requires numbers c.args.items.now

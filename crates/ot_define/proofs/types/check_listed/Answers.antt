@@ -19,5 +19,8 @@ returns c =
     let listed =
     c.in_ok-listed.ensures
     ∙ ap (list_all (λ (n : ℕ). list_any (nat_eq n) vars)) c.as_slice.ensures.value
-    ∙ part-same_set nat_eq Decides-eqb c.in_ok-occurring.occurring.items all vars vars c.in_ok-occurring.ensures.names (same_set-self vars) in
-    checks-unless c.pass_if.result (c.in_ok-distinct.distinct && c.in_ok-listed.listed) (are_distinct nat_eq vars && are_names_of numbers all vars) code.BadTypeVars BadTypeVars refl (λ i. c.in_ok-distinct.ensures i && listed i) c.pass_if.ensures
+    ∙ part-same_set nat_eq Decides-eqb c.in_ok-occurring.occurring.items all vars vars c.in_ok-occurring.ensures.names
+    (same_set-self vars) in
+    checks-unless c.pass_if.result (c.in_ok-distinct.distinct && c.in_ok-listed.listed)
+    (are_distinct nat_eq vars && are_names_of numbers all vars) code.BadTypeVars BadTypeVars refl
+    (λ i. c.in_ok-distinct.ensures i && listed i) c.pass_if.ensures

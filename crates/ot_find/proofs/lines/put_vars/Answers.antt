@@ -12,6 +12,7 @@ returns-in-Ok c = same-text (ap indented_text c.in-Ok.ensures.ok) c.put_lines.en
 
 pub returns-in-Err : goal.returns-in-Err
 returns-in-Err c =
-    gives-up _ _ _ c.room.result c.in-Err.fault c.stop.ensures (sym c.is_stopped.ensures ∙ c.if-is_stopped.false) c.room.ensures
+    gives-up _ _ _ c.room.result c.in-Err.fault c.stop.ensures (sym c.is_stopped.ensures ∙ c.if-is_stopped.false)
+    c.room.ensures
     (λ p. indented-bytes c.room.result (ascending (map variable_line (terms_of c.args.kernel.now c.args.vars.now)))
     (c.in-Err.ensures.too_large (λ j. Err (p j))))

@@ -21,7 +21,8 @@ returns-in_err-add_text-clause-too_large c = λ p.
     subst (λ ts. c.args.max < bytes_in (ascending ts)) (variable-lines c.args.kernel.now c.args.vars.now)
     (together-too_large (variable_line_at c.args.kernel.now) c.args.vars.now
     c.loop-item.item-index c.item-item.result c.loop-item-test.true c.item-item.is
-    c.in_ok-line.line.items (texts_of c.loop-item.lines) (texts_of c.loop-item.lines) c.args.max c.loop-item.room c.loop-item.room
+    c.in_ok-line.line.items (texts_of c.loop-item.lines) (texts_of c.loop-item.lines) c.args.max c.loop-item.room
+    c.loop-item.room
     c.loop-item.invariant.0 c.loop-item.invariant.1 c.in_ok-line.ensures.ok
     (c.in_err-add_text.ensures.too_large (ap Err (same_Err _ _ _ c.from_residual-in_err-add_text.ensures.1 p))))
 
@@ -39,5 +40,7 @@ returns-clause-ok c =
     let k = c.args.kernel.now in
     let texts = map (variable_line_at k) c.args.vars.now in
     c.loop-item.invariant.0
-    ∙ ap ascending (take_all c.loop-item.item-index texts (let n = length-map (variable_line_at k) c.args.vars.now in omega arith)
+    ∙ ap ascending
+    (take_all c.loop-item.item-index texts (let n = length-map (variable_line_at k) c.args.vars.now in
+    omega arith)
     ∙ variable-lines k c.args.vars.now)

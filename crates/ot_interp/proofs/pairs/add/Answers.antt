@@ -4,4 +4,5 @@ use Rattle.ot_interp.proofs.pairs.add.Goals as goal
 use Rattle.ot_plain.proofs.Results.{none_from}
 
 pub returns-clause-ok : goal.returns-clause-ok
-returns-clause-ok c = c.in_ok-insert.ensures.entries ∙ insert_entry-new nat_eq c.args.pairs.now c.args.from c.args.to (none_from _ c.requires)
+returns-clause-ok c = c.in_ok-insert.ensures.entries ∙ insert_entry-new nat_eq c.args.pairs.now c.args.from c.args.to
+    (none_from _ c.requires)

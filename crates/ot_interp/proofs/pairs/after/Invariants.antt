@@ -8,6 +8,7 @@ use Rattle.ot_interp.proofs.pairs.after.Given as goal
 
 abbrev pub invariant-loop-from : goal.invariant-loop-from
 invariant-loop-from l = record {
-  pairs : l.both.entries ++ missing l.both.entries l.from-iterator ≡ after_pairs numbers l.inner.entries l.outer.entries;
+  pairs : l.both.entries ++ missing l.both.entries l.from-iterator
+      ≡ after_pairs numbers l.inner.entries l.outer.entries;
   distinct : IsDistinct nat_eq (keys_of l.from-iterator);
 }

@@ -7,18 +7,26 @@ use Rattle.ot_kernel.proofs.PutConstants.{later_names, only_memory, new_sequent}
 use Rattle.ot_kernel.proofs.defining.list_theorem.Goals as goal
 
 pub returns-in_err-s-clause-later : goal.returns-in_err-s-clause-later
-returns-in_err-s-clause-later c = later_names c.args.names.now c.args.cs.now c.args.terms.now c.constants.new.terms c.requires.cs c.requires.below c.constants.ensures.grown
+returns-in_err-s-clause-later c = later_names c.args.names.now c.args.cs.now c.args.terms.now c.constants.new.terms
+    c.requires.cs c.requires.below c.constants.ensures.grown
 
 pub apply-requires-clause-below : goal.apply-requires-clause-below
-apply-requires-clause-below c = (later_names c.args.names.now c.args.cs.now c.args.terms.now c.constants.new.terms c.requires.cs c.requires.below c.constants.ensures.grown).names
+apply-requires-clause-below c =
+    (later_names c.args.names.now c.args.cs.now c.args.terms.now c.constants.new.terms c.requires.cs c.requires.below
+    c.constants.ensures.grown).names
 
 pub returns-in_err-concl-clause-err : goal.returns-in_err-concl-clause-err
 returns-in_err-concl-clause-err c =
-    let why = only_memory c.args.terms.now c.constants.new.terms c.args.cs.now c.args.vars.now c.constants.ensures.grown c.in_ok-s.s c.in_ok-s.ensures.types c.in_ok-s.ensures.terms c.args.th.now.concl c.requires.inside.concl c.in_err-concl.field-0.0
+    let why = only_memory c.args.terms.now c.constants.new.terms c.args.cs.now c.args.vars.now
+    c.constants.ensures.grown c.in_ok-s.s c.in_ok-s.ensures.types c.in_ok-s.ensures.terms c.args.th.now.concl
+    c.requires.inside.concl c.in_err-concl.field-0.0
     (λ e. c.in_err-concl.ensures.nesting (ap Err e)) (λ e. c.in_err-concl.ensures.redex (ap Err e)) in
-    handed_on c.from_residual-in_err-concl.result (of_subst c.in_err-concl.field-0.0) (λ e. e ≡ Memory) c.from_residual-in_err-concl.ensures.1 why
+    handed_on c.from_residual-in_err-concl.result (of_subst c.in_err-concl.field-0.0) (λ e. e ≡ Memory)
+    c.from_residual-in_err-concl.ensures.1 why
 
 pub returns-clause-ok : goal.returns-clause-ok
 returns-clause-ok c =
-    new_sequent c.args.terms.now c.constants.new.terms c.args.cs.now c.args.vars.now c.constants.ensures.grown c.in_ok-s.s c.in_ok-s.ensures.types c.in_ok-s.ensures.terms c.args.th.now.concl c.requires.inside.concl
-    c.apply.new.terms (record { hyps = c.new.result; concl = c.in_ok-concl.concl }) c.new.ensures.items c.in_ok-concl.ensures.ok
+    new_sequent c.args.terms.now c.constants.new.terms c.args.cs.now c.args.vars.now c.constants.ensures.grown
+    c.in_ok-s.s c.in_ok-s.ensures.types c.in_ok-s.ensures.terms c.args.th.now.concl c.requires.inside.concl
+    c.apply.new.terms (record { hyps = c.new.result; concl = c.in_ok-concl.concl }) c.new.ensures.items
+    c.in_ok-concl.ensures.ok

@@ -8,10 +8,15 @@ use Rattle.ot_kernel.proofs.defining.new_type.Goals as goal
 
 pub returns-in_err-type_op-clause-err : goal.returns-in_err-type_op-clause-err
 returns-in_err-type_op-clause-err c =
-    let same : types_at c.type_variables.new.terms.types c.deref.result.now ≡ tys_of_vars numbers c.args.vars.now = ap (types_at c.type_variables.new.terms.types) c.deref.ensures.value ∙ c.in_ok-args.ensures.types in
-    operator_refused c.from_residual-in_err-type_op.result c.in_err-type_op.field-0.0 c.from_residual-in_err-type_op.ensures.1 (λ e. shallow_operator c.args.op c.args.vars.now _ same (c.in_err-type_op.ensures.nesting (ap Err e)))
+    let same : types_at c.type_variables.new.terms.types c.deref.result.now ≡ tys_of_vars numbers c.args.vars.now =
+    ap (types_at c.type_variables.new.terms.types) c.deref.ensures.value ∙ c.in_ok-args.ensures.types in
+    operator_refused c.from_residual-in_err-type_op.result c.in_err-type_op.field-0.0
+    c.from_residual-in_err-type_op.ensures.1
+    (λ e. shallow_operator c.args.op c.args.vars.now _ same (c.in_err-type_op.ensures.nesting (ap Err e)))
 
 pub returns-clause-ok : goal.returns-clause-ok
 returns-clause-ok c =
-    let same : types_at c.type_variables.new.terms.types c.deref.result.now ≡ tys_of_vars numbers c.args.vars.now = ap (types_at c.type_variables.new.terms.types) c.deref.ensures.value ∙ c.in_ok-args.ensures.types in
-    type_number c.type_op.new.self.types c.args.op c.args.vars.now _ c.in_ok-type_op.field-0 same c.in_ok-type_op.ensures.ok
+    let same : types_at c.type_variables.new.terms.types c.deref.result.now ≡ tys_of_vars numbers c.args.vars.now =
+    ap (types_at c.type_variables.new.terms.types) c.deref.ensures.value ∙ c.in_ok-args.ensures.types in
+    type_number c.type_op.new.self.types c.args.op c.args.vars.now _ c.in_ok-type_op.field-0 same
+    c.in_ok-type_op.ensures.ok

@@ -12,8 +12,10 @@ use Rattle.ot_kernel.specs.Numbered.{tm_at, Derives}
 use Rattle.ot_kernel.specs.Equating.{limited}
 use Rattle.ot_kernel.specs.Proved.{bound_of_names}
 use Rattle.ot_kernel.proofs.Equating.{tm_at-Grows}
-use Rattle.ot_kernel.proofs.NewTypes.{grown_further, grown_by, first_theorem_refused, second_theorem_refused, to_refused, from_refused, both_derived}
-use Rattle.ot_kernel.proofs.Conversions.{conversions_made, conversions_later, to_tree, from_tree, turns_new, first_is, turns_old, predicate_typed, second_is}
+use Rattle.ot_kernel.proofs.NewTypes.{grown_further, grown_by, first_theorem_refused}
+use Rattle.ot_kernel.proofs.NewTypes.{second_theorem_refused, to_refused, from_refused, both_derived}
+use Rattle.ot_kernel.proofs.Conversions.{conversions_made, conversions_later, to_tree, from_tree}
+use Rattle.ot_kernel.proofs.Conversions.{turns_new, first_is, turns_old, predicate_typed, second_is}
 use Rattle.ot_kernel.proofs.defining.type_theorems.Goals as goal
 
 pub returns-in_err-abs-clause-derives : goal.returns-in_err-abs-clause-derives
@@ -25,8 +27,12 @@ returns-in_err-abs-clause-derives c =
     let m = c.new_type.new.terms in
     let ty = c.in_ok-ty.ty in
     let p = err_from_is_err_and c.from_residual-in_err-abs.result c.from_residual-in_err-abs.ensures.1 in
-    let tree = to_tree t m c.new_type.ensures.grown.grows T c.args.u ty c.args.abs c.args.rep c.requires.u c.in_ok-ty.ensures.ok in
-    rw (p.1, p.2) (to_refused T U c.args.abs c.args.rep P c.requires.closed _ (subst (λ (x : Tm ℕ). RefusesRule c.in_err-abs.field-0.0 (limited numbers x)) tree c.in_err-abs.ensures.makes))
+    let tree = to_tree t m c.new_type.ensures.grown.grows T c.args.u ty c.args.abs c.args.rep c.requires.u
+    c.in_ok-ty.ensures.ok in
+    rw (p.1, p.2)
+    (to_refused T U c.args.abs c.args.rep P c.requires.closed _
+    (subst (λ (x : Tm ℕ). RefusesRule c.in_err-abs.field-0.0 (limited numbers x)) tree
+    c.in_err-abs.ensures.makes))
 
 pub returns-in_err-rep-clause-derives : goal.returns-in_err-rep-clause-derives
 returns-in_err-rep-clause-derives c =
@@ -37,15 +43,21 @@ returns-in_err-rep-clause-derives c =
     let m = c.new_type.new.terms in
     let ty = c.in_ok-ty.ty in
     let p = err_from_is_err_and c.from_residual-in_err-rep.result c.from_residual-in_err-rep.ensures.1 in
-    let tree = from_tree t m c.new_type.ensures.grown.grows T c.args.u ty c.args.abs c.args.rep c.requires.u c.in_ok-ty.ensures.ok c.constant_between.new.terms c.constant_between.ensures.grown.grows in
-    rw (p.1, p.2) (from_refused T U c.args.abs c.args.rep P c.requires.closed _ (subst (λ (x : Tm ℕ). RefusesRule c.in_err-rep.field-0.0 (limited numbers x)) tree c.in_err-rep.ensures.makes))
+    let tree = from_tree t m c.new_type.ensures.grown.grows T c.args.u ty c.args.abs c.args.rep c.requires.u
+    c.in_ok-ty.ensures.ok c.constant_between.new.terms c.constant_between.ensures.grown.grows in
+    rw (p.1, p.2)
+    (from_refused T U c.args.abs c.args.rep P c.requires.closed _
+    (subst (λ (x : Tm ℕ). RefusesRule c.in_err-rep.field-0.0 (limited numbers x)) tree
+    c.in_err-rep.ensures.makes))
 
 pub returns-in_err-rep-clause-grown : goal.returns-in_err-rep-clause-grown
 returns-in_err-rep-clause-grown c =
     let t = c.args.terms.now in
     let bound = bound_of_names (4 ∷ c.args.op ∷ c.args.abs ∷ c.args.rep ∷ c.args.vars.now) in
-    let first = grown_further _ _ bound t _ _ c.new_type.ensures.grown (omega arith) c.constant_between.ensures.grown (omega arith) in
-    let second = grown_further bound _ bound t _ _ first (omega arith) c.constant_between-2.ensures.grown (omega arith) in
+    let first = grown_further _ _ bound t _ _ c.new_type.ensures.grown (omega arith) c.constant_between.ensures.grown
+    (omega arith) in
+    let second = grown_further bound _ bound t _ _ first (omega arith) c.constant_between-2.ensures.grown
+    (omega arith) in
     second
 
 pub abs_theorem-requires-clause-typed : goal.abs_theorem-requires-clause-typed
@@ -60,7 +72,9 @@ abs_theorem-requires-clause-typed c =
     let o = c.constant_between-2.new.terms in
     let to = c.in_ok-abs.abs in
     let from = c.in_ok-rep.rep in
-    let k = conversions_made t m c.new_type.ensures.grown.grows T c.args.u ty c.args.abs c.args.rep c.requires.u c.in_ok-ty.ensures.ok n c.constant_between.ensures.grown.grows to from o c.constant_between-2.ensures.grown.grows c.in_ok-abs.ensures.makes c.in_ok-rep.ensures.makes in
+    let k = conversions_made t m c.new_type.ensures.grown.grows T c.args.u ty c.args.abs c.args.rep c.requires.u
+    c.in_ok-ty.ensures.ok n c.constant_between.ensures.grown.grows to from o
+    c.constant_between-2.ensures.grown.grows c.in_ok-abs.ensures.makes c.in_ok-rep.ensures.makes in
     let v : VarKey = record { name = 3; ty = ty } in
     turns_new T U c.args.abs c.args.rep P o ty c.args.u to from k v refl refl
 
@@ -77,17 +91,25 @@ returns-in_err-first-clause-derives c =
     let o = c.constant_between-2.new.terms in
     let to = c.in_ok-abs.abs in
     let from = c.in_ok-rep.rep in
-    let k = conversions_made t m c.new_type.ensures.grown.grows T c.args.u ty c.args.abs c.args.rep c.requires.u c.in_ok-ty.ensures.ok n c.constant_between.ensures.grown.grows to from o c.constant_between-2.ensures.grown.grows c.in_ok-abs.ensures.makes c.in_ok-rep.ensures.makes in
+    let k = conversions_made t m c.new_type.ensures.grown.grows T c.args.u ty c.args.abs c.args.rep c.requires.u
+    c.in_ok-ty.ensures.ok n c.constant_between.ensures.grown.grows to from o
+    c.constant_between-2.ensures.grown.grows c.in_ok-abs.ensures.makes c.in_ok-rep.ensures.makes in
     let v : VarKey = record { name = 3; ty = ty } in
-    rw (p.1, p.2) (first_theorem_refused T U c.args.abs c.args.rep P c.requires.closed _ (subst (λ (x : Result (Sequent ℕ) (Fault ℕ)). RefusesRule c.in_err-first.field-0.0 x) (first_is T U c.args.abs c.args.rep P o ty c.args.u to from k v refl refl) c.in_err-first.ensures.derives))
+    rw (p.1, p.2)
+    (first_theorem_refused T U c.args.abs c.args.rep P c.requires.closed _
+    (subst (λ (x : Result (Sequent ℕ) (Fault ℕ)). RefusesRule c.in_err-first.field-0.0 x)
+    (first_is T U c.args.abs c.args.rep P o ty c.args.u to from k v refl refl) c.in_err-first.ensures.derives))
 
 pub returns-in_err-first-clause-grown : goal.returns-in_err-first-clause-grown
 returns-in_err-first-clause-grown c =
     let t = c.args.terms.now in
     let bound = bound_of_names (4 ∷ c.args.op ∷ c.args.abs ∷ c.args.rep ∷ c.args.vars.now) in
-    let first = grown_further _ _ bound t _ _ c.new_type.ensures.grown (omega arith) c.constant_between.ensures.grown (omega arith) in
-    let second = grown_further bound _ bound t _ _ first (omega arith) c.constant_between-2.ensures.grown (omega arith) in
-    let third = grown_further bound _ bound t _ _ second (omega arith) (grown_by 3 _ _ c.abs_theorem.ensures.grown) (omega arith) in
+    let first = grown_further _ _ bound t _ _ c.new_type.ensures.grown (omega arith) c.constant_between.ensures.grown
+    (omega arith) in
+    let second = grown_further bound _ bound t _ _ first (omega arith) c.constant_between-2.ensures.grown
+    (omega arith) in
+    let third = grown_further bound _ bound t _ _ second (omega arith) (grown_by 3 _ _ c.abs_theorem.ensures.grown)
+    (omega arith) in
     third
 
 pub rep_theorem-requires-clause-typed : goal.rep_theorem-requires-clause-typed
@@ -102,11 +124,18 @@ rep_theorem-requires-clause-typed c =
     let o = c.constant_between-2.new.terms in
     let to = c.in_ok-abs.abs in
     let from = c.in_ok-rep.rep in
-    let k = conversions_made t m c.new_type.ensures.grown.grows T c.args.u ty c.args.abs c.args.rep c.requires.u c.in_ok-ty.ensures.ok n c.constant_between.ensures.grown.grows to from o c.constant_between-2.ensures.grown.grows c.in_ok-abs.ensures.makes c.in_ok-rep.ensures.makes in
+    let k = conversions_made t m c.new_type.ensures.grown.grows T c.args.u ty c.args.abs c.args.rep c.requires.u
+    c.in_ok-ty.ensures.ok n c.constant_between.ensures.grown.grows to from o
+    c.constant_between-2.ensures.grown.grows c.in_ok-abs.ensures.makes c.in_ok-rep.ensures.makes in
     let q = c.abs_theorem.new.terms in
     let l = conversions_later T U c.args.abs c.args.rep o q ty c.args.u to from c.abs_theorem.ensures.grown.grows k in
     let w : VarKey = record { name = 4; ty = c.args.u } in
-    let same = tm_at-Grows t q (Grows-trans t m q c.new_type.ensures.grown.grows (Grows-trans m n q c.constant_between.ensures.grown.grows (Grows-trans n o q c.constant_between-2.ensures.grown.grows c.abs_theorem.ensures.grown.grows))) c.args.p c.requires.p in
+    let same =
+    tm_at-Grows t q
+    (Grows-trans t m q c.new_type.ensures.grown.grows
+    (Grows-trans m n q c.constant_between.ensures.grown.grows
+    (Grows-trans n o q c.constant_between-2.ensures.grown.grows c.abs_theorem.ensures.grown.grows))) c.args.p
+    c.requires.p in
     turns_old T U c.args.abs c.args.rep P q ty c.args.u to from l w refl refl
 
 pub rep_theorem-requires-clause-predicate : goal.rep_theorem-requires-clause-predicate
@@ -121,11 +150,18 @@ rep_theorem-requires-clause-predicate c =
     let o = c.constant_between-2.new.terms in
     let to = c.in_ok-abs.abs in
     let from = c.in_ok-rep.rep in
-    let k = conversions_made t m c.new_type.ensures.grown.grows T c.args.u ty c.args.abs c.args.rep c.requires.u c.in_ok-ty.ensures.ok n c.constant_between.ensures.grown.grows to from o c.constant_between-2.ensures.grown.grows c.in_ok-abs.ensures.makes c.in_ok-rep.ensures.makes in
+    let k = conversions_made t m c.new_type.ensures.grown.grows T c.args.u ty c.args.abs c.args.rep c.requires.u
+    c.in_ok-ty.ensures.ok n c.constant_between.ensures.grown.grows to from o
+    c.constant_between-2.ensures.grown.grows c.in_ok-abs.ensures.makes c.in_ok-rep.ensures.makes in
     let q = c.abs_theorem.new.terms in
     let l = conversions_later T U c.args.abs c.args.rep o q ty c.args.u to from c.abs_theorem.ensures.grown.grows k in
     let w : VarKey = record { name = 4; ty = c.args.u } in
-    let same = tm_at-Grows t q (Grows-trans t m q c.new_type.ensures.grown.grows (Grows-trans m n q c.constant_between.ensures.grown.grows (Grows-trans n o q c.constant_between-2.ensures.grown.grows c.abs_theorem.ensures.grown.grows))) c.args.p c.requires.p in
+    let same =
+    tm_at-Grows t q
+    (Grows-trans t m q c.new_type.ensures.grown.grows
+    (Grows-trans m n q c.constant_between.ensures.grown.grows
+    (Grows-trans n o q c.constant_between-2.ensures.grown.grows c.abs_theorem.ensures.grown.grows))) c.args.p
+    c.requires.p in
     predicate_typed T U c.args.abs c.args.rep P q ty c.args.u to from l w refl refl c.args.p same c.requires.typed
 
 pub returns-in_err-second-clause-derives : goal.returns-in_err-second-clause-derives
@@ -141,21 +177,36 @@ returns-in_err-second-clause-derives c =
     let o = c.constant_between-2.new.terms in
     let to = c.in_ok-abs.abs in
     let from = c.in_ok-rep.rep in
-    let k = conversions_made t m c.new_type.ensures.grown.grows T c.args.u ty c.args.abs c.args.rep c.requires.u c.in_ok-ty.ensures.ok n c.constant_between.ensures.grown.grows to from o c.constant_between-2.ensures.grown.grows c.in_ok-abs.ensures.makes c.in_ok-rep.ensures.makes in
+    let k = conversions_made t m c.new_type.ensures.grown.grows T c.args.u ty c.args.abs c.args.rep c.requires.u
+    c.in_ok-ty.ensures.ok n c.constant_between.ensures.grown.grows to from o
+    c.constant_between-2.ensures.grown.grows c.in_ok-abs.ensures.makes c.in_ok-rep.ensures.makes in
     let q = c.abs_theorem.new.terms in
     let l = conversions_later T U c.args.abs c.args.rep o q ty c.args.u to from c.abs_theorem.ensures.grown.grows k in
     let w : VarKey = record { name = 4; ty = c.args.u } in
-    let same = tm_at-Grows t q (Grows-trans t m q c.new_type.ensures.grown.grows (Grows-trans m n q c.constant_between.ensures.grown.grows (Grows-trans n o q c.constant_between-2.ensures.grown.grows c.abs_theorem.ensures.grown.grows))) c.args.p c.requires.p in
-    rw (p.1, p.2) (second_theorem_refused T U c.args.abs c.args.rep P c.requires.closed _ (subst (λ (x : Result (Sequent ℕ) (Fault ℕ)). RefusesRule c.in_err-second.field-0.0 x) (second_is T U c.args.abs c.args.rep P q ty c.args.u to from l w refl refl c.args.p same) c.in_err-second.ensures.derives))
+    let same =
+    tm_at-Grows t q
+    (Grows-trans t m q c.new_type.ensures.grown.grows
+    (Grows-trans m n q c.constant_between.ensures.grown.grows
+    (Grows-trans n o q c.constant_between-2.ensures.grown.grows c.abs_theorem.ensures.grown.grows))) c.args.p
+    c.requires.p in
+    rw (p.1, p.2)
+    (second_theorem_refused T U c.args.abs c.args.rep P c.requires.closed _
+    (subst (λ (x : Result (Sequent ℕ) (Fault ℕ)). RefusesRule c.in_err-second.field-0.0 x)
+    (second_is T U c.args.abs c.args.rep P q ty c.args.u to from l w refl refl c.args.p same)
+    c.in_err-second.ensures.derives))
 
 pub returns-in_err-second-clause-grown : goal.returns-in_err-second-clause-grown
 returns-in_err-second-clause-grown c =
     let t = c.args.terms.now in
     let bound = bound_of_names (4 ∷ c.args.op ∷ c.args.abs ∷ c.args.rep ∷ c.args.vars.now) in
-    let first = grown_further _ _ bound t _ _ c.new_type.ensures.grown (omega arith) c.constant_between.ensures.grown (omega arith) in
-    let second = grown_further bound _ bound t _ _ first (omega arith) c.constant_between-2.ensures.grown (omega arith) in
-    let third = grown_further bound _ bound t _ _ second (omega arith) (grown_by 3 _ _ c.abs_theorem.ensures.grown) (omega arith) in
-    let fourth = grown_further bound _ bound t _ _ third (omega arith) (grown_by 4 _ _ c.rep_theorem.ensures.grown) (omega arith) in
+    let first = grown_further _ _ bound t _ _ c.new_type.ensures.grown (omega arith) c.constant_between.ensures.grown
+    (omega arith) in
+    let second = grown_further bound _ bound t _ _ first (omega arith) c.constant_between-2.ensures.grown
+    (omega arith) in
+    let third = grown_further bound _ bound t _ _ second (omega arith) (grown_by 3 _ _ c.abs_theorem.ensures.grown)
+    (omega arith) in
+    let fourth = grown_further bound _ bound t _ _ third (omega arith) (grown_by 4 _ _ c.rep_theorem.ensures.grown)
+    (omega arith) in
     fourth
 
 pub returns-clause-derives : goal.returns-clause-derives
@@ -170,24 +221,39 @@ returns-clause-derives c =
     let o = c.constant_between-2.new.terms in
     let to = c.in_ok-abs.abs in
     let from = c.in_ok-rep.rep in
-    let k = conversions_made t m c.new_type.ensures.grown.grows T c.args.u ty c.args.abs c.args.rep c.requires.u c.in_ok-ty.ensures.ok n c.constant_between.ensures.grown.grows to from o c.constant_between-2.ensures.grown.grows c.in_ok-abs.ensures.makes c.in_ok-rep.ensures.makes in
+    let k = conversions_made t m c.new_type.ensures.grown.grows T c.args.u ty c.args.abs c.args.rep c.requires.u
+    c.in_ok-ty.ensures.ok n c.constant_between.ensures.grown.grows to from o
+    c.constant_between-2.ensures.grown.grows c.in_ok-abs.ensures.makes c.in_ok-rep.ensures.makes in
     let v : VarKey = record { name = 3; ty = ty } in
     let q = c.abs_theorem.new.terms in
     let l = conversions_later T U c.args.abs c.args.rep o q ty c.args.u to from c.abs_theorem.ensures.grown.grows k in
     let w : VarKey = record { name = 4; ty = c.args.u } in
-    let same = tm_at-Grows t q (Grows-trans t m q c.new_type.ensures.grown.grows (Grows-trans m n q c.constant_between.ensures.grown.grows (Grows-trans n o q c.constant_between-2.ensures.grown.grows c.abs_theorem.ensures.grown.grows))) c.args.p c.requires.p in
+    let same =
+    tm_at-Grows t q
+    (Grows-trans t m q c.new_type.ensures.grown.grows
+    (Grows-trans m n q c.constant_between.ensures.grown.grows
+    (Grows-trans n o q c.constant_between-2.ensures.grown.grows c.abs_theorem.ensures.grown.grows))) c.args.p
+    c.requires.p in
     let th = c.in_ok-first.first in
     let ts = c.in_ok-second.second in
-    both_derived T U c.args.abs c.args.rep P c.requires.closed q c.rep_theorem.new.terms c.rep_theorem.ensures.grown.grows th ts
-    (subst (λ (x : Result (Sequent ℕ) (Fault ℕ)). Derives (Ok th) x q.terms) (first_is T U c.args.abs c.args.rep P o ty c.args.u to from k v refl refl) c.in_ok-first.ensures.derives)
-    (subst (λ (x : Result (Sequent ℕ) (Fault ℕ)). Derives (Ok ts) x c.rep_theorem.new.terms.terms) (second_is T U c.args.abs c.args.rep P q ty c.args.u to from l w refl refl c.args.p same) c.in_ok-second.ensures.derives)
+    both_derived T U c.args.abs c.args.rep P c.requires.closed q c.rep_theorem.new.terms
+    c.rep_theorem.ensures.grown.grows th ts
+    (subst (λ (x : Result (Sequent ℕ) (Fault ℕ)). Derives (Ok th) x q.terms)
+    (first_is T U c.args.abs c.args.rep P o ty c.args.u to from k v refl refl) c.in_ok-first.ensures.derives)
+    (subst (λ (x : Result (Sequent ℕ) (Fault ℕ)). Derives (Ok ts) x c.rep_theorem.new.terms.terms)
+    (second_is T U c.args.abs c.args.rep P q ty c.args.u to from l w refl refl c.args.p same)
+    c.in_ok-second.ensures.derives)
 
 pub returns-clause-grown : goal.returns-clause-grown
 returns-clause-grown c =
     let t = c.args.terms.now in
     let bound = bound_of_names (4 ∷ c.args.op ∷ c.args.abs ∷ c.args.rep ∷ c.args.vars.now) in
-    let first = grown_further _ _ bound t _ _ c.new_type.ensures.grown (omega arith) c.constant_between.ensures.grown (omega arith) in
-    let second = grown_further bound _ bound t _ _ first (omega arith) c.constant_between-2.ensures.grown (omega arith) in
-    let third = grown_further bound _ bound t _ _ second (omega arith) (grown_by 3 _ _ c.abs_theorem.ensures.grown) (omega arith) in
-    let fourth = grown_further bound _ bound t _ _ third (omega arith) (grown_by 4 _ _ c.rep_theorem.ensures.grown) (omega arith) in
+    let first = grown_further _ _ bound t _ _ c.new_type.ensures.grown (omega arith) c.constant_between.ensures.grown
+    (omega arith) in
+    let second = grown_further bound _ bound t _ _ first (omega arith) c.constant_between-2.ensures.grown
+    (omega arith) in
+    let third = grown_further bound _ bound t _ _ second (omega arith) (grown_by 3 _ _ c.abs_theorem.ensures.grown)
+    (omega arith) in
+    let fourth = grown_further bound _ bound t _ _ third (omega arith) (grown_by 4 _ _ c.rep_theorem.ensures.grown)
+    (omega arith) in
     fourth

@@ -15,8 +15,12 @@ use Rattle.ot_kernel.proofs.BothSides.{right_abstraction_refused, both_abstracti
 use Rattle.ot_kernel.proofs.equations.abs_thm.Goals as goal
 
 -- the test was on the theorem's hypotheses
-not_free : (t : TermTable) (v : VarKey) (th : Theorem) (is : List ℕ) (b : Bool) → b ≡ is_free_in_some numbers (variable_of t.types v) (tms_at t.terms is) → b ≡ false → is ≡ th.hyps.items → is_free_in_some numbers (variable_of t.types v) (numbered_sequent t.terms th).hyps ≡ false
-not_free t v th is b tested off same = ap (λ (js : List ℕ). is_free_in_some numbers (variable_of t.types v) (tms_at t.terms js)) (sym same) ∙ sym tested ∙ off
+not_free : (t : TermTable) (v : VarKey) (th : Theorem) (is : List ℕ) (b : Bool)
+    → b ≡ is_free_in_some numbers (variable_of t.types v) (tms_at t.terms is) → b ≡ false → is ≡ th.hyps.items
+    → is_free_in_some numbers (variable_of t.types v) (numbered_sequent t.terms th).hyps ≡ false
+not_free t v th is b tested off same =
+    ap (λ (js : List ℕ). is_free_in_some numbers (variable_of t.types v) (tms_at t.terms js)) (sym same) ∙ sym tested
+    ∙ off
 
 -- three steps
 all_grown : (n : ℕ) (s t u w : TermTable) → IsGrownBy n s t → IsGrownBy n t u → IsGrownBy 2 u w → IsGrownBy n s w
@@ -29,7 +33,8 @@ returns-in_err-left-clause-derives c =
     let th = c.args.th.now in
     let (ty, s) = c.in_ok-t.ensures.ok in
     let off = not_free t c.args.v th _ _ c.in_ok-is_free_in_some.ensures c.if-branch.false c.deref.ensures.value in
-    rw (p.1, p.2) (abs_thm-left numbers tells_numbers (variable_of t.types c.args.v) (numbered_sequent t.terms th) ty (tm_at t.terms c.in_ok-t.t) (tm_at t.terms c.in_ok-t.u) s.sides off _ c.in_err-left.ensures.makes)
+    rw (p.1, p.2) (abs_thm-left numbers tells_numbers (variable_of t.types c.args.v) (numbered_sequent t.terms th) ty
+    (tm_at t.terms c.in_ok-t.t) (tm_at t.terms c.in_ok-t.u) s.sides off _ c.in_err-left.ensures.makes)
 
 pub returns-in_err-right-clause-derives : goal.returns-in_err-right-clause-derives
 returns-in_err-right-clause-derives c =
@@ -38,10 +43,14 @@ returns-in_err-right-clause-derives c =
     let th = c.args.th.now in
     let (ty, s) = c.in_ok-t.ensures.ok in
     let off = not_free t c.args.v th _ _ c.in_ok-is_free_in_some.ensures c.if-branch.false c.deref.ensures.value in
-    rw (p.1, p.2) (right_abstraction_refused t c.abstract_from.new.terms c.args.v th ty c.in_ok-t.t c.in_ok-t.u c.in_ok-left.left c.requires.ty s off c.abstract_from.ensures.grown.grows c.in_ok-left.ensures.makes _ c.in_err-right.ensures.makes)
+    rw (p.1, p.2)
+    (right_abstraction_refused t c.abstract_from.new.terms c.args.v th ty c.in_ok-t.t c.in_ok-t.u
+    c.in_ok-left.left c.requires.ty s off c.abstract_from.ensures.grown.grows c.in_ok-left.ensures.makes _
+    c.in_err-right.ensures.makes)
 
 pub returns-in_err-right-clause-grown : goal.returns-in_err-right-clause-grown
-returns-in_err-right-clause-grown c = grown_then c.args.v.name _ _ _ c.abstract_from.ensures.grown c.abstract_from-2.ensures.grown
+returns-in_err-right-clause-grown c =
+    grown_then c.args.v.name _ _ _ c.abstract_from.ensures.grown c.abstract_from-2.ensures.grown
 
 pub equate-requires-clause-typed : goal.equate-requires-clause-typed
 equate-requires-clause-typed c =
@@ -51,7 +60,10 @@ equate-requires-clause-typed c =
     let u = c.abstract_from.new.terms in
     let w = c.abstract_from-2.new.terms in
     let (ty, s) = c.in_ok-t.ensures.ok in
-    let a = both_abstractions t u c.args.v th ty c.in_ok-t.t c.in_ok-t.u c.in_ok-left.left c.requires.ty s (not_free t c.args.v th _ _ c.in_ok-is_free_in_some.ensures c.if-branch.false c.deref.ensures.value) c.abstract_from.ensures.grown.grows c.in_ok-left.ensures.makes w c.in_ok-right.right c.abstract_from-2.ensures.grown.grows c.in_ok-right.ensures.makes in
+    let a = both_abstractions t u c.args.v th ty c.in_ok-t.t c.in_ok-t.u c.in_ok-left.left c.requires.ty s
+    (not_free t c.args.v th _ _ c.in_ok-is_free_in_some.ensures c.if-branch.false c.deref.ensures.value)
+    c.abstract_from.ensures.grown.grows c.in_ok-left.ensures.makes w c.in_ok-right.right
+    c.abstract_from-2.ensures.grown.grows c.in_ok-right.ensures.makes in
     a.left ∙ sym a.right
 
 pub returns-in_err-concl-clause-derives : goal.returns-in_err-concl-clause-derives
@@ -63,14 +75,20 @@ returns-in_err-concl-clause-derives c =
     let u = c.abstract_from.new.terms in
     let w = c.abstract_from-2.new.terms in
     let (ty, s) = c.in_ok-t.ensures.ok in
-    let a = both_abstractions t u c.args.v th ty c.in_ok-t.t c.in_ok-t.u c.in_ok-left.left c.requires.ty s (not_free t c.args.v th _ _ c.in_ok-is_free_in_some.ensures c.if-branch.false c.deref.ensures.value) c.abstract_from.ensures.grown.grows c.in_ok-left.ensures.makes w c.in_ok-right.right c.abstract_from-2.ensures.grown.grows c.in_ok-right.ensures.makes in
-    rw (p.1, p.2) (equated_refused _ (numbered_sequent t.terms th).hyps (tm_at w.terms c.in_ok-left.left) (tm_at w.terms c.in_ok-right.right) (fun_ty numbers v.ty ty) _ a.left c.in_err-concl.ensures.makes a.rule)
+    let a = both_abstractions t u c.args.v th ty c.in_ok-t.t c.in_ok-t.u c.in_ok-left.left c.requires.ty s
+    (not_free t c.args.v th _ _ c.in_ok-is_free_in_some.ensures c.if-branch.false c.deref.ensures.value)
+    c.abstract_from.ensures.grown.grows c.in_ok-left.ensures.makes w c.in_ok-right.right
+    c.abstract_from-2.ensures.grown.grows c.in_ok-right.ensures.makes in
+    rw (p.1, p.2) (equated_refused _ (numbered_sequent t.terms th).hyps (tm_at w.terms c.in_ok-left.left)
+    (tm_at w.terms c.in_ok-right.right) (fun_ty numbers v.ty ty) _ a.left c.in_err-concl.ensures.makes a.rule)
 
 pub returns-in_err-concl-clause-grown : goal.returns-in_err-concl-clause-grown
-returns-in_err-concl-clause-grown c = all_grown c.args.v.name _ _ _ _ c.abstract_from.ensures.grown c.abstract_from-2.ensures.grown c.equate.ensures.grown
+returns-in_err-concl-clause-grown c = all_grown c.args.v.name _ _ _ _ c.abstract_from.ensures.grown
+    c.abstract_from-2.ensures.grown c.equate.ensures.grown
 
 pub returns-in_err-hyps-clause-grown : goal.returns-in_err-hyps-clause-grown
-returns-in_err-hyps-clause-grown c = all_grown c.args.v.name _ _ _ _ c.abstract_from.ensures.grown c.abstract_from-2.ensures.grown c.equate.ensures.grown
+returns-in_err-hyps-clause-grown c = all_grown c.args.v.name _ _ _ _ c.abstract_from.ensures.grown
+    c.abstract_from-2.ensures.grown c.equate.ensures.grown
 
 pub returns-clause-derives : goal.returns-clause-derives
 returns-clause-derives c =
@@ -80,11 +98,17 @@ returns-clause-derives c =
     let u = c.abstract_from.new.terms in
     let w = c.abstract_from-2.new.terms in
     let (ty, s) = c.in_ok-t.ensures.ok in
-    let a = both_abstractions t u c.args.v th ty c.in_ok-t.t c.in_ok-t.u c.in_ok-left.left c.requires.ty s (not_free t c.args.v th _ _ c.in_ok-is_free_in_some.ensures c.if-branch.false c.deref.ensures.value) c.abstract_from.ensures.grown.grows c.in_ok-left.ensures.makes w c.in_ok-right.right c.abstract_from-2.ensures.grown.grows c.in_ok-right.ensures.makes in
+    let a = both_abstractions t u c.args.v th ty c.in_ok-t.t c.in_ok-t.u c.in_ok-left.left c.requires.ty s
+    (not_free t c.args.v th _ _ c.in_ok-is_free_in_some.ensures c.if-branch.false c.deref.ensures.value)
+    c.abstract_from.ensures.grown.grows c.in_ok-left.ensures.makes w c.in_ok-right.right
+    c.abstract_from-2.ensures.grown.grows c.in_ok-right.ensures.makes in
     let same = c.in_ok-hyps.ensures.items ∙ c.deref-2.ensures.value in
     let inside = subst (All (λ i. i < length t.terms)) (sym same) c.requires.inside.hyps in
-    let grown = all_grown c.args.v.name _ _ _ _ c.abstract_from.ensures.grown c.abstract_from-2.ensures.grown c.equate.ensures.grown in
-    equated_derives t c.equate.new.terms c.types-types.ensures.table grown.grows (record { hyps = c.in_ok-hyps.hyps; concl = c.in_ok-concl.concl }) (numbered_sequent t.terms th).hyps (tm_at w.terms c.in_ok-left.left) (tm_at w.terms c.in_ok-right.right) (fun_ty numbers v.ty ty) _
+    let grown = all_grown c.args.v.name _ _ _ _ c.abstract_from.ensures.grown c.abstract_from-2.ensures.grown
+    c.equate.ensures.grown in
+    equated_derives t c.equate.new.terms c.types-types.ensures.table grown.grows
+    (record { hyps = c.in_ok-hyps.hyps; concl = c.in_ok-concl.concl }) (numbered_sequent t.terms th).hyps
+    (tm_at w.terms c.in_ok-left.left) (tm_at w.terms c.in_ok-right.right) (fun_ty numbers v.ty ty) _
     inside
     (ap (tms_at t.terms) same)
     a.left
@@ -92,4 +116,5 @@ returns-clause-derives c =
     a.rule
 
 pub returns-clause-grown : goal.returns-clause-grown
-returns-clause-grown c = all_grown c.args.v.name _ _ _ _ c.abstract_from.ensures.grown c.abstract_from-2.ensures.grown c.equate.ensures.grown
+returns-clause-grown c = all_grown c.args.v.name _ _ _ _ c.abstract_from.ensures.grown c.abstract_from-2.ensures.grown
+    c.equate.ensures.grown

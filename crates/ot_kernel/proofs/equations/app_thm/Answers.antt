@@ -15,14 +15,21 @@ returns-in_err-left-clause-derives c =
     let ts = c.args.terms.now.terms in
     let (ty, s) = c.in_ok-f.ensures.ok in
     let (uy, r) = c.in_ok-x.ensures.ok in
-    rw (p.1, p.2) (app_thm-left numbers tells_numbers (numbered_sequent ts c.args.lower.now) (numbered_sequent ts c.args.top.now) ty uy (tm_at ts c.in_ok-f.f) (tm_at ts c.in_ok-f.g) (tm_at ts c.in_ok-x.x) (tm_at ts c.in_ok-x.y) s.sides r.sides _ s.typed.left r.typed.left c.in_err-left.ensures.makes)
+    rw (p.1, p.2)
+    (app_thm-left numbers tells_numbers (numbered_sequent ts c.args.lower.now)
+    (numbered_sequent ts c.args.top.now) ty uy (tm_at ts c.in_ok-f.f) (tm_at ts c.in_ok-f.g)
+    (tm_at ts c.in_ok-x.x) (tm_at ts c.in_ok-x.y) s.sides r.sides _ s.typed.left r.typed.left
+    c.in_err-left.ensures.makes)
 
 pub returns-in_err-right-clause-derives : goal.returns-in_err-right-clause-derives
 returns-in_err-right-clause-derives c =
     let p = err_from_is_err_and c.from_residual-in_err-right.result c.from_residual-in_err-right.ensures.1 in
     let (ty, s) = c.in_ok-f.ensures.ok in
     let (uy, r) = c.in_ok-x.ensures.ok in
-    rw (p.1, p.2) (right_application_refused c.args.terms.now c.apply.new.terms c.args.lower.now c.args.top.now ty uy c.in_ok-f.f c.in_ok-f.g c.in_ok-x.x c.in_ok-x.y c.in_ok-left.left s r c.apply.ensures.grown.grows c.in_ok-left.ensures.makes _ c.in_err-right.ensures.makes)
+    rw (p.1, p.2)
+    (right_application_refused c.args.terms.now c.apply.new.terms c.args.lower.now c.args.top.now ty uy
+    c.in_ok-f.f c.in_ok-f.g c.in_ok-x.x c.in_ok-x.y c.in_ok-left.left s r c.apply.ensures.grown.grows
+    c.in_ok-left.ensures.makes _ c.in_err-right.ensures.makes)
 
 pub returns-in_err-right-clause-grown : goal.returns-in_err-right-clause-grown
 returns-in_err-right-clause-grown c = grown_then 2 _ _ _ c.apply.ensures.grown c.apply-2.ensures.grown
@@ -35,7 +42,9 @@ equate-requires-clause-typed c =
     let w = c.apply-2.new.terms in
     let (ty, s) = c.in_ok-f.ensures.ok in
     let (uy, r) = c.in_ok-x.ensures.ok in
-    let (b, a) = both_applications t c.apply.new.terms lower top ty uy c.in_ok-f.f c.in_ok-f.g c.in_ok-x.x c.in_ok-x.y c.in_ok-left.left s r c.apply.ensures.grown.grows c.in_ok-left.ensures.makes w c.in_ok-right.right c.apply-2.ensures.grown.grows c.in_ok-right.ensures.makes in
+    let (b, a) = both_applications t c.apply.new.terms lower top ty uy c.in_ok-f.f c.in_ok-f.g c.in_ok-x.x c.in_ok-x.y
+    c.in_ok-left.left s r c.apply.ensures.grown.grows c.in_ok-left.ensures.makes w c.in_ok-right.right
+    c.apply-2.ensures.grown.grows c.in_ok-right.ensures.makes in
     a.left ∙ sym a.right
 
 pub returns-in_err-concl-clause-derives : goal.returns-in_err-concl-clause-derives
@@ -47,12 +56,16 @@ returns-in_err-concl-clause-derives c =
     let w = c.apply-2.new.terms in
     let (ty, s) = c.in_ok-f.ensures.ok in
     let (uy, r) = c.in_ok-x.ensures.ok in
-    let (b, a) = both_applications t c.apply.new.terms lower top ty uy c.in_ok-f.f c.in_ok-f.g c.in_ok-x.x c.in_ok-x.y c.in_ok-left.left s r c.apply.ensures.grown.grows c.in_ok-left.ensures.makes w c.in_ok-right.right c.apply-2.ensures.grown.grows c.in_ok-right.ensures.makes in
+    let (b, a) = both_applications t c.apply.new.terms lower top ty uy c.in_ok-f.f c.in_ok-f.g c.in_ok-x.x c.in_ok-x.y
+    c.in_ok-left.left s r c.apply.ensures.grown.grows c.in_ok-left.ensures.makes w c.in_ok-right.right
+    c.apply-2.ensures.grown.grows c.in_ok-right.ensures.makes in
     let g = union numbers (numbered_sequent t.terms lower).hyps (numbered_sequent t.terms top).hyps in
-    rw (p.1, p.2) (equated_refused _ g (tm_at w.terms c.in_ok-left.left) (tm_at w.terms c.in_ok-right.right) b _ a.left c.in_err-concl.ensures.makes a.rule)
+    rw (p.1, p.2) (equated_refused _ g (tm_at w.terms c.in_ok-left.left) (tm_at w.terms c.in_ok-right.right) b _
+    a.left c.in_err-concl.ensures.makes a.rule)
 
 pub returns-in_err-concl-clause-grown : goal.returns-in_err-concl-clause-grown
-returns-in_err-concl-clause-grown c = grown_then 2 _ _ _ (grown_then 2 _ _ _ c.apply.ensures.grown c.apply-2.ensures.grown) c.equate.ensures.grown
+returns-in_err-concl-clause-grown c =
+    grown_then 2 _ _ _ (grown_then 2 _ _ _ c.apply.ensures.grown c.apply-2.ensures.grown) c.equate.ensures.grown
 
 pub returns-clause-derives : goal.returns-clause-derives
 returns-clause-derives c =
@@ -62,11 +75,17 @@ returns-clause-derives c =
     let w = c.apply-2.new.terms in
     let (ty, s) = c.in_ok-f.ensures.ok in
     let (uy, r) = c.in_ok-x.ensures.ok in
-    let (b, a) = both_applications t c.apply.new.terms lower top ty uy c.in_ok-f.f c.in_ok-f.g c.in_ok-x.x c.in_ok-x.y c.in_ok-left.left s r c.apply.ensures.grown.grows c.in_ok-left.ensures.makes w c.in_ok-right.right c.apply-2.ensures.grown.grows c.in_ok-right.ensures.makes in
+    let (b, a) = both_applications t c.apply.new.terms lower top ty uy c.in_ok-f.f c.in_ok-f.g c.in_ok-x.x c.in_ok-x.y
+    c.in_ok-left.left s r c.apply.ensures.grown.grows c.in_ok-left.ensures.makes w c.in_ok-right.right
+    c.apply-2.ensures.grown.grows c.in_ok-right.ensures.makes in
     let g = union numbers (numbered_sequent t.terms lower).hyps (numbered_sequent t.terms top).hyps in
-    let hyps = union_of t.terms lower top c.in_ok-hyps.hyps.items c.deref.result.now c.deref-2.result.now c.in_ok-hyps.ensures.union c.deref.ensures.value c.deref-2.ensures.value in
-    let grown = grown_then 2 _ _ _ (grown_then 2 _ _ _ c.apply.ensures.grown c.apply-2.ensures.grown) c.equate.ensures.grown in
-    equated_derives t c.equate.new.terms c.types-types.ensures.table grown.grows (record { hyps = c.in_ok-hyps.hyps; concl = c.in_ok-concl.concl }) g (tm_at w.terms c.in_ok-left.left) (tm_at w.terms c.in_ok-right.right) b _
+    let hyps = union_of t.terms lower top c.in_ok-hyps.hyps.items c.deref.result.now c.deref-2.result.now
+    c.in_ok-hyps.ensures.union c.deref.ensures.value c.deref-2.ensures.value in
+    let grown = grown_then 2 _ _ _ (grown_then 2 _ _ _ c.apply.ensures.grown c.apply-2.ensures.grown)
+    c.equate.ensures.grown in
+    equated_derives t c.equate.new.terms c.types-types.ensures.table grown.grows
+    (record { hyps = c.in_ok-hyps.hyps; concl = c.in_ok-concl.concl }) g (tm_at w.terms c.in_ok-left.left)
+    (tm_at w.terms c.in_ok-right.right) b _
     c.in_ok-hyps.ensures.inside
     hyps
     a.left
@@ -74,4 +93,5 @@ returns-clause-derives c =
     a.rule
 
 pub returns-clause-grown : goal.returns-clause-grown
-returns-clause-grown c = grown_then 2 _ _ _ (grown_then 2 _ _ _ c.apply.ensures.grown c.apply-2.ensures.grown) c.equate.ensures.grown
+returns-clause-grown c = grown_then 2 _ _ _ (grown_then 2 _ _ _ c.apply.ensures.grown c.apply-2.ensures.grown)
+    c.equate.ensures.grown

@@ -10,4 +10,5 @@ pub returns-in_err-concl-clause-derives : goal.returns-in_err-concl-clause-deriv
 returns-in_err-concl-clause-derives c =
     let p = err_from_is_err_and c.from_residual.result c.from_residual.ensures.1 in
     let t = tm_at c.args.terms.now.terms c.args.t in
-    rw (p.1, p.2) (within-refused numbers _ [] (equation numbers (type_of numbers t) t t) c.in_err-concl.ensures.makes)
+    rw (p.1, p.2)
+    (within-refused numbers _ [] (equation numbers (type_of numbers t) t t) c.in_err-concl.ensures.makes)

@@ -13,7 +13,8 @@ returns-in_err-concl-clause-derives c =
     let ts = c.args.terms.now.terms in
     let q = numbered_sequent ts c.args.th.now in
     let (ty, s) = c.in_ok-t.ensures.ok in
-    rw (p.1, p.2) (equated_refused _ q.hyps (tm_at ts c.in_ok-t.u) (tm_at ts c.in_ok-t.t) ty _ s.typed.right c.in_err-concl.ensures.makes (sym-is numbers q ty (tm_at ts c.in_ok-t.t) (tm_at ts c.in_ok-t.u) s.sides))
+    rw (p.1, p.2) (equated_refused _ q.hyps (tm_at ts c.in_ok-t.u) (tm_at ts c.in_ok-t.t) ty _ s.typed.right
+    c.in_err-concl.ensures.makes (sym-is numbers q ty (tm_at ts c.in_ok-t.t) (tm_at ts c.in_ok-t.u) s.sides))
 
 pub returns-clause-derives : goal.returns-clause-derives
 returns-clause-derives c =
@@ -22,7 +23,9 @@ returns-clause-derives c =
     let (ty, s) = c.in_ok-t.ensures.ok in
     let same = c.in_ok-hyps.ensures.items ∙ c.deref.ensures.value in
     let inside = subst (All (λ i. i < length t.terms)) (sym same) c.requires.hyps in
-    equated_derives t c.equate.new.terms c.types-types.ensures.table c.equate.ensures.grown.grows (record { hyps = c.in_ok-hyps.hyps; concl = c.in_ok-concl.concl }) q.hyps (tm_at t.terms c.in_ok-t.u) (tm_at t.terms c.in_ok-t.t) ty _
+    equated_derives t c.equate.new.terms c.types-types.ensures.table c.equate.ensures.grown.grows
+    (record { hyps = c.in_ok-hyps.hyps; concl = c.in_ok-concl.concl }) q.hyps (tm_at t.terms c.in_ok-t.u)
+    (tm_at t.terms c.in_ok-t.t) ty _
     inside
     (ap (tms_at t.terms) same)
     s.typed.right

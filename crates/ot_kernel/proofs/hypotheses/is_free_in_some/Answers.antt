@@ -12,11 +12,14 @@ returns-then-branch c =
     let t = c.args.terms.now in
     let v = variable_of t.types c.args.v in
     let rest = is_free_in_some numbers v (tms_at t.terms (drop (c.loop-t.t-index + 1) c.args.among.now)) in
-    sym (c.loop-t.invariant ∙ free_next t.terms v c.args.among.now c.loop-t.t-index c.t-item.result c.in_ok-is_free.field-0 c.loop-t-test.true c.t-item.is c.in_ok-is_free.ensures ∙ ap (λ b. b || rest) c.if-branch.true)
+    sym (c.loop-t.invariant ∙ free_next t.terms v c.args.among.now c.loop-t.t-index c.t-item.result
+    c.in_ok-is_free.field-0 c.loop-t-test.true c.t-item.is c.in_ok-is_free.ensures
+    ∙ ap (λ b. b || rest) c.if-branch.true)
 
 pub loop-t-preserved : goal.loop-t-preserved
 loop-t-preserved c =
     let t = c.args.terms.now in
     let v = variable_of t.types c.args.v in
     let rest = is_free_in_some numbers v (tms_at t.terms (drop (c.loop-t.t-index + 1) c.args.among.now)) in
-    c.loop-t.invariant ∙ free_next t.terms v c.args.among.now c.loop-t.t-index c.t-item.result c.in_ok-is_free.field-0 c.loop-t-test.true c.t-item.is c.in_ok-is_free.ensures ∙ ap (λ b. b || rest) c.if-branch.false
+    c.loop-t.invariant ∙ free_next t.terms v c.args.among.now c.loop-t.t-index c.t-item.result c.in_ok-is_free.field-0
+    c.loop-t-test.true c.t-item.is c.in_ok-is_free.ensures ∙ ap (λ b. b || rest) c.if-branch.false

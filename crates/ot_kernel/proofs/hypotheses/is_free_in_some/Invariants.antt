@@ -7,4 +7,5 @@ use Rattle.ot_kernel.proofs.hypotheses.is_free_in_some.Given as goal
 
 abbrev pub invariant-loop-t : goal.invariant-loop-t
 invariant-loop-t l =
-    is_free_in_some numbers (variable_of l.terms.types l.v) (tms_at l.terms.terms l.among) ≡ is_free_in_some numbers (variable_of l.terms.types l.v) (tms_at l.terms.terms (drop l.t-index l.among))
+    is_free_in_some numbers (variable_of l.terms.types l.v) (tms_at l.terms.terms l.among)
+    ≡ is_free_in_some numbers (variable_of l.terms.types l.v) (tms_at l.terms.terms (drop l.t-index l.among))

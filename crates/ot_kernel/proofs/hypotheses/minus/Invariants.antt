@@ -7,6 +7,8 @@ use Rattle.ot_kernel.proofs.hypotheses.minus.Given as goal
 
 abbrev pub invariant-loop-u : goal.invariant-loop-u
 invariant-loop-u l = record {
-  made : tms_at l.terms.terms l.left.items ++ minus numbers (tm_at l.terms.terms l.t) (tms_at l.terms.terms (drop l.u-index l.g)) ≡ minus numbers (tm_at l.terms.terms l.t) (tms_at l.terms.terms l.g);
+  made : tms_at l.terms.terms l.left.items ++ minus numbers (tm_at l.terms.terms l.t)
+      (tms_at l.terms.terms (drop l.u-index l.g)) ≡ minus numbers (tm_at l.terms.terms l.t)
+      (tms_at l.terms.terms l.g);
   inside : All (λ i. i < length l.terms.terms) l.left.items;
 }

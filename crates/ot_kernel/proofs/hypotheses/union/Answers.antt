@@ -13,9 +13,12 @@ loop-t-preserved c =
     let old = c.loop-t.all.items in
     let new = c.push_lacking.new.list.items in
     let put = c.in_ok-push_lacking.ensures in
-    let here = subst (λ i. i < length m.terms) (sym c.t-item.is) (c.requires.h c.loop-t.t-index t c.loop-t-test.true) in
+    let here =
+    subst (λ i. i < length m.terms) (sym c.t-item.is) (c.requires.h c.loop-t.t-index t c.loop-t-test.true) in
     record {
-      made = union-next m g (union numbers g (tms_at m.terms c.args.h.now)) c.args.h.now old new c.loop-t.t-index t c.loop-t-test.true c.t-item.is put c.loop-t.invariant.made;
+      made = union-next m g (union numbers g (tms_at m.terms c.args.h.now)) c.args.h.now old new c.loop-t.t-index t
+          c.loop-t-test.true c.t-item.is put c.loop-t.invariant.made;
       classes = c.loop-t.invariant.classes;
-      inside = put-inside (length m.terms) old new t (is_in numbers (tm_at m.terms t) g) put here c.loop-t.invariant.inside;
+      inside = put-inside (length m.terms) old new t (is_in numbers (tm_at m.terms t) g) put here
+          c.loop-t.invariant.inside;
     }

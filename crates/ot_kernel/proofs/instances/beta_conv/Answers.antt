@@ -11,24 +11,31 @@ use Rattle.ot_kernel.proofs.instances.beta_conv.Goals as goal
 
 pub returns-in_err-contracted-clause-derives : goal.returns-in_err-contracted-clause-derives
 returns-in_err-contracted-clause-derives c =
-    none_derived c.from_residual.result (of_subst c.in_err-contracted.field-0.0) (beta_conv_rule numbers (tm_at c.args.terms.now.terms c.args.t)) c.beta.new.terms.terms c.from_residual.ensures.1
-    (beta_refused (tm_at c.args.terms.now.terms c.args.t) c.in_err-contracted.field-0.0 (λ e. c.in_err-contracted.ensures.not_redex (ap Err e)) (λ e. c.in_err-contracted.ensures.nesting (ap Err e)))
+    none_derived c.from_residual.result (of_subst c.in_err-contracted.field-0.0)
+    (beta_conv_rule numbers (tm_at c.args.terms.now.terms c.args.t)) c.beta.new.terms.terms
+    c.from_residual.ensures.1
+    (beta_refused (tm_at c.args.terms.now.terms c.args.t) c.in_err-contracted.field-0.0
+    (λ e. c.in_err-contracted.ensures.not_redex (ap Err e)) (λ e. c.in_err-contracted.ensures.nesting (ap Err e)))
 
 pub equate-requires-clause-typed : goal.equate-requires-clause-typed
 equate-requires-clause-typed c =
     let was = c.in_ok-contracted.ensures in
-    one_type c.args.terms.now c.beta.new.terms was.grows was.table c.args.t c.requires.inside c.in_ok-contracted.contracted was.ok
+    one_type c.args.terms.now c.beta.new.terms was.grows was.table c.args.t c.requires.inside
+    c.in_ok-contracted.contracted was.ok
 
 pub returns-in_err-concl-clause-derives : goal.returns-in_err-concl-clause-derives
 returns-in_err-concl-clause-derives c =
     let was = c.in_ok-contracted.ensures in
     let p = err_from_is_err_and c.from_residual-in_err-concl.result c.from_residual-in_err-concl.ensures.1 in
-    rw (p.1, p.2) (equation_refused c.args.terms.now c.beta.new.terms was.grows was.table c.args.t c.requires.inside c.in_ok-contracted.contracted was.ok _ c.in_err-concl.ensures.makes)
+    rw (p.1, p.2) (equation_refused c.args.terms.now c.beta.new.terms was.grows was.table c.args.t c.requires.inside
+    c.in_ok-contracted.contracted was.ok _ c.in_err-concl.ensures.makes)
 
 pub returns-clause-derives : goal.returns-clause-derives
 returns-clause-derives c =
     let was = c.in_ok-contracted.ensures in
-    redex_equated c.args.terms.now c.beta.new.terms was.grows was.table c.args.t c.requires.inside c.in_ok-contracted.contracted was.ok c.equate.new.terms c.in_ok-concl.ensures.grown.grows (record { hyps = c.new.result; concl = c.in_ok-concl.concl }) c.new.ensures.items c.in_ok-concl.ensures.makes
+    redex_equated c.args.terms.now c.beta.new.terms was.grows was.table c.args.t c.requires.inside
+    c.in_ok-contracted.contracted was.ok c.equate.new.terms c.in_ok-concl.ensures.grown.grows
+    (record { hyps = c.new.result; concl = c.in_ok-concl.concl }) c.new.ensures.items c.in_ok-concl.ensures.makes
 
 pub returns-clause-later : goal.returns-clause-later
 returns-clause-later c =
@@ -40,5 +47,8 @@ returns-clause-later c =
       name_table = λ _. was.name_table;
       grows = Grows-trans was.grows now.grows;
       table = now.table;
-      names = record { types = omega (arith, was.below.types, now.names.types, first); terms = omega (arith, was.below.types, was.below.terms, now.names.terms, first) };
+      names = record {
+        types = omega (arith, was.below.types, now.names.types, first);
+        terms = omega (arith, was.below.types, was.below.terms, now.names.terms, first);
+      };
     }

@@ -6,4 +6,5 @@ use Rattle.ot_kernel.proofs.membership.has_term.Given as goal
 
 abbrev pub invariant-loop-u : goal.invariant-loop-u
 invariant-loop-u l =
-    is_in numbers (tm_at l.terms.terms l.t) (tms_at l.terms.terms l.among) ≡ is_in numbers (tm_at l.terms.terms l.t) (tms_at l.terms.terms (drop l.u-index l.among))
+    is_in numbers (tm_at l.terms.terms l.t) (tms_at l.terms.terms l.among) ≡ is_in numbers (tm_at l.terms.terms l.t)
+    (tms_at l.terms.terms (drop l.u-index l.among))

@@ -10,12 +10,17 @@ returns-then-not-alpha_eq c =
     let ts = c.args.terms.now.terms in
     let left = tms_at ts c.args.th.now.hyps.items in
     let right = tms_at ts c.args.hyps.now in
-    other_conclusion (all_in numbers left right) _ (sym (tested _ (tm_at ts c.args.th.now.concl) (tm_at ts c.args.concl) c.alpha_eq.ensures) ∙ c.if-not-alpha_eq.true)
+    other_conclusion (all_in numbers left right) _
+    (sym (tested _ (tm_at ts c.args.th.now.concl) (tm_at ts c.args.concl) c.alpha_eq.ensures)
+    ∙ c.if-not-alpha_eq.true)
 
 pub returns : goal.returns
 returns c =
     let ts = c.args.terms.now.terms in
     let left = tms_at ts c.args.th.now.hyps.items in
     let right = tms_at ts c.args.hyps.now in
-    let concl : same_tm numbers (tm_at ts c.args.th.now.concl) (tm_at ts c.args.concl) ≡ _ = sym (tested _ (tm_at ts c.args.th.now.concl) (tm_at ts c.args.concl) c.alpha_eq.ensures) ∙ c.if-not-alpha_eq.false in
-    same_conclusion c.has_terms.result (all_in numbers left right) _ concl (c.has_terms.ensures ∙ ap (λ (is : List ℕ). all_in numbers (tms_at ts is) right) c.deref.ensures.value)
+    let concl : same_tm numbers (tm_at ts c.args.th.now.concl) (tm_at ts c.args.concl) ≡ _ =
+    sym (tested _ (tm_at ts c.args.th.now.concl) (tm_at ts c.args.concl) c.alpha_eq.ensures)
+    ∙ c.if-not-alpha_eq.false in
+    same_conclusion c.has_terms.result (all_in numbers left right) _ concl
+    (c.has_terms.ensures ∙ ap (λ (is : List ℕ). all_in numbers (tms_at ts is) right) c.deref.ensures.value)

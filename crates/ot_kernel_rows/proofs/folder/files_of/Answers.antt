@@ -11,11 +11,14 @@ abbrev file_at : {X : Type 0} → (X → List ℕ) → (X → List ℕ) → (X �
 file_at p q r e = (p e, q e ++ r e)
 
 -- one file more
-one-more : {X : Type 0} (p q r : X → List ℕ) (xs : List X) (k : ℕ) (d : X) (a b : List ℕ) → k < length xs → a ≡ p (get_or xs k d) → b ≡ q (get_or xs k d) ++ r (get_or xs k d)
-    → ◌++◌ {A = List ℕ × List ℕ} (map (file_at p q r) (take k xs)) ((a, b) ∷ []) ≡ map (file_at p q r) (take (k + 1) xs)
+one-more : {X : Type 0} (p q r : X → List ℕ) (xs : List X) (k : ℕ) (d : X) (a b : List ℕ) → k < length xs
+    → a ≡ p (get_or xs k d) → b ≡ q (get_or xs k d) ++ r (get_or xs k d)
+    → ◌++◌ {A = List ℕ × List ℕ} (map (file_at p q r) (take k xs)) ((a, b) ∷ [])
+    ≡ map (file_at p q r) (take (k + 1) xs)
 one-more p q r xs k d a b lt path bytes =
     let here : ◌≡◌ {A = List ℕ × List ℕ} (a, b) (file_at p q r (get_or xs k d)) = λ i. (path i, bytes i) in
-    ap (λ (y : List ℕ × List ℕ). map (file_at p q r) (take k xs) ++ y ∷ []) here ∙ sym (map_more (file_at p q r) xs k (get_or xs k d) d lt refl)
+    ap (λ (y : List ℕ × List ℕ). map (file_at p q r) (take k xs) ++ y ∷ []) here
+    ∙ sym (map_more (file_at p q r) xs k (get_or xs k d) d lt refl)
 
 pub each-preserved : goal.each-preserved
 each-preserved c =
@@ -24,4 +27,5 @@ each-preserved c =
     ap folder_of c.in_ok-push.ensures.items
     ∙ map-append (λ f. (string_bytes f.0, f.1.items)) c.each.files.items (file ∷ [])
     ∙ ap (λ (fs : Folder). fs ++ (string_bytes file.0, file.1.items) ∷ []) c.each.invariant
-    ∙ one-more (λ e. e.0.now) (λ e. e.1.now) (λ e. e.2.now) es c.each.entry-index _ (string_bytes file.0) file.1.items c.each-test.true c.in_ok-file.ensures.path c.in_ok-file.ensures.bytes
+    ∙ one-more (λ e. e.0.now) (λ e. e.1.now) (λ e. e.2.now) es c.each.entry-index _ (string_bytes file.0) file.1.items
+    c.each-test.true c.in_ok-file.ensures.path c.in_ok-file.ensures.bytes

@@ -1,7 +1,8 @@
 use Rattle.std.proofs.Common.{arith}
 use Rattle.ot_lines.proofs.Trimming.{cut_last, kept_last}
 use Rattle.ot_lines.proofs.piece.without_last.Goals as goal
-use Rattle.ot_lines.proofs.piece.without_last.Goals.{else-len-gt0-via-then-len-gt0+else-piece-len, else-len-gt0-via-else-len-gt0}
+use Rattle.ot_lines.proofs.piece.without_last.Goals.{else-len-gt0-via-then-len-gt0+else-piece-len}
+use Rattle.ot_lines.proofs.piece.without_last.Goals.{else-len-gt0-via-else-len-gt0}
 
 pub returns-then-piece-len-clause-text : goal.returns-then-piece-len-clause-text
 returns-then-piece-len-clause-text c = cut_last _ _ c.if-len-gt0.true c.if-piece-len.true

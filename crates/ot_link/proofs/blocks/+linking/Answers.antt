@@ -1,4 +1,5 @@
-use Rattle.std.proofs.Common.{rules, ◌≡◌, ◌∙◌, ◌<◌, ◌+◌, ◌-◌, ◌++◌, ◌∷◌, [], suc, List, length, map, drop, get_or, Err, refl, sym, ap, subst, arith}
+use Rattle.std.proofs.Common.{rules, ◌≡◌, ◌∙◌, ◌<◌, ◌+◌, ◌-◌, ◌++◌, ◌∷◌, [], suc, List}
+use Rattle.std.proofs.Common.{length, map, drop, get_or, Err, refl, sym, ap, subst, arith}
 use Rattle.std.specs.Prelude.{◌==◌, Ok, codes, flat_map, position, slice_get, string_bytes}
 use Rattle.std.specs.List.{All, list_any}
 use Rattle.std.specs.Map.{lookup}
@@ -37,9 +38,12 @@ use Rattle.ot_link.proofs.Held.{exports-kept, exports-later, held-done, held-ins
 use Rattle.ot_link.proofs.InBlock.{given-all, block-context, of_block-context}
 use Rattle.ot_link.proofs.Runnable.{runnable}
 use Rattle.ot_link.proofs.Sequence.{IsLeft, all-left, one-ran, one-stopped, all-ran}
-use Rattle.ot_link.proofs.Standing.{block-there, block-all, block-none, place-at, imported-as, imported-inside, exports-as}
-use Rattle.ot_link.proofs.Opened.{any-now, open-again, open-deep, open-inside, file-unread, file-unparsed, file-unplanned, file-ran}
-use Rattle.ot_link.proofs.Lawful.{stays-as, stays-on, inner-lawful, same-exports-lawful, none-lawful, place-lawful, imported-lawful, context-lawful, held-lawful}
+use Rattle.ot_link.proofs.Standing.{block-there, block-all, block-none, place-at}
+use Rattle.ot_link.proofs.Standing.{imported-as, imported-inside, exports-as}
+use Rattle.ot_link.proofs.Opened.{any-now, open-again, open-deep, open-inside}
+use Rattle.ot_link.proofs.Opened.{file-unread, file-unparsed, file-unplanned, file-ran}
+use Rattle.ot_link.proofs.Lawful.{stays-as, stays-on, inner-lawful, same-exports-lawful, none-lawful}
+use Rattle.ot_link.proofs.Lawful.{place-lawful, imported-lawful, context-lawful, held-lawful}
 use Rattle.ot_link.proofs.blocks.+linking.Goals as goal
 
 -- ---- a theory file
@@ -49,8 +53,10 @@ link_file-returns-in_err-text-clause-comes g t c =
     let p = err_from_is_err_and c.from_residual.result c.from_residual.ensures.1 in
     let old = c.args.session.now in
     rw (p.1, p.2)
-    (λ folder e. file-unread old.kernel (setting_of folder c.args.setting) (opener_of (setting_of folder c.args.setting) c.args.file.now) (string_bytes c.args.file.now.path)
-    (context_of old c.args.file.now.outer.now) (run_of old) c.in_err-text.field-0.0 (rw c.deref.ensures at (c.in_err-text.ensures.comes folder old.kernel e)))
+    (λ folder e. file-unread old.kernel (setting_of folder c.args.setting)
+    (opener_of (setting_of folder c.args.setting) c.args.file.now) (string_bytes c.args.file.now.path)
+    (context_of old c.args.file.now.outer.now) (run_of old) c.in_err-text.field-0.0
+    (rw c.deref.ensures at (c.in_err-text.ensures.comes folder old.kernel e)))
 
 pub link_file-returns-in_err-text-clause-symbols : goal.link_file-returns-in_err-text-clause-symbols
 link_file-returns-in_err-text-clause-symbols g t c =
@@ -83,10 +89,13 @@ pub open_package-returns-then-is_open-clause-comes : goal.open_package-returns-t
 open_package-returns-then-is_open-clause-comes g t c =
     let old = c.args.session.now in
     let full = c.args.full.now in
-    let there = sym c.if-is_open.true ∙ c.is_open.ensures ∙ any-now full c.deref.result.now ∙ ap (λ xs. list_any (bytes_eq full) (chain_of xs)) c.deref.ensures.value in
-    λ folder e. open-again (setting_of folder c.args.setting) (chain_of c.args.file.now.chain.items) (string_bytes c.args.file.now.path) c.args.line full
+    let there = sym c.if-is_open.true ∙ c.is_open.ensures ∙ any-now full c.deref.result.now
+    ∙ ap (λ xs. list_any (bytes_eq full) (chain_of xs)) c.deref.ensures.value in
+    λ folder e. open-again (setting_of folder c.args.setting) (chain_of c.args.file.now.chain.items)
+    (string_bytes c.args.file.now.path) c.args.line full
     (context_of old c.args.context.now) (run_of old) c.args.file.now.left there
-    ∙ ap (λ q. Err (InStructure q c.args.line PackageCycle)) (sym (c.in_ok-path.ensures.ok ∙ c.deref-then-is_open.ensures))
+    ∙ ap (λ q. Err (InStructure q c.args.line PackageCycle))
+    (sym (c.in_ok-path.ensures.ok ∙ c.deref-then-is_open.ensures))
 
 -- ---- kernels that grow
 
@@ -106,8 +115,10 @@ link_file-returns-in_err-theory-clause-comes g t c =
     let p = err_from_is_err_and c.from_residual-in_err-theory.result c.from_residual-in_err-theory.ensures.1 in
     let old = c.args.session.now in
     rw (p.1, p.2)
-    (λ folder e. file-unparsed old.kernel (setting_of folder c.args.setting) (opener_of (setting_of folder c.args.setting) c.args.file.now) (string_bytes c.args.file.now.path)
-    (context_of old c.args.file.now.outer.now) (run_of old) c.in_ok-text.text.items (rw c.deref.ensures at (c.in_ok-text.ensures.comes folder old.kernel e)) c.in_err-theory.field-0.0
+    (λ folder e. file-unparsed old.kernel (setting_of folder c.args.setting)
+    (opener_of (setting_of folder c.args.setting) c.args.file.now) (string_bytes c.args.file.now.path)
+    (context_of old c.args.file.now.outer.now) (run_of old) c.in_ok-text.text.items
+    (rw c.deref.ensures at (c.in_ok-text.ensures.comes folder old.kernel e)) c.in_err-theory.field-0.0
     (rw (c.deref-2.ensures, c.deref-3.ensures.value) at (c.in_err-theory.ensures.comes old.kernel)))
 
 pub link_file-returns-in_err-plan-clause-comes : goal.link_file-returns-in_err-plan-clause-comes
@@ -115,19 +126,26 @@ link_file-returns-in_err-plan-clause-comes g t c =
     let p = err_from_is_err_and c.from_residual-in_err-plan.result c.from_residual-in_err-plan.ensures.1 in
     let old = c.args.session.now in
     rw (p.1, p.2)
-    (λ folder e. file-unplanned old.kernel (setting_of folder c.args.setting) (opener_of (setting_of folder c.args.setting) c.args.file.now) (string_bytes c.args.file.now.path)
-    (context_of old c.args.file.now.outer.now) (run_of old) c.in_ok-text.text.items (rw c.deref.ensures at (c.in_ok-text.ensures.comes folder old.kernel e))
-    (theory_of c.in_ok-theory.theory) (rw (c.deref-2.ensures, c.deref-3.ensures.value) at (c.in_ok-theory.ensures.comes old.kernel)) c.in_err-plan.field-0.0
+    (λ folder e. file-unplanned old.kernel (setting_of folder c.args.setting)
+    (opener_of (setting_of folder c.args.setting) c.args.file.now) (string_bytes c.args.file.now.path)
+    (context_of old c.args.file.now.outer.now) (run_of old) c.in_ok-text.text.items
+    (rw c.deref.ensures at (c.in_ok-text.ensures.comes folder old.kernel e))
+    (theory_of c.in_ok-theory.theory)
+    (rw (c.deref-2.ensures, c.deref-3.ensures.value) at (c.in_ok-theory.ensures.comes old.kernel))
+    c.in_err-plan.field-0.0
     (rw (c.deref-4.ensures, c.deref-5.ensures.value) at (c.in_err-plan.ensures.comes old.kernel)))
 
 pub link_file-returns-clause-comes : goal.link_file-returns-clause-comes
 link_file-returns-clause-comes g t c =
     let old = c.args.session.now in
     let mid = c.run_blocks.new.session in
-    λ folder e. file-ran mid.kernel (setting_of folder c.args.setting) (opener_of (setting_of folder c.args.setting) c.args.file.now) (string_bytes c.args.file.now.path)
-    (context_of old c.args.file.now.outer.now) (run_of old) c.in_ok-text.text.items (rw c.deref.ensures at (c.in_ok-text.ensures.comes folder old.kernel e))
+    λ folder e. file-ran mid.kernel (setting_of folder c.args.setting)
+    (opener_of (setting_of folder c.args.setting) c.args.file.now) (string_bytes c.args.file.now.path)
+    (context_of old c.args.file.now.outer.now) (run_of old) c.in_ok-text.text.items
+    (rw c.deref.ensures at (c.in_ok-text.ensures.comes folder old.kernel e))
     (theory_of c.in_ok-theory.theory) (plan_of c.in_ok-plan.plan) (ran_of mid) c.run_blocks.result
-    (rw (c.deref-2.ensures, c.deref-3.ensures.value) at (c.in_ok-theory.ensures.comes old.kernel)) (rw (c.deref-4.ensures, c.deref-5.ensures.value) at (c.in_ok-plan.ensures.comes old.kernel))
+    (rw (c.deref-2.ensures, c.deref-3.ensures.value) at (c.in_ok-theory.ensures.comes old.kernel))
+    (rw (c.deref-4.ensures, c.deref-5.ensures.value) at (c.in_ok-plan.ensures.comes old.kernel))
     (rw c.deref-6.ensures.value at (c.run_blocks.ensures.comes folder (c.theory_text.ensures.folder ∙ e)))
 
 -- ---- a package, further on
@@ -136,10 +154,13 @@ pub open_package-returns-then-file-eq0-clause-comes : goal.open_package-returns-
 open_package-returns-then-file-eq0-clause-comes g t c =
     let old = c.args.session.now in
     let full = c.args.full.now in
-    let absent = sym c.if-is_open.false ∙ c.is_open.ensures ∙ any-now full c.deref.result.now ∙ ap (λ xs. list_any (bytes_eq full) (chain_of xs)) c.deref.ensures.value in
-    λ folder e. open-deep (setting_of folder c.args.setting) (chain_of c.args.file.now.chain.items) (string_bytes c.args.file.now.path) c.args.line full
+    let absent = sym c.if-is_open.false ∙ c.is_open.ensures ∙ any-now full c.deref.result.now
+    ∙ ap (λ xs. list_any (bytes_eq full) (chain_of xs)) c.deref.ensures.value in
+    λ folder e. open-deep (setting_of folder c.args.setting) (chain_of c.args.file.now.chain.items)
+    (string_bytes c.args.file.now.path) c.args.line full
     (context_of old c.args.context.now) (run_of old) c.args.file.now.left c.if-file-eq0.true absent
-    ∙ ap (λ q. Err (InStructure q c.args.line PackageDepth)) (sym (c.in_ok-path-2.ensures.ok ∙ c.deref-then-file-eq0.ensures))
+    ∙ ap (λ q. Err (InStructure q c.args.line PackageDepth))
+    (sym (c.in_ok-path-2.ensures.ok ∙ c.deref-then-file-eq0.ensures))
 
 pub open_package-returns-clause-comes : goal.open_package-returns-clause-comes
 open_package-returns-clause-comes g t c =
@@ -148,17 +169,24 @@ open_package-returns-clause-comes g t c =
     let full = c.args.full.now in
     let left = c.args.file.now.left in
     let context = context_of old c.args.context.now in
-    let absent = sym c.if-is_open.false ∙ c.is_open.ensures ∙ any-now full c.deref.result.now ∙ ap (λ xs. list_any (bytes_eq full) (chain_of xs)) c.deref.ensures.value in
+    let absent = sym c.if-is_open.false ∙ c.is_open.ensures ∙ any-now full c.deref.result.now
+    ∙ ap (λ xs. list_any (bytes_eq full) (chain_of xs)) c.deref.ensures.value in
     let more : left ≡ suc (left - 1) = omega arith in
-    let chain : chain_of c.in_ok-chain.chain.items ≡ chain_of c.args.file.now.chain.items ++ full ∷ [] = c.in_ok-chain.ensures ∙ ap (λ xs. chain_of xs ++ full ∷ []) c.deref-2.ensures.value in
-    let path : string_bytes c.in_ok-path-3.path ≡ package_path c.args.setting.packages.now full = c.in_ok-path-3.ensures in
+    let chain : chain_of c.in_ok-chain.chain.items ≡ chain_of c.args.file.now.chain.items ++ full ∷ [] =
+    c.in_ok-chain.ensures ∙ ap (λ xs. chain_of xs ++ full ∷ []) c.deref-2.ensures.value in
+    let path : string_bytes c.in_ok-path-3.path ≡ package_path c.args.setting.packages.now full =
+    c.in_ok-path-3.ensures in
     λ folder e.
     let s = setting_of folder c.args.setting in
     let same : run_file s (opener (left - 1) s (chain_of c.in_ok-chain.chain.items) (string_bytes c.in_ok-path-3.path)) (string_bytes c.in_ok-path-3.path) context (run_of old)
-    ≡ run_file s (opener (left - 1) s (chain_of c.args.file.now.chain.items ++ full ∷ []) (package_path c.args.setting.packages.now full)) (package_path c.args.setting.packages.now full) context (run_of old) =
+    ≡ run_file s
+    (opener (left - 1) s (chain_of c.args.file.now.chain.items ++ full ∷ [])
+    (package_path c.args.setting.packages.now full)) (package_path c.args.setting.packages.now full) context
+    (run_of old) =
     λ i. run_file s (opener (left - 1) s (chain i) (path i)) (path i) context (run_of old) in
     subst (Comes mid.kernel (ran_of mid) c.link_file.result)
-    (same ∙ sym (open-inside s (chain_of c.args.file.now.chain.items) (string_bytes c.args.file.now.path) c.args.line full context (run_of old) left (left - 1) more absent))
+    (same ∙ sym (open-inside s (chain_of c.args.file.now.chain.items) (string_bytes c.args.file.now.path) c.args.line
+    full context (run_of old) left (left - 1) more absent))
     (c.link_file.ensures.comes folder e)
 
 -- ---- want of memory
@@ -197,13 +225,23 @@ run_block-returns-in_err-places-clause-cause g t c =
 
 pub link_file-run_blocks-requires : goal.link_file-run_blocks-requires
 link_file-run_blocks-requires g t c κs within =
-    let blocks = runnable (theory_of c.in_ok-theory.theory) (plan_of c.in_ok-plan.plan) c.in_ok-theory.ensures.sound (rw c.deref-5.ensures.value at c.in_ok-plan.ensures.sound) in
-    let right : All IsRunnable (blocks_of c.deref-6.result.now) = rw c.deref-6.ensures.value blocks in
-    (omega arith, (within, (c.requires.limits, (c.requires.session, (c.requires.lawful, (c.requires.context, (c.requires.lawful_context, right)))))))
+    let blocks = runnable (theory_of c.in_ok-theory.theory) (plan_of c.in_ok-plan.plan) c.in_ok-theory.ensures.sound
+    (rw c.deref-5.ensures.value at c.in_ok-plan.ensures.sound) in
+    let right : All IsRunnable (blocks_of c.deref-6.result.now) = rw c.deref-6.ensures.value blocks in (
+      omega arith,
+      (
+        within,
+        (
+          c.requires.limits,
+          (c.requires.session, (c.requires.lawful, (c.requires.context, (c.requires.lawful_context, right)))),
+        ),
+      ),
+    )
 
 pub run_block-places_of-requires : goal.run_block-places_of-requires
 run_block-places_of-requires g t c =
-    given-all c.args.session.now c.interpretation_of.new.session c.requires.session c.in_ok-own.ensures.grown c.args.file.now.outer.now c.args.imports.now c.deref-2.result.now c.requires.context c.requires.imports
+    given-all c.args.session.now c.interpretation_of.new.session c.requires.session c.in_ok-own.ensures.grown
+    c.args.file.now.outer.now c.args.imports.now c.deref-2.result.now c.requires.context c.requires.imports
     (c.deref-2.ensures.value ∙ c.in_ok-theorems.ensures)
 
 pub run_block-run_source-requires : goal.run_block-run_source-requires
@@ -214,19 +252,60 @@ run_block-run_source-requires g t c κs within =
     let outer = c.args.file.now.outer.now in
     let imports = c.args.imports.now in
     let statements = tags_of c.args.block.now.statements.items in
-    let named : map_interpretation (name_at mid.kernel) c.in_ok-own.own ≡ interpretation_of statements = rw c.deref.ensures.value at c.in_ok-own.ensures.names in
-    let given : c.deref-3.result.now ≡ map given_to imports ++ outer.theorems.now = c.deref-3.ensures.value ∙ c.in_ok-theorems.ensures in
-    let symbols = c.in_ok-interp.ensures.within (length mid.kernel.names) c.in_ok-own.ensures.within (of_context-kept old mid c.requires.session kept outer c.requires.context).interpretation in
-    let source : source_value c.source_of.result ≡ source_at (first_source statements) = c.source_of.ensures ∙ ap (λ ts. source_at (first_source (tags_of ts))) c.deref-4.ensures.value in
-    let inner : Context = record { interp = record { ref_ptr = outer.interp.ref_ptr; now = c.in_ok-interp.interp }; theorems = c.deref-3.result; places = record { ref_ptr = outer.places.ref_ptr; now = c.in_ok-places.places } } in
+    let named : map_interpretation (name_at mid.kernel) c.in_ok-own.own ≡ interpretation_of statements =
+    rw c.deref.ensures.value at c.in_ok-own.ensures.names in
+    let given : c.deref-3.result.now ≡ map given_to imports ++ outer.theorems.now = c.deref-3.ensures.value
+    ∙ c.in_ok-theorems.ensures in
+    let symbols = c.in_ok-interp.ensures.within (length mid.kernel.names) c.in_ok-own.ensures.within
+    (of_context-kept old mid c.requires.session kept outer c.requires.context).interpretation in
+    let source : source_value c.source_of.result ≡ source_at (first_source statements) = c.source_of.ensures
+    ∙ ap (λ ts. source_at (first_source (tags_of ts))) c.deref-4.ensures.value in
+    let inner : Context =
+    record {
+      interp = record { ref_ptr = outer.interp.ref_ptr; now = c.in_ok-interp.interp };
+      theorems = c.deref-3.result;
+      places =
+          record { ref_ptr = outer.places.ref_ptr; now = c.in_ok-places.places };
+    } in
     let same_theorems = c.deref-2.ensures.value ∙ sym c.deref-3.ensures.value in
-    let placed = subst (λ gs. AreFirstPlaces mid.kernel (concls_of mid.kernel (map (λ g. g.th) gs)) c.in_ok-places.places) same_theorems c.in_ok-places.ensures in
-    let context = of_block-context old mid c.requires.session kept outer _ c.in_ok-own.own statements imports c.requires.context c.in_ok-own.ensures.within named c.in_ok-interp.ensures.pairs given c.requires.imports symbols placed in
-    let same = block-context old mid c.requires.session kept outer inner c.in_ok-own.own statements imports c.requires.context c.in_ok-own.ensures.within named c.in_ok-interp.ensures.pairs given c.requires.imports (subst (λ state. IsNameTable state.names) c.kernel.ensures c.sound.ensures.names) in
+    let placed =
+    subst (λ gs. AreFirstPlaces mid.kernel (concls_of mid.kernel (map (λ g. g.th) gs)) c.in_ok-places.places)
+    same_theorems c.in_ok-places.ensures in
+    let context = of_block-context old mid c.requires.session kept outer _ c.in_ok-own.own statements imports
+    c.requires.context c.in_ok-own.ensures.within named c.in_ok-interp.ensures.pairs given c.requires.imports
+    symbols placed in
+    let same = block-context old mid c.requires.session kept outer inner c.in_ok-own.own statements imports
+    c.requires.context c.in_ok-own.ensures.within named c.in_ok-interp.ensures.pairs given c.requires.imports
+    (subst (λ state. IsNameTable state.names) c.kernel.ensures c.sound.ensures.names) in
     let run = subst (IsLawfulRun IsWritable) (sym c.in_ok-own.ensures.run) c.requires.lawful in
-    let theorems = inner-lawful old mid outer _ statements imports c.in_ok-own.ensures.run same c.naming_law.ensures c.requires.block.statements c.requires.lawful_context c.requires.lawful_imports in
-    let lawful = same-exports-lawful old mid c.requires.session kept c.in_ok-own.ensures.run imports c.requires.imports c.requires.lawful_imports in
-    (omega arith, (within, (c.requires.limits, (c.in_ok-own.ensures.session, (run, (context, (theorems, (subst IsSourceRight (sym source) c.requires.block.source, (exports-later old mid kept imports c.requires.imports, lawful)))))))))
+    let theorems = inner-lawful old mid outer _ statements imports c.in_ok-own.ensures.run same c.naming_law.ensures
+    c.requires.block.statements c.requires.lawful_context c.requires.lawful_imports in
+    let lawful = same-exports-lawful old mid c.requires.session kept c.in_ok-own.ensures.run imports
+    c.requires.imports c.requires.lawful_imports in (
+      omega arith,
+      (
+        within,
+        (
+          c.requires.limits,
+          (
+            c.in_ok-own.ensures.session,
+            (
+              run,
+              (
+                context,
+                (
+                  theorems,
+                  (
+                    subst IsSourceRight (sym source) c.requires.block.source,
+                    (exports-later old mid kept imports c.requires.imports, lawful),
+                  ),
+                ),
+              ),
+            ),
+          ),
+        ),
+      ),
+    )
 
 pub run_block-returns-clause-comes : goal.run_block-returns-clause-comes
 run_block-returns-clause-comes g t c =
@@ -237,18 +316,30 @@ run_block-returns-clause-comes g t c =
     let outer = c.args.file.now.outer.now in
     let imports = c.args.imports.now in
     let statements = tags_of c.args.block.now.statements.items in
-    let named : map_interpretation (name_at mid.kernel) c.in_ok-own.own ≡ interpretation_of statements = rw c.deref.ensures.value at c.in_ok-own.ensures.names in
-    let given : c.deref-3.result.now ≡ map given_to imports ++ outer.theorems.now = c.deref-3.ensures.value ∙ c.in_ok-theorems.ensures in
-    let source : source_value c.source_of.result ≡ source_at (first_source statements) = c.source_of.ensures ∙ ap (λ ts. source_at (first_source (tags_of ts))) c.deref-4.ensures.value in
-    let inner : Context = record { interp = record { ref_ptr = outer.interp.ref_ptr; now = c.in_ok-interp.interp }; theorems = c.deref-3.result; places = record { ref_ptr = outer.places.ref_ptr; now = c.in_ok-places.places } } in
-    let context = block-context old mid c.requires.session kept outer inner c.in_ok-own.own statements imports c.requires.context c.in_ok-own.ensures.within named c.in_ok-interp.ensures.pairs given c.requires.imports (subst (λ state. IsNameTable state.names) c.kernel.ensures c.sound.ensures.names) in
+    let named : map_interpretation (name_at mid.kernel) c.in_ok-own.own ≡ interpretation_of statements =
+    rw c.deref.ensures.value at c.in_ok-own.ensures.names in
+    let given : c.deref-3.result.now ≡ map given_to imports ++ outer.theorems.now = c.deref-3.ensures.value
+    ∙ c.in_ok-theorems.ensures in
+    let source : source_value c.source_of.result ≡ source_at (first_source statements) = c.source_of.ensures
+    ∙ ap (λ ts. source_at (first_source (tags_of ts))) c.deref-4.ensures.value in
+    let inner : Context =
+    record {
+      interp = record { ref_ptr = outer.interp.ref_ptr; now = c.in_ok-interp.interp };
+      theorems = c.deref-3.result;
+      places =
+          record { ref_ptr = outer.places.ref_ptr; now = c.in_ok-places.places };
+    } in
+    let context = block-context old mid c.requires.session kept outer inner c.in_ok-own.own statements imports
+    c.requires.context c.in_ok-own.ensures.within named c.in_ok-interp.ensures.pairs given c.requires.imports
+    (subst (λ state. IsNameTable state.names) c.kernel.ensures c.sound.ensures.names) in
     let same = exports-kept old mid kept c.requires.session imports c.requires.imports in
     let run = c.in_ok-own.ensures.run in
     λ folder e.
     let s = setting_of folder c.args.setting in
     let path = string_bytes c.args.file.now.path in
     let to : run_source s (opener_of s c.args.file.now) path (map (export_of mid) imports) (source_value c.source_of.result) (context_of mid inner) (run_of mid)
-    ≡ run_block s (opener_of s c.args.file.now) path (context_of old outer) (block_of c.args.block.now) (map (export_of old) imports) (run_of old) =
+    ≡ run_block s (opener_of s c.args.file.now) path (context_of old outer) (block_of c.args.block.now)
+    (map (export_of old) imports) (run_of old) =
     λ i. run_source s (opener_of s c.args.file.now) path (same i) (source i) (context i) (run i) in
     subst (Comes new.kernel (ran_of new) c.run_source.result) to (c.run_source.ensures.comes folder e)
 
@@ -263,14 +354,18 @@ run_blocks-returns-in_err-exports-clause-comes g t c =
     let outer = c.args.file.now.outer.now in
     let order = c.args.plan.now.order.items in
     let b = get_or c.deref-place-items.result.now c.each.place-index 0 in
-    let lt : c.each.place-index < length order = omega (arith, c.each-test.true, ap length c.deref-place-items.ensures.value) in
-    let is : b ≡ get_or order c.each.place-index b = ap (λ xs. get_or xs c.each.place-index 0) c.deref-place-items.ensures.value ∙ get_or_default order c.each.place-index 0 b lt in
+    let lt : c.each.place-index < length order =
+    omega (arith, c.each-test.true, ap length c.deref-place-items.ensures.value) in
+    let is : b ≡ get_or order c.each.place-index b = ap (λ xs. get_or xs c.each.place-index 0)
+    c.deref-place-items.ensures.value ∙ get_or_default order c.each.place-index 0 b lt in
     rw (p.1, p.2)
     (λ folder e.
     let s = setting_of folder c.args.setting in
-    one-stopped s (opener_of s c.args.file.now) (string_bytes c.args.file.now.path) (context_of old outer) (record { blocks = blocks_of c.args.blocks.now; plan = plan_of c.args.plan.now }) (run_of old)
+    one-stopped s (opener_of s c.args.file.now) (string_bytes c.args.file.now.path) (context_of old outer)
+    (record { blocks = blocks_of c.args.blocks.now; plan = plan_of c.args.plan.now }) (run_of old)
     c.each.place-index b (done_of mid c.each.done) (run_of mid) lt is (c.each.invariant.left folder e)
-    (context_of mid outer) (context-kept old mid c.requires.session c.each.invariant.grown outer c.requires.context) new.kernel c.in_err-exports.field-0.0
+    (context_of mid outer) (context-kept old mid c.requires.session c.each.invariant.grown outer c.requires.context)
+    new.kernel c.in_err-exports.field-0.0
     (c.in_err-exports.ensures.comes folder (c.each.invariant.folder ∙ e)))
 
 pub run_blocks-each-init : goal.run_blocks-each-init
@@ -289,8 +384,10 @@ run_blocks-each-init g t c = record {
       let opener = opener_of s c.args.file.now in
       let path = string_bytes c.args.file.now.path in
       let outer = context_of old c.args.file.now.outer.now in
-      let none : done_of old c.new-done.result ≡ none_done = λ i b. ap (λ es. map (export_of old) (items_of (lookup (λ key. b == key) es))) c.new-done.ensures.empty i in
-      subst (λ done. IsLeft s opener path outer f (run_of old) 0 done (run_of old)) (sym none) (all-left s opener path outer f (run_of old));
+      let none : done_of old c.new-done.result ≡ none_done =
+      λ i b. ap (λ es. map (export_of old) (items_of (lookup (λ key. b == key) es))) c.new-done.ensures.empty i in
+      subst (λ done. IsLeft s opener path outer f (run_of old) 0 done (run_of old)) (sym none)
+      (all-left s opener path outer f (run_of old));
 }
 
 pub run_blocks-each-preserved : goal.run_blocks-each-preserved
@@ -304,25 +401,36 @@ run_blocks-each-preserved g t c =
     let now = c.in_ok-exports.ensures.later in
     let order = c.args.plan.now.order.items in
     let b = get_or c.deref-place-items.result.now c.each.place-index 0 in
-    let lt : c.each.place-index < length order = omega (arith, c.each-test.true, ap length c.deref-place-items.ensures.value) in
-    let is : b ≡ get_or order c.each.place-index b = ap (λ xs. get_or xs c.each.place-index 0) c.deref-place-items.ensures.value ∙ get_or_default order c.each.place-index 0 b lt in
+    let lt : c.each.place-index < length order =
+    omega (arith, c.each-test.true, ap length c.deref-place-items.ensures.value) in
+    let is : b ≡ get_or order c.each.place-index b = ap (λ xs. get_or xs c.each.place-index 0)
+    c.deref-place-items.ensures.value ∙ get_or_default order c.each.place-index 0 b lt in
     record {
       grown = grows-on c.each.invariant.grown kept;
-      inside = held-inside mid new c.each.invariant.session kept c.each.done c.insert.new.self b c.in_ok-exports.exports c.in_ok-insert.ensures.updates.0 c.each.invariant.inside c.in_ok-exports.ensures.exports;
+      inside = held-inside mid new c.each.invariant.session kept c.each.done c.insert.new.self b
+          c.in_ok-exports.exports c.in_ok-insert.ensures.updates.0 c.each.invariant.inside
+          c.in_ok-exports.ensures.exports;
       session = c.in_ok-exports.ensures.session;
       lawful = stays-on c.each.invariant.lawful c.in_ok-exports.ensures.lawful;
-      exports = held-lawful mid new c.each.invariant.session kept c.stays_law.ensures.written c.in_ok-exports.ensures.lawful.larger c.each.done c.insert.new.self b c.in_ok-exports.exports c.in_ok-insert.ensures.updates.0
+      exports = held-lawful mid new c.each.invariant.session kept c.stays_law.ensures.written
+          c.in_ok-exports.ensures.lawful.larger c.each.done c.insert.new.self b c.in_ok-exports.exports
+          c.in_ok-insert.ensures.updates.0
           c.each.invariant.inside c.each.invariant.exports c.in_ok-exports.ensures.lawful_exports;
       later = (omega (arith, before.0, now.0), omega (arith, before.1, now.1));
       folder = c.in_ok-exports.ensures.folder ∙ c.each.invariant.folder;
       left = λ folder e.
           let s = setting_of folder c.args.setting in
           let f : Planned = record { blocks = blocks_of c.args.blocks.now; plan = plan_of c.args.plan.now } in
-          subst (λ done. IsLeft s (opener_of s c.args.file.now) (string_bytes c.args.file.now.path) (context_of old outer) f (run_of old) (c.each.place-index + 1) done (run_of new))
-          (sym (held-done mid new c.each.invariant.session kept c.each.done c.insert.new.self b c.in_ok-exports.exports c.in_ok-insert.ensures.updates.0 c.each.invariant.inside))
-          (one-ran s (opener_of s c.args.file.now) (string_bytes c.args.file.now.path) (context_of old outer) f (run_of old)
+          subst (λ done. IsLeft s (opener_of s c.args.file.now) (string_bytes c.args.file.now.path)
+          (context_of old outer) f (run_of old) (c.each.place-index + 1) done (run_of new))
+          (sym (held-done mid new c.each.invariant.session kept c.each.done c.insert.new.self b
+          c.in_ok-exports.exports c.in_ok-insert.ensures.updates.0 c.each.invariant.inside))
+          (one-ran s (opener_of s c.args.file.now) (string_bytes c.args.file.now.path) (context_of old outer) f
+          (run_of old)
           c.each.place-index b (done_of mid c.each.done) (run_of mid) lt is (c.each.invariant.left folder e)
-          (context_of mid outer) (context-kept old mid c.requires.session c.each.invariant.grown outer c.requires.context) (ran_of new c.in_ok-exports.exports)
+          (context_of mid outer)
+          (context-kept old mid c.requires.session c.each.invariant.grown outer c.requires.context)
+          (ran_of new c.in_ok-exports.exports)
           (c.in_ok-exports.ensures.comes folder (c.each.invariant.folder ∙ e)));
     }
 
@@ -333,13 +441,17 @@ run_blocks-returns-clause-comes g t c =
     let outer = c.args.file.now.outer.now in
     let blocks = c.args.blocks.now in
     let order = c.args.plan.now.order.items in
-    let none : drop c.each.place-index order ≡ [] = drop_all c.each.place-index order (omega (arith, c.each-test.false, ap length c.deref-place-items.ensures.value)) in
+    let none : drop c.each.place-index order ≡ [] = drop_all c.each.place-index order
+    (omega (arith, c.each-test.false, ap length c.deref-place-items.ensures.value)) in
     let exports : exports_at (done_of mid c.each.done) (place_of (blocks_of blocks) (codes "main")) ≡ map (export_of mid) c.in_ok-exports-2.exports.items =
-    ap (exports_at (done_of mid c.each.done)) (place-at blocks (codes "main")) ∙ sym (exports-as mid c.each.done (position (λ b. bytes_eq b.name.now (codes "main")) blocks)) ∙ ap (map (export_of mid)) (sym c.in_ok-exports-2.ensures) in
+    ap (exports_at (done_of mid c.each.done)) (place-at blocks (codes "main"))
+    ∙ sym (exports-as mid c.each.done (position (λ b. bytes_eq b.name.now (codes "main")) blocks))
+    ∙ ap (map (export_of mid)) (sym c.in_ok-exports-2.ensures) in
     let ran : List Export → Ran = λ es. record { exports = es; run = run_of mid } in
     λ folder e.
     let s = setting_of folder c.args.setting in
-    all-ran s (opener_of s c.args.file.now) (string_bytes c.args.file.now.path) (context_of old outer) (record { blocks = blocks_of blocks; plan = plan_of c.args.plan.now }) (run_of old)
+    all-ran s (opener_of s c.args.file.now) (string_bytes c.args.file.now.path) (context_of old outer)
+    (record { blocks = blocks_of blocks; plan = plan_of c.args.plan.now }) (run_of old)
     c.each.place-index (done_of mid c.each.done) (run_of mid) none (c.each.invariant.left folder e)
     ∙ ap (λ es. Ok (ran es)) exports
 
@@ -349,11 +461,26 @@ pub run_next-run_block-requires : goal.run_next-run_block-requires
 run_next-run_block-requires g t c κs within =
     let old = c.args.session.now in
     let item = c.in-Some.ensures.lookup in
-    let imports : c.deref.result.now ≡ flat_map (held_at c.args.done.now) c.imports_at.result.now = c.deref.ensures.value ∙ c.in_ok-imports.ensures in
-    let inside : All (IsExportIn old) c.deref.result.now = rw imports (imported-inside old c.args.done.now c.requires.done c.imports_at.result.now) in
-    let lawful : AreLawfulExports old c.deref.result.now = rw imports (imported-lawful old c.args.done.now c.requires.lawful_done c.imports_at.result.now) in
-    let right = block-all c.args.blocks.now c.args.place c.in-Some.block.now item.3.0 item.1 IsRunnable c.requires.blocks in
-    (omega arith, (within, (c.requires.limits, (c.requires.session, (c.requires.lawful, (c.requires.context, (c.requires.lawful_context, (right, (inside, lawful)))))))))
+    let imports : c.deref.result.now ≡ flat_map (held_at c.args.done.now) c.imports_at.result.now =
+    c.deref.ensures.value ∙ c.in_ok-imports.ensures in
+    let inside : All (IsExportIn old) c.deref.result.now =
+    rw imports (imported-inside old c.args.done.now c.requires.done c.imports_at.result.now) in
+    let lawful : AreLawfulExports old c.deref.result.now =
+    rw imports (imported-lawful old c.args.done.now c.requires.lawful_done c.imports_at.result.now) in
+    let right = block-all c.args.blocks.now c.args.place c.in-Some.block.now item.3.0 item.1 IsRunnable
+    c.requires.blocks in (
+      omega arith,
+      (
+        within,
+        (
+          c.requires.limits,
+          (
+            c.requires.session,
+            (c.requires.lawful, (c.requires.context, (c.requires.lawful_context, (right, (inside, lawful))))),
+          ),
+        ),
+      ),
+    )
 
 pub run_next-returns-in-Some-clause-comes : goal.run_next-returns-in-Some-clause-comes
 run_next-returns-in-Some-clause-comes g t c =
@@ -365,13 +492,19 @@ run_next-returns-in-Some-clause-comes g t c =
     let path = string_bytes c.args.file.now.path in
     let there = block-there c.args.blocks.now c.args.place c.in-Some.block.now item.3.0 item.1 in
     let imports : map (export_of old) c.deref.result.now ≡ imported (plan_of c.args.plan.now).imports (done_of old c.args.done.now) c.args.place =
-    ap (map (export_of old)) (c.deref.ensures.value ∙ c.in_ok-imports.ensures) ∙ imported-as old c.args.done.now c.imports_at.result.now ∙ ap (flat_map (done_of old c.args.done.now)) c.imports_at.ensures in
+    ap (map (export_of old)) (c.deref.ensures.value ∙ c.in_ok-imports.ensures) ∙ imported-as old c.args.done.now
+    c.imports_at.result.now ∙ ap (flat_map (done_of old c.args.done.now)) c.imports_at.ensures in
     λ folder e.
     let s = setting_of folder c.args.setting in
     let to : run_block s (opener_of s c.args.file.now) path outer (block_of c.in-Some.block.now) (map (export_of old) c.deref.result.now) (run_of old)
-    ≡ run_at s (opener_of s c.args.file.now) path outer (imported (plan_of c.args.plan.now).imports (done_of old c.args.done.now) c.args.place) (slice_get blocks c.args.place) (run_of old) =
-    ap (λ es. run_block s (opener_of s c.args.file.now) path outer (block_of c.in-Some.block.now) es (run_of old)) imports
-    ∙ ap (λ o. run_at s (opener_of s c.args.file.now) path outer (imported (plan_of c.args.plan.now).imports (done_of old c.args.done.now) c.args.place) o (run_of old)) (sym there) in
+    ≡ run_at s (opener_of s c.args.file.now) path outer
+    (imported (plan_of c.args.plan.now).imports (done_of old c.args.done.now) c.args.place)
+    (slice_get blocks c.args.place) (run_of old) =
+    ap (λ es. run_block s (opener_of s c.args.file.now) path outer (block_of c.in-Some.block.now) es (run_of old))
+    imports
+    ∙ ap (λ o. run_at s (opener_of s c.args.file.now) path outer
+    (imported (plan_of c.args.plan.now).imports (done_of old c.args.done.now) c.args.place) o (run_of old))
+    (sym there) in
     subst (Comes new.kernel (ran_of new) c.run_block.result) to (c.run_block.ensures.comes folder e)
 
 pub run_next-returns-clause-comes : goal.run_next-returns-clause-comes
@@ -383,7 +516,9 @@ run_next-returns-clause-comes g t c =
     let ran : List code.Export → Ran = λ es. record { exports = map (export_of old) es; run = run_of old } in
     λ folder e.
     let s = setting_of folder c.args.setting in
-    ap (λ o. (run_at s (opener_of s c.args.file.now) path outer (imported (plan_of c.args.plan.now).imports (done_of old c.args.done.now) c.args.place) o (run_of old)).answer) none
+    ap (λ o. (run_at s (opener_of s c.args.file.now) path outer
+    (imported (plan_of c.args.plan.now).imports (done_of old c.args.done.now) c.args.place) o
+    (run_of old)).answer) none
     ∙ ap (λ es. Ok (ran es)) (sym c.new.ensures.items)
 
 -- ---- an article
@@ -398,32 +533,42 @@ run_source-returns-in_ok-path-in-Article-clause-comes g t c =
     λ folder e.
     let s = setting_of folder c.args.setting in
     let to : run_article s (string_bytes c.in_ok-path-in-Article.path) context (run_of old) ≡ run_source s (opener_of s c.args.file.now) path imports (source_value c.args.source) context (run_of old) =
-    ap (λ q. run_article s q context (run_of old)) (c.in_ok-path-in-Article.ensures ∙ ap (λ q. article_path q c.in-Article.value.now) c.deref.ensures)
-    ∙ ap (λ source. run_source s (opener_of s c.args.file.now) path imports (source_value source) context (run_of old)) (sym c.in-Article.is) in
+    ap (λ q. run_article s q context (run_of old))
+    (c.in_ok-path-in-Article.ensures ∙ ap (λ q. article_path q c.in-Article.value.now) c.deref.ensures)
+    ∙ ap (λ source. run_source s (opener_of s c.args.file.now) path imports (source_value source) context
+    (run_of old)) (sym c.in-Article.is) in
     subst (Comes new.kernel (ran_of new) c.run_article.result) to (c.run_article.ensures.comes folder e)
 
 -- ---- lawful sessions
 
 pub run_source-returns-in_ok-once-in-Imports-clause-lawful_exports : goal.run_source-returns-in_ok-once-in-Imports-clause-lawful_exports
-run_source-returns-in_ok-once-in-Imports-clause-lawful_exports g t c = c.in_ok-once-in-Imports.ensures.lawful c.requires.lawful_imports
+run_source-returns-in_ok-once-in-Imports-clause-lawful_exports g t c =
+    c.in_ok-once-in-Imports.ensures.lawful c.requires.lawful_imports
 
 pub run_block-returns-in_err-own-clause-lawful : goal.run_block-returns-in_err-own-clause-lawful
-run_block-returns-in_err-own-clause-lawful g t c = stays-as c.args.session.now c.interpretation_of.new.session c.in_err-own.ensures.run c.requires.lawful
+run_block-returns-in_err-own-clause-lawful g t c =
+    stays-as c.args.session.now c.interpretation_of.new.session c.in_err-own.ensures.run c.requires.lawful
 
 pub run_block-returns-in_err-interp-clause-lawful : goal.run_block-returns-in_err-interp-clause-lawful
-run_block-returns-in_err-interp-clause-lawful g t c = stays-as c.args.session.now c.interpretation_of.new.session c.in_ok-own.ensures.run c.requires.lawful
+run_block-returns-in_err-interp-clause-lawful g t c =
+    stays-as c.args.session.now c.interpretation_of.new.session c.in_ok-own.ensures.run c.requires.lawful
 
 pub run_block-returns-in_err-theorems-clause-lawful : goal.run_block-returns-in_err-theorems-clause-lawful
-run_block-returns-in_err-theorems-clause-lawful g t c = stays-as c.args.session.now c.interpretation_of.new.session c.in_ok-own.ensures.run c.requires.lawful
+run_block-returns-in_err-theorems-clause-lawful g t c =
+    stays-as c.args.session.now c.interpretation_of.new.session c.in_ok-own.ensures.run c.requires.lawful
 
 pub run_block-returns-in_err-places-clause-lawful : goal.run_block-returns-in_err-places-clause-lawful
-run_block-returns-in_err-places-clause-lawful g t c = stays-as c.args.session.now c.interpretation_of.new.session c.in_ok-own.ensures.run c.requires.lawful
+run_block-returns-in_err-places-clause-lawful g t c =
+    stays-as c.args.session.now c.interpretation_of.new.session c.in_ok-own.ensures.run c.requires.lawful
 
 pub run_block-returns-clause-lawful : goal.run_block-returns-clause-lawful
-run_block-returns-clause-lawful g t c = stays-on (stays-as c.args.session.now c.interpretation_of.new.session c.in_ok-own.ensures.run c.requires.lawful) c.run_source.ensures.lawful
+run_block-returns-clause-lawful g t c =
+    stays-on (stays-as c.args.session.now c.interpretation_of.new.session c.in_ok-own.ensures.run c.requires.lawful)
+    c.run_source.ensures.lawful
 
 pub run_next-returns-clause-lawful_exports : goal.run_next-returns-clause-lawful_exports
-run_next-returns-clause-lawful_exports g t c = subst (AreLawfulOnce c.args.session.now) (sym c.new.ensures.items) (none-lawful c.args.session.now)
+run_next-returns-clause-lawful_exports g t c = subst (AreLawfulOnce c.args.session.now) (sym c.new.ensures.items)
+    (none-lawful c.args.session.now)
 
 pub run_blocks-run_next-requires : goal.run_blocks-run_next-requires
 run_blocks-run_next-requires g t c κs within =
@@ -432,11 +577,27 @@ run_blocks-run_next-requires g t c κs within =
     let outer = c.args.file.now.outer.now in
     let grown = c.each.invariant.grown in
     let context = of_context-kept old mid c.requires.session grown outer c.requires.context in
-    let lawful_context = context-lawful old mid c.requires.session grown c.stays_law.ensures.written c.each.invariant.lawful.larger outer c.requires.context c.requires.lawful_context in
-    (omega arith, (within, (c.requires.limits, (c.each.invariant.session, (c.each.invariant.lawful.run, (context, (lawful_context, (c.requires.blocks, (c.each.invariant.inside, c.each.invariant.exports)))))))))
+    let lawful_context = context-lawful old mid c.requires.session grown c.stays_law.ensures.written
+    c.each.invariant.lawful.larger outer c.requires.context c.requires.lawful_context in (
+      omega arith,
+      (
+        within,
+        (
+          c.requires.limits,
+          (
+            c.each.invariant.session,
+            (
+              c.each.invariant.lawful.run,
+              (context, (lawful_context, (c.requires.blocks, (c.each.invariant.inside, c.each.invariant.exports)))),
+            ),
+          ),
+        ),
+      ),
+    )
 
 pub run_blocks-returns-in_err-exports-clause-lawful : goal.run_blocks-returns-in_err-exports-clause-lawful
-run_blocks-returns-in_err-exports-clause-lawful g t c = stays-on c.each.invariant.lawful c.in_err-exports.ensures.lawful
+run_blocks-returns-in_err-exports-clause-lawful g t c =
+    stays-on c.each.invariant.lawful c.in_err-exports.ensures.lawful
 
 pub run_blocks-returns-in_err-insert-clause-lawful : goal.run_blocks-returns-in_err-insert-clause-lawful
 run_blocks-returns-in_err-insert-clause-lawful g t c = stays-on c.each.invariant.lawful c.in_ok-exports.ensures.lawful
@@ -444,4 +605,6 @@ run_blocks-returns-in_err-insert-clause-lawful g t c = stays-on c.each.invariant
 pub run_blocks-returns-clause-lawful_exports : goal.run_blocks-returns-clause-lawful_exports
 run_blocks-returns-clause-lawful_exports g t c =
     let mid = c.each.session in
-    subst (AreLawfulOnce mid) (sym c.in_ok-exports-2.ensures) (place-lawful mid c.each.done c.each.invariant.exports (position (λ b. bytes_eq b.name.now (codes "main")) c.args.blocks.now))
+    subst (AreLawfulOnce mid) (sym c.in_ok-exports-2.ensures)
+    (place-lawful mid c.each.done c.each.invariant.exports
+    (position (λ b. bytes_eq b.name.now (codes "main")) c.args.blocks.now))

@@ -20,11 +20,14 @@ invariant-run_blocks-each g l = record {
   inside : (b : ℕ) → All (IsExportIn l.session) (held_at l.done b);
   lawful : StaysLawful l.fn.session l.session;
   exports : (b : ℕ) → AreLawfulOnce l.session (held_at l.done b);
-  later : (g.F.Source.faults l.fn.files ≤ g.F.Source.faults l.files) × (g.F.Source.misses l.fn.files ≤ g.F.Source.misses l.files);
+  later : (g.F.Source.faults l.fn.files ≤ g.F.Source.faults l.files)
+      × (g.F.Source.misses l.fn.files ≤ g.F.Source.misses l.files);
   folder : g.F.Source.folder l.files ≡ g.F.Source.folder l.fn.files;
   left : (folder : Folder) → g.F.Source.folder l.fn.files ≡ Some folder →
-      IsLeft (setting_of folder l.setting) (opener_of (setting_of folder l.setting) l.file) (string_bytes l.file.path) (context_of l.fn.session l.file.outer.now)
-      (record { blocks = blocks_of l.blocks; plan = plan_of l.plan }) (run_of l.fn.session) l.place-index (done_of l.session l.done) (run_of l.session);
+      IsLeft (setting_of folder l.setting) (opener_of (setting_of folder l.setting) l.file) (string_bytes l.file.path)
+      (context_of l.fn.session l.file.outer.now)
+      (record { blocks = blocks_of l.blocks; plan = plan_of l.plan }) (run_of l.fn.session) l.place-index
+      (done_of l.session l.done) (run_of l.session);
 }
 
 -- a package that is opened leaves one package less to be opened

@@ -5,4 +5,5 @@ use Rattle.ot_link.specs.Running.{first_source}
 use Rattle.ot_link.proofs.blocks.source_of.Given as goal
 
 abbrev pub invariant-each : goal.invariant-each
-invariant-each l = source_at (first_source (tags_of l.statements)) ≡ source_at (first_source (tags_of (drop l.statement-index l.statements)))
+invariant-each l = source_at (first_source (tags_of l.statements))
+    ≡ source_at (first_source (tags_of (drop l.statement-index l.statements)))

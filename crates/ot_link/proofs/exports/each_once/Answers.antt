@@ -22,17 +22,24 @@ each-preserved c =
     let once = c.each.once.items in
     let here = subst (IsExportIn s) (sym c.export-item.is) (c.requires c.each.export-index e c.each-test.true) in
     let absent : is_exported (theorem_at s.kernel e.th) (map (export_of s) once) ≡ false =
-    ap (λ xs. is_exported (theorem_at s.kernel e.th) (map (export_of s) xs)) (sym c.deref.ensures.value) ∙ sym c.is_exported.ensures ∙ c.if-is_exported.false in
+    ap (λ xs. is_exported (theorem_at s.kernel e.th) (map (export_of s) xs)) (sym c.deref.ensures.value)
+    ∙ sym c.is_exported.ensures ∙ c.if-is_exported.false in
     let pushed : c.push.new.self.items ≡ once ++ e ∷ [] = c.in_ok-push.ensures.items in
-    let is = subst (λ k. term_at k c.concl-concl.result ≡ (theorem_at k e.th).concl) c.kernel.ensures c.concl-concl.ensures.concl in
-    let more = subst (λ k. (ps : List (Tm Name)) → length ps ≡ c.len.result → AreFirstPlaces k ps c.each.places → AreFirstPlaces k (ps ++ term_at k c.concl-concl.result ∷ []) c.note_term.new.places) c.kernel-in-each.ensures c.in_ok-note_term.ensures.more in
+    let is = subst (λ k. term_at k c.concl-concl.result ≡ (theorem_at k e.th).concl) c.kernel.ensures
+    c.concl-concl.ensures.concl in
+    let more =
+    subst (λ k. (ps : List (Tm Name)) → length ps ≡ c.len.result → AreFirstPlaces k ps c.each.places
+    → AreFirstPlaces k (ps ++ term_at k c.concl-concl.result ∷ []) c.note_term.new.places)
+    c.kernel-in-each.ensures c.in_ok-note_term.ensures.more in
     record {
       once =
           ap (λ xs. each_once (map (export_of s) xs) (map (export_of s) (drop (c.each.export-index + 1) es))) pushed
           ∙ sym (once-new s once es c.each.export-index e c.each-test.true c.export-item.is absent)
           ∙ c.each.invariant.once;
       inside = subst (All (IsExportIn s)) (sym pushed) (All-push (IsExportIn s) once e c.each.invariant.inside here);
-      placed = placed-more s.kernel once c.push.new.self.items e (term_at s.kernel c.concl-concl.result) c.len.result c.each.places c.note_term.new.places pushed is (omega (arith, c.len.ensures, c.each.once.ok.0)) more c.each.invariant.placed;
+      placed = placed-more s.kernel once c.push.new.self.items e (term_at s.kernel c.concl-concl.result) c.len.result
+          c.each.places c.note_term.new.places pushed is (omega (arith, c.len.ensures, c.each.once.ok.0)) more
+          c.each.invariant.placed;
     }
 
 pub returns-clause-lawful : goal.returns-clause-lawful
@@ -41,4 +48,5 @@ returns-clause-lawful c =
     let es = c.args.exports.now in
     let once = c.each.once.items in
     let none : drop c.each.export-index es ≡ [] = drop_all c.each.export-index es c.each-test.false in
-    λ h. once-lawful s once es (ap (λ xs. each_once (map (export_of s) once) (map (export_of s) xs)) (sym none) ∙ c.each.invariant.once) h
+    λ h. once-lawful s once es (ap (λ xs. each_once (map (export_of s) once) (map (export_of s) xs)) (sym none)
+    ∙ c.each.invariant.once) h

@@ -7,7 +7,9 @@ use Rattle.ot_link.proofs.exports.each_once.Given as goal
 
 abbrev pub invariant-each : goal.invariant-each
 invariant-each l = record {
-  once : each_once (map (export_of l.session) l.once.items) (map (export_of l.session) (drop l.export-index l.exports)) ≡ each_once [] (map (export_of l.session) l.exports);
+  once : each_once (map (export_of l.session) l.once.items)
+      (map (export_of l.session) (drop l.export-index l.exports))
+      ≡ each_once [] (map (export_of l.session) l.exports);
   inside : All (IsExportIn l.session) l.once.items;
   placed : AreFirstPlaces l.session.kernel (concls_of l.session.kernel (map (λ e. e.th) l.once.items)) l.places;
 }

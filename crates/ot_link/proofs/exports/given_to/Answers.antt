@@ -7,4 +7,5 @@ pub each-preserved : goal.each-preserved
 each-preserved c =
     c.in_ok-push.ensures.items
     ∙ ap (λ xs. xs ++ given_to c.export-item.result ∷ []) c.each.invariant
-    ∙ sym (map_more given_to c.args.imports.now c.each.export-index c.export-item.result c.export-item.result c.each-test.true c.export-item.is)
+    ∙ sym (map_more given_to c.args.imports.now c.each.export-index c.export-item.result c.export-item.result
+    c.each-test.true c.export-item.is)

@@ -8,7 +8,9 @@ pub link_file-requires-clause-lawful_context : goal.link_file-requires-clause-la
 link_file-requires-clause-lawful_context g c = empty-lawful c.args.session.now _ c.new-interp.ensures.pairs refl
 
 pub link_file-requires-clause-lawful : goal.link_file-requires-clause-lawful
-link_file-requires-clause-lawful g c = subst (IsLawfulRun IsWritable) (sym c.requires.fresh) c.fresh_law.ensures.written.0
+link_file-requires-clause-lawful g c =
+    subst (IsLawfulRun IsWritable) (sym c.requires.fresh) c.fresh_law.ensures.written.0
 
 pub returns-in_err-path-clause-lawful : goal.returns-in_err-path-clause-lawful
-returns-in_err-path-clause-lawful g c = subst (IsLawfulRun IsWritable) (sym c.requires.fresh) c.fresh_law.ensures.written.0
+returns-in_err-path-clause-lawful g c =
+    subst (IsLawfulRun IsWritable) (sym c.requires.fresh) c.fresh_law.ensures.written.0

@@ -8,7 +8,8 @@ use Rattle.ot_link.proofs.renaming.interpretation_of.Given as goal
 
 abbrev pub invariant-each : goal.invariant-each
 invariant-each l = record {
-  names : map_interpretation (name_at l.session.kernel) l.interp ≡ interpretation_of (tags_of (take l.statement-index l.statements));
+  names : map_interpretation (name_at l.session.kernel) l.interp
+      ≡ interpretation_of (tags_of (take l.statement-index l.statements));
   within : IsWithin (length l.session.kernel.names) l.interp;
   grown : Grows l.fn.session l.session;
   session : IsRun l.session;

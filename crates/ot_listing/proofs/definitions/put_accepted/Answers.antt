@@ -7,5 +7,7 @@ use Rattle.ot_listing.proofs.definitions.put_accepted.Goals as goal
 
 pub returns : goal.returns
 returns c =
-    same-text (ap (λ qs. head_text (accepted_at c.args.nodes.now c.args.accepted.now) ++ codes " : " ++ theorems_text qs) c.requires.are)
+    same-text
+    (ap (λ qs. head_text (accepted_at c.args.nodes.now c.args.accepted.now) ++ codes " : " ++ theorems_text qs)
+    c.requires.are)
     (then (then c.put_head.ensures c.put.ensures) (rw c.as_slice.ensures.value at c.put_theorems.ensures))

@@ -7,10 +7,12 @@ use Rattle.ot_listing.proofs.definitions.put_names.Goals as goal
 
 pub loop-name-preserved : goal.loop-name-preserved
 loop-name-preserved c =
-    rest-more of_names (name_at c.args.nodes.now) c.args.names.now c.loop-name.name-index c.name-item.result c.loop-name.is_first (printed c.args.page.now) (printed c.loop-name.page) (printed c.put_name.new.page)
+    rest-more of_names (name_at c.args.nodes.now) c.args.names.now c.loop-name.name-index c.name-item.result
+    c.loop-name.is_first (printed c.args.page.now) (printed c.loop-name.page) (printed c.put_name.new.page)
     c.loop-name-test.true c.name-item.is c.loop-name.invariant (then c.separate.ensures c.put_name.ensures)
 
 pub returns : goal.returns
 returns c =
-    rest-all of_names (name_at c.args.nodes.now) c.args.names.now c.loop-name.name-index c.loop-name.is_first (printed c.args.page.now) (printed c.loop-name.page)
+    rest-all of_names (name_at c.args.nodes.now) c.args.names.now c.loop-name.name-index c.loop-name.is_first
+    (printed c.args.page.now) (printed c.loop-name.page)
     (omega arith) c.loop-name.invariant

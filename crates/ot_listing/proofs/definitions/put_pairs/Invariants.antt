@@ -4,4 +4,5 @@ use Rattle.ot_listing.proofs.Separating.{Rest, of_pairs}
 use Rattle.ot_listing.proofs.definitions.put_pairs.Given as goal
 
 abbrev pub invariant-loop-pair : goal.invariant-loop-pair
-invariant-loop-pair l = Rest of_pairs (pair_at l.nodes) l.pairs l.pair-index l.is_first (printed l.initial.page) (printed l.page)
+invariant-loop-pair l = Rest of_pairs (pair_at l.nodes) l.pairs l.pair-index l.is_first (printed l.initial.page)
+    (printed l.page)

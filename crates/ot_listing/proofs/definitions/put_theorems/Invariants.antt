@@ -4,4 +4,5 @@ use Rattle.ot_listing.proofs.Separating.{Rest, of_theorems}
 use Rattle.ot_listing.proofs.definitions.put_theorems.Given as goal
 
 abbrev pub invariant-loop-theorem : goal.invariant-loop-theorem
-invariant-loop-theorem l = Rest of_theorems (sequent_at l.nodes) l.theorems l.theorem-index l.is_first (printed l.initial.page) (printed l.page)
+invariant-loop-theorem l = Rest of_theorems (sequent_at l.nodes) l.theorems l.theorem-index l.is_first
+    (printed l.initial.page) (printed l.page)

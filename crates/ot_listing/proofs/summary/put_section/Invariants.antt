@@ -5,4 +5,5 @@ use Rattle.ot_text.proofs.Putting.{Puts}
 use Rattle.ot_listing.proofs.summary.put_section.Given as goal
 
 abbrev pub invariant-loop-item : goal.invariant-loop-item
-invariant-loop-item g l = Puts (λ xs. items_text (map (g.T.Printable.text l.nodes) xs)) l.items l.item-index (printed l.initial.page) (printed l.page)
+invariant-loop-item g l = Puts (λ xs. items_text (map (g.T.Printable.text l.nodes) xs)) l.items l.item-index
+    (printed l.initial.page) (printed l.page)

@@ -6,4 +6,5 @@ use Rattle.ot_text.proofs.Putting.{Leaves}
 use Rattle.ot_listing.proofs.summary.put_texts.Given as goal
 
 abbrev pub invariant-loop-text : goal.invariant-loop-text
-invariant-loop-text l = Leaves (items_text (map (λ t. t.items) l.text-iterator)) (items_text (texts_of l.texts)) (printed l.initial.page) (printed l.page)
+invariant-loop-text l = Leaves (items_text (map (λ t. t.items) l.text-iterator)) (items_text (texts_of l.texts))
+    (printed l.initial.page) (printed l.page)

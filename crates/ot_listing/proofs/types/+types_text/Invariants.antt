@@ -14,4 +14,5 @@ abbrev pub decreases-put_types : goal.decreases-put_types
 decreases-put_types l = 2 * depth_all names (types_at l.nodes.now l.ids.now) + 1
 
 abbrev pub invariant-put_types-loop-id : goal.invariant-put_types-loop-id
-invariant-put_types-loop-id l = Puts (λ is. spaced_text (types_at l.nodes is)) l.ids l.id-index (printed l.initial.page) (printed l.page)
+invariant-put_types-loop-id l =
+    Puts (λ is. spaced_text (types_at l.nodes is)) l.ids l.id-index (printed l.initial.page) (printed l.page)

@@ -5,4 +5,6 @@ use Rattle.ot_listing.proofs.Pieces.{spelled-name}
 use Rattle.ot_listing.proofs.types.put_name.Goals as goal
 
 pub returns : goal.returns
-returns c = same-text (spelled-name _ c.components-components.result.now c.components-components.ensures.value c.components-components.ensures.some ∙ ap name_text c.name_of-name.ensures) c.put_name.ensures
+returns c =
+    same-text (spelled-name _ c.components-components.result.now c.components-components.ensures.value
+    c.components-components.ensures.some ∙ ap name_text c.name_of-name.ensures) c.put_name.ensures

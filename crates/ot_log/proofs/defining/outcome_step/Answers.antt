@@ -9,5 +9,6 @@ pub returns-clause-none : goal.returns-clause-none
 returns-clause-none c =
     let s = c.args.session.now in
     if-none c.find.result (λ n. no-step s c.requires.session c.args.place c.args.id c.requires.inside n)
-    (subst (λ t. IfNone c.find.result ((i : ℕ) → slice_get t i ≢ Some (step_origin t (step.Outcome c.args.place c.args.id))))
+    (subst (λ t. IfNone c.find.result
+    ((i : ℕ) → slice_get t i ≢ Some (step_origin t (step.Outcome c.args.place c.args.id))))
     c.trace.ensures c.find.ensures.none)

@@ -10,12 +10,14 @@ returns-then-makes_theorem-clause-some c =
     let ops = c.as_slice.result.now in
     record {
       word = c.in-Make.word;
-      is = made-origin s c.args.id c.trace.result.now c.step.result.now c.in-Make.word c.in-Make.operands ops c.trace.ensures
+      is = made-origin s c.args.id c.trace.result.now c.step.result.now c.in-Make.word c.in-Make.operands ops
+          c.trace.ensures
           c.step.ensures.origin c.in-Make.is c.as_slice.ensures;
       numbered = made-numbered s c.args.id c.trace.result.now c.step.result.now c.in-Make.word c.in-Make.operands ops
           c.trace.ensures c.step.ensures.origin c.in-Make.is c.as_slice.ensures;
       makes = sym c.makes_theorem.ensures ∙ c.if-makes_theorem.true;
-      inside = made-inside (length s.trace) c.args.id c.step.result.now c.in-Make.word c.in-Make.operands ops c.step.ensures.below
+      inside = made-inside (length s.trace) c.args.id c.step.result.now c.in-Make.word c.in-Make.operands ops
+          c.step.ensures.below
           c.in-Make.is c.as_slice.ensures c.requires;
     }
 

@@ -42,7 +42,8 @@ write_steps-requires-clause-definable c =
     (λ i m. lawful-definable s c.requires.run.each_definition c.requires.lawful.run i (part i m))
 
 pub write_steps-requires-clause-proofs : goal.write_steps-requires-clause-proofs
-write_steps-requires-clause-proofs c = lawful-proofs c.args.session.now (run_basis IsWritable (run_of c.args.session.now))
+write_steps-requires-clause-proofs c =
+    lawful-proofs c.args.session.now (run_basis IsWritable (run_of c.args.session.now))
     c.args.exports.now c.requires.lawful.exports
 
 pub returns-clause-writes : goal.returns-clause-writes
@@ -62,7 +63,8 @@ returns-clause-writes c =
     let roots : c.deref.result.now ≡ map roots_in es = c.deref.ensures.value ∙ c.in_ok-roots.ensures in
     let needed : map (origin_at s.trace) c.deref-2.result.now
     ≡ needed_definitions same (roots_of (map (roots_at s.trace) (map roots_in es))) (map (origin_at s.trace) steps) =
-    ap (map (origin_at s.trace)) c.deref-2.ensures.value ∙ (λ i. map (origin_at (sym trace i)) c.in_ok-needed.needed.items)
+    ap (map (origin_at s.trace)) c.deref-2.ensures.value
+    ∙ (λ i. map (origin_at (sym trace i)) c.in_ok-needed.needed.items)
     ∙ c.in_ok-needed.ensures.needed
     ∙ (λ i. needed_definitions same (roots_of (map (roots_at (trace i)) (roots i)))
     (map (origin_at (trace i)) (c.definition_steps.ensures i))) in

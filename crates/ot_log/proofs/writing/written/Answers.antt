@@ -22,7 +22,8 @@ loop-definition-preserved c =
     record {
       writer = c.in_ok-define.ensures.writer;
       holds = subst (Holds s c.args.max c.define.new.self)
-          (definitions-more (origin_of s) c.args.definitions.now c.loop-definition.definition-index c.definition-item.result
+          (definitions-more (origin_of s) c.args.definitions.now c.loop-definition.definition-index
+          c.definition-item.result
           nothing_written c.definition-item.is c.loop-definition-test.true)
           (c.in_ok-define.ensures.moves c.args.max _ c.loop-definition.invariant.holds);
     }
@@ -33,8 +34,10 @@ loop-export-preserved c =
     record {
       writer = c.in_ok-result.ensures.writer;
       holds = subst (Holds s c.args.max c.result.new.self)
-          (results-more (λ e. origin_of s e.theorem) c.args.exports.now c.loop-export.export-index c.export-item.result
-          (write_definitions (map (origin_of s) c.args.definitions.now) nothing_written) c.export-item.is c.loop-export-test.true)
+          (results-more (λ e. origin_of s e.theorem) c.args.exports.now c.loop-export.export-index
+          c.export-item.result
+          (write_definitions (map (origin_of s) c.args.definitions.now) nothing_written) c.export-item.is
+          c.loop-export-test.true)
           (c.in_ok-result.ensures.moves c.args.max _ c.loop-export.invariant.holds);
     }
 

@@ -7,7 +7,8 @@ use Rattle.ot_log.proofs.writing.written.Given as goal
 abbrev pub invariant-loop-definition : goal.invariant-loop-definition
 invariant-loop-definition l = record {
   writer : IsWriter l.session l.writer;
-  holds : Holds l.session l.max l.writer (write_definitions (map (origin_of l.session) (take l.definition-index l.definitions))
+  holds : Holds l.session l.max l.writer
+      (write_definitions (map (origin_of l.session) (take l.definition-index l.definitions))
       nothing_written);
 }
 

@@ -12,15 +12,21 @@ returns-then-branch-clause-matched c =
     let k = c.args.kernel.now in
     let a = ap (types_of k) c.new.ensures.items in
     let b = ap (terms_of k) c.new-2.ensures.items in
-    let empty : ◌≡◌ {A = Maps names} (types_of k c.new.result.items, terms_of k c.new-2.result.items) ([], []) = λ i. (a i, b i) in
+    let empty : ◌≡◌ {A = Maps names} (types_of k c.new.result.items, terms_of k c.new-2.result.items) ([], []) =
+    λ i. (a i, b i) in
     let walk = rw c.if-branch.true at c.in_ok-match_term.ensures.walk in
-    sym (found_by (term_of_tree c.args.pattern.now) (named_at k.terms c.args.target) (types_of k c.new.result.items, terms_of k c.new-2.result.items) (maps_of k c.match_term.new.maps) true empty walk)
+    sym (found_by (term_of_tree c.args.pattern.now) (named_at k.terms c.args.target)
+    (types_of k c.new.result.items, terms_of k c.new-2.result.items) (maps_of k c.match_term.new.maps) true empty
+    walk)
 
 pub returns-else-branch-clause-matched : goal.returns-else-branch-clause-matched
 returns-else-branch-clause-matched c =
     let k = c.args.kernel.now in
     let a = ap (types_of k) c.new.ensures.items in
     let b = ap (terms_of k) c.new-2.ensures.items in
-    let empty : ◌≡◌ {A = Maps names} (types_of k c.new.result.items, terms_of k c.new-2.result.items) ([], []) = λ i. (a i, b i) in
+    let empty : ◌≡◌ {A = Maps names} (types_of k c.new.result.items, terms_of k c.new-2.result.items) ([], []) =
+    λ i. (a i, b i) in
     let walk = rw c.if-branch.false at c.in_ok-match_term.ensures.walk in
-    sym (found_by (term_of_tree c.args.pattern.now) (named_at k.terms c.args.target) (types_of k c.new.result.items, terms_of k c.new-2.result.items) (maps_of k c.match_term.new.maps) false empty walk)
+    sym (found_by (term_of_tree c.args.pattern.now) (named_at k.terms c.args.target)
+    (types_of k c.new.result.items, terms_of k c.new-2.result.items) (maps_of k c.match_term.new.maps) false empty
+    walk)

@@ -15,19 +15,27 @@ use Rattle.ot_match.specs.Nodes.{AreKeysIn}
 use Rattle.ot_match.proofs.Spelled.{keys_inside, frees_are}
 use Rattle.ot_match.proofs.nodes.free_vars.Goals as goal
 
-module _ {V E : Type 0} (items : V → List VarKey) (s : state.State) (t : TermTable) (k : IsSpelled s t) (table : IsNameTable s.names) (id : ℕ) (h : id < length s.terms) where
-  inside : (r : Result V E) → IfOk r (λ vs. All (λ v. v.ty < length t.types) (items vs)) → IfOk r (λ vs. (w : Variable ℕ) → IsMember w (map (variable_of t.types) (items vs)) ↔ IsFree numbers w (nameless numbers (term_at t.terms id)))
+module _ {V E : Type 0} (items : V → List VarKey) (s : state.State) (t : TermTable) (k : IsSpelled s t)
+    (table : IsNameTable s.names) (id : ℕ) (h : id < length s.terms) where
+  inside : (r : Result V E) → IfOk r (λ vs. All (λ v. v.ty < length t.types) (items vs))
+      → IfOk r (λ vs. (w : Variable ℕ) → IsMember w (map (variable_of t.types) (items vs))
+      ↔ IsFree numbers w (nameless numbers (term_at t.terms id)))
       → IfOk r (λ vs. AreKeysIn s (items vs))
   inside (Ok vs) a b = keys_inside s t k table id h (items vs) a b
   inside (Err e) a b = tt
 
-  free : (r : Result V E) → IfOk r (λ vs. All (λ v. v.ty < length t.types) (items vs)) → IfOk r (λ vs. (w : Variable ℕ) → IsMember w (map (variable_of t.types) (items vs)) ↔ IsFree numbers w (nameless numbers (term_at t.terms id)))
-      → IfOk r (λ vs. (v : Variable Name) → IsMember v (map (state.variable_at s) (items vs)) ↔ IsFreeIn names v (state.named_at s.terms id))
+  free : (r : Result V E) → IfOk r (λ vs. All (λ v. v.ty < length t.types) (items vs))
+      → IfOk r (λ vs. (w : Variable ℕ) → IsMember w (map (variable_of t.types) (items vs))
+      ↔ IsFree numbers w (nameless numbers (term_at t.terms id)))
+      → IfOk r (λ vs. (v : Variable Name) → IsMember v (map (state.variable_at s) (items vs))
+      ↔ IsFreeIn names v (state.named_at s.terms id))
   free (Ok vs) a b = frees_are s t k table id h (items vs) a b
   free (Err e) a b = tt
 
 pub returns-clause-inside : goal.returns-clause-inside
-returns-clause-inside c = inside (λ vs. vs.items) c.args.kernel.now c.terms.result.now c.terms.ensures c.sound.ensures.names c.args.id c.requires c.free_vars.result c.free_vars.ensures.within c.free_vars.ensures.free
+returns-clause-inside c = inside (λ vs. vs.items) c.args.kernel.now c.terms.result.now c.terms.ensures
+    c.sound.ensures.names c.args.id c.requires c.free_vars.result c.free_vars.ensures.within c.free_vars.ensures.free
 
 pub returns-clause-free : goal.returns-clause-free
-returns-clause-free c = free (λ vs. vs.items) c.args.kernel.now c.terms.result.now c.terms.ensures c.sound.ensures.names c.args.id c.requires c.free_vars.result c.free_vars.ensures.within c.free_vars.ensures.free
+returns-clause-free c = free (λ vs. vs.items) c.args.kernel.now c.terms.result.now c.terms.ensures
+    c.sound.ensures.names c.args.id c.requires c.free_vars.result c.free_vars.ensures.within c.free_vars.ensures.free

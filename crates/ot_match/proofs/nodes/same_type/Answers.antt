@@ -3,4 +3,5 @@ use Rattle.ot_match.proofs.Spelled.{same_types}
 use Rattle.ot_match.proofs.nodes.same_type.Goals as goal
 
 pub returns : goal.returns
-returns c = c.eq.ensures ∙ same_types c.args.kernel.now c.terms-terms.result.now c.terms-terms.ensures c.sound.ensures.names c.args.a c.args.b c.requires.left c.requires.right
+returns c = c.eq.ensures ∙ same_types c.args.kernel.now c.terms-terms.result.now c.terms-terms.ensures
+    c.sound.ensures.names c.args.a c.args.b c.requires.left c.requires.right

@@ -9,4 +9,5 @@ use Rattle.ot_match.proofs.terms.held_term.Given as goal
 abbrev pub invariant-each : goal.invariant-each
 invariant-each l =
     lookup (same_var names (record { name = l.name; ty = type_at l.kernel l.ty })) (terms_of l.kernel l.vars)
-    ≡ lookup (same_var names (record { name = l.name; ty = type_at l.kernel l.ty })) (terms_of l.kernel (drop l.var-index l.vars))
+    ≡ lookup (same_var names (record { name = l.name; ty = type_at l.kernel l.ty }))
+    (terms_of l.kernel (drop l.var-index l.vars))

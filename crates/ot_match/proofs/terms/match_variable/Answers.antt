@@ -20,7 +20,8 @@ returns-then-not-branch-clause-walk c =
     let v : Variable Name = record { name = c.args.name.now; ty = type_of_tree c.args.ty.now } in
     let apart = subst (λ b. Meets b e t) c.if-branch.false c.in_ok-meets_binder.ensures in
     let none = rw c.if-not-branch.true at c.in_ok-match_type.ensures.walk in
-    variable_untyped e (maps_of k c.args.maps.now) v t (type_at k c.type_of-found.result) apart c.type_of-found.ensures.typed none
+    variable_untyped e (maps_of k c.args.maps.now) v t (type_at k c.type_of-found.result) apart
+    c.type_of-found.ensures.typed none
 
 pub returns-clause-walk : goal.returns-clause-walk
 returns-clause-walk c =

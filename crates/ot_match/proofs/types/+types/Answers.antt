@@ -14,5 +14,7 @@ match_types-returns-then-len-ids-clause-walk t c =
     let s = types_of k c.args.types.now.items in
     let left = length-map c.args.patterns.now.items type_of_tree in
     let right = length-map c.args.ids.now (type_at k) in
-    ap (λ us. walk_types names (tys_of (map type_of_tree c.args.patterns.now.items)) us s) (types_row k c.args.ids.now)
-    ∙ other_lengths (map type_of_tree c.args.patterns.now.items) (map (type_at k) c.args.ids.now) tys_of refl (λ x xs. refl) (λ e. omega (arith, e, left, right, c.len.ensures, c.if-len-ids.true)) s
+    ap (λ us. walk_types names (tys_of (map type_of_tree c.args.patterns.now.items)) us s)
+    (types_row k c.args.ids.now)
+    ∙ other_lengths (map type_of_tree c.args.patterns.now.items) (map (type_at k) c.args.ids.now) tys_of refl
+    (λ x xs. refl) (λ e. omega (arith, e, left, right, c.len.ensures, c.if-len-ids.true)) s

@@ -10,6 +10,8 @@ abbrev pub invariant-match_types-loop-i : goal.invariant-match_types-loop-i
 invariant-match_types-loop-i l = record {
   size : length l.patterns.items ≡ length l.ids;
   inside : AreTypesIn l.kernel l.types.items;
-  rest : walk_types names (tys_of (map type_of_tree l.patterns.items)) (types_at l.kernel l.ids) (types_of l.kernel l.initial.types.items)
-      ≡ walk_types names (tys_of (map type_of_tree (drop l.i l.patterns.items))) (types_at l.kernel (drop l.i l.ids)) (types_of l.kernel l.types.items);
+  rest : walk_types names (tys_of (map type_of_tree l.patterns.items)) (types_at l.kernel l.ids)
+      (types_of l.kernel l.initial.types.items)
+      ≡ walk_types names (tys_of (map type_of_tree (drop l.i l.patterns.items))) (types_at l.kernel (drop l.i l.ids))
+      (types_of l.kernel l.types.items);
 }

@@ -26,5 +26,6 @@ returns-in_default c =
 pub returns-in_default-pop : goal.returns-in_default-pop
 returns-in_default-pop c =
     let some : 0 < length c.pieces.left.items = omega (arith, c.pieces.left.ok.0, c.in-Some.ensures.cases) in
-    let none : length c.pieces.right.items ≡ 0 = omega (arith, c.pieces.right.ok.0, c.in_default-pop.ensures.cases.0) in
+    let none : length c.pieces.right.items ≡ 0 =
+    omega (arith, c.pieces.right.ok.0, c.in_default-pop.ensures.cases.0) in
     sym (c.pieces.invariant.same ∙ right-ends c.args.nodes.now c.pieces.left.items c.pieces.right.items some none)

@@ -11,7 +11,8 @@ returns-then-is_same c =
 
 pub returns-in-Byte-y : goal.returns-in-Byte-y
 returns-in-Byte-y c =
-    compared-bytes c.args.nodes.now c.args.left.now.items c.args.right.now.items c.args.x.now c.args.y.now _ _ c.cmp.result
+    compared-bytes c.args.nodes.now c.args.left.now.items c.args.right.now.items c.args.x.now c.args.y.now _ _
+    c.cmp.result
     c.in-Byte.is c.in-Byte-y.is c.cmp.ensures
 
 pub returns-in_ok-open-in_default-y : goal.returns-in_ok-open-in_default-y

@@ -14,9 +14,11 @@ loop-i-preserved c = λ ts.
 pub returns-clause-puts : goal.returns-clause-puts
 returns-clause-puts c = λ ts.
     bytes-put
-    (all-bytes ts c.args.bytes.now c.loop-i.i c.args.pieces.now.items c.loop-i.pieces.items (omega arith) (c.loop-i.invariant ts))
+    (all-bytes ts c.args.bytes.now c.loop-i.i c.args.pieces.now.items c.loop-i.pieces.items (omega arith)
+    (c.loop-i.invariant ts))
 
 pub returns-clause-opens : goal.returns-clause-opens
 returns-clause-opens c = λ ts h.
     bytes-open h
-    (all-bytes ts c.args.bytes.now c.loop-i.i c.args.pieces.now.items c.loop-i.pieces.items (omega arith) (c.loop-i.invariant ts))
+    (all-bytes ts c.args.bytes.now c.loop-i.i c.args.pieces.now.items c.loop-i.pieces.items (omega arith)
+    (c.loop-i.invariant ts))

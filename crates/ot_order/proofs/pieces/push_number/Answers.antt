@@ -5,5 +5,6 @@ use Rattle.ot_order.proofs.pieces.push_number.Goals as goal
 
 pub returns : goal.returns
 returns c = λ ts.
-    let text = c.as_bytes.ensures.value ∙ c.format.ensures.text ∙ sym (number-decimal c.args.number c.ranges.number.fits) in
+    let text = c.as_bytes.ensures.value ∙ c.format.ensures.text
+    ∙ sym (number-decimal c.args.number c.ranges.number.fits) in
     on-ok c.push_bytes.result (reads text) (c.push_bytes.ensures.puts ts)

@@ -11,7 +11,8 @@ pub loop-i-preserved : goal.loop-i-preserved
 loop-i-preserved c = λ ts all.
     let j = c.loop-i.i in
     let i = c.index-types-i.result in
-    let has = subst (HasType ts) (sym c.index-types-i.is) (all (j - 1) i (omega (arith, c.loop-i-test.true, c.loop-i.auto.i))) in
+    let has = subst (HasType ts) (sym c.index-types-i.is)
+    (all (j - 1) i (omega (arith, c.loop-i-test.true, c.loop-i.auto.i))) in
     reads (spaced-back ts c.args.types.now j i c.loop-i-test.true c.loop-i.auto.i c.index-types-i.is)
     (then (then (c.loop-i.invariant ts all) (c.in_ok-push.ensures ts has)) (c.in_ok-push_bytes.ensures.puts ts))
 

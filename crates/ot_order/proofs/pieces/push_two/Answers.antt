@@ -10,6 +10,7 @@ returns c = λ ts x y h.
     (λ p. opens-as (five c.args.before.now (piece_text ts c.args.first)
     c.args.between.now (piece_text ts c.args.second) (codes ")"))
     (last
-    (then (then (then (c.in_ok-push_bytes.ensures.puts ts) (c.in_ok-push.ensures ts y)) (c.in_ok-push_bytes-2.ensures.puts ts))
+    (then (then (then (c.in_ok-push_bytes.ensures.puts ts) (c.in_ok-push.ensures ts y))
+    (c.in_ok-push_bytes-2.ensures.puts ts))
     (c.in_ok-push-2.ensures ts x)) p))
     (c.push_bytes-3.ensures.opens ts h)

@@ -9,6 +9,7 @@ pub returns : goal.returns
 returns c =
     let ts = c.args.nodes.now in
     on-ok c.push_name.result
-    (λ p. opens-as (sym (append_assoc (name_text (name_at ts c.args.name)) (codes ":") (ty_text (type_at ts c.args.ty))))
+    (λ p. opens-as
+    (sym (append_assoc (name_text (name_at ts c.args.name)) (codes ":") (ty_text (type_at ts c.args.ty))))
     (last (then (c.in_ok-push.ensures ts c.requires.ty) (c.in_ok-push_bytes.ensures.puts ts)) p))
     c.push_name.ensures

@@ -10,7 +10,8 @@ returns-in-Equal c =
     let inside : middle < length is = omega (arith, c.places-test.true, c.places.invariant.within) in
     let found = read-at is middle c.index-sorted-middle.result inside c.index-sorted-middle.is in
     let equal = sym c.in_ok-compare.ensures ∙ c.in-Equal.is in
-    let before = before-equal ts is c.args.term middle c.index-sorted-middle.result c.requires.ascending inside found equal in
+    let before = before-equal ts is c.args.term middle c.index-sorted-middle.result c.requires.ascending inside found
+    equal in
     place-none ts is c.args.term middle c.index-sorted-middle.result inside found before equal
 
 pub places-preserved : goal.places-preserved
@@ -23,7 +24,8 @@ places-preserved c =
       in_range = omega (arith, c.places-test.true);
       within = c.places.invariant.within;
       before =
-          before-greater c.args.nodes.now is c.args.term middle c.index-sorted-middle.result c.requires.ascending inside found
+          before-greater c.args.nodes.now is c.args.term middle c.index-sorted-middle.result c.requires.ascending
+          inside found
           (sym c.in_ok-compare.ensures ∙ c.in-Greater.is);
       behind = c.places.invariant.behind;
     }

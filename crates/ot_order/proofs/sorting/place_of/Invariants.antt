@@ -10,7 +10,8 @@ invariant-places l = record {
   in_range : l.low ≤ l.high;
   within : l.high ≤ length l.sorted;
   before : AreBefore l.nodes l.sorted l.term l.low;
-  behind : l.high < length l.sorted → order (text_at l.nodes l.term) (text_at l.nodes (get_or l.sorted l.high 0)) ≡ Less;
+  behind : l.high < length l.sorted → order (text_at l.nodes l.term) (text_at l.nodes (get_or l.sorted l.high 0))
+      ≡ Less;
 }
 
 abbrev pub decreases-places : goal.decreases-places

@@ -6,4 +6,5 @@ use Rattle.ot_order.proofs.sorting.sorted_by_text.Goals as goal
 pub insert-requires-clause-ascending : goal.insert-requires-clause-ascending
 insert-requires-clause-ascending c =
     let ts = c.args.nodes.now in
-    sorted-ascends ts c.loop-i.sorted.items (map (term_at ts) (drop c.loop-i.i c.args.terms.now)) c.loop-i.invariant.sorted
+    sorted-ascends ts c.loop-i.sorted.items (map (term_at ts) (drop c.loop-i.i c.args.terms.now))
+    c.loop-i.invariant.sorted

@@ -6,5 +6,7 @@ use Rattle.ot_parse.proofs.bases.holders.Goals as goal
 
 pub loop-symbol-preserved : goal.loop-symbol-preserved
 loop-symbol-preserved c = λ text.
-    among-step c.args.shown.now (symbol_of (c.args.kind, [])) text c.args.symbols.now c.loop-symbol.symbol-index c.symbol-item.result (held c.loop-symbol.holders text) (held c.add_holder.new.holders text) (omega arith) c.symbol-item.is (c.in_ok-add_holder.ensures text)
+    among-step c.args.shown.now (symbol_of (c.args.kind, [])) text c.args.symbols.now c.loop-symbol.symbol-index
+    c.symbol-item.result (held c.loop-symbol.holders text) (held c.add_holder.new.holders text) (omega arith)
+    c.symbol-item.is (c.in_ok-add_holder.ensures text)
     ∙ c.loop-symbol.invariant text

@@ -4,4 +4,5 @@ use Rattle.ot_parse.proofs.Components.{namespace-take}
 use Rattle.ot_parse.proofs.names.namespace_of.Goals as goal
 
 pub returns : goal.returns
-returns c = namespace-take (λ d. d.items) c.components-components.result.now c.components-components.ensures.some ∙ ap namespace c.components-components.ensures.value
+returns c = namespace-take (λ d. d.items) c.components-components.result.now c.components-components.ensures.some
+    ∙ ap namespace c.components-components.ensures.value

@@ -6,7 +6,8 @@ pub loop-name-init : goal.loop-name-init
 loop-name-init c = λ n m. absurd m
 
 pub loop-name-preserved : goal.loop-name-preserved
-loop-name-preserved c = named-more c.args.names.now c.loop-name.name-index c.name-item.result c.loop-name.invariant (omega arith) c.name-item.is c.is_name.ensures
+loop-name-preserved c = named-more c.args.names.now c.loop-name.name-index c.name-item.result c.loop-name.invariant
+    (omega arith) c.name-item.is c.is_name.ensures
 
 pub returns : goal.returns
 returns c = named-all c.args.names.now c.loop-name.name-index c.loop-name.invariant (omega arith)

@@ -6,4 +6,5 @@ use Rattle.ot_plain.specs.PlainTrees.{type_of_tree, tys_of}
 use Rattle.ot_parse.proofs.plain.+types.Given as goal
 
 abbrev pub invariant-put_types-loop-ty : goal.invariant-put_types-loop-ty
-invariant-put_types-loop-ty l = Puts (λ ts. spaced_text (tys_of (map type_of_tree ts))) l.types.items l.ty-index (printed l.initial.page) (printed l.page)
+invariant-put_types-loop-ty l = Puts (λ ts. spaced_text (tys_of (map type_of_tree ts))) l.types.items l.ty-index
+    (printed l.initial.page) (printed l.page)

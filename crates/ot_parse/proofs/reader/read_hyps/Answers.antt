@@ -12,16 +12,22 @@ pub returns-in-None-clause-read : goal.returns-in-None-clause-read
 returns-in-None-clause-read c = nothing-hyps c.args.notation.now c.args.line.now c.in-None.ensures.cases
 
 pub returns-in-Err-clause-read : goal.returns-in-Err-clause-read
-returns-in-Err-clause-read c = bar-halts c.args.notation.now c.in-Some.byte.now c.in-Some.field-0-1.now c.args.line.now c.in-Err.halt c.in-Some.ensures.cases.0 c.if-byte-eq124.true c.in-Err.ensures
+returns-in-Err-clause-read c = bar-halts c.args.notation.now c.in-Some.byte.now c.in-Some.field-0-1.now
+    c.args.line.now c.in-Err.halt c.in-Some.ensures.cases.0 c.if-byte-eq124.true c.in-Err.ensures
 
 pub returns-in-Ok-clause-read : goal.returns-in-Ok-clause-read
 returns-in-Ok-clause-read c =
-    bar-goes c.args.notation.now c.in-Some.byte.now c.in-Some.field-0-1.now c.args.line.now c.in-Ok.rest.now (map term_of_tree c.new.result.items) c.in-Some.ensures.cases.0 c.if-byte-eq124.true c.in-Ok.ensures (ap (map term_of_tree) c.new.ensures.items)
+    bar-goes c.args.notation.now c.in-Some.byte.now c.in-Some.field-0-1.now c.args.line.now c.in-Ok.rest.now
+    (map term_of_tree c.new.result.items) c.in-Some.ensures.cases.0 c.if-byte-eq124.true c.in-Ok.ensures
+    (ap (map term_of_tree) c.new.ensures.items)
 
 pub returns-else-byte-eq124-clause-read : goal.returns-else-byte-eq124-clause-read
 returns-else-byte-eq124-clause-read c =
     let e = c.in-Some.ensures.cases.0 in
-    subst (λ (o : Reading Kept). Gives (λ x. kept_of x.0) (λ x. x.1.now) c.read_some_hyps.result o) (sym (ap (hyps_meant c.args.notation.now) e ∙ some-hyps c.args.notation.now c.in-Some.byte.now c.in-Some.field-0-1.now c.args.line.now (sym e) c.if-byte-eq124.false)) c.read_some_hyps.ensures.read
+    subst (λ (o : Reading Kept). Gives (λ x. kept_of x.0) (λ x. x.1.now) c.read_some_hyps.result o)
+    (sym (ap (hyps_meant c.args.notation.now) e ∙ some-hyps c.args.notation.now c.in-Some.byte.now
+    c.in-Some.field-0-1.now c.args.line.now (sym e) c.if-byte-eq124.false)) c.read_some_hyps.ensures.read
 
 pub returns-in-Ok-clause-shorter : goal.returns-in-Ok-clause-shorter
-returns-in-Ok-clause-shorter c = let a : length c.args.line.now ≡ 3 + length c.in-Ok.rest.now = literal-length (codes "|- ") c.args.line.now c.in-Ok.rest.now c.in-Ok.ensures in omega (arith, a)
+returns-in-Ok-clause-shorter c = let a : length c.args.line.now ≡ 3 + length c.in-Ok.rest.now =
+    literal-length (codes "|- ") c.args.line.now c.in-Ok.rest.now c.in-Ok.ensures in omega (arith, a)

@@ -10,5 +10,6 @@ returns-in_ok-push-in-Terms-Value c =
     ap (λ xs. Ok (map term_of_tree xs)) c.in_ok-push-in-Terms-Value.ensures.items
     ∙ ap Ok (map-push term_of_tree c.without-kept.result.items c.into_term-term.result)
     ∙ ap (λ ts. Ok (ts ++ term_of_tree c.into_term-term.result ∷ [])) c.without-kept.ensures
-    ∙ ap (λ t. Ok (others (term_of_tree t) (map term_of_tree c.in-Terms-Value.terms.items) ++ term_of_tree t ∷ [])) c.into_term-term.ensures
+    ∙ ap (λ t. Ok (others (term_of_tree t) (map term_of_tree c.in-Terms-Value.terms.items) ++ term_of_tree t ∷ []))
+    c.into_term-term.ensures
     ∙ (λ i. one_more (kept_of (sym c.in-Terms-Value.is-0 i)) (meant_of (sym c.in-Terms-Value.is-1 i)))

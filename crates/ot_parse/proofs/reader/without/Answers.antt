@@ -9,5 +9,6 @@ use Rattle.ot_parse.proofs.reader.without.Goals as goal
 
 pub returns : goal.returns
 returns c =
-    ap (map term_of_tree) (filter_same _ (λ o. not (same_tm names (term_of_tree o) (term_of_tree c.args.term.now))) _ (λ x b f' k. search rules) _ _ c.retain.ensures.filtered)
+    ap (map term_of_tree) (filter_same _ (λ o. not (same_tm names (term_of_tree o) (term_of_tree c.args.term.now))) _
+    (λ x b f' k. search rules) _ _ c.retain.ensures.filtered)
     ∙ others-kept (term_of_tree c.args.term.now) c.args.terms.items

@@ -7,6 +7,10 @@ use Rattle.ot_plain.proofs.Elements.{drop-item}
 
 pub loop-candidate-preserved : goal.loop-candidate-preserved
 loop-candidate-preserved c =
-    sym (ap (λ z. ended (map (λ c. (c.0.now, c.1.now)) z)) (drop-item c.args.candidates.now c.loop-candidate.candidate-index c.candidate-item.result (omega arith) c.candidate-item.is)
-    ∙ ended-other c.candidate-item.result.0.now c.candidate-item.result.1.now (map (λ c. (c.0.now, c.1.now)) (drop (c.loop-candidate.candidate-index + 1) c.args.candidates.now)) (grind (arith, nat_tests, c.is_empty.ensures, c.if-is_empty.false)))
+    sym (ap (λ z. ended (map (λ c. (c.0.now, c.1.now)) z))
+    (drop-item c.args.candidates.now c.loop-candidate.candidate-index c.candidate-item.result (omega arith)
+    c.candidate-item.is)
+    ∙ ended-other c.candidate-item.result.0.now c.candidate-item.result.1.now
+    (map (λ c. (c.0.now, c.1.now)) (drop (c.loop-candidate.candidate-index + 1) c.args.candidates.now))
+    (grind (arith, nat_tests, c.is_empty.ensures, c.if-is_empty.false)))
     ∙ c.loop-candidate.invariant

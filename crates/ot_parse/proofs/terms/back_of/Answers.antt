@@ -6,20 +6,32 @@ use Rattle.ot_parse.proofs.terms.back_of.Goals as goal
 
 pub returns-in-First : goal.returns-in-First
 returns-in-First c = λ m l.
-    subst (λ g. IsKept l g → IsMeant (inner_of (frame_of g) l) c.args.part → length c.args.text.now ≤ c.args.total → IsBack c.args.total c.args.notation.now m l (after c.args.total c.args.notation.now m l (frame_of g) (meant_of c.args.part) c.args.text.now) c.back_of_first.result) (sym c.in-First.is)
+    subst (λ g. IsKept l g → IsMeant (inner_of (frame_of g) l) c.args.part → length c.args.text.now ≤ c.args.total
+    → IsBack c.args.total c.args.notation.now m l
+    (after c.args.total c.args.notation.now m l (frame_of g) (meant_of c.args.part) c.args.text.now)
+    c.back_of_first.result) (sym c.in-First.is)
     (λ k x w. c.back_of_first.ensures c.args.notation.now m l k x w)
 
 pub returns-in-Right : goal.returns-in-Right
 returns-in-Right c = λ m l.
-    subst (λ g. IsKept l g → IsMeant (inner_of (frame_of g) l) c.args.part → length c.args.text.now ≤ c.args.total → IsBack c.args.total c.args.notation.now m l (after c.args.total c.args.notation.now m l (frame_of g) (meant_of c.args.part) c.args.text.now) c.back_of_right.result) (sym c.in-Right.is)
+    subst (λ g. IsKept l g → IsMeant (inner_of (frame_of g) l) c.args.part → length c.args.text.now ≤ c.args.total
+    → IsBack c.args.total c.args.notation.now m l
+    (after c.args.total c.args.notation.now m l (frame_of g) (meant_of c.args.part) c.args.text.now)
+    c.back_of_right.result) (sym c.in-Right.is)
     (λ k x w. c.back_of_right.ensures c.args.total m l k x w)
 
 pub returns-in-Argument : goal.returns-in-Argument
 returns-in-Argument c = λ m l.
-    subst (λ g. IsKept l g → IsMeant (inner_of (frame_of g) l) c.args.part → length c.args.text.now ≤ c.args.total → IsBack c.args.total c.args.notation.now m l (after c.args.total c.args.notation.now m l (frame_of g) (meant_of c.args.part) c.args.text.now) c.back_of_argument.result) (sym c.in-Argument.is)
+    subst (λ g. IsKept l g → IsMeant (inner_of (frame_of g) l) c.args.part → length c.args.text.now ≤ c.args.total
+    → IsBack c.args.total c.args.notation.now m l
+    (after c.args.total c.args.notation.now m l (frame_of g) (meant_of c.args.part) c.args.text.now)
+    c.back_of_argument.result) (sym c.in-Argument.is)
     (λ k x w. c.back_of_argument.ensures m l k x w)
 
 pub returns-in-Body : goal.returns-in-Body
 returns-in-Body c = λ m l.
-    subst (λ g. IsKept l g → IsMeant (inner_of (frame_of g) l) c.args.part → length c.args.text.now ≤ c.args.total → IsBack c.args.total c.args.notation.now m l (after c.args.total c.args.notation.now m l (frame_of g) (meant_of c.args.part) c.args.text.now) c.back_of_body.result) (sym c.in-Body.is)
+    subst (λ g. IsKept l g → IsMeant (inner_of (frame_of g) l) c.args.part → length c.args.text.now ≤ c.args.total
+    → IsBack c.args.total c.args.notation.now m l
+    (after c.args.total c.args.notation.now m l (frame_of g) (meant_of c.args.part) c.args.text.now)
+    c.back_of_body.result) (sym c.in-Body.is)
     (λ k x w. c.back_of_body.ensures c.args.total c.args.notation.now m l x w)

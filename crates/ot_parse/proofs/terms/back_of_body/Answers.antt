@@ -9,9 +9,14 @@ use Rattle.ot_parse.proofs.terms.back_of_body.Goals as goal
 
 pub returns-in-Err : goal.returns-in-Err
 returns-in-Err c = λ n h m l x w.
-    closed-halts n h m l (abstracted (type_of_tree c.args.ty) (wholly ((c.args.name.now, type_of_tree c.args.ty) ∷ l) false c.args.place (meant_of c.args.part))) c.args.text.now c.in-Err.halt c.in-Err.ensures
+    closed-halts n h m l
+    (abstracted (type_of_tree c.args.ty)
+    (wholly ((c.args.name.now, type_of_tree c.args.ty) ∷ l) false c.args.place (meant_of c.args.part)))
+    c.args.text.now c.in-Err.halt c.in-Err.ensures
 
 pub returns-in_ok-abstraction-in-Ok : goal.returns-in_ok-abstraction-in-Ok
 returns-in_ok-abstraction-in-Ok c = λ n h m l x w.
     let body = c.whole-body.ensures ((c.args.name.now, type_of_tree c.args.ty) ∷ l) x in
-    body-whole n h m l c.args.place c.args.name.now (type_of_tree c.args.ty) c.args.part c.whole-body.result c.in_ok-abstraction-in-Ok.abstraction c.args.text.now c.in-Ok.rest.now w c.in-Ok.ensures body (c.in_ok-abstraction-in-Ok.ensures l c.args.name.now body.kept)
+    body-whole n h m l c.args.place c.args.name.now (type_of_tree c.args.ty) c.args.part c.whole-body.result
+    c.in_ok-abstraction-in-Ok.abstraction c.args.text.now c.in-Ok.rest.now w c.in-Ok.ensures body
+    (c.in_ok-abstraction-in-Ok.ensures l c.args.name.now body.kept)

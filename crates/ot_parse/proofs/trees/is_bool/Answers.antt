@@ -9,10 +9,12 @@ use Rattle.ot_parse.proofs.trees.is_bool.Goals as goal
 
 pub returns-then-not-is_empty : goal.returns-then-not-is_empty
 returns-then-not-is_empty c =
-    bool-none type_of_tree c.in-Op.name c.in-Op.args.items (grind (arith, nat_tests, c.is_empty.ensures, c.if-not-is_empty.true))
+    bool-none type_of_tree c.in-Op.name c.in-Op.args.items
+    (grind (arith, nat_tests, c.is_empty.ensures, c.if-not-is_empty.true))
     ∙ ap (λ z. same_ty names z (bool_ty names)) (sym (ap type_of_tree c.in-Op.is ∙ type_Op c.in-Op.name c.in-Op.args))
 
 pub returns-else-not-is_empty : goal.returns-else-not-is_empty
 returns-else-not-is_empty c =
-    c.is_text.ensures ∙ bool-some type_of_tree c.in-Op.name c.in-Op.args.items (grind (arith, nat_tests, c.is_empty.ensures, c.if-not-is_empty.false))
+    c.is_text.ensures ∙ bool-some type_of_tree c.in-Op.name c.in-Op.args.items
+    (grind (arith, nat_tests, c.is_empty.ensures, c.if-not-is_empty.false))
     ∙ ap (λ z. same_ty names z (bool_ty names)) (sym (ap type_of_tree c.in-Op.is ∙ type_Op c.in-Op.name c.in-Op.args))

@@ -5,10 +5,17 @@ use Rattle.ot_parse.proofs.FrameLaws.{handed-back, no-space, no-arrow, after-dom
 use Rattle.ot_parse.proofs.types.back_of_domain.Goals as goal
 
 pub returns-in_err-space : goal.returns-in_err-space
-returns-in_err-space c = λ m. handed-back c.args.notation.now m Domain (type_of_tree c.args.ty) c.args.text.now c.from_residual.result c.in_err-space.field-0.0 c.from_residual.ensures.1 (no-space c.args.notation.now m (type_of_tree c.args.ty) c.args.text.now c.in_err-space.field-0.0 c.in_err-space.ensures)
+returns-in_err-space c = λ m. handed-back c.args.notation.now m Domain (type_of_tree c.args.ty) c.args.text.now
+    c.from_residual.result c.in_err-space.field-0.0 c.from_residual.ensures.1
+    (no-space c.args.notation.now m (type_of_tree c.args.ty) c.args.text.now c.in_err-space.field-0.0
+    c.in_err-space.ensures)
 
 pub returns-in_err-rest : goal.returns-in_err-rest
-returns-in_err-rest c = λ m. handed-back c.args.notation.now m Domain (type_of_tree c.args.ty) c.args.text.now c.from_residual-in_err-rest.result c.in_err-rest.field-0.0 c.from_residual-in_err-rest.ensures.1 (no-arrow c.args.notation.now m (type_of_tree c.args.ty) c.args.text.now c.in_ok-space.space.now c.in_err-rest.field-0.0 c.in_ok-space.ensures c.in_err-rest.ensures)
+returns-in_err-rest c = λ m. handed-back c.args.notation.now m Domain (type_of_tree c.args.ty) c.args.text.now
+    c.from_residual-in_err-rest.result c.in_err-rest.field-0.0 c.from_residual-in_err-rest.ensures.1
+    (no-arrow c.args.notation.now m (type_of_tree c.args.ty) c.args.text.now c.in_ok-space.space.now
+    c.in_err-rest.field-0.0 c.in_ok-space.ensures c.in_err-rest.ensures)
 
 pub returns : goal.returns
-returns c = λ m. after-domain c.args.notation.now (type_at c.args.notation.now m) (type_of_tree c.args.ty) c.args.text.now c.in_ok-space.space.now c.in_ok-rest.rest.now c.in_ok-space.ensures c.in_ok-rest.ensures
+returns c = λ m. after-domain c.args.notation.now (type_at c.args.notation.now m) (type_of_tree c.args.ty)
+    c.args.text.now c.in_ok-space.space.now c.in_ok-rest.rest.now c.in_ok-space.ensures c.in_ok-rest.ensures

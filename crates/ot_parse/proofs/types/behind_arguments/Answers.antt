@@ -4,7 +4,9 @@ use Rattle.ot_parse.proofs.FrameLaws.{no-argument, further-argument}
 use Rattle.ot_parse.proofs.types.behind_arguments.Goals as goal
 
 pub returns-in-Some : goal.returns-in-Some
-returns-in-Some c = λ m ts t is. further-argument c.args.notation.now m c.sound.ensures c.args.name (map type_of_tree c.args.args.items) ts t c.args.text.now c.in-Some.after.now is c.in-Some.ensures.some
+returns-in-Some c = λ m ts t is. further-argument c.args.notation.now m c.sound.ensures c.args.name
+    (map type_of_tree c.args.args.items) ts t c.args.text.now c.in-Some.after.now is c.in-Some.ensures.some
 
 pub returns-in-None : goal.returns-in-None
-returns-in-None c = λ m ts t is. c.end_arguments.ensures m ts t is (no-argument c.args.notation.now m c.args.text.now c.in-None.ensures.none)
+returns-in-None c = λ m ts t is. c.end_arguments.ensures m ts t is
+    (no-argument c.args.notation.now m c.args.text.now c.in-None.ensures.none)

@@ -5,4 +5,5 @@ use Rattle.ot_plain.specs.PlainTrees.{type_of_tree, tys_of}
 use Rattle.ot_parse.proofs.values.+type_depth.Given as goal
 
 abbrev pub invariant-loop-arg : goal.invariant-loop-arg
-invariant-loop-arg l = l.deepest ≡ min (depth_all names (tys_of (map type_of_tree (take l.arg-index l.arg-items)))) l.limit
+invariant-loop-arg l = l.deepest ≡ min (depth_all names (tys_of (map type_of_tree (take l.arg-index l.arg-items))))
+    l.limit

@@ -6,4 +6,6 @@ use Rattle.ot_parse.proofs.values.abstraction.Goals as goal
 
 pub returns-in-Value : goal.returns-in-Value
 returns-in-Value c = λ l x h.
-    subst (λ b. IsMeant ((x, type_of_tree c.args.ty) ∷ l) b → IsMade l (abstracted (type_of_tree c.args.ty) (meant_of b)) c.abstracted.result) (sym c.in-Value.is) (c.abstracted.ensures l x) h
+    subst (λ b. IsMeant ((x, type_of_tree c.args.ty) ∷ l) b
+    → IsMade l (abstracted (type_of_tree c.args.ty) (meant_of b)) c.abstracted.result) (sym c.in-Value.is)
+    (c.abstracted.ensures l x) h

@@ -6,4 +6,5 @@ use Rattle.ot_pretty.proofs.gather.gathered.Given as goal
 abbrev pub invariant-loop-item : goal.invariant-loop-item
 invariant-loop-item g l =
     (texts_of l.texts ≡ ascending (take l.item-index (map (g.T.Readable.text l.notation l.kernel) l.items)))
-    × (l.room + bytes_in (ascending (take l.item-index (map (g.T.Readable.text l.notation l.kernel) l.items))) ≡ l.max)
+    × (l.room + bytes_in (ascending (take l.item-index (map (g.T.Readable.text l.notation l.kernel) l.items)))
+    ≡ l.max)

@@ -12,10 +12,14 @@ loop-th-init c = λ hidden is. All-nil (λ th. ReadsBackAs hidden (theorem_at c.
 
 pub loop-th-preserved : goal.loop-th-preserved
 loop-th-preserved c = λ hidden is.
-    subst (All (λ th. ReadsBackAs hidden (theorem_at c.args.kernel.now th))) (sym (take-item c.args.theorems.now c.loop-th.th-index c.th-item.result c.loop-th-test.true c.th-item.is))
-    (All-push (λ th. ReadsBackAs hidden (theorem_at c.args.kernel.now th)) (take c.loop-th.th-index c.args.theorems.now) c.th-item.result (c.loop-th.invariant hidden is) (c.one_reads_back.ensures hidden is))
+    subst (All (λ th. ReadsBackAs hidden (theorem_at c.args.kernel.now th)))
+    (sym (take-item c.args.theorems.now c.loop-th.th-index c.th-item.result c.loop-th-test.true c.th-item.is))
+    (All-push (λ th. ReadsBackAs hidden (theorem_at c.args.kernel.now th))
+    (take c.loop-th.th-index c.args.theorems.now) c.th-item.result (c.loop-th.invariant hidden is)
+    (c.one_reads_back.ensures hidden is))
 
 pub returns : goal.returns
 returns c = λ hidden is.
     All-map (ReadsBackAs hidden) (theorem_at c.args.kernel.now) c.args.theorems.now
-    (subst (All (λ th. ReadsBackAs hidden (theorem_at c.args.kernel.now th))) (take_all c.loop-th.th-index c.args.theorems.now (omega arith)) (c.loop-th.invariant hidden is))
+    (subst (All (λ th. ReadsBackAs hidden (theorem_at c.args.kernel.now th)))
+    (take_all c.loop-th.th-index c.args.theorems.now (omega arith)) (c.loop-th.invariant hidden is))

@@ -8,4 +8,5 @@ use Rattle.ot_pretty.specs.Back.{ReadsBackAs}
 use Rattle.ot_pretty.proofs.laws.each_reads_back.Given as goal
 
 abbrev pub invariant-loop-th : goal.invariant-loop-th
-invariant-loop-th l = (hidden : List (Symbol Name)) → IsNotation hidden → All (λ th. ReadsBackAs hidden (theorem_at l.kernel th)) (take l.th-index l.theorems)
+invariant-loop-th l = (hidden : List (Symbol Name)) → IsNotation hidden
+    → All (λ th. ReadsBackAs hidden (theorem_at l.kernel th)) (take l.th-index l.theorems)

@@ -10,4 +10,6 @@ returns c = λ hidden is.
     let q = theorem_at s c.args.th in
     let theorem = c.sound.ensures.theorems c.args.th (record { hyps = []; concl = Bound 0 }) c.requires in
     c.reads_back.ensures hidden is q
-    (propositions s c.terms-terms.result.now c.terms-terms.ensures c.sound.ensures.names q c.hyps-hyps.result.now c.concl-concl.result c.hyps-hyps.ensures.hyps c.concl-concl.ensures.concl c.hyps-hyps.ensures.inside c.concl-concl.ensures.inside theorem.sequent)
+    (propositions s c.terms-terms.result.now c.terms-terms.ensures c.sound.ensures.names q c.hyps-hyps.result.now
+    c.concl-concl.result c.hyps-hyps.ensures.hyps c.concl-concl.ensures.concl c.hyps-hyps.ensures.inside
+    c.concl-concl.ensures.inside theorem.sequent)

@@ -11,11 +11,17 @@ use Rattle.ot_pretty.proofs.sequents.put_sequent.Goals as goal
 pub returns-in-Ok : goal.returns-in-Ok
 returns-in-Ok c =
     let hidden = c.args.notation.now in
-    let hyps = c.in-Ok.ensures.ok ∙ ap ascending (texts-through (readable_term hidden) (term_at c.args.kernel.now) c.hyps.result.now (theorem_at c.args.kernel.now c.args.th).hyps c.hyps.ensures.hyps) in
-    same-text (λ j. hyps_text (hyps j) ++ readable_term hidden (c.concl.ensures.concl j)) (then c.put_hyps.ensures c.put_whole.ensures)
+    let hyps = c.in-Ok.ensures.ok
+    ∙ ap ascending (texts-through (readable_term hidden) (term_at c.args.kernel.now) c.hyps.result.now
+    (theorem_at c.args.kernel.now c.args.th).hyps c.hyps.ensures.hyps) in
+    same-text (λ j. hyps_text (hyps j) ++ readable_term hidden (c.concl.ensures.concl j))
+    (then c.put_hyps.ensures c.put_whole.ensures)
 
 pub returns-in-Err : goal.returns-in-Err
 returns-in-Err c =
-    let hyps = texts-through (readable_term c.args.notation.now) (term_at c.args.kernel.now) c.hyps.result.now (theorem_at c.args.kernel.now c.args.th).hyps c.hyps.ensures.hyps in
-    gives-up _ _ _ c.room.result c.in-Err.fault c.stop.ensures (sym c.is_stopped.ensures ∙ c.if-is_stopped.false) c.room.ensures
-    (λ p. sequent-bytes c.args.notation.now c.room.result (theorem_at c.args.kernel.now c.args.th) (subst (λ ts. c.room.result < bytes_in (ascending ts)) hyps (c.in-Err.ensures.too_large (λ j. Err (p j)))))
+    let hyps = texts-through (readable_term c.args.notation.now) (term_at c.args.kernel.now) c.hyps.result.now
+    (theorem_at c.args.kernel.now c.args.th).hyps c.hyps.ensures.hyps in
+    gives-up _ _ _ c.room.result c.in-Err.fault c.stop.ensures (sym c.is_stopped.ensures ∙ c.if-is_stopped.false)
+    c.room.ensures
+    (λ p. sequent-bytes c.args.notation.now c.room.result (theorem_at c.args.kernel.now c.args.th)
+    (subst (λ ts. c.room.result < bytes_in (ascending ts)) hyps (c.in-Err.ensures.too_large (λ j. Err (p j)))))

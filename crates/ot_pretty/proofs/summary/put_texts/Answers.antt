@@ -10,12 +10,16 @@ use Rattle.ot_pretty.proofs.summary.put_texts.Goals as goal
 pub loop-text-preserved : goal.loop-text-preserved
 loop-text-preserved c =
     leaves-more c.loop-text.invariant
-    (ap (λ ts. items_text (map (λ t. t.items) ts)) (rest_more deref _ _ _ c.in-Some.text c.in-Some.is c.next.ensures.steps)
+    (ap (λ ts. items_text (map (λ t. t.items) ts))
+    (rest_more deref _ _ _ c.in-Some.text c.in-Some.is c.next.ensures.steps)
     ∙ items-first _ _ _ c.as_slice.ensures.value)
     (then (then c.put.ensures c.put-in-loop-text.ensures) c.put-in-loop-text-2.ensures)
 
 pub returns : goal.returns
 returns c =
-    same-text (section-pieces _ _ _ _ refl (c.len.ensures.len ∙ sym (length-map (λ t. t.items) c.args.texts.now.keys)))
+    same-text
+    (section-pieces _ _ _ _ refl (c.len.ensures.len ∙ sym (length-map (λ t. t.items) c.args.texts.now.keys)))
     (then c.put_title.ensures
-    (leaves-all c.loop-text.invariant (ap (λ ts. items_text (map (λ t. t.items) ts)) (rest_all deref _ _ _ c.in-None.is c.next.ensures.steps)) (nothing _)))
+    (leaves-all c.loop-text.invariant
+    (ap (λ ts. items_text (map (λ t. t.items) ts)) (rest_all deref _ _ _ c.in-None.is c.next.ensures.steps))
+    (nothing _)))

@@ -7,4 +7,5 @@ use Rattle.ot_forms.specs.Printing.{readable_text}
 use Rattle.ot_pretty.proofs.summary.put_theorems.Given as goal
 
 abbrev pub invariant-loop-th : goal.invariant-loop-th
-invariant-loop-th l = Puts (λ xs. items_text (map (λ th. readable_text l.notation (theorem_at l.kernel th)) xs)) l.theorems l.th-index (printed l.initial.page) (printed l.page)
+invariant-loop-th l = Puts (λ xs. items_text (map (λ th. readable_text l.notation (theorem_at l.kernel th)) xs))
+    l.theorems l.th-index (printed l.initial.page) (printed l.page)

@@ -13,10 +13,16 @@ loop-definition-init c = adds-nothing c.args.kernel.now c.args.roots.now.items
 
 pub loop-definition-preserved : goal.loop-definition-preserved
 loop-definition-preserved c =
-    definitions-more c.args.kernel.now c.args.roots.now.items c.loop-definition.roots.items c.add_definition.new.roots.items c.definitions-definitions.result.now c.loop-definition.definition-index c.definition-item.result
-    (take-item c.definitions-definitions.result.now c.loop-definition.definition-index c.definition-item.result c.loop-definition-test.true c.definition-item.is) c.loop-definition.invariant c.in_ok-add_definition.ensures
+    definitions-more c.args.kernel.now c.args.roots.now.items c.loop-definition.roots.items
+    c.add_definition.new.roots.items c.definitions-definitions.result.now c.loop-definition.definition-index
+    c.definition-item.result
+    (take-item c.definitions-definitions.result.now c.loop-definition.definition-index c.definition-item.result
+    c.loop-definition-test.true c.definition-item.is) c.loop-definition.invariant c.in_ok-add_definition.ensures
 
 pub returns : goal.returns
 returns c =
-    subst (λ ds. Adds c.args.kernel.now c.args.roots.now.items c.loop-definition.roots.items (flat_map (used names) ds))
-    (ap (map (definition_at c.args.kernel.now)) (take_all c.loop-definition.definition-index c.definitions-definitions.result.now (omega arith)) ∙ c.definitions-definitions.ensures.definitions) c.loop-definition.invariant
+    subst (λ ds. Adds c.args.kernel.now c.args.roots.now.items c.loop-definition.roots.items
+    (flat_map (used names) ds))
+    (ap (map (definition_at c.args.kernel.now))
+    (take_all c.loop-definition.definition-index c.definitions-definitions.result.now (omega arith))
+    ∙ c.definitions-definitions.ensures.definitions) c.loop-definition.invariant

@@ -7,4 +7,5 @@ use Rattle.ot_pretty.specs.Run.{Adds}
 use Rattle.ot_pretty.proofs.symbols.add_definitions.Given as goal
 
 abbrev pub invariant-loop-definition : goal.invariant-loop-definition
-invariant-loop-definition l = Adds l.kernel l.initial.roots.items l.roots.items (flat_map (used names) (map (definition_at l.kernel) (take l.definition-index l.definitions)))
+invariant-loop-definition l = Adds l.kernel l.initial.roots.items l.roots.items
+    (flat_map (used names) (map (definition_at l.kernel) (take l.definition-index l.definitions)))

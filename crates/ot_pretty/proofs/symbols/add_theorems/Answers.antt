@@ -12,9 +12,12 @@ loop-th-init c = adds-nothing c.args.kernel.now c.args.roots.now.items
 
 pub loop-th-preserved : goal.loop-th-preserved
 loop-th-preserved c =
-    theorems-more c.args.kernel.now c.args.roots.now.items c.loop-th.roots.items c.add_theorem.new.roots.items c.args.theorems.now c.loop-th.th-index c.th-item.result c.loop-th-test.true c.th-item.is c.loop-th.invariant
+    theorems-more c.args.kernel.now c.args.roots.now.items c.loop-th.roots.items c.add_theorem.new.roots.items
+    c.args.theorems.now c.loop-th.th-index c.th-item.result c.loop-th-test.true c.th-item.is c.loop-th.invariant
     c.in_ok-add_theorem.ensures
 
 pub returns : goal.returns
 returns c =
-    subst (λ l. Adds c.args.kernel.now c.args.roots.now.items c.loop-th.roots.items (symbols_in names (map (theorem_at c.args.kernel.now) l))) (take_all c.loop-th.th-index c.args.theorems.now (omega arith)) c.loop-th.invariant
+    subst (λ l. Adds c.args.kernel.now c.args.roots.now.items c.loop-th.roots.items
+    (symbols_in names (map (theorem_at c.args.kernel.now) l)))
+    (take_all c.loop-th.th-index c.args.theorems.now (omega arith)) c.loop-th.invariant

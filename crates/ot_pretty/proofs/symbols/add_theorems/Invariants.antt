@@ -6,4 +6,5 @@ use Rattle.ot_pretty.specs.Run.{Adds}
 use Rattle.ot_pretty.proofs.symbols.add_theorems.Given as goal
 
 abbrev pub invariant-loop-th : goal.invariant-loop-th
-invariant-loop-th l = Adds l.kernel l.initial.roots.items l.roots.items (symbols_in names (map (theorem_at l.kernel) (take l.th-index l.theorems)))
+invariant-loop-th l = Adds l.kernel l.initial.roots.items l.roots.items
+    (symbols_in names (map (theorem_at l.kernel) (take l.th-index l.theorems)))

@@ -8,24 +8,32 @@ use Rattle.ot_pretty.proofs.TypePieces.{function-pieces, operator-pieces, types-
 use Rattle.ot_pretty.proofs.types.+types_text.Goals as goal
 
 pub put_type-returns-then-is_stopped : goal.put_type-returns-then-is_stopped
-put_type-returns-then-is_stopped t c = stays (printed c.args.page.now) (sym c.is_stopped.ensures ∙ c.if-is_stopped.true)
+put_type-returns-then-is_stopped t c =
+    stays (printed c.args.page.now) (sym c.is_stopped.ensures ∙ c.if-is_stopped.true)
 
 pub put_type-returns-in-Some : goal.put_type-returns-in-Some
 put_type-returns-in-Some t c =
     same-text (function-pieces c.args.notation.now _ _ _ c.in-Some.ensures.parts)
-    (then (then (then (then c.put.ensures c.put_type.ensures) c.put-in-Some.ensures) c.put_type-in-Some.ensures) c.put-in-Some-2.ensures)
+    (then (then (then (then c.put.ensures c.put_type.ensures) c.put-in-Some.ensures) c.put_type-in-Some.ensures)
+    c.put-in-Some-2.ensures)
 
 pub put_type-returns-in-Op-2 : goal.put_type-returns-in-Op-2
 put_type-returns-in-Op-2 t c =
-    same-text (operator-pieces c.args.notation.now c.args.kernel.now _ _ c.in-Op-2.args.items (rw c.in-Op-2.is at c.type_node.ensures.tree) c.in_default.ensures.none (grind (arith, nat_tests, c.is_empty.ensures, c.if-is_empty.false)))
-    (then (then (then c.put-in-Op-2.ensures c.put_symbol-in-Op-2.ensures) (rw c.as_slice.ensures at c.put_types.ensures)) c.put-in-Op-2-2.ensures)
+    same-text
+    (operator-pieces c.args.notation.now c.args.kernel.now _ _ c.in-Op-2.args.items
+    (rw c.in-Op-2.is at c.type_node.ensures.tree) c.in_default.ensures.none
+    (grind (arith, nat_tests, c.is_empty.ensures, c.if-is_empty.false)))
+    (then (then (then c.put-in-Op-2.ensures c.put_symbol-in-Op-2.ensures)
+    (rw c.as_slice.ensures at c.put_types.ensures)) c.put-in-Op-2-2.ensures)
 
 pub put_types-loop-id-preserved : goal.put_types-loop-id-preserved
 put_types-loop-id-preserved t c =
-    types-more c.args.notation.now c.args.kernel.now c.args.ids.now c.loop-id.id-index c.id-item.result (printed c.args.page.now) (printed c.loop-id.page) (printed c.put_type.new.page)
+    types-more c.args.notation.now c.args.kernel.now c.args.ids.now c.loop-id.id-index c.id-item.result
+    (printed c.args.page.now) (printed c.loop-id.page) (printed c.put_type.new.page)
     (omega arith) c.id-item.is c.loop-id.invariant (then c.put.ensures c.put_type.ensures)
 
 pub put_types-returns : goal.put_types-returns
 put_types-returns t c =
-    puts-all (λ is. types_text c.args.notation.now (types_at c.args.kernel.now is)) c.args.ids.now c.loop-id.id-index (printed c.args.page.now) (printed c.loop-id.page) (printed c.loop-id.page)
+    puts-all (λ is. types_text c.args.notation.now (types_at c.args.kernel.now is)) c.args.ids.now c.loop-id.id-index
+    (printed c.args.page.now) (printed c.loop-id.page) (printed c.loop-id.page)
     (omega arith) c.loop-id.invariant (nothing (printed c.loop-id.page))

@@ -7,4 +7,5 @@ use Rattle.ot_print.proofs.Separating.{names_from}
 use Rattle.ot_print.proofs.definitions.put_names.Given as goal
 
 abbrev pub invariant-loop-name : goal.invariant-loop-name
-invariant-loop-name l = Leaves (names_from l.is_first (map (name_at l.kernel) (drop l.name-index l.names))) (names_text (map (name_at l.kernel) l.names)) (printed l.initial.page) (printed l.page)
+invariant-loop-name l = Leaves (names_from l.is_first (map (name_at l.kernel) (drop l.name-index l.names)))
+    (names_text (map (name_at l.kernel) l.names)) (printed l.initial.page) (printed l.page)

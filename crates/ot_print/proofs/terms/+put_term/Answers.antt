@@ -10,14 +10,18 @@ use Rattle.ot_print.proofs.terms.+put_term.Goals as goal
 pub returns-in-Some : goal.returns-in-Some
 returns-in-Some t c =
     same-text (equation-pieces _ _ c.in-Some.ensures.sides.0 _ _ c.in-Some.ensures.sides.1)
-    (then (then (then (then c.put.ensures c.put_term.ensures) c.put-in-Some.ensures) c.put_term-in-Some.ensures) c.put-in-Some-2.ensures)
+    (then (then (then (then c.put.ensures c.put_term.ensures) c.put-in-Some.ensures) c.put_term-in-Some.ensures)
+    c.put-in-Some-2.ensures)
 
 pub returns-in-App : goal.returns-in-App
 returns-in-App t c =
     same-text (application-pieces _ _ _ _ (rw c.in-App.is at c.term_node.ensures.tree) (c.in_default.ensures.none _))
-    (then (then (then (then c.put-in-App.ensures c.put_term-in-App.ensures) c.put-in-App-2.ensures) c.put_term-in-App-2.ensures) c.put-in-App-3.ensures)
+    (then (then (then (then c.put-in-App.ensures c.put_term-in-App.ensures) c.put-in-App-2.ensures)
+    c.put_term-in-App-2.ensures) c.put-in-App-3.ensures)
 
 pub returns-in-Abs : goal.returns-in-Abs
 returns-in-Abs t c =
-    same-text (ap (λ u. tm_text (nameless_in names (binders_at c.args.kernel.now c.args.binders.now) u)) (sym (rw c.in-Abs.is at c.term_node.ensures.tree)))
-    (then (then (then (then c.put-in-Abs.ensures c.put_type.ensures) c.put-in-Abs-2.ensures) c.put_term-in-Abs.ensures) c.put-in-Abs-3.ensures)
+    same-text (ap (λ u. tm_text (nameless_in names (binders_at c.args.kernel.now c.args.binders.now) u))
+    (sym (rw c.in-Abs.is at c.term_node.ensures.tree)))
+    (then (then (then (then c.put-in-Abs.ensures c.put_type.ensures) c.put-in-Abs-2.ensures)
+    c.put_term-in-Abs.ensures) c.put-in-Abs-3.ensures)

@@ -8,4 +8,5 @@ use Rattle.ot_text.proofs.Putting.{same-text}
 use Rattle.ot_print.proofs.terms.put_whole.Goals as goal
 
 pub returns : goal.returns
-returns c = same-text (ap tm_text (nameless_in-nil names tells_names (named_at c.args.kernel.now.terms c.args.id))) c.put_term.ensures
+returns c = same-text (ap tm_text (nameless_in-nil names tells_names (named_at c.args.kernel.now.terms c.args.id)))
+    c.put_term.ensures

@@ -12,4 +12,5 @@ abbrev pub decreases-put_types : goal.decreases-put_types
 decreases-put_types l = 2 * l.bound
 
 abbrev pub invariant-put_types-loop-id : goal.invariant-put_types-loop-id
-invariant-put_types-loop-id l = Puts (λ is. spaced_text (types_at l.kernel is)) l.ids l.id-index (printed l.initial.page) (printed l.page)
+invariant-put_types-loop-id l = Puts (λ is. spaced_text (types_at l.kernel is)) l.ids l.id-index
+    (printed l.initial.page) (printed l.page)

@@ -51,5 +51,6 @@ returns-in-Err-clause-last g c =
     let o = end_at s.kernel c.in-Err.stop in
     let lasted = subst (λ (r : Result NotedRun LinkFault). IfSome (noted_end_of s r) (λ _. LastInput path folder at))
     c.in-Err.is c.run_noted.ensures.at in
-    rw c.ending_of.ensures (ends_by (λ v. IsSomeAnd o (IsStopVerdict v)) (λ v. LastInput path folder at) c.stopped.result
+    rw c.ending_of.ensures
+    (ends_by (λ v. IsSomeAnd o (IsStopVerdict v)) (λ v. LastInput path folder at) c.stopped.result
     (input_last (LastInput path folder at) o lasted) (rw c.kernel.ensures at c.stopped.ensures))

@@ -54,7 +54,8 @@ returns-in-Err-At-clause-ended c =
     let column = c.in-Err-At.column in
     let fault = c.in-Err-At.fault in
     let refused : IsTermRefusal hidden text (At column fault) =
-    subst (IsTermRefusal hidden text) c.in-Err-At.field-0-is (rw c.as_bytes.ensures.value at c.in-Err-At.ensures.refused) in
+    subst (IsTermRefusal hidden text) c.in-Err-At.field-0-is
+    (rw c.as_bytes.ensures.value at c.in-Err-At.ensures.refused) in
     let here = ((forms hidden c.sound.ensures text).refused _ fault).1 refused.1 in
     let there = sym (same_term c.deref-2.result.now s c.kernel.result.now es c.deref-3.result.now
     c.requires.session c.kernel.ensures are hidden c.in_ok-notation.ensures c.sound.ensures forms text)
@@ -64,4 +65,5 @@ returns-in-Err-At-clause-ended c =
     (subst (λ (ns : List Name). (v : Verdict) → IsSaid v Refused (column_line pattern_path 1 column fault)
     → HasEndedPattern (noted_from ns s es) text v)
     c.deref-2.ensures.value
-    (pattern_ended (noted_from c.deref-2.result.now s es) text column fault refused.0 there)) c.pattern_verdict.ensures)
+    (pattern_ended (noted_from c.deref-2.result.now s es) text column fault refused.0 there))
+    c.pattern_verdict.ensures)

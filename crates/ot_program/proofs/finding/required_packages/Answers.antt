@@ -29,6 +29,7 @@ returns-in-Err-clause-ended g c =
     let gives = rw limit at c.in-Err.ensures.required in
     let fails = rw limit at c.in-Err.ensures.failure in
     rw c.ending_of.ensures
-    (ends_by (IsWalkVerdict c.in-Err.fault) (HasEndedWalk packages path folder at (Rose f0 f1) (Rose m0 m1)) c.walk_verdict.result
+    (ends_by (IsWalkVerdict c.in-Err.fault) (HasEndedWalk packages path folder at (Rose f0 f1) (Rose m0 m1))
+    c.walk_verdict.result
     (walk_ended packages path folder at m0 m1 f0 f1 theory c.in-Err.fault gives c.in-Err.ensures.cause fails)
     c.walk_verdict.ensures)

@@ -21,7 +21,8 @@ returns-in-Ok-clause-verdict g c =
     let h = c.in-Ok.ensures.searched in
     let fs = found path h.made in
     let verdict = c.found_verdict.ensures in
-    ok_more (FoundEndsAs path fs) (IsTaskVerdict (FindPattern packages pattern path) folder left at P Q) c.found_verdict.result
+    ok_more (FoundEndsAs path fs) (IsTaskVerdict (FindPattern packages pattern path) folder left at P Q)
+    c.found_verdict.result
     (λ v ends. end_verdict packages pattern path folder left at P Q v
     (found_end packages pattern path folder left at P Q c.in-Ok.search h verdict.one_text verdict.one_in_front v ends)
     c.in-Ok.ensures.at)

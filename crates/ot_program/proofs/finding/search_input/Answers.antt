@@ -5,7 +5,8 @@ use Rattle.ot_io.specs.Causes.{Rose}
 use Rattle.ot_program.specs.Answer.{FailedAt, LastInput}
 use Rattle.ot_program.specs.Verdicts.{HasEndedInput, HasEndedSearch}
 use Rattle.ot_program.proofs.NotedLemmas.{keeps}
-use Rattle.ot_program.proofs.FindingLemmas.{if_ended, search_later, err_all, ok_all, input_ends, theory_or_same, leaves_more, last_more}
+use Rattle.ot_program.proofs.FindingLemmas.{if_ended, search_later, err_all, ok_all}
+use Rattle.ot_program.proofs.FindingLemmas.{input_ends, theory_or_same, leaves_more, last_more}
 use Rattle.ot_program.proofs.finding.search_input.Goals as goal
 
 -- ---- by the run of the input
@@ -73,7 +74,8 @@ returns-clause-other g c =
     let path = c.args.query.path.now in
     leaves_more path c.args.files.now c.input_run.new.files c.search_run.new.files
     c.args.input.now c.input_run.new.input c.in_ok-noted.ensures.other
-    (theory_or_same c.args.query.packages.now path (g.F.Source.folder c.args.files.now) (map string_bytes c.args.fulls.now)
+    (theory_or_same c.args.query.packages.now path (g.F.Source.folder c.args.files.now)
+    (map string_bytes c.args.fulls.now)
     c.input_run.new.files c.search_run.new.files c.requires.required c.search_run.ensures.none)
 
 pub returns-clause-at : goal.returns-clause-at

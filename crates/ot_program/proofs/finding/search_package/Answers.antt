@@ -9,7 +9,8 @@ use Rattle.ot_find.specs.Matches.{Found, matches_in}
 use Rattle.ot_link.specs.declared.fault.LinkFault.{LinkFault}
 use Rattle.ot_machine.specs.declared.machine.Export.{Export}
 use Rattle.ot_program.specs.Reply.{theory_run, exports_of, stop_status}
-use Rattle.ot_program.specs.Verdicts.{end_at, end_of, ran_from, IsAnswer, IsNeeded, HasCause, HasMatches, HasEndedRun, IsSearched, IsStopVerdict}
+use Rattle.ot_program.specs.Verdicts.{end_at, end_of, ran_from, IsAnswer, IsNeeded, HasCause}
+use Rattle.ot_program.specs.Verdicts.{HasMatches, HasEndedRun, IsSearched, IsStopVerdict}
 use Rattle.ot_program.proofs.FindingLemmas.{ends_by, err_ended, on_ok_more, path_answer, run_ended}
 use Rattle.ot_program.proofs.finding.search_package.Goals as goal
 
@@ -67,4 +68,5 @@ returns-clause-ended g c =
     c.in-Err.is c.run_theory.ensures.cause in
     rw c.ending_of.ensures (ends_by (λ v. IsSomeAnd o (IsStopVerdict v))
     (HasEndedRun packages full folder at P Q) c.stopped.result
-    (run_ended packages folder path full at P Q o same ended needed caused) (rw c.kernel.ensures at c.stopped.ensures))
+    (run_ended packages folder path full at P Q o same ended needed caused)
+    (rw c.kernel.ensures at c.stopped.ensures))

@@ -6,13 +6,15 @@ use Rattle.ot_plain.specs.Lists.{IsMember}
 use Rattle.ot_io.specs.Causes.{Rose}
 use Rattle.ot_program.specs.Verdicts.{HasEndedRun, HasEndedRuns, AreSearched}
 use Rattle.ot_program.proofs.NotedLemmas.{rose_later, keeps}
-use Rattle.ot_program.proofs.FindingLemmas.{if_ended, none_searched, one_searched, runs_ended, texts_cut, texts_more, middle_member, no_texts}
+use Rattle.ot_program.proofs.FindingLemmas.{if_ended, none_searched, one_searched, runs_ended}
+use Rattle.ot_program.proofs.FindingLemmas.{texts_cut, texts_more, middle_member, no_texts}
 use Rattle.ot_program.proofs.finding.search_packages.Goals as goal
 
 pub each-init : goal.each-init
 each-init g c = record {
   searched =
-      none_searched c.args.packages.now (g.F.Source.folder c.args.files.now) (term_of_tree c.args.pattern.now) c.args.search.now;
+      none_searched c.args.packages.now (g.F.Source.folder c.args.files.now) (term_of_tree c.args.pattern.now)
+      c.args.search.now;
   files = record { same_folder = refl; later_faults = omega arith; later_misses = omega arith; closed = inl refl };
   none = λ none. refl;
 }
@@ -47,8 +49,10 @@ returns-in_err-search_package-clause-ended g c =
     let ended = rw (c.deref.ensures, c.each.invariant.files.same_folder) at c.in_err-search_package.ensures.ended in
     let p = err_from_is_err_and c.from_residual.result c.from_residual.ensures.1 in
     rw (p.1, p.2) (if_ended (HasEndedRun packages full folder at (Rose f1 f2) (Rose m1 m2))
-    (HasEndedRuns packages (map string_bytes xs) folder at (Rose f0 f2) (Rose m0 m2)) c.in_err-search_package.field-0.0
-    (λ v has. subst (λ (fulls : List (List ℕ)). HasEndedRuns packages fulls folder at (Rose f0 f2) (Rose m0 m2) v) (sym cut)
+    (HasEndedRuns packages (map string_bytes xs) folder at (Rose f0 f2) (Rose m0 m2))
+    c.in_err-search_package.field-0.0
+    (λ v has. subst (λ (fulls : List (List ℕ)). HasEndedRuns packages fulls folder at (Rose f0 f2) (Rose m0 m2) v)
+    (sym cut)
     (runs_ended packages folder front back full (term_of_tree c.args.pattern.now)
     c.args.search.now c.each.search at (Rose f1 f2) (Rose m1 m2) (Rose f0 f2) (Rose m0 m2)
     (rose_later f0 f1 f2 c.each.invariant.files.later_faults)
@@ -75,5 +79,6 @@ each-preserved g c =
       files =
           keeps g.F.Source.folder g.F.Source.faults g.F.Source.misses g.F.Source.left c.args.files.now c.each.files
           c.search_package.new.files c.each.invariant.files c.in_ok-search_package.ensures.files;
-      none = λ none. absurd (no_texts (map string_bytes (take k xs)) (map string_bytes (drop (suc k) xs)) full (sym cut ∙ none));
+      none = λ none.
+          absurd (no_texts (map string_bytes (take k xs)) (map string_bytes (drop (suc k) xs)) full (sym cut ∙ none));
     }

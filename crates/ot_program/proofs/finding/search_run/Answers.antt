@@ -37,7 +37,8 @@ returns-in_err-search_packages-clause-ended g c = λ input i j required ran.
     let m1 = g.F.Source.misses c.search_packages.new.files in
     let fulls = map string_bytes c.args.fulls.now in
     let n = noted_of c.args.session.now c.args.run.now in
-    let p = err_from_is_err_and c.from_residual-in_err-search_packages.result c.from_residual-in_err-search_packages.ensures.1 in
+    let p = err_from_is_err_and c.from_residual-in_err-search_packages.result
+    c.from_residual-in_err-search_packages.ensures.1 in
     rw (p.1, p.2) (if_ended (HasEndedRuns packages fulls folder at (Rose f0 f1) (Rose m0 m1))
     (HasEndedSearch packages pattern path folder input at (FailedAt path i j f0 f1) (Rose m0 m1))
     c.in_err-search_packages.field-0.0
@@ -52,9 +53,11 @@ returns-in_err-search_exports-clause-ended g c = λ input i j required ran.
     let path = c.args.query.path.now in
     let folder = g.F.Source.folder c.args.files.now in
     let at = g.F.Source.at c.search_packages.new.files in
-    let P : Type 0 = FailedAt path i j (g.F.Source.faults c.args.files.now) (g.F.Source.faults c.search_packages.new.files) in
+    let P : Type 0 =
+    FailedAt path i j (g.F.Source.faults c.args.files.now) (g.F.Source.faults c.search_packages.new.files) in
     let Q : Type 0 = Rose (g.F.Source.misses c.args.files.now) (g.F.Source.misses c.search_packages.new.files) in
-    let p = err_from_is_err_and c.from_residual-in_err-search_exports.result c.from_residual-in_err-search_exports.ensures.1 in
+    let p = err_from_is_err_and c.from_residual-in_err-search_exports.result
+    c.from_residual-in_err-search_exports.ensures.1 in
     rw (p.1, p.2) (if_ended (λ v. ⊥) (HasEndedSearch packages pattern path folder input at P Q)
     c.in_err-search_exports.field-0.0 (λ v none. absurd none) c.in_err-search_exports.ensures.ended)
 

@@ -23,7 +23,8 @@ returns-in_err-fulls-clause-ended g c =
     let m1 = g.F.Source.misses c.required_packages.new.files in
     let p = err_from_is_err_and c.from_residual.result c.from_residual.ensures.1 in
     rw (p.1, p.2) (if_ended (HasEndedWalk packages path folder at (Rose f0 f1) (Rose m0 m1))
-    (HasEndedSearch packages pattern path folder left at (FailedAt path i i f0 f1) (Rose m0 m1)) c.in_err-fulls.field-0.0
+    (HasEndedSearch packages pattern path folder left at (FailedAt path i i f0 f1) (Rose m0 m1))
+    c.in_err-fulls.field-0.0
     (walk_ends packages pattern path folder left at m0 m1 f0 f1 i i) c.in_err-fulls.ensures.ended)
 
 pub returns-in_err-fulls-clause-last : goal.returns-in_err-fulls-clause-last
@@ -73,7 +74,8 @@ returns-clause-searched g c = rw c.in_ok-fulls.ensures.files.same_folder at c.se
 
 pub returns-clause-files : goal.returns-clause-files
 returns-clause-files g c =
-    keeps g.F.Source.folder g.F.Source.faults g.F.Source.misses g.F.Source.left c.args.files.now c.required_packages.new.files
+    keeps g.F.Source.folder g.F.Source.faults g.F.Source.misses g.F.Source.left c.args.files.now
+    c.required_packages.new.files
     c.search_input.new.files c.in_ok-fulls.ensures.files c.search_input.ensures.files
 
 pub returns-clause-other : goal.returns-clause-other

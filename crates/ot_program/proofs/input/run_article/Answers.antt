@@ -10,13 +10,16 @@ returns-clause-end g c =
     (ap (λ l. l.article_bytes) c.standard-limits.ensures) c.run_alone.ensures.ends
 
 pub returns-clause-own : goal.returns-clause-own
-returns-clause-own g c = alone_own c.run_alone.new.session c.run_alone.result (string_bytes c.args.path) c.run_alone.ensures.own
+returns-clause-own g c = alone_own c.run_alone.new.session c.run_alone.result (string_bytes c.args.path)
+    c.run_alone.ensures.own
 
 pub returns-clause-cause : goal.returns-clause-cause
 returns-clause-cause g c =
-    alone_cause c.run_alone.new.session c.run_alone.result (string_bytes c.args.path) (g.S.Source.faults c.args.source.now)
+    alone_cause c.run_alone.new.session c.run_alone.result (string_bytes c.args.path)
+    (g.S.Source.faults c.args.source.now)
     (g.S.Source.faults c.run_alone.new.source) c.run_alone.ensures.own c.run_alone.ensures.cause
 
 pub returns-clause-lawful : goal.returns-clause-lawful
 returns-clause-lawful g c =
-    lawful_end c.run_alone.new.session c.run_alone.result c.run_alone.ensures.lawful c.run_alone.ensures.lawful_exports
+    lawful_end c.run_alone.new.session c.run_alone.result c.run_alone.ensures.lawful
+    c.run_alone.ensures.lawful_exports

@@ -1,10 +1,13 @@
-use Rattle.ot_program.proofs.InputLemmas.{limits_are, theory_comes, theory_answer, theory_needed, theory_cause, lawful_end}
+use Rattle.ot_program.proofs.InputLemmas.{limits_are, theory_comes, theory_answer}
+use Rattle.ot_program.proofs.InputLemmas.{theory_needed, theory_cause, lawful_end}
 use Rattle.ot_program.proofs.input.run_theory.Goals as goal
 
 pub returns-clause-end : goal.returns-clause-end
 returns-clause-end g c =
-    theory_answer c.link.new.session c.link.result c.args.packages.now c.args.path.now (g.F.Source.folder c.args.files.now)
-    (theory_comes c.link.new.session c.link.result c.args.packages.now c.args.path.now (g.F.Source.folder c.args.files.now)
+    theory_answer c.link.new.session c.link.result c.args.packages.now c.args.path.now
+    (g.F.Source.folder c.args.files.now)
+    (theory_comes c.link.new.session c.link.result c.args.packages.now c.args.path.now
+    (g.F.Source.folder c.args.files.now)
     c.standard-limits.result (limits_are c.standard-limits.result c.standard-limits.ensures) c.link.ensures.links)
 
 pub returns-clause-needed : goal.returns-clause-needed
@@ -12,7 +15,8 @@ returns-clause-needed g c =
     theory_needed c.link.new.session c.link.result c.args.packages.now c.args.path.now
     (g.F.Source.folder c.args.files.now) (g.F.Source.at c.link.new.files) (g.F.Source.misses c.args.files.now)
     (g.F.Source.misses c.link.new.files) (g.F.Source.faults c.args.files.now) (g.F.Source.faults c.link.new.files)
-    (theory_comes c.link.new.session c.link.result c.args.packages.now c.args.path.now (g.F.Source.folder c.args.files.now)
+    (theory_comes c.link.new.session c.link.result c.args.packages.now c.args.path.now
+    (g.F.Source.folder c.args.files.now)
     c.standard-limits.result (limits_are c.standard-limits.result c.standard-limits.ensures) c.link.ensures.links)
     c.link.ensures.cause
 
@@ -23,4 +27,5 @@ returns-clause-cause g c =
     (g.F.Source.faults c.args.files.now) (g.F.Source.faults c.link.new.files) c.link.ensures.cause
 
 pub returns-clause-lawful : goal.returns-clause-lawful
-returns-clause-lawful g c = lawful_end c.link.new.session c.link.result c.link.ensures.lawful c.link.ensures.lawful_exports
+returns-clause-lawful g c =
+    lawful_end c.link.new.session c.link.result c.link.ensures.lawful c.link.ensures.lawful_exports

@@ -24,7 +24,8 @@ returns-in-Ok-run_input-clause-end g c =
     let packages = c.args.packages.now in
     let s = c.run_input.new.session in
     let P : Result (Vec Export Global) LinkFault → Type 0 =
-    λ r. IfSome (option_map (noted_end c.in-Ok.names.items) (end_of s r)) (IsEnd (ShowReadable packages path) folder left) in
+    λ r. IfSome (option_map (noted_end c.in-Ok.names.items) (end_of s r))
+    (IsEnd (ShowReadable packages path) folder left) in
     let shows = subst (λ (r : Result (Vec Name Global) LinkFault). IfSome
     (shown_at path folder) (λ l. (k : State) → Comes k (λ names. names.items) r l))
     c.in-Ok.is c.shown_names.ensures.comes in
@@ -34,7 +35,8 @@ returns-in-Ok-run_input-clause-end g c =
 
 pub returns-in-Ok-run_input-clause-files : goal.returns-in-Ok-run_input-clause-files
 returns-in-Ok-run_input-clause-files g c =
-    keeps g.F.Source.folder g.F.Source.faults g.F.Source.misses g.F.Source.left c.args.files.now c.shown_names.new.files
+    keeps g.F.Source.folder g.F.Source.faults g.F.Source.misses g.F.Source.left c.args.files.now
+    c.shown_names.new.files
     c.run_input.new.files c.shown_names.ensures.files c.run_input.ensures.files
 
 -- ---- or stopped
@@ -47,7 +49,8 @@ returns-in-Err-run_input-clause-end g c =
     let packages = c.args.packages.now in
     let s = c.run_input.new.session in
     let Q : Option (End Noted Stop) → Type 0 = λ o. IfSome o (IsEnd (ShowReadable packages path) folder left) in
-    let P : Result (Vec Export Global) LinkFault → Type 0 = λ r. Q (option_map (noted_end c.in-Ok.names.items) (end_of s r)) in
+    let P : Result (Vec Export Global) LinkFault → Type 0 =
+    λ r. Q (option_map (noted_end c.in-Ok.names.items) (end_of s r)) in
     let shows = subst (λ (r : Result (Vec Name Global) LinkFault). IfSome
     (shown_at path folder) (λ l. (k : State) → Comes k (λ names. names.items) r l))
     c.in-Ok.is c.shown_names.ensures.comes in
@@ -64,7 +67,8 @@ returns-in-Err-run_input-clause-place g c =
     let packages = c.args.packages.now in
     let s = c.run_input.new.session in
     let Q : Option (End Noted Stop) → Type 0 = λ o. IfSome o (IsPlace (ShowReadable packages path) folder at) in
-    let P : Result (Vec Export Global) LinkFault → Type 0 = λ r. Q (option_map (noted_end c.in-Ok.names.items) (end_of s r)) in
+    let P : Result (Vec Export Global) LinkFault → Type 0 =
+    λ r. Q (option_map (noted_end c.in-Ok.names.items) (end_of s r)) in
     let placed = rw c.shown_names.ensures.files.same_folder at c.run_input.ensures.place in
     subst Q (same_stop c.in-Ok.names.items s.kernel c.in-Err-run_input.stop)
     (subst P c.in-Err-run_input.is (places c.in-Ok.names.items packages
@@ -72,7 +76,8 @@ returns-in-Err-run_input-clause-place g c =
 
 pub returns-in-Err-run_input-clause-files : goal.returns-in-Err-run_input-clause-files
 returns-in-Err-run_input-clause-files g c =
-    keeps g.F.Source.folder g.F.Source.faults g.F.Source.misses g.F.Source.left c.args.files.now c.shown_names.new.files
+    keeps g.F.Source.folder g.F.Source.faults g.F.Source.misses g.F.Source.left c.args.files.now
+    c.shown_names.new.files
     c.run_input.new.files c.shown_names.ensures.files c.run_input.ensures.files
 
 -- ---- where what it shows stops it
@@ -85,7 +90,8 @@ returns-in-Err-clause-end g c =
     let comes = subst (λ (r : Result (Vec Name Global) LinkFault). IfSome
     (shown_at path folder) (λ l. (k : State) → Comes k (λ names. names.items) r l))
     c.in-Err.is c.shown_names.ensures.comes in
-    stops c.args.session.now.kernel c.in-Err.stop (shown_at path folder) (run_at c.args.packages.now path folder left) comes
+    stops c.args.session.now.kernel c.in-Err.stop (shown_at path folder) (run_at c.args.packages.now path folder left)
+    comes
 
 pub returns-in-Err-clause-place : goal.returns-in-Err-clause-place
 returns-in-Err-clause-place g c =
@@ -94,8 +100,10 @@ returns-in-Err-clause-place g c =
     let comes = subst (λ (r : Result (Vec Name Global) LinkFault). IfSome
     (shown_at path folder) (λ l. (k : State) → Comes k (λ names. names.items) r l))
     c.in-Err.is c.shown_names.ensures.comes in
-    stop_places c.args.session.now.kernel c.in-Err.stop c.args.packages.now path folder (g.F.Source.at c.shown_names.new.files)
-    (g.F.Source.misses c.args.files.now) (g.F.Source.misses c.shown_names.new.files) (g.F.Source.faults c.args.files.now)
+    stop_places c.args.session.now.kernel c.in-Err.stop c.args.packages.now path folder
+    (g.F.Source.at c.shown_names.new.files)
+    (g.F.Source.misses c.args.files.now) (g.F.Source.misses c.shown_names.new.files)
+    (g.F.Source.faults c.args.files.now)
     (g.F.Source.faults c.shown_names.new.files) c.in-Err.ensures.theory comes c.in-Err.ensures.cause
 
 pub returns-in-Err-clause-symbols : goal.returns-in-Err-clause-symbols

@@ -19,7 +19,8 @@ pub returns-in-Ok-clause-ends : goal.returns-in-Ok-clause-ends
 returns-in-Ok-clause-ends c =
     let are : c.deref-3.result.now ≡ map (λ e. e.th) c.args.run.now.exports.items =
     c.deref-3.ensures.value ∙ c.in_ok-theorems.ensures ∙ ap (map (λ e. e.th)) c.deref.ensures.value in
-    let limit : c.standard-limit.result.summary_bytes ≡ summary_limit = ap (λ l. l.summary_bytes) c.standard-limit.ensures in
+    let limit : c.standard-limit.result.summary_bytes ≡ summary_limit =
+    ap (λ l. l.summary_bytes) c.standard-limit.ensures in
     subst (λ (ns : List Name). ReadableEndsAs c.args.path.now
     (noted_from ns c.args.session.now c.args.run.now.exports.items) c.accepted.result)
     c.deref-2.ensures.value
@@ -42,7 +43,8 @@ pub returns-in-Err-TooLarge-clause-ends : goal.returns-in-Err-TooLarge-clause-en
 returns-in-Err-TooLarge-clause-ends c =
     let are : c.deref-3.result.now ≡ map (λ e. e.th) c.args.run.now.exports.items =
     c.deref-3.ensures.value ∙ c.in_ok-theorems.ensures ∙ ap (map (λ e. e.th)) c.deref.ensures.value in
-    let limit : c.standard-limit.result.summary_bytes ≡ summary_limit = ap (λ l. l.summary_bytes) c.standard-limit.ensures in
+    let limit : c.standard-limit.result.summary_bytes ≡ summary_limit =
+    ap (λ l. l.summary_bytes) c.standard-limit.ensures in
     subst (λ (ns : List Name). IfOk c.too_large.result (ReadableEndsAs c.args.path.now
     (noted_from ns c.args.session.now c.args.run.now.exports.items)))
     c.deref-2.ensures.value
@@ -55,9 +57,11 @@ pub returns-in-Err-TooLarge-clause-read_back : goal.returns-in-Err-TooLarge-clau
 returns-in-Err-TooLarge-clause-read_back c =
     let are : c.deref-3.result.now ≡ map (λ e. e.th) c.args.run.now.exports.items =
     c.deref-3.ensures.value ∙ c.in_ok-theorems.ensures ∙ ap (map (λ e. e.th)) c.deref.ensures.value in
-    let limit : c.standard-limit.result.summary_bytes ≡ summary_limit = ap (λ l. l.summary_bytes) c.standard-limit.ensures in
+    let limit : c.standard-limit.result.summary_bytes ≡ summary_limit =
+    ap (λ l. l.summary_bytes) c.standard-limit.ensures in
     let P : List Name → Type 0 =
-    λ ns. nat_le (length (readable (noted_from ns c.args.session.now c.args.run.now.exports.items))) summary_limit ≡ true
+    λ ns. nat_le (length (readable (noted_from ns c.args.session.now c.args.run.now.exports.items))) summary_limit
+    ≡ true
     → AreReadBack (noted_from ns c.args.session.now c.args.run.now.exports.items) in
     subst (λ (ns : List Name). OnOk c.too_large.result (P ns)) c.deref-2.ensures.value
     (unpromised c.deref-2.result.now c.args.session.now c.kernel.result.now

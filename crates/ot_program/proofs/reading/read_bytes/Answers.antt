@@ -26,11 +26,13 @@ returns-clause-ok c =
     let s = c.args.session.now in
     let es = c.args.run.now.exports.items in
     let ls = lines_of c.args.text.now in
-    let e = same_lines c.deref-2.result.now s c.kernel.result.now es c.deref-3.result.now c.requires.session c.kernel.ensures
+    let e = same_lines c.deref-2.result.now s c.kernel.result.now es c.deref-3.result.now c.requires.session
+    c.kernel.ensures
     are c.in-Ok-run_notation.notation c.in-Ok-run_notation.ensures c.sound.ensures c.as_the_forms_say.ensures.lines ls
     ∙ ap (λ ns. lines_read (notation (noted_from ns s es)) ls) c.deref-2.ensures.value in
     subst
-    (λ (o : Result (List (Sequent Name)) RefusedLine). IfOk c.read_lines.result (λ read. o ≡ Ok (map sequent_of read.items))) e
+    (λ (o : Result (List (Sequent Name)) RefusedLine). IfOk c.read_lines.result
+    (λ read. o ≡ Ok (map sequent_of read.items))) e
     c.read_lines.ensures.ok
 
 pub returns-clause-stand : goal.returns-clause-stand
@@ -40,14 +42,18 @@ returns-clause-stand c =
     let s = c.args.session.now in
     let es = c.args.run.now.exports.items in
     let ls = lines_of c.args.text.now in
-    let e = same_lines c.deref-2.result.now s c.kernel.result.now es c.deref-3.result.now c.requires.session c.kernel.ensures
-    are c.in-Ok-run_notation.notation c.in-Ok-run_notation.ensures c.sound.ensures c.as_the_forms_say.ensures.lines ls in
+    let e = same_lines c.deref-2.result.now s c.kernel.result.now es c.deref-3.result.now c.requires.session
+    c.kernel.ensures
+    are c.in-Ok-run_notation.notation c.in-Ok-run_notation.ensures c.sound.ensures c.as_the_forms_say.ensures.lines
+    ls in
     let stated = notation (noted_from c.deref-2.result.now s es) in
     let stand = all_stand stated ls c.read_lines.result
     (they_stand c.deref-2.result.now s c.kernel.result.now es c.deref-3.result.now c.requires.session c.kernel.ensures
-    are c.in-Ok-run_notation.notation c.in-Ok-run_notation.ensures c.sound.ensures c.as_the_forms_say.ensures.texts ls)
+    are c.in-Ok-run_notation.notation c.in-Ok-run_notation.ensures c.sound.ensures c.as_the_forms_say.ensures.texts
+    ls)
     (subst
-    (λ (o : Result (List (Sequent Name)) RefusedLine). IfOk c.read_lines.result (λ read. o ≡ Ok (map sequent_of read.items))) e
+    (λ (o : Result (List (Sequent Name)) RefusedLine). IfOk c.read_lines.result
+    (λ read. o ≡ Ok (map sequent_of read.items))) e
     c.read_lines.ensures.ok)
     in
     subst (λ (ns : List Name). IfOk c.read_lines.result
@@ -61,7 +67,8 @@ returns-clause-refused c =
     let s = c.args.session.now in
     let es = c.args.run.now.exports.items in
     let ls = lines_of c.args.text.now in
-    let e = same_lines c.deref-2.result.now s c.kernel.result.now es c.deref-3.result.now c.requires.session c.kernel.ensures
+    let e = same_lines c.deref-2.result.now s c.kernel.result.now es c.deref-3.result.now c.requires.session
+    c.kernel.ensures
     are c.in-Ok-run_notation.notation c.in-Ok-run_notation.ensures c.sound.ensures c.as_the_forms_say.ensures.lines ls
     ∙ ap (λ ns. lines_read (notation (noted_from ns s es)) ls) c.deref-2.ensures.value in
     subst (λ (o : Result (List (Sequent Name)) RefusedLine). IfErr c.read_lines.result (IsLineRefusal o))

@@ -9,7 +9,8 @@ use Rattle.ot_program.specs.Verdicts.{end_at, noted_of, noted_end_of, stop_end, 
 use Rattle.ot_program.specs.declared.noted.NotedRun.{NotedRun}
 use Rattle.ot_program.proofs.VerdictLemmas.{task_verdict}
 use Rattle.ot_program.proofs.NotedLemmas.{rose_later, keeps}
-use Rattle.ot_program.proofs.ReadingLemmas.{behind, stop_behind, text_place, input_place, text_cause, input_cause, text_last, input_last, input_verdict}
+use Rattle.ot_program.proofs.ReadingLemmas.{behind, stop_behind, text_place, input_place, text_cause}
+use Rattle.ot_program.proofs.ReadingLemmas.{input_cause, text_last, input_last, input_verdict}
 use Rattle.ot_program.proofs.reading.run_reading.Goals as goal
 
 -- behind a run that ended
@@ -28,7 +29,8 @@ returns-in-Ok-clause-verdict g c =
     let m0 = g.F.Source.misses c.args.files.now in
     let m1 = g.F.Source.misses c.run_noted.new.files in
     let m2 = g.F.Source.misses c.read_text-read.new.files in
-    let P : Type 0 = FailedIn t (g.S.Source.faults c.args.input.now) (g.S.Source.faults c.run_noted.new.input) f0 f2 in
+    let P : Type 0 = FailedIn t (g.S.Source.faults c.args.input.now) (g.S.Source.faults c.run_noted.new.input) f0
+    f2 in
     let n = noted_of c.run_noted.new.session c.in-Ok.noted in
     let o = read_end_of text n c.read_text-read.result in
     let kept = c.run_noted.ensures.files in
@@ -74,7 +76,8 @@ returns-clause-verdict g c =
     c.in-Err.is c.run_noted.ensures.at in
     task_verdict (FailedIn t i j f h) Q t folder left at (option_and_then stop_end o) c.stopped.result
     (input_verdict packages path text c.stopped.result o (rw c.kernel.ensures at c.stopped.ensures))
-    (stop_behind text folder (noted_at packages path folder left) o ended) (input_place packages path text folder at o placed)
+    (stop_behind text folder (noted_at packages path folder left) o ended)
+    (input_place packages path text folder at o placed)
     (input_cause P Q (FailedIn t i j f h) o inl caused) (input_last path text folder at o lasted)
 
 -- the files, over both

@@ -8,9 +8,11 @@ use Rattle.ot_program.proofs.report.uses.Goals as goal
 
 pub returns-in-Ok-clause-ends : goal.returns-in-Ok-clause-ends
 returns-in-Ok-clause-ends c =
-    let limit : c.standard-limit.result.summary_bytes ≡ summary_limit = ap (λ l. l.summary_bytes) c.standard-limit.ensures in
+    let limit : c.standard-limit.result.summary_bytes ≡ summary_limit =
+    ap (λ l. l.summary_bytes) c.standard-limit.ensures in
     text_printed (uses (ran_from c.args.session.now c.args.exports.now)) (large_line c.args.path.now)
-    c.standard-limit.result.summary_bytes c.new-text.result.items _ limit c.new-text.ensures.items c.accepted.ensures.status_is
+    c.standard-limit.result.summary_bytes c.new-text.result.items _ limit c.new-text.ensures.items
+    c.accepted.ensures.status_is
     (rw c.accepted.ensures.text_is c.in-Ok.ensures.ok)
 
 pub returns-in-Ok-clause-supported : goal.returns-in-Ok-clause-supported

@@ -10,7 +10,8 @@ use Rattle.ot_program.proofs.sample.run_sample.Goals as goal
 
 pub sample_verdict-requires-clause-made : goal.sample_verdict-requires-clause-made
 sample_verdict-requires-clause-made c =
-    c.deref-2.ensures.value ∙ c.in_ok-sample_article.ensures.ok ∙ ap (λ xs. xs ++ sample c.args.size) c.new-made.ensures.items
+    c.deref-2.ensures.value ∙ c.in_ok-sample_article.ensures.ok
+    ∙ ap (λ xs. xs ++ sample c.args.size) c.new-made.ensures.items
 
 pub returns : goal.returns
 returns c = λ folder input at.
@@ -23,7 +24,8 @@ returns c = λ folder input at.
     let ended = subst (λ (path : List ℕ). IfSome o (IsAnswer (article_end path (outcome c.new-2.result.left.now))))
     c.in_ok-path.ensures.ok c.run_article-ran.ensures.end in
     let told = subst (λ (bytes : List ℕ). IfSome o (IsAnswer (article_end sample_path (outcome bytes)))) made ended in
-    let own = subst (λ (path : List ℕ). IfSome o (IsOwnEnd path)) c.in_ok-path.ensures.ok c.run_article-ran.ensures.own in
+    let own = subst (λ (path : List ℕ). IfSome o (IsOwnEnd path)) c.in_ok-path.ensures.ok
+    c.run_article-ran.ensures.own in
     let cause = c.run_article-ran.ensures.cause in
     task_verdict ⊥ ⊥ (RunSample c.args.size) folder input at o c.sample_verdict.result c.sample_verdict.ensures
     (sample_end c.args.size folder input o told) (sample_place c.args.size folder at o own cause)

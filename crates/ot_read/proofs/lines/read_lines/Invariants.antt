@@ -9,7 +9,8 @@ abbrev pub invariant-lines : goal.invariant-lines
 invariant-lines l = record {
   place : l.at ≤ length l.text;
   numbered : l.number ≤ l.at;
-  so_far : lines_read l.notation (lines_of l.text) ≡ behind (map sequent_of l.read.items) (lines_read l.notation (lines_at l.text l.at l.number));
+  so_far : lines_read l.notation (lines_of l.text) ≡ behind (map sequent_of l.read.items)
+      (lines_read l.notation (lines_at l.text l.at l.number));
 }
 
 abbrev pub decreases-lines : goal.decreases-lines

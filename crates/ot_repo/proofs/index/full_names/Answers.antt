@@ -9,8 +9,10 @@ use Rattle.ot_repo.proofs.index.full_names.Goals as goal
 pub returns-then-not-is_package-clause-names : goal.returns-then-not-is_package-clause-names
 returns-then-not-is_package-clause-names c =
     let line = c.in-Some.line in
-    listed_bad c.args.path.now (lines_of c.args.text.now) (lines_at c.args.text.now c.lines.at c.lines.number) (lines_at c.args.text.now c.next_line.new.at c.next_line.new.number)
-    (record { number = line.number; text = line.text.now }) (texts_of c.lines.names.items) c.lines.invariant.listed c.in-Some.ensures.line (sym c.if-not-is_package.ensures)
+    listed_bad c.args.path.now (lines_of c.args.text.now) (lines_at c.args.text.now c.lines.at c.lines.number)
+    (lines_at c.args.text.now c.next_line.new.at c.next_line.new.number)
+    (record { number = line.number; text = line.text.now }) (texts_of c.lines.names.items) c.lines.invariant.listed
+    c.in-Some.ensures.line (sym c.if-not-is_package.ensures)
     ∙ ap (λ p. Err (BadIndex p line.number)) (sym c.in_ok-path.ensures.ok)
 
 pub lines-preserved : goal.lines-preserved
@@ -21,8 +23,13 @@ lines-preserved c =
     record {
       place = c.in-Some.ensures.place;
       numbered = c.in-Some.ensures.numbered;
-      listed = subst (Listed (lines_of c.args.text.now) (lines_at c.args.text.now c.next_line.new.at c.next_line.new.number)) (sym more)
-          (listed_more (lines_of c.args.text.now) (lines_at c.args.text.now c.lines.at c.lines.number) (lines_at c.args.text.now c.next_line.new.at c.next_line.new.number)
-          (record { number = line.number; text = line.text.now }) (texts_of c.lines.names.items) c.lines.invariant.listed c.in-Some.ensures.line good);
-      full = subst ArePackages (sym more) (packages_more (texts_of c.lines.names.items) line.text.now c.lines.invariant.full good);
+      listed = subst
+          (Listed (lines_of c.args.text.now) (lines_at c.args.text.now c.next_line.new.at c.next_line.new.number))
+          (sym more)
+          (listed_more (lines_of c.args.text.now) (lines_at c.args.text.now c.lines.at c.lines.number)
+          (lines_at c.args.text.now c.next_line.new.at c.next_line.new.number)
+          (record { number = line.number; text = line.text.now }) (texts_of c.lines.names.items)
+          c.lines.invariant.listed c.in-Some.ensures.line good);
+      full = subst ArePackages (sym more)
+          (packages_more (texts_of c.lines.names.items) line.text.now c.lines.invariant.full good);
     }

@@ -14,9 +14,11 @@ pub returns-then-has_requirement-clause-required : goal.returns-then-has_require
 returns-then-has_requirement-clause-required g c = λ folder told.
     let parsed = rw c.deref.ensures.value at c.in_ok-theory.ensures.theory in
     let some = rw c.deref-2.ensures.value at c.if-has_requirement.ensures in
-    let over = rw c.deref-then-has_requirement.ensures.value at (c.required_over.ensures.required folder (c.in_ok-text.ensures.folder ∙ told)) in
+    let over = rw c.deref-then-has_requirement.ensures.value at
+    (c.required_over.ensures.required folder (c.in_ok-text.ensures.folder ∙ told)) in
     subst (Gives names_of c.required_over.result)
-    (with_tags folder c.args.setting.max_bytes c.args.setting.packages.now c.args.path.now c.in_ok-text.text.items c.in_ok-theory.theory (c.in_ok-text.ensures.text folder told) parsed (sym some))
+    (with_tags folder c.args.setting.max_bytes c.args.setting.packages.now c.args.path.now c.in_ok-text.text.items
+    c.in_ok-theory.theory (c.in_ok-text.ensures.text folder told) parsed (sym some))
     over
 
 pub returns-clause-required : goal.returns-clause-required
@@ -24,7 +26,8 @@ returns-clause-required g c = λ folder told.
     let parsed = rw c.deref.ensures.value at c.in_ok-theory.ensures.theory in
     let none = rw c.deref-2.ensures.value at c.if-has_requirement.ensures in
     rw c.new.ensures.items
-    (without_tags folder c.args.setting.max_bytes c.args.setting.packages.now c.args.path.now c.in_ok-text.text.items c.in_ok-theory.theory (c.in_ok-text.ensures.text folder told) parsed (sym none))
+    (without_tags folder c.args.setting.max_bytes c.args.setting.packages.now c.args.path.now c.in_ok-text.text.items
+    c.in_ok-theory.theory (c.in_ok-text.ensures.text folder told) parsed (sym none))
 
 pub returns-in_err-text-clause-failure : goal.returns-in_err-text-clause-failure
 returns-in_err-text-clause-failure g c = λ folder told.
@@ -32,12 +35,14 @@ returns-in_err-text-clause-failure g c = λ folder told.
     let packages = c.args.setting.packages.now in
     let path = c.args.path.now in
     let p = err_from_is_err_and c.from_residual.result c.from_residual.ensures.1 in
-    rw (p.1, p.2) (fails_more (λ failed. failed ≡ path) (IsWalked folder max packages path) c.in_err-text.field-0.0 (own_file folder max packages path) c.in_err-text.ensures.failure)
+    rw (p.1, p.2) (fails_more (λ failed. failed ≡ path) (IsWalked folder max packages path) c.in_err-text.field-0.0
+    (own_file folder max packages path) c.in_err-text.ensures.failure)
 
 pub returns-in_err-theory-clause-failure : goal.returns-in_err-theory-clause-failure
 returns-in_err-theory-clause-failure g c = λ folder told.
     let p = err_from_is_err_and c.from_residual-in_err-theory.result c.from_residual-in_err-theory.ensures.1 in
-    rw (p.1, p.2) (inside_fails (IsWalked folder c.args.setting.max_bytes c.args.setting.packages.now c.args.path.now) c.in_err-theory.field-0.0 c.in_err-theory.ensures.inside)
+    rw (p.1, p.2) (inside_fails (IsWalked folder c.args.setting.max_bytes c.args.setting.packages.now c.args.path.now)
+    c.in_err-theory.field-0.0 c.in_err-theory.ensures.inside)
 
 pub returns-then-has_requirement-clause-failure : goal.returns-then-has_requirement-clause-failure
 returns-then-has_requirement-clause-failure g c = λ folder told.
@@ -47,6 +52,9 @@ returns-then-has_requirement-clause-failure g c = λ folder told.
     let theory = c.in_ok-theory.theory in
     let parsed = rw c.deref.ensures.value at c.in_ok-theory.ensures.theory in
     let some = rw c.deref-2.ensures.value at c.if-has_requirement.ensures in
-    let over = rw c.deref-then-has_requirement.ensures.value at (c.required_over.ensures.failure folder (c.in_ok-text.ensures.folder ∙ told)) in
-    if_fails (IsTagFile folder max packages (filter is_requirement (tags_of theory.tags.items))) (IsWalked folder max packages path) c.required_over.result
-    (walked_file folder max packages path c.in_ok-text.text.items theory (c.in_ok-text.ensures.text folder told) parsed (sym some)) over
+    let over = rw c.deref-then-has_requirement.ensures.value at
+    (c.required_over.ensures.failure folder (c.in_ok-text.ensures.folder ∙ told)) in
+    if_fails (IsTagFile folder max packages (filter is_requirement (tags_of theory.tags.items)))
+    (IsWalked folder max packages path) c.required_over.result
+    (walked_file folder max packages path c.in_ok-text.text.items theory (c.in_ok-text.ensures.text folder told)
+    parsed (sym some)) over

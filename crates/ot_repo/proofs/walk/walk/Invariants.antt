@@ -14,11 +14,13 @@ invariant-walk g l = record {
   so_far : SoFar (listed_in l.index) (mark_in l.marks) (reverse l.below.items) l.file (names_of l.done);
   rests : (folder : Folder) → g.F.Source.folder l.fn.files ≡ Some folder → Rests
       (edges_of folder l.setting.max_bytes l.setting.packages.now (listed_in l.index))
-      (walk_from bytes_eq (edges_of folder l.setting.max_bytes l.setting.packages.now (listed_in l.index)) (length (listed_in l.index)) (edges_left l.fn.first))
+      (walk_from bytes_eq (edges_of folder l.setting.max_bytes l.setting.packages.now (listed_in l.index))
+      (length (listed_in l.index)) (edges_left l.fn.first))
       (reverse l.below.items) l.file (names_of l.done);
   full : ArePackages (names_of l.done);
   reached : (folder : Folder) → g.F.Source.folder l.fn.files ≡ Some folder → ReachedSoFar
-      (edges_of folder l.setting.max_bytes l.setting.packages.now (listed_in l.index)) (edges_left l.fn.first) (reverse l.below.items) l.file;
+      (edges_of folder l.setting.max_bytes l.setting.packages.now (listed_in l.index)) (edges_left l.fn.first)
+      (reverse l.below.items) l.file;
   folder : g.F.Source.folder l.files ≡ g.F.Source.folder l.fn.files;
   later_faults : g.F.Source.faults l.fn.files ≤ g.F.Source.faults l.files;
   later_misses : g.F.Source.misses l.fn.files ≤ g.F.Source.misses l.files;

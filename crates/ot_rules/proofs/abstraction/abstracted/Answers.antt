@@ -19,10 +19,15 @@ returns-clause-ok c =
     let us = c.closed.new.nodes in
     let ty = type-stays ts us c.in_ok-body.ensures.extends c.args.v.now.ty c.requires.v.1 in
     let body = term-is us c.in_ok-body.body _ c.in_ok-body.ensures.ok in
-    subst (λ (t : Tm Name). IfOk c.abs.result (λ r. IsTerm c.abs.new.self r t)) (λ i. Abs (ty i) (body i)) c.abs.ensures.ok
+    subst (λ (t : Tm Name). IfOk c.abs.result (λ r. IsTerm c.abs.new.self r t)) (λ i. Abs (ty i) (body i))
+    c.abs.ensures.ok
 
 pub returns-clause-done : goal.returns-clause-done
-returns-clause-done c = on_ok c.abs.result (done-now c.closed.new.nodes c.abs.new.self c.abs.ensures.extends (change.Close c.args.v.now) c.closed.new.done c.in_ok-body.ensures.v c.in_ok-body.ensures.done)
+returns-clause-done c =
+    on_ok c.abs.result (done-now c.closed.new.nodes c.abs.new.self c.abs.ensures.extends (change.Close c.args.v.now)
+    c.closed.new.done c.in_ok-body.ensures.v c.in_ok-body.ensures.done)
 
 pub returns-clause-v : goal.returns-clause-v
-returns-clause-v c = on_ok c.abs.result (still-variable c.closed.new.nodes c.abs.new.self c.abs.ensures.extends c.args.v.now c.in_ok-body.ensures.v)
+returns-clause-v c =
+    on_ok c.abs.result
+    (still-variable c.closed.new.nodes c.abs.new.self c.abs.ensures.extends c.args.v.now c.in_ok-body.ensures.v)

@@ -11,5 +11,6 @@ invariant-loop-id l = record {
   extends : Extends l.fn.nodes l.nodes;
   v : HasVariable l.nodes l.v;
   done : IsDone l.nodes (Closing (variable_at l.nodes l.v)) l.done;
-  all : is_free_in_some names (variable_at l.fn.nodes l.v) (terms_at l.fn.nodes l.ids) ≡ is_free_in_some names (variable_at l.fn.nodes l.v) (terms_at l.fn.nodes (drop l.id-index l.ids));
+  all : is_free_in_some names (variable_at l.fn.nodes l.v) (terms_at l.fn.nodes l.ids)
+      ≡ is_free_in_some names (variable_at l.fn.nodes l.v) (terms_at l.fn.nodes (drop l.id-index l.ids));
 }

@@ -17,5 +17,6 @@ pub returns : goal.returns
 returns c = λ dl sig.
     let ts = c.args.nodes.now in
     let q = sequent_at ts c.args.premise.now in
-    let is = ap (map (symbol_of ts)) (c.as_slice.ensures.value ∙ c.in_ok-symbols.ensures) ∙ names-are ts c.args.constants.now in
+    let is = ap (map (symbol_of ts)) (c.as_slice.ensures.value ∙ c.in_ok-symbols.ensures)
+    ∙ names-are ts c.args.constants.now in
     c.in_ok-fresh.ensures dl sig ∙ ap (are_fresh (all_defined names dl) (all_used names dl) (symbols_of names q)) is

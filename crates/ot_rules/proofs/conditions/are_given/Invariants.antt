@@ -5,4 +5,5 @@ use Rattle.ot_rules.specs.Conditions.{given_terms, may_be_given}
 use Rattle.ot_rules.proofs.conditions.are_given.Given as goal
 
 abbrev pub invariant-loop-item : goal.invariant-loop-item
-invariant-loop-item l = list_all (may_be_given names) (given_terms l.nodes l.given) ≡ list_all (may_be_given names) (given_terms l.nodes (drop l.item-index l.given))
+invariant-loop-item l = list_all (may_be_given names) (given_terms l.nodes l.given) ≡ list_all (may_be_given names)
+    (given_terms l.nodes (drop l.item-index l.given))

@@ -5,6 +5,8 @@ use Rattle.ot_rules.proofs.conditions.are_pairs.Goals as goal
 
 pub returns : goal.returns
 returns c =
-    let names = c.in_ok-names_differ.ensures ∙ distinct-names c.args.nodes.now c.primitives.ensures.once c.args.constants.now c.requires.constants in
-    let vars = c.in_ok-vars_differ.ensures ∙ distinct-variables c.args.nodes.now c.primitives.ensures.once c.args.vars.now c.requires.vars in
+    let names = c.in_ok-names_differ.ensures
+    ∙ distinct-names c.args.nodes.now c.primitives.ensures.once c.args.constants.now c.requires.constants in
+    let vars = c.in_ok-vars_differ.ensures
+    ∙ distinct-variables c.args.nodes.now c.primitives.ensures.once c.args.vars.now c.requires.vars in
     λ i. names i && vars i && (length c.args.hyps.now == length c.args.vars.now)

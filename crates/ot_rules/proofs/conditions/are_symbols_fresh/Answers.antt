@@ -11,4 +11,5 @@ pub returns : goal.returns
 returns c = λ dl sig.
     let ts = c.args.nodes.now in
     let q = sequent_at ts c.args.premise.now in
-    c.in_ok-fresh.ensures dl (symbols_of names q) sig (symbols-in_sequent ts q c.in_ok-parts.parts c.in_ok-parts.ensures)
+    c.in_ok-fresh.ensures dl (symbols_of names q) sig
+    (symbols-in_sequent ts q c.in_ok-parts.parts c.in_ok-parts.ensures)

@@ -12,4 +12,6 @@ returns-in-Free c =
     let ts = c.args.nodes.now in
     let parts = subst (HasTermParts ts) c.in-Free.is c.term_node.ensures.parts in
     let tree = c.term_node.ensures.tree ∙ ap (term_tree ts) c.in-Free.is in
-    c.eq.ensures ∙ sym (same-variables ts c.term_node.ensures.once c.in-Free.other c.args.variable.now parts c.requires.variable) ∙ sym (ap (λ t. same_tm names t (Free (variable_at ts c.args.variable.now))) tree)
+    c.eq.ensures
+    ∙ sym (same-variables ts c.term_node.ensures.once c.in-Free.other c.args.variable.now parts
+    c.requires.variable) ∙ sym (ap (λ t. same_tm names t (Free (variable_at ts c.args.variable.now))) tree)

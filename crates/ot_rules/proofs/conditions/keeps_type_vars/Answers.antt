@@ -8,4 +8,5 @@ use Rattle.ot_rules.proofs.conditions.keeps_type_vars.Goals as goal
 pub returns : goal.returns
 returns c = λ t of is.
     c.are_kept_vars.ensures ∙ ap (list_all (is_kept_var c.in_ok-own.own.marks.keys)) c.as_slice.ensures.keys
-    ∙ kept-marks c.args.nodes.now c.primitives.ensures.once c.in_ok-own.own c.args.parts.now t (type_at c.args.nodes.now c.args.ty) c.in_ok-own.ensures of is
+    ∙ kept-marks c.args.nodes.now c.primitives.ensures.once c.in_ok-own.own c.args.parts.now t
+    (type_at c.args.nodes.now c.args.ty) c.in_ok-own.ensures of is

@@ -11,7 +11,8 @@ use Rattle.ot_rules.proofs.Checked.{passes-const}
 use Rattle.ot_rules.proofs.conditions.may_be_constant.Goals as goal
 
 pub may_define-requires-clause-symbols : goal.may_define-requires-clause-symbols
-may_define-requires-clause-symbols c = All-cons (IsSymbolMark c.args.nodes.now) (mark.Constant c.args.name) [] c.requires.name (All-nil (IsSymbolMark c.args.nodes.now))
+may_define-requires-clause-symbols c = All-cons (IsSymbolMark c.args.nodes.now) (mark.Constant c.args.name) []
+    c.requires.name (All-nil (IsSymbolMark c.args.nodes.now))
 
 pub may_define-requires-clause-premise : goal.may_define-requires-clause-premise
 may_define-requires-clause-premise c = c.in_ok-premise.ensures.has
@@ -22,5 +23,7 @@ returns c = λ dl sig.
     let t = term_at ts c.args.term in
     let fresh = c.in_ok-fresh.ensures dl _ sig (symbols-in ts t c.in_ok-premise.premise c.in_ok-premise.ensures) in
     let closed = c.is_closed_but-closed.ensures t c.in_ok-premise.ensures in
-    let kept = c.in_ok-kept.ensures t c.in_ok-premise.ensures (type_of-is names t (type_at ts c.args.ty) c.requires.typed) in
-    (λ i. fresh i && (closed i && kept i)) ∙ sym (passes-const (all_defined names dl) (all_used names dl) (name_at ts c.args.name) t)
+    let kept =
+    c.in_ok-kept.ensures t c.in_ok-premise.ensures (type_of-is names t (type_at ts c.args.ty) c.requires.typed) in
+    (λ i. fresh i && (closed i && kept i))
+    ∙ sym (passes-const (all_defined names dl) (all_used names dl) (name_at ts c.args.name) t)

@@ -11,7 +11,9 @@ use Rattle.ot_rules.proofs.conditions.only_given.Goals.{in-Some+else-is_some, in
 pub returns-then-is_some-clause-given : goal.returns-then-is_some-clause-given
 returns-then-is_some-clause-given c =
     let ts = c.args.nodes.now in
-    sym (given-twice ts (variable_at ts c.args.variable.now) c.args.hyps.now c.loop-hyp.hyp-index c.hyp-item.result c.loop-hyp-test.true c.hyp-item.is c.loop-hyp.found (given_term ts c.in-Some.term) (sym c.is_some.ensures ∙ c.if-is_some.true) c.loop-hyp.invariant.given c.in-Some.ensures.given)
+    sym (given-twice ts (variable_at ts c.args.variable.now) c.args.hyps.now c.loop-hyp.hyp-index c.hyp-item.result
+    c.loop-hyp-test.true c.hyp-item.is c.loop-hyp.found (given_term ts c.in-Some.term)
+    (sym c.is_some.ensures ∙ c.if-is_some.true) c.loop-hyp.invariant.given c.in-Some.ensures.given)
 
 pub loop-hyp-preserved : goal.loop-hyp-preserved
 loop-hyp-preserved c =
@@ -20,13 +22,16 @@ loop-hyp-preserved c =
     elim c.match-given_by.branch [
       | in-Some+else-is_some w ↦ record {
         given =
-            given-first ts v c.args.hyps.now c.loop-hyp.hyp-index c.hyp-item.result c.loop-hyp-test.true c.hyp-item.is c.loop-hyp.found (given_term ts w.in-Some.term) (sym w.is_some.ensures ∙ w.if-is_some.false) c.loop-hyp.invariant.given w.in-Some.ensures.given
+            given-first ts v c.args.hyps.now c.loop-hyp.hyp-index c.hyp-item.result c.loop-hyp-test.true c.hyp-item.is
+            c.loop-hyp.found (given_term ts w.in-Some.term) (sym w.is_some.ensures ∙ w.if-is_some.false)
+            c.loop-hyp.invariant.given w.in-Some.ensures.given
             ∙ ap (λ (o : Option Given). listed (option_map (given_term ts) o)) (sym w.found-is);
         typed = subst (λ (o : Option Given). IfSome o (IsGivenTerm ts)) (sym w.found-is) w.in-Some.ensures.typed;
       }
       | in_default w ↦ record {
         given =
-            given-none ts v c.args.hyps.now c.loop-hyp.hyp-index c.hyp-item.result c.loop-hyp-test.true c.hyp-item.is c.loop-hyp.found c.loop-hyp.invariant.given w.in_default.ensures.given
+            given-none ts v c.args.hyps.now c.loop-hyp.hyp-index c.hyp-item.result c.loop-hyp-test.true c.hyp-item.is
+            c.loop-hyp.found c.loop-hyp.invariant.given w.in_default.ensures.given
             ∙ ap (λ (o : Option Given). listed (option_map (given_term ts) o)) (sym w.found-is);
         typed = subst (λ (o : Option Given). IfSome o (IsGivenTerm ts)) (sym w.found-is) c.loop-hyp.invariant.typed;
       }

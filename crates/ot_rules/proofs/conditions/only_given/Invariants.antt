@@ -10,6 +10,7 @@ use Rattle.ot_rules.proofs.conditions.only_given.Given as goal
 
 abbrev pub invariant-loop-hyp : goal.invariant-loop-hyp
 invariant-loop-hyp l = record {
-  given : given names (terms_at l.nodes (take l.hyp-index l.hyps)) (variable_at l.nodes l.variable) ≡ listed (option_map (given_term l.nodes) l.found);
+  given : given names (terms_at l.nodes (take l.hyp-index l.hyps)) (variable_at l.nodes l.variable)
+      ≡ listed (option_map (given_term l.nodes) l.found);
   typed : IfSome l.found (IsGivenTerm l.nodes);
 }

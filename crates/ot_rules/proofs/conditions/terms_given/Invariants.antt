@@ -10,6 +10,8 @@ use Rattle.ot_rules.proofs.conditions.terms_given.Given as goal
 
 abbrev pub invariant-loop-variable : goal.invariant-loop-variable
 invariant-loop-variable l = record {
-  given : terms_given names (terms_at l.nodes l.hyps) (map (variable_at l.nodes) l.vars) ≡ option_map (λ ts. given_terms l.nodes l.given.items ++ ts) (terms_given names (terms_at l.nodes l.hyps) (map (variable_at l.nodes) (drop l.variable-index l.vars)));
+  given : terms_given names (terms_at l.nodes l.hyps) (map (variable_at l.nodes) l.vars)
+      ≡ option_map (λ ts. given_terms l.nodes l.given.items ++ ts)
+      (terms_given names (terms_at l.nodes l.hyps) (map (variable_at l.nodes) (drop l.variable-index l.vars)));
   typed : All (IsGivenTerm l.nodes) l.given.items;
 }

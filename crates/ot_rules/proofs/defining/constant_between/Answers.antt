@@ -11,4 +11,5 @@ returns-clause-ok c =
     let us = c.fun.new.self in
     let name = name-stays c.args.nodes.now us c.in_ok-ty.ensures.extends c.args.name c.requires.name in
     let ty = type-is us c.in_ok-ty.ty _ c.in_ok-ty.ensures.ok in
-    subst (λ (t : Tm Name). IfOk c.constant.result (λ r. IsTerm c.constant.new.self r t)) (λ i. Con (name i) (ty i)) c.constant.ensures.ok
+    subst (λ (t : Tm Name). IfOk c.constant.result (λ r. IsTerm c.constant.new.self r t)) (λ i. Con (name i) (ty i))
+    c.constant.ensures.ok

@@ -12,7 +12,9 @@ use Rattle.ot_rules.proofs.defining.taken_back.Goals as goal
 
 pub abs-requires-clause-ty : goal.abs-requires-clause-ty
 abs-requires-clause-ty c =
-    still-type c.args.nodes.now c.equation.new.self (Extends-trans (Extends-trans (Extends-trans c.in_ok-place.ensures.extends c.in_ok-inside.ensures.extends) c.in_ok-again.ensures.extends) c.in_ok-same.ensures.extends) c.args.old c.requires.old
+    still-type c.args.nodes.now c.equation.new.self
+    (Extends-trans (Extends-trans (Extends-trans c.in_ok-place.ensures.extends c.in_ok-inside.ensures.extends)
+    c.in_ok-again.ensures.extends) c.in_ok-same.ensures.extends) c.args.old c.requires.old
 
 pub abs-requires-clause-body : goal.abs-requires-clause-body
 abs-requires-clause-body c = has-term c.equation.new.self c.in_ok-same.same _ c.in_ok-same.ensures.ok
@@ -30,10 +32,13 @@ returns-clause-ok c =
     let h = c.in_ok-same.ensures.extends in
     let to = term-stays ts us e c.args.abs c.requires.abs in
     let from = term-stays ts vs (Extends-trans e f) c.args.rep c.requires.rep in
-    let inside = term-is vs c.in_ok-inside.inside _ c.in_ok-inside.ensures.ok ∙ (λ i. App (to i) (term-is us c.in_ok-place.place _ c.in_ok-place.ensures.ok i)) in
+    let inside = term-is vs c.in_ok-inside.inside _ c.in_ok-inside.ensures.ok
+    ∙ (λ i. App (to i) (term-is us c.in_ok-place.place _ c.in_ok-place.ensures.ok i)) in
     let again = term-is ws c.in_ok-again.again _ c.in_ok-again.ensures.ok ∙ (λ i. App (from i) (inside i)) in
     let place = later-term us ws (Extends-trans f g) c.in_ok-place.place _ c.in_ok-place.ensures.ok in
     let old = type-stays ts ws (Extends-trans (Extends-trans e f) g) c.args.old c.requires.old in
-    let same = term-is xs c.in_ok-same.same _ c.in_ok-same.ensures.ok ∙ (λ i. equation names (old i) (again i) (place i)) in
+    let same = term-is xs c.in_ok-same.same _ c.in_ok-same.ensures.ok
+    ∙ (λ i. equation names (old i) (again i) (place i)) in
     let ty = type-stays ts xs (Extends-trans (Extends-trans (Extends-trans e f) g) h) c.args.old c.requires.old in
-    subst (λ (t : Tm Name). IfOk c.abs.result (λ r. IsTerm c.abs.new.self r t)) (λ i. Abs (ty i) (same i)) c.abs.ensures.ok
+    subst (λ (t : Tm Name). IfOk c.abs.result (λ r. IsTerm c.abs.new.self r t)) (λ i. Abs (ty i) (same i))
+    c.abs.ensures.ok

@@ -18,8 +18,13 @@ returns-then-not-all_pass-clause-gives c =
     let p = term_at ts c.args.concl in
     let hyps = terms_at ts c.args.hyps.now in
     let first = sym c.in_ok-passes.ensures.ok ∙ c.if-not-passes.false in
-    let rest = sym (c.in_ok-all_pass.ensures.ok ∙ ap (list_all (is_proposition names)) (terms-stay ts c.is_proposition.new.nodes c.in_ok-passes.ensures.extends c.args.hyps.now c.requires.hyps)) ∙ c.if-not-all_pass.true in
-    refused (is_proposition names p && list_all (is_proposition names) hyps) (λ _. Ok (record { hyps = once_each names hyps; concl = p })) (λ i. first i && rest i)
+    let rest =
+    sym (c.in_ok-all_pass.ensures.ok
+    ∙ ap (list_all (is_proposition names))
+    (terms-stay ts c.is_proposition.new.nodes c.in_ok-passes.ensures.extends c.args.hyps.now c.requires.hyps))
+    ∙ c.if-not-all_pass.true in
+    refused (is_proposition names p && list_all (is_proposition names) hyps)
+    (λ _. Ok (record { hyps = once_each names hyps; concl = p })) (λ i. first i && rest i)
 
 pub returns-clause-gives : goal.returns-clause-gives
 returns-clause-gives c =
@@ -30,10 +35,20 @@ returns-clause-gives c =
     let ids = c.args.hyps.now in
     let hyps = terms_at ts ids in
     let first = sym c.in_ok-passes.ensures.ok ∙ c.if-not-passes.false in
-    let rest = sym (c.in_ok-all_pass.ensures.ok ∙ ap (list_all (is_proposition names)) (terms-stay ts c.is_proposition.new.nodes c.in_ok-passes.ensures.extends ids c.requires.hyps)) ∙ c.if-not-all_pass.false in
+    let rest =
+    sym (c.in_ok-all_pass.ensures.ok
+    ∙ ap (list_all (is_proposition names))
+    (terms-stay ts c.is_proposition.new.nodes c.in_ok-passes.ensures.extends ids c.requires.hyps))
+    ∙ c.if-not-all_pass.false in
     let has = still-terms ts us e ids c.requires.hyps in
-    let all = ap (terms_at us) c.in_ok-hyps.ensures ∙ once-numbers us c.primitives.ensures.once ids has ∙ ap (once_each names) (terms-stay ts us e ids c.requires.hyps) in
+    let all = ap (terms_at us) c.in_ok-hyps.ensures ∙ once-numbers us c.primitives.ensures.once ids has
+    ∙ ap (once_each names) (terms-stay ts us e ids c.requires.hyps) in
     let concl = term-stays ts us e c.args.concl c.requires.concl in (
-      record { hyps = subst (All (HasTerm us)) (sym c.in_ok-hyps.ensures) (has-once (HasTerm us) ids has); concl = still-term ts us e c.args.concl c.requires.concl },
-      passed (is_proposition names p && list_all (is_proposition names) hyps) (λ _. Ok (record { hyps = once_each names hyps; concl = p })) (λ i. first i && rest i) ∙ (λ i. Ok (record { hyps = sym all i; concl = sym concl i })),
+      record {
+        hyps = subst (All (HasTerm us)) (sym c.in_ok-hyps.ensures) (has-once (HasTerm us) ids has);
+        concl = still-term ts us e c.args.concl c.requires.concl;
+      },
+      passed (is_proposition names p && list_all (is_proposition names) hyps)
+          (λ _. Ok (record { hyps = once_each names hyps; concl = p })) (λ i. first i && rest i)
+          ∙ (λ i. Ok (record { hyps = sym all i; concl = sym concl i })),
     )

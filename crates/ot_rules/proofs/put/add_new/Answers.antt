@@ -12,4 +12,5 @@ pub returns : goal.returns
 returns g c =
     let es = c.args.first.now.entries in
     let none = sym c.contains_key.ensures ∙ c.if-contains_key.false in
-    c.in_ok-insert.ensures.entries ∙ absent-insert g.K.PartialEq.eq es c.args.pair.0 c.args.pair.1 none ∙ sym (ap (λ b. if b then es else es ++ c.args.pair ∷ []) none)
+    c.in_ok-insert.ensures.entries ∙ absent-insert g.K.PartialEq.eq es c.args.pair.0 c.args.pair.1 none
+    ∙ sym (ap (λ b. if b then es else es ++ c.args.pair ∷ []) none)

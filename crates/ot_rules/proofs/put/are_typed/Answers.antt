@@ -19,7 +19,8 @@ is_typed-requires-clause-variable c =
     let ts = c.args.nodes.now in
     let p : VariableNode × ℕ = (c.in-Some.variable.now, c.in-Some.term.now) in
     let at = entry-at c.args.terms.now.entries c.loop-i.i p c.in-Some.ensures.entry in
-    let here = subst (λ (q : VariableNode × ℕ). HasVariable ts q.0 × HasTerm ts q.1) (sym at.1) (c.requires.terms c.loop-i.i p at.0) in
+    let here = subst (λ (q : VariableNode × ℕ). HasVariable ts q.0 × HasTerm ts q.1) (sym at.1)
+    (c.requires.terms c.loop-i.i p at.0) in
     still-variable ts c.loop-i.nodes c.loop-i.invariant.extends c.in-Some.variable.now here.0
 
 pub is_typed-requires-clause-term : goal.is_typed-requires-clause-term
@@ -27,7 +28,8 @@ is_typed-requires-clause-term c =
     let ts = c.args.nodes.now in
     let p : VariableNode × ℕ = (c.in-Some.variable.now, c.in-Some.term.now) in
     let at = entry-at c.args.terms.now.entries c.loop-i.i p c.in-Some.ensures.entry in
-    let here = subst (λ (q : VariableNode × ℕ). HasVariable ts q.0 × HasTerm ts q.1) (sym at.1) (c.requires.terms c.loop-i.i p at.0) in
+    let here = subst (λ (q : VariableNode × ℕ). HasVariable ts q.0 × HasTerm ts q.1) (sym at.1)
+    (c.requires.terms c.loop-i.i p at.0) in
     still-term ts c.loop-i.nodes c.loop-i.invariant.extends c.in-Some.term.now here.1
 
 pub returns-then-not-typed-clause-ok : goal.returns-then-not-typed-clause-ok
@@ -37,13 +39,15 @@ returns-then-not-typed-clause-ok c =
     let es = c.args.terms.now.entries in
     let p : VariableNode × ℕ = (c.in-Some.variable.now, c.in-Some.term.now) in
     let at = entry-at es c.loop-i.i p c.in-Some.ensures.entry in
-    let here = subst (λ (q : VariableNode × ℕ). HasVariable ts q.0 × HasTerm ts q.1) (sym at.1) (c.requires.terms c.loop-i.i p at.0) in
+    let here = subst (λ (q : VariableNode × ℕ). HasVariable ts q.0 × HasTerm ts q.1) (sym at.1)
+    (c.requires.terms c.loop-i.i p at.0) in
     let term = term-stays ts us c.loop-i.invariant.extends p.1 here.1 in
     let ty = type-stays ts us c.loop-i.invariant.extends p.0.ty here.0.1 in
     let test = c.in_ok-typed.ensures.ok ∙ (λ j. has_type names (term j) (ty j)) in
     let fits : Variable Name × Tm Name → Bool = λ q. has_type names q.1 q.0.ty in
     let rest = list_all fits (term_map ts (drop (c.loop-i.i + 1) es)) in
-    sym (c.loop-i.invariant.all ∙ all-next_map fits (λ (q : VariableNode × ℕ). (variable_at ts q.0, term_at ts q.1)) es c.loop-i.i p c.in_ok-typed.typed at.0 at.1 test ∙ ap (λ b. b && rest) c.if-not-typed.true)
+    sym (c.loop-i.invariant.all ∙ all-next_map fits (λ (q : VariableNode × ℕ). (variable_at ts q.0, term_at ts q.1))
+    es c.loop-i.i p c.in_ok-typed.typed at.0 at.1 test ∙ ap (λ b. b && rest) c.if-not-typed.true)
 
 pub loop-i-preserved : goal.loop-i-preserved
 loop-i-preserved c =
@@ -52,7 +56,8 @@ loop-i-preserved c =
     let es = c.args.terms.now.entries in
     let p : VariableNode × ℕ = (c.in-Some.variable.now, c.in-Some.term.now) in
     let at = entry-at es c.loop-i.i p c.in-Some.ensures.entry in
-    let here = subst (λ (q : VariableNode × ℕ). HasVariable ts q.0 × HasTerm ts q.1) (sym at.1) (c.requires.terms c.loop-i.i p at.0) in
+    let here = subst (λ (q : VariableNode × ℕ). HasVariable ts q.0 × HasTerm ts q.1) (sym at.1)
+    (c.requires.terms c.loop-i.i p at.0) in
     let term = term-stays ts us c.loop-i.invariant.extends p.1 here.1 in
     let ty = type-stays ts us c.loop-i.invariant.extends p.0.ty here.0.1 in
     let test = c.in_ok-typed.ensures.ok ∙ (λ j. has_type names (term j) (ty j)) in
@@ -61,5 +66,7 @@ loop-i-preserved c =
     record {
       extends = Extends-trans c.loop-i.invariant.extends c.in_ok-typed.ensures.extends;
       known = c.in_ok-typed.ensures.known;
-      all = c.loop-i.invariant.all ∙ all-next_map fits (λ (q : VariableNode × ℕ). (variable_at ts q.0, term_at ts q.1)) es c.loop-i.i p c.in_ok-typed.typed at.0 at.1 test ∙ ap (λ b. b && rest) c.if-not-typed.false;
+      all = c.loop-i.invariant.all
+          ∙ all-next_map fits (λ (q : VariableNode × ℕ). (variable_at ts q.0, term_at ts q.1)) es c.loop-i.i p
+          c.in_ok-typed.typed at.0 at.1 test ∙ ap (λ b. b && rest) c.if-not-typed.false;
     }

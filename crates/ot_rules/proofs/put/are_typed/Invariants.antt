@@ -11,5 +11,6 @@ abbrev pub invariant-loop-i : goal.invariant-loop-i
 invariant-loop-i l = record {
   extends : Extends l.fn.nodes l.nodes;
   known : AreTypings l.nodes l.typings.known.entries;
-  all : list_all (λ p. has_type names p.1 p.0.ty) (term_map l.fn.nodes l.terms.entries) ≡ list_all (λ p. has_type names p.1 p.0.ty) (term_map l.fn.nodes (drop l.i l.terms.entries));
+  all : list_all (λ p. has_type names p.1 p.0.ty) (term_map l.fn.nodes l.terms.entries)
+      ≡ list_all (λ p. has_type names p.1 p.0.ty) (term_map l.fn.nodes (drop l.i l.terms.entries));
 }

@@ -12,5 +12,6 @@ invariant-loop-id l = record {
   change : HasChange l.nodes l.change;
   done : IsDone l.nodes (changing l.nodes l.change) l.done;
   has : All (HasTerm l.nodes) l.all.items;
-  all : terms_at l.nodes l.all.items ≡ map (changed (changing l.fn.nodes l.change) 0) (terms_at l.fn.nodes (take l.id-index l.ids));
+  all : terms_at l.nodes l.all.items ≡ map (changed (changing l.fn.nodes l.change) 0)
+      (terms_at l.fn.nodes (take l.id-index l.ids));
 }

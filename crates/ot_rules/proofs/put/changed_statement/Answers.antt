@@ -30,14 +30,17 @@ returns-clause-ok c =
       };
       hyps = ap (terms_at vs) once ∙ terms-stay us vs f (once_of ids) kept
           ∙ once-numbers us c.primitives.ensures.once ids c.in_ok-changed.ensures.has
-          ∙ ap (once_each names) (c.in_ok-changed.ensures.ok ∙ ap (λ l. map (changed (changing ts made) 0) (terms_at ts l)) c.deref.ensures.value);
+          ∙ ap (once_each names) (c.in_ok-changed.ensures.ok
+          ∙ ap (λ l. map (changed (changing ts made) 0) (terms_at ts l)) c.deref.ensures.value);
       concl = term-is vs c.in_ok-concl.concl _ c.in_ok-concl.ensures.ok
-          ∙ (λ i. changed (changing-stays ts us e made c.requires.change i) 0 (term-stays ts us e c.args.a.now.concl c.requires.a.concl i));
+          ∙ (λ i. changed (changing-stays ts us e made c.requires.change i) 0
+          (term-stays ts us e c.args.a.now.concl c.requires.a.concl i));
     }
 
 pub change-requires-clause-id : goal.change-requires-clause-id
 change-requires-clause-id c =
-    still-term c.args.nodes.now c.change_each.new.nodes c.in_ok-changed.ensures.extends c.args.a.now.concl c.requires.a.concl
+    still-term c.args.nodes.now c.change_each.new.nodes c.in_ok-changed.ensures.extends c.args.a.now.concl
+    c.requires.a.concl
 
 pub returns-in_err-concl-clause-extends : goal.returns-in_err-concl-clause-extends
 returns-in_err-concl-clause-extends c = Extends-trans c.change_each.ensures.extends c.change.ensures.extends

@@ -17,5 +17,8 @@ returns-in-Some-clause-ok c =
     let a = type_at us c.in-Some.typed.ty in
     let ty = c.args.variable.ty in
     let typing = subst (IsTyping us [] t) c.in-Some.is c.in_ok-typing.ensures.ok in
-    c.eq.ensures ∙ sym (same-types us c.primitives.ensures.once c.in-Some.typed.ty ty typing.number (still-type ts us e ty c.requires.variable.1))
-    ∙ ap (same_ty names a) (type-stays ts us e ty c.requires.variable.1) ∙ sym (has_type-same t a (type_at ts ty) typing.type)
+    c.eq.ensures
+    ∙ sym (same-types us c.primitives.ensures.once c.in-Some.typed.ty ty typing.number
+    (still-type ts us e ty c.requires.variable.1))
+    ∙ ap (same_ty names a) (type-stays ts us e ty c.requires.variable.1)
+    ∙ sym (has_type-same t a (type_at ts ty) typing.type)

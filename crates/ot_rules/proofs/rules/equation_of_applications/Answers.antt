@@ -22,4 +22,5 @@ returns-clause-ok c =
     let argument = term-stays ts us e c.args.arguments.right c.requires.arguments.right in
     let right = term-is vs c.in_ok-right.right _ c.in_ok-right.ensures.ok ∙ (λ i. App (function i) (argument i)) in
     let ty = type-stays ts vs (Extends-trans e f) c.args.ty c.requires.ty in
-    subst (λ (t : Tm Name). IfOk c.equation.result (λ r. IsTerm c.equation.new.self r t)) (λ i. equation names (ty i) (left i) (right i)) c.equation.ensures.ok
+    subst (λ (t : Tm Name). IfOk c.equation.result (λ r. IsTerm c.equation.new.self r t))
+    (λ i. equation names (ty i) (left i) (right i)) c.equation.ensures.ok

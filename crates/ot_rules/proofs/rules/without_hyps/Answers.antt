@@ -5,4 +5,9 @@ use Rattle.ot_nodes.specs.Items.{HasTerm}
 use Rattle.ot_rules.proofs.rules.without_hyps.Goals as goal
 
 pub returns-clause-has : goal.returns-clause-has
-returns-clause-has c = record { hyps = subst (All (HasTerm c.args.nodes.now)) (sym c.new.ensures.items) (All-nil (HasTerm c.args.nodes.now)); concl = c.requires }
+returns-clause-has c =
+    record {
+      hyps = subst (All (HasTerm c.args.nodes.now)) (sym c.new.ensures.items)
+          (All-nil (HasTerm c.args.nodes.now));
+      concl = c.requires;
+    }

@@ -7,4 +7,5 @@ returns-in-Err-clause-err g c =
     let kept = all-kept g.T.PartialEq.eq c.args.set.now.keys (take c.loop-item.item-index c.args.items.now) in
     let same : c.insert.new.self.keys ≡ c.loop-item.set.keys = search rules in
     let long : c.len-before.result ≡ length c.args.set.now.keys = c.len-before.ensures.len in
-    c.truncate.ensures.keys ∙ ap (λ n. take n c.insert.new.self.keys) long ∙ ap (take (length c.args.set.now.keys)) (same ∙ c.loop-item.invariant) ∙ kept
+    c.truncate.ensures.keys ∙ ap (λ n. take n c.insert.new.self.keys) long
+    ∙ ap (take (length c.args.set.now.keys)) (same ∙ c.loop-item.invariant) ∙ kept

@@ -13,4 +13,6 @@ returns c =
     let ts = c.args.nodes.now in
     let ms = marks_premise (definition_at ts c.args.definition.now) in
     let ns = marks_sequents (map (sequent_at ts) c.args.made.now) in
-    gathered ts (ms ++ ns) c.new-occurring.result c.add_statements.new.self c.new-occurring.ensures.none (gathers-then ts ms ns c.new-occurring.result c.add_premise.new.parts c.add_statements.new.self c.in_ok-add_premise.ensures c.in_ok-add_statements.ensures)
+    gathered ts (ms ++ ns) c.new-occurring.result c.add_statements.new.self c.new-occurring.ensures.none
+    (gathers-then ts ms ns c.new-occurring.result c.add_premise.new.parts c.add_statements.new.self
+    c.in_ok-add_premise.ensures c.in_ok-add_statements.ensures)

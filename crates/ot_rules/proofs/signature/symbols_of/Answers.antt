@@ -14,10 +14,18 @@ use Rattle.ot_rules.proofs.signature.symbols_of.Goals as goal
 pub returns-in-Constants-clause-are : goal.returns-in-Constants-clause-are
 returns-in-Constants-clause-are c =
     let ts = c.args.nodes.now in
-    IfOk-weaker c.constant_marks.result _ _ (λ v e. ap (map (symbol_of ts)) (e ∙ ap (map (λ (p : ℕ × VariableNode). mark.Constant p.0)) c.deref.ensures.value) ∙ constants-are ts c.in-Constants.pairs.items ∙ sym (ap (λ (d : Definition). defined names (definition_at ts d)) c.in-Constants.is)) c.constant_marks.ensures
+    IfOk-weaker c.constant_marks.result _ _
+    (λ v e. ap (map (symbol_of ts))
+    (e ∙ ap (map (λ (p : ℕ × VariableNode). mark.Constant p.0)) c.deref.ensures.value)
+    ∙ constants-are ts c.in-Constants.pairs.items
+    ∙ sym (ap (λ (d : Definition). defined names (definition_at ts d)) c.in-Constants.is))
+    c.constant_marks.ensures
 
 pub returns-in-Constants-clause-marks : goal.returns-in-Constants-clause-marks
 returns-in-Constants-clause-marks c =
     let ts = c.args.nodes.now in
     let has = subst (HasDefinition ts) c.in-Constants.is c.requires in
-    IfOk-weaker c.constant_marks.result _ _ (λ v e. subst (All (IsSymbolMark ts)) (sym (e ∙ ap (map (λ (p : ℕ × VariableNode). mark.Constant p.0)) c.deref.ensures.value)) (constants-marked ts c.in-Constants.pairs.items has.0)) c.constant_marks.ensures
+    IfOk-weaker c.constant_marks.result _ _
+    (λ v e. subst (All (IsSymbolMark ts))
+    (sym (e ∙ ap (map (λ (p : ℕ × VariableNode). mark.Constant p.0)) c.deref.ensures.value))
+    (constants-marked ts c.in-Constants.pairs.items has.0)) c.constant_marks.ensures

@@ -5,4 +5,9 @@ use Rattle.ot_rules.proofs.statement.once_each.Goals as goal
 
 pub loop-i-preserved : goal.loop-i-preserved
 loop-i-preserved c =
-    grind (arith, common_steps, once-next c.args.g.now c.loop-i.i c.index-g-i.result c.contains.result c.loop-i-test.true c.index-g-i.is c.contains.ensures.value)
+    grind (
+      arith,
+      common_steps,
+      once-next c.args.g.now c.loop-i.i c.index-g-i.result c.contains.result
+          c.loop-i-test.true c.index-g-i.is c.contains.ensures.value,
+    )

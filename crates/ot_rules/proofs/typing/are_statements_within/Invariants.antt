@@ -11,5 +11,6 @@ abbrev pub invariant-loop-statement : goal.invariant-loop-statement
 invariant-loop-statement l = record {
   extends : Extends l.fn.nodes l.nodes;
   known : AreTypings l.nodes l.typings.known.entries;
-  all : list_all (is_sequent_within names) (map (sequent_at l.fn.nodes) l.statements) ≡ list_all (is_sequent_within names) (map (sequent_at l.fn.nodes) (drop l.statement-index l.statements));
+  all : list_all (is_sequent_within names) (map (sequent_at l.fn.nodes) l.statements)
+      ≡ list_all (is_sequent_within names) (map (sequent_at l.fn.nodes) (drop l.statement-index l.statements));
 }

@@ -11,5 +11,6 @@ abbrev pub invariant-loop-id : goal.invariant-loop-id
 invariant-loop-id l = record {
   extends : Extends l.fn.nodes l.nodes;
   known : AreTypings l.nodes l.typings.known.entries;
-  all : list_all (is_within names) (terms_at l.fn.nodes l.ids) ≡ list_all (is_within names) (terms_at l.fn.nodes (drop l.id-index l.ids));
+  all : list_all (is_within names) (terms_at l.fn.nodes l.ids)
+      ≡ list_all (is_within names) (terms_at l.fn.nodes (drop l.id-index l.ids));
 }

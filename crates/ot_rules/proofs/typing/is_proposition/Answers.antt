@@ -14,4 +14,5 @@ returns-in-Some-clause-ok c =
     let t = term_at c.args.nodes.now c.args.id in
     let a = type_at us c.in-Some.typed.ty in
     let typing = subst (IsTyping us [] t) c.in-Some.is c.in_ok-typing.ensures.ok in
-    one-answer c.is_boolean.result (same_ty names a (bool_ty names)) c.is_boolean.ensures (same_ty-is names tells_names a (bool_ty names)) ∙ sym (has_type-same t a (bool_ty names) typing.type)
+    one-answer c.is_boolean.result (same_ty names a (bool_ty names)) c.is_boolean.ensures
+    (same_ty-is names tells_names a (bool_ty names)) ∙ sym (has_type-same t a (bool_ty names) typing.type)

@@ -14,7 +14,9 @@ returns-in_default-as_equation-clause-made c =
     c.in_default-as_equation.ensures k
 
 pub returns-clause-made : goal.returns-clause-made
-returns-clause-made c = λ r k. trans-made c.args.nodes.now c.outer_sides.new.nodes c.primitives.ensures.once c.args.lower.now
+returns-clause-made c = λ r k. trans-made c.args.nodes.now c.outer_sides.new.nodes c.primitives.ensures.once
+    c.args.lower.now
     c.args.top.now _ c.in-Some.e c.in-Some-as_equation.f r c.in_ok-concl.ensures.extends
     c.requires.lower c.requires.top c.in-Some.ensures c.in-Some-as_equation.ensures
-    (c.in_ok-hyps.ensures ∙ (λ i. joined (c.deref.ensures.value i) (c.deref-2.ensures.value i))) c.in_ok-concl.ensures.ok k
+    (c.in_ok-hyps.ensures ∙ (λ i. joined (c.deref.ensures.value i) (c.deref-2.ensures.value i)))
+    c.in_ok-concl.ensures.ok k

@@ -18,4 +18,5 @@ returns-clause-adds c =
     trans-adds ts us _ _ _ _ (type_at ts c.args.sides.ty) (term_at ts c.args.sides.left) c.args.first c.args.second
     c.in_ok-same.same c.in_ok-both.both c.in_ok-number.number
     (Extends-trans c.in_ok-equals.ensures.extends c.in_ok-half.ensures.extends)
-    (adds-as us _ _ words.Refl _ _ _ half c.in_ok-same.ensures.adds) c.in_ok-both.ensures.adds c.in_ok-number.ensures.adds
+    (adds-as us _ _ words.Refl _ _ _ half c.in_ok-same.ensures.adds) c.in_ok-both.ensures.adds
+    c.in_ok-number.ensures.adds

@@ -12,26 +12,47 @@ pub returns-then-branch-clause-ok : goal.returns-then-branch-clause-ok
 returns-then-branch-clause-ok g c =
     let x = c.x-item.result in
     let t = g.N.Nodes.table c.args.terms.now in
-    let m = subst (λ (z : VarKey). IsMember z c.args.xs.now) (sym c.x-item.is) (IsMember-get_or c.args.xs.now c.loop-x.x-index x c.loop-x-test.true) in
-    let inside = All-member (λ (z : VarKey). z.ty < length t.types) c.args.xs.now c.requires.variables x m in
-    (x, m, coincides-before t (g.N.Nodes.table c.loop-x.terms) c.loop-x.invariant.grows c.args.subst.now c.requires.pairs c.args.v.now c.args.w.now x c.requires.binder inside (c.in_ok-coincides.ensures.ok.0 c.if-branch.true))
+    let m = subst (λ (z : VarKey). IsMember z c.args.xs.now) (sym c.x-item.is)
+    (IsMember-get_or c.args.xs.now c.loop-x.x-index x c.loop-x-test.true) in
+    let inside = All-member (λ (z : VarKey). z.ty < length t.types) c.args.xs.now c.requires.variables x m in (
+      x,
+      m,
+      coincides-before t (g.N.Nodes.table c.loop-x.terms) c.loop-x.invariant.grows c.args.subst.now
+          c.requires.pairs c.args.v.now c.args.w.now x c.requires.binder inside
+          (c.in_ok-coincides.ensures.ok.0 c.if-branch.true),
+    )
 
 pub loop-x-preserved : goal.loop-x-preserved
 loop-x-preserved g c = record {
   grows = Grows-trans c.loop-x.invariant.grows c.in_ok-coincides.ensures.grows;
-  names = record { types = omega (arith, c.loop-x.invariant.names.types, c.in_ok-coincides.ensures.names.types); terms = omega (arith, c.loop-x.invariant.names.types, c.loop-x.invariant.names.terms, c.in_ok-coincides.ensures.names.terms) };
+  names = record {
+    types = omega (arith, c.loop-x.invariant.names.types, c.in_ok-coincides.ensures.names.types);
+    terms = omega (
+      arith,
+      c.loop-x.invariant.names.types,
+      c.loop-x.invariant.names.terms,
+      c.in_ok-coincides.ensures.names.terms,
+    );
+  };
   table = c.in_ok-coincides.ensures.table;
   missed = λ x m. elim (member-more x c.x-item.result c.args.xs.now c.loop-x.x-index c.loop-x-test.true c.x-item.is m) [
     | inl a ↦ c.loop-x.invariant.missed x a
-    | inr e ↦ subst (λ (z : VarKey). ¬ (Coincides (g.N.Nodes.table c.args.terms.now) c.args.subst.now c.args.v.now c.args.w.now z)) e (missed_now)
+    | inr e ↦
+        subst (λ (z : VarKey).
+        ¬ (Coincides (g.N.Nodes.table c.args.terms.now) c.args.subst.now c.args.v.now c.args.w.now z)) e (missed_now)
   ];
 }
   where
-    missed_now : ¬ (Coincides (g.N.Nodes.table c.args.terms.now) c.args.subst.now c.args.v.now c.args.w.now c.x-item.result)
+    missed_now : ¬
+        (Coincides (g.N.Nodes.table c.args.terms.now) c.args.subst.now c.args.v.now c.args.w.now c.x-item.result)
     missed_now h =
         let x = c.x-item.result in
         let t = g.N.Nodes.table c.args.terms.now in
-        let m = subst (λ (z : VarKey). IsMember z c.args.xs.now) (sym c.x-item.is) (IsMember-get_or c.args.xs.now c.loop-x.x-index x c.loop-x-test.true) in
+        let m = subst (λ (z : VarKey). IsMember z c.args.xs.now) (sym c.x-item.is)
+        (IsMember-get_or c.args.xs.now c.loop-x.x-index x c.loop-x-test.true) in
         let inside = All-member (λ (z : VarKey). z.ty < length t.types) c.args.xs.now c.requires.variables x m in
-        let hit = c.in_ok-coincides.ensures.ok.1 (coincides-later t (g.N.Nodes.table c.loop-x.terms) c.loop-x.invariant.grows c.args.subst.now c.requires.pairs c.args.v.now c.args.w.now x c.requires.binder inside h) in
+        let hit =
+        c.in_ok-coincides.ensures.ok.1
+        (coincides-later t (g.N.Nodes.table c.loop-x.terms) c.loop-x.invariant.grows c.args.subst.now
+        c.requires.pairs c.args.v.now c.args.w.now x c.requires.binder inside h) in
         true≢false (sym hit ∙ c.if-branch.false)

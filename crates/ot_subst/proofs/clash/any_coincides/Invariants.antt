@@ -10,5 +10,6 @@ invariant-loop-x g l = record {
   grows : Grows (g.N.Nodes.table l.fn.terms) (g.N.Nodes.table l.terms);
   names : NamesUpTo 0 (g.N.Nodes.table l.fn.terms) (g.N.Nodes.table l.terms);
   table : IsTermTable (g.N.Nodes.table l.terms);
-  missed : (x : VarKey) → IsMember x (take l.x-index l.xs) → ¬ (Coincides (g.N.Nodes.table l.fn.terms) l.subst l.v l.w x);
+  missed : (x : VarKey) → IsMember x (take l.x-index l.xs)
+      → ¬ (Coincides (g.N.Nodes.table l.fn.terms) l.subst l.v l.w x);
 }

@@ -8,29 +8,35 @@ use Rattle.ot_subst.proofs.clash.clashes.Goals.{then-meets-via-then-meets, then-
 
 pub returns-then-meets-clause-ok : goal.returns-then-meets-clause-ok
 returns-then-meets-clause-ok g c nil = elim c.then-meets.branch [
-  | then-meets-via-then-meets w ↦ let met = c.meets.ensures.0 w.if-meets.true in absurd (subst (λ r. Meets r c.args.v.now c.args.w.now) nil met)
+  | then-meets-via-then-meets w ↦ let met = c.meets.ensures.0 w.if-meets.true in
+      absurd (subst (λ r. Meets r c.args.v.now c.args.w.now) nil met)
   | then-meets-via-else-meets+then-is_some w ↦
-      clash-put (g.N.Nodes.table c.args.terms.now) c.args.work.now.subst.now (pairs_of c.args.work.now.renamed.now) c.args.v.now c.args.w.now c.args.body c.requires.ready c.requires.binder c.requires.new c.requires.instance
+      clash-put (g.N.Nodes.table c.args.terms.now) c.args.work.now.subst.now (pairs_of c.args.work.now.renamed.now)
+      c.args.v.now c.args.w.now c.args.body c.requires.ready c.requires.binder c.requires.new c.requires.instance
       (sym (w.is_some.ensures ∙ ap is_some w.get.ensures) ∙ w.if-is_some.true)
 ]
 
 pub returns-then-branch-clause-ok : goal.returns-then-branch-clause-ok
 returns-then-branch-clause-ok g c nil =
-    clash-free (g.N.Nodes.table c.args.terms.now) c.args.work.now.subst.now (pairs_of c.args.work.now.renamed.now) c.args.v.now c.args.w.now c.args.body c.requires.ready c.requires.binder c.requires.new c.requires.instance
+    clash-free (g.N.Nodes.table c.args.terms.now) c.args.work.now.subst.now (pairs_of c.args.work.now.renamed.now)
+    c.args.v.now c.args.w.now c.args.body c.requires.ready c.requires.binder c.requires.new c.requires.instance
     (c.in_ok-is_put_in.ensures.tells.0 c.if-branch.true)
 
 pub returns-then-is_empty-clause-ok : goal.returns-then-is_empty-clause-ok
 returns-then-is_empty-clause-ok g c =
-    may_stay (g.N.Nodes.table c.args.terms.now) c.args.work.now.subst.now (pairs_of c.args.work.now.renamed.now) c.args.v.now c.args.w.now c.args.body c.requires.ready c.requires.binder c.requires.new c.requires.instance
+    may_stay (g.N.Nodes.table c.args.terms.now) c.args.work.now.subst.now (pairs_of c.args.work.now.renamed.now)
+    c.args.v.now c.args.w.now c.args.body c.requires.ready c.requires.binder c.requires.new c.requires.instance
     (λ m. true≢false (sym (c.meets.ensures.1 m) ∙ c.if-meets.false))
     (sym (c.is_some.ensures ∙ ap is_some c.get.ensures) ∙ c.if-is_some.false)
     (λ m. true≢false (sym (c.in_ok-is_put_in.ensures.tells.1 m) ∙ c.if-branch.false))
-    (alone_untyped (g.N.Nodes.table c.args.terms.now) c.args.work.now.subst.now (pairs_of c.args.work.now.renamed.now) c.args.v.now c.args.w.now c.args.body c.requires.ready c.requires.binder c.requires.new c.requires.instance
+    (alone_untyped (g.N.Nodes.table c.args.terms.now) c.args.work.now.subst.now (pairs_of c.args.work.now.renamed.now)
+    c.args.v.now c.args.w.now c.args.body c.requires.ready c.requires.binder c.requires.new c.requires.instance
     (sym c.types.ensures ∙ c.is_empty.ensures.0 c.if-is_empty.true))
 
 pub returns-clause-ok : goal.returns-clause-ok
 returns-clause-ok g c =
-    clash_answer (g.N.Nodes.table c.args.terms.now) c.args.work.now.subst.now (pairs_of c.args.work.now.renamed.now) c.args.v.now c.args.w.now c.args.body c.requires.ready c.requires.binder c.requires.new c.requires.instance
+    clash_answer (g.N.Nodes.table c.args.terms.now) c.args.work.now.subst.now (pairs_of c.args.work.now.renamed.now)
+    c.args.v.now c.args.w.now c.args.body c.requires.ready c.requires.binder c.requires.new c.requires.instance
     c.in_ok-xs.xs.items c.in_ok-xs.ensures.within c.in_ok-xs.ensures.free c.any_coincides.result
     (λ m. true≢false (sym (c.meets.ensures.1 m) ∙ c.if-meets.false))
     (sym (c.is_some.ensures ∙ ap is_some c.get.ensures) ∙ c.if-is_some.false)
@@ -40,4 +46,6 @@ returns-clause-ok g c =
 pub returns-clause-frees : goal.returns-clause-frees
 returns-clause-frees g c =
     on_ok c.any_coincides.result _
-    (AreKnown-Grows (g.N.Nodes.table c.args.terms.now) (g.N.Nodes.table c.any_coincides.new.terms) c.any_coincides.ensures.grows c.args.work.now.subst.now c.requires.ready.subst c.is_put_in.new.frees c.in_ok-is_put_in.ensures.frees)
+    (AreKnown-Grows (g.N.Nodes.table c.args.terms.now) (g.N.Nodes.table c.any_coincides.new.terms)
+    c.any_coincides.ensures.grows c.args.work.now.subst.now c.requires.ready.subst c.is_put_in.new.frees
+    c.in_ok-is_put_in.ensures.frees)

@@ -9,7 +9,8 @@ was_new a true p h = cc
 was_new a false p h = refl
 
 pub returns-then-not-branch-clause-ok : goal.returns-then-not-branch-clause-ok
-returns-then-not-branch-clause-ok c = ap (map (λ t. t.items)) c.in_ok-insert.ensures.keys ∙ texts-insert c.args.texts.now.keys c.args.text
+returns-then-not-branch-clause-ok c = ap (map (λ t. t.items)) c.in_ok-insert.ensures.keys
+    ∙ texts-insert c.args.texts.now.keys c.args.text
 
 pub returns-then-not-branch-clause-room : goal.returns-then-not-branch-clause-room
 returns-then-not-branch-clause-room c =
@@ -24,7 +25,8 @@ returns-then-len-room-clause-too_large c p =
     omega (arith, c.len-len.ensures, c.if-len-room.true)
 
 pub returns-clause-ok : goal.returns-clause-ok
-returns-clause-ok c = ap (map (λ t. t.items)) c.in_ok-insert.ensures.keys ∙ texts-insert c.args.texts.now.keys c.args.text
+returns-clause-ok c = ap (map (λ t. t.items)) c.in_ok-insert.ensures.keys
+    ∙ texts-insert c.args.texts.now.keys c.args.text
 
 pub returns-clause-room : goal.returns-clause-room
 returns-clause-room c =

@@ -7,4 +7,5 @@ use Rattle.ot_text.proofs.Putting.{Leaves}
 use Rattle.ot_text.proofs.hyps.put_hyps.Given as goal
 
 abbrev pub invariant-loop-text : goal.invariant-loop-text
-invariant-loop-text l = Leaves (hyps_from l.is_first (map (λ t. t.items) l.text-iterator)) (hyps_text (texts_of l.texts)) (printed l.initial.page) (printed l.page)
+invariant-loop-text l = Leaves (hyps_from l.is_first (map (λ t. t.items) l.text-iterator))
+    (hyps_text (texts_of l.texts)) (printed l.initial.page) (printed l.page)

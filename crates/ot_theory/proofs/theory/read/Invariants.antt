@@ -11,7 +11,8 @@ invariant-lines l = record {
   numbered : l.number ≤ l.at;
   sets : IsReading l.reading l.current;
   count : line_count l.text l.at l.number ≡ length (pieces l.text);
-  so_far : read_lines (lines_at l.text l.at l.number) (state_of l.reading l.current) ≡ read_lines (lines_of l.text) no_lines;
+  so_far : read_lines (lines_at l.text l.at l.number) (state_of l.reading l.current)
+      ≡ read_lines (lines_of l.text) no_lines;
 }
 
 abbrev pub decreases-lines : goal.decreases-lines

@@ -9,7 +9,8 @@ use Rattle.ot_uses.proofs.text.assumption_texts.Goals as goal
 
 pub gathered-requires : goal.gathered-requires
 gathered-requires c =
-    subst (λ l. All (λ i. i < length c.args.kernel.now.theorems) l) (sym (c.deref.ensures.value ∙ c.loop-place.invariant))
+    subst (λ l. All (λ i. i < length c.args.kernel.now.theorems) l)
+    (sym (c.deref.ensures.value ∙ c.loop-place.invariant))
     (picked-all (λ i. i < length c.args.kernel.now.theorems) c.assumptions-assumptions.result.now
     (take c.loop-place.place-index c.args.places.now) c.assumptions-assumptions.ensures.numbered)
 

@@ -12,7 +12,8 @@ returns-in-Ok c = same-text (ap (counted_text (codes "assumptions")) c.in-Ok.ens
 
 pub returns-in-Err : goal.returns-in-Err
 returns-in-Err c =
-    gives-up _ _ _ c.room.result c.in-Err.fault c.stop.ensures (sym c.is_stopped.ensures ∙ c.if-is_stopped.false) c.room.ensures
+    gives-up _ _ _ c.room.result c.in-Err.fault c.stop.ensures (sym c.is_stopped.ensures ∙ c.if-is_stopped.false)
+    c.room.ensures
     (λ p. counted-bytes c.room.result (codes "assumptions")
     (ascending (map sequent_text (picked c.args.kernel.now.assumptions c.args.places.now)))
     (c.in-Err.ensures.too_large (λ j. Err (p j))))

@@ -32,10 +32,12 @@ returns-in-Ok c =
     let o = origin_of s c.args.export.now.theorem in
     let assumptions : picked c.kernel.result.now.assumptions c.in-Ok.used.assumptions.items
     ≡ map (λ g. g.sequent) (used_assumptions r o) =
-    (λ z. picked (c.kernel.ensures z).assumptions (c.in-Ok.ensures.assumptions z)) ∙ sequents-are s c.requires.run o in
+    (λ z. picked (c.kernel.ensures z).assumptions (c.in-Ok.ensures.assumptions z))
+    ∙ sequents-are s c.requires.run o in
     let definitions : picked c.kernel.result.now.definitions c.in-Ok.used.definitions.items
     ≡ definitions_of (used_definitions r o) =
-    (λ z. picked (c.kernel.ensures z).definitions (c.in-Ok.ensures.definitions z)) ∙ definitions-are s c.requires.run o in
+    (λ z. picked (c.kernel.ensures z).definitions (c.in-Ok.ensures.definitions z))
+    ∙ definitions-are s c.requires.run o in
     same-text (λ z. support_text c.args.number (record {
       theorem = theorem_at (c.kernel.ensures z) c.args.export.now.th;
       assumptions = assumptions z;

@@ -11,7 +11,8 @@ pub loop-place-preserved : goal.loop-place-preserved
 loop-place-preserved g c =
     lines-more (g.T.Printable.text c.args.kernel.now) c.args.items.now
     c.args.places.now c.loop-place.place-index c.index-items-place.result _ _ _
-    c.loop-place-test.true (c.requires.places c.loop-place.place-index 0 c.loop-place-test.true) c.index-items-place.is
+    c.loop-place-test.true (c.requires.places c.loop-place.place-index 0 c.loop-place-test.true)
+    c.index-items-place.is
     c.loop-place.invariant (then (then c.put.ensures c.put-in-loop-place.ensures) c.put-in-loop-place-2.ensures)
 
 pub returns : goal.returns

@@ -10,7 +10,8 @@ use Rattle.ot_uses.proofs.text.put_texts.Goals as goal
 pub loop-text-preserved : goal.loop-text-preserved
 loop-text-preserved c =
     leaves-more c.loop-text.invariant
-    (ap (λ ts. indented_text (map (λ t. t.items) ts)) (rest_more deref _ _ _ c.in-Some.text c.in-Some.is c.next.ensures.steps)
+    (ap (λ ts. indented_text (map (λ t. t.items) ts))
+    (rest_more deref _ _ _ c.in-Some.text c.in-Some.is c.next.ensures.steps)
     ∙ indented-first _ _ _ c.as_slice.ensures.value)
     (then (then c.put.ensures c.put-in-loop-text.ensures) c.put-in-loop-text-2.ensures)
 
@@ -19,4 +20,5 @@ returns c =
     same-text (counted-pieces _ _ _ (c.len.ensures.len ∙ sym (length-map (λ t. t.items) c.args.texts.now.keys)))
     (then c.put_count.ensures
     (leaves-all c.loop-text.invariant
-    (ap (λ ts. indented_text (map (λ t. t.items) ts)) (rest_all deref _ _ _ c.in-None.is c.next.ensures.steps)) (nothing _)))
+    (ap (λ ts. indented_text (map (λ t. t.items) ts)) (rest_all deref _ _ _ c.in-None.is c.next.ensures.steps))
+    (nothing _)))

@@ -12,4 +12,5 @@ returns-clause-ok c =
     let us = c.change.new.self in
     let ty = type-stays ts us c.in_ok-closed.ensures.extends c.args.v.ty c.requires.v.1 in
     let closed = term-is us c.in_ok-closed.closed _ c.in_ok-closed.ensures.ok in
-    subst (λ (t : Tm Name). IfOk c.abs.result (λ r. IsTerm c.abs.new.self r t)) (λ i. Abs (ty i) (closed i)) c.abs.ensures.ok
+    subst (λ (t : Tm Name). IfOk c.abs.result (λ r. IsTerm c.abs.new.self r t)) (λ i. Abs (ty i) (closed i))
+    c.abs.ensures.ok

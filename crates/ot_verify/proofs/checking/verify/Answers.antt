@@ -12,7 +12,8 @@ pub returns-in_err-header-clause-checked : goal.returns-in_err-header-clause-che
 returns-in_err-header-clause-checked g c =
     let p = err_from_is_err_and c.from_residual-in_err-header.result c.from_residual-in_err-header.ensures.1 in
     rw (p.1, p.2)
-    (header-refused c.args.max_bytes c.new-reader.result c.header.new.self c.new-reader.ensures c.in_err-header.field-0.0
+    (header-refused c.args.max_bytes c.new-reader.result c.header.new.self c.new-reader.ensures
+    c.in_err-header.field-0.0
     (g.S.Source.left c.args.source.now) (g.S.Source.left c.header.new.source) c.in_err-header.ensures.heads)
 
 pub records-init : goal.records-init
@@ -48,7 +49,8 @@ records-preserved g c =
     c.last-first.ensures c.in-Ok.ensures.recorded in
     record {
       so_far =
-          follows-record c.args.max_bytes c.records.log.state c.take_record.new.log.state c.in-Some.word c.records.reader
+          follows-record c.args.max_bytes c.records.log.state c.take_record.new.log.state c.in-Some.word
+          c.records.reader
           c.begin.new.self c.take_record.new.reader all l m n c.records.invariant.so_far begins recorded;
       later = omega (arith, c.records.invariant.later, c.begin.ensures.later, c.take_record.ensures.later);
       folder = c.take_record.ensures.folder ∙ c.begin.ensures.folder ∙ c.records.invariant.folder;

@@ -13,5 +13,6 @@ pub loop-pair-preserved : goal.loop-pair-preserved
 loop-pair-preserved c =
     subst (AreEach (IsFoundTermPair c.args.nodes.now c.args.types.now c.args.terms.now) _)
     (sym c.in_ok-push-in-Some.ensures.items)
-    (each-next (IsFoundTermPair c.args.nodes.now c.args.types.now c.args.terms.now) c.args.pairs.now c.loop-pair.pair-index
+    (each-next (IsFoundTermPair c.args.nodes.now c.args.types.now c.args.terms.now) c.args.pairs.now
+    c.loop-pair.pair-index
     _ c.loop-pair.found.items _ c.loop-pair-test.true c.pair-item.is c.loop-pair.invariant c.in-Some.ensures)

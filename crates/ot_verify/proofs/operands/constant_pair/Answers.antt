@@ -28,7 +28,11 @@ returns-clause-answered g c =
     (IsVariable c.named_type.new.log) (IsConstantPair c.named_type.new.log) c.in_ok-constant.constant
     c.in-Ok.variable (record { constant = c.in_ok-constant.constant; variable = c.in-Ok.variable })
     old mid new l m n c.in_ok-constant.ensures.answered second
-    (λ a b h k. (named-later c.name_number.new.log c.named_type.new.log c.in_ok-constant.constant a c.in-Ok.ensures.meets h, k))
+    (λ a b h k. (
+      named-later c.name_number.new.log c.named_type.new.log c.in_ok-constant.constant a
+          c.in-Ok.ensures.meets h,
+      k,
+    ))
 
 pub returns-in-Err-clause-answered : goal.returns-in-Err-clause-answered
 returns-in-Err-clause-answered g c =
@@ -49,8 +53,10 @@ returns-in-Err-clause-answered g c =
 
 pub returns-clause-meets : goal.returns-clause-meets
 returns-clause-meets g c =
-    meets-then c.args.log.now c.name_number.new.log c.named_type.new.log c.in_ok-constant.ensures.meets c.in-Ok.ensures.meets
+    meets-then c.args.log.now c.name_number.new.log c.named_type.new.log c.in_ok-constant.ensures.meets
+    c.in-Ok.ensures.meets
 
 pub returns-in-Err-clause-meets : goal.returns-in-Err-clause-meets
 returns-in-Err-clause-meets g c =
-    meets-then c.args.log.now c.name_number.new.log c.named_type.new.log c.in_ok-constant.ensures.meets c.in-Err.ensures.meets
+    meets-then c.args.log.now c.name_number.new.log c.named_type.new.log c.in_ok-constant.ensures.meets
+    c.in-Err.ensures.meets

@@ -6,7 +6,8 @@ use Rattle.ot_records.specs.Records.{ask_constant_pair}
 use Rattle.ot_verify.specs.Asking.{AreEach, AnsweredFrom, CollectsFrom}
 use Rattle.ot_verify.specs.Logged.{IsConstantPair}
 use Rattle.ot_verify.specs.declared.operand.ConstantPair.{ConstantPair}
-use Rattle.ot_verify.proofs.Collecting.{collects-start, collects-next, collects-end, collects-stop, collects-none, advances-then}
+use Rattle.ot_verify.proofs.Collecting.{collects-start, collects-next, collects-end}
+use Rattle.ot_verify.proofs.Collecting.{collects-stop, collects-none, advances-then}
 use Rattle.ot_verify.proofs.Meeting.{meets-nothing, meets-then, constant_pair-later}
 use Rattle.ot_verify.proofs.operands.constant_pairs.Goals as goal
 
@@ -41,21 +42,26 @@ each-preserved g c =
     let n = g.S.Source.left c.constant_pair.new.source in
     let k : c.in-Ok.count - c.each.done ≡ suc (c.in-Ok.count - (c.each.done + 1)) = omega arith in
     let before = subst
-    (λ n. CollectsFrom st ask_constant_pair (IsConstantPair c.each.log) c.each.read.items n c.args.reader.now c.each.reader l m) k
+    (λ n. CollectsFrom st ask_constant_pair (IsConstantPair c.each.log) c.each.read.items n c.args.reader.now
+    c.each.reader l m) k
     c.each.invariant.so_far in
     record {
       so_far =
-          subst (λ (is : List ConstantPair). CollectsFrom st ask_constant_pair (IsConstantPair c.constant_pair.new.log)
+          subst (λ (is : List ConstantPair). CollectsFrom st ask_constant_pair
+          (IsConstantPair c.constant_pair.new.log)
           is (c.in-Ok.count - (c.each.done + 1)) c.args.reader.now c.constant_pair.new.reader l n)
           (sym c.in_ok-push-in-Ok-constant_pair.ensures.items)
           (collects-next st ask_constant_pair (IsConstantPair c.each.log) (IsConstantPair c.constant_pair.new.log)
           (λ x y. constant_pair-later c.each.log c.constant_pair.new.log x y c.in-Ok-constant_pair.ensures.meets)
-          c.each.read.items c.in-Ok-constant_pair.item (c.in-Ok.count - (c.each.done + 1)) c.args.reader.now c.each.reader
+          c.each.read.items c.in-Ok-constant_pair.item (c.in-Ok.count - (c.each.done + 1)) c.args.reader.now
+          c.each.reader
           c.constant_pair.new.reader l m n before (subst (λ (s : LogState Name). AnsweredFrom s ask_constant_pair
-          (IsConstantPair c.constant_pair.new.log) (Ok c.in-Ok-constant_pair.item) c.each.reader c.constant_pair.new.reader m n)
+          (IsConstantPair c.constant_pair.new.log) (Ok c.in-Ok-constant_pair.item) c.each.reader
+          c.constant_pair.new.reader m n)
           c.each.invariant.meets.state c.in-Ok-constant_pair.ensures.answered));
       meets =
-          meets-then c.args.log.now c.each.log c.constant_pair.new.log c.each.invariant.meets c.in-Ok-constant_pair.ensures.meets;
+          meets-then c.args.log.now c.each.log c.constant_pair.new.log c.each.invariant.meets
+          c.in-Ok-constant_pair.ensures.meets;
       advances =
           advances-then c.args.reader.now c.each.reader c.constant_pair.new.reader
           c.each.invariant.advances c.in-Ok-constant_pair.ensures.advances;
@@ -80,14 +86,17 @@ returns-in-Err-constant_pair-clause-answered g c =
     let n = g.S.Source.left c.constant_pair.new.source in
     let k : c.in-Ok.count - c.each.done ≡ suc (c.in-Ok.count - (c.each.done + 1)) = omega arith in
     let before = subst
-    (λ n. CollectsFrom st ask_constant_pair (IsConstantPair c.each.log) c.each.read.items n c.args.reader.now c.each.reader l m) k
+    (λ n. CollectsFrom st ask_constant_pair (IsConstantPair c.each.log) c.each.read.items n c.args.reader.now
+    c.each.reader l m) k
     c.each.invariant.so_far in
-    collects-stop st ask_constant_pair (IsConstantPair c.each.log) c.each.read.items (c.in-Ok.count - (c.each.done + 1))
+    collects-stop st ask_constant_pair (IsConstantPair c.each.log) c.each.read.items
+    (c.in-Ok.count - (c.each.done + 1))
     c.in-Err-constant_pair.fault c.args.reader.now c.each.reader c.constant_pair.new.reader l m n
     (IsConstantPair c.constant_pair.new.log)
     (λ (v : Vec ConstantPair Global). AreEach (IsConstantPair c.constant_pair.new.log) v.items) before
     (subst (λ (s : LogState Name). AnsweredFrom {X = ConstantPair} s ask_constant_pair
-    (IsConstantPair c.constant_pair.new.log) (Err c.in-Err-constant_pair.fault) c.each.reader c.constant_pair.new.reader m n)
+    (IsConstantPair c.constant_pair.new.log) (Err c.in-Err-constant_pair.fault) c.each.reader
+    c.constant_pair.new.reader m n)
     c.each.invariant.meets.state c.in-Err-constant_pair.ensures.answered)
 
 pub returns-clause-answered : goal.returns-clause-answered
@@ -96,7 +105,9 @@ returns-clause-answered g c =
     let l = g.S.Source.left c.args.source.now in
     let m = g.S.Source.left c.each.source in
     let k : c.in-Ok.count - c.each.done ≡ 0 = omega arith in
-    collects-end st ask_constant_pair (IsConstantPair c.each.log) (λ (v : Vec ConstantPair Global). v.items) c.each.read
+    collects-end st ask_constant_pair (IsConstantPair c.each.log) (λ (v : Vec ConstantPair Global). v.items)
+    c.each.read
     c.args.reader.now c.each.reader l m (subst
-    (λ n. CollectsFrom st ask_constant_pair (IsConstantPair c.each.log) c.each.read.items n c.args.reader.now c.each.reader l m) k
+    (λ n. CollectsFrom st ask_constant_pair (IsConstantPair c.each.log) c.each.read.items n c.args.reader.now
+    c.each.reader l m) k
     c.each.invariant.so_far)

@@ -11,12 +11,14 @@ returns-in-Ok-intern-clause-answered g c =
 pub returns-in-Err-intern-clause-answered : goal.returns-in-Err-intern-clause-answered
 returns-in-Err-intern-clause-answered g c =
     numbered-memory c.args.log.now.state c.intern.new.self c.args.reader.now c.name.new.self c.in-Ok.name
-    (g.S.Source.left c.args.source.now) (g.S.Source.left c.name.new.source) (c.in-Ok.ensures.answered c.args.log.now.state)
+    (g.S.Source.left c.args.source.now) (g.S.Source.left c.name.new.source)
+    (c.in-Ok.ensures.answered c.args.log.now.state)
 
 pub returns-in-Err-clause-answered : goal.returns-in-Err-clause-answered
 returns-in-Err-clause-answered g c =
     numbered-stop c.args.log.now.state c.args.log.now c.args.reader.now c.name.new.self c.in-Err.fault
-    (g.S.Source.left c.args.source.now) (g.S.Source.left c.name.new.source) (c.in-Err.ensures.answered c.args.log.now.state)
+    (g.S.Source.left c.args.source.now) (g.S.Source.left c.name.new.source)
+    (c.in-Err.ensures.answered c.args.log.now.state)
 
 pub returns-in-Err-clause-meets : goal.returns-in-Err-clause-meets
 returns-in-Err-clause-meets g c = meets-nothing c.args.log.now

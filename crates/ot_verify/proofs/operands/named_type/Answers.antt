@@ -36,10 +36,12 @@ returns-in-Err-clause-pair g c =
     let mid = c.name_number.new.reader in
     let new = c.type_number.new.reader in
     let meets = c.in_ok-name.ensures.meets in
-    let second = subst (λ (s : LogState Name). AnsweredFrom {X = ℕ} s AskType (IsAt s.types) (Err c.in-Err.fault) mid new m n)
+    let second =
+    subst (λ (s : LogState Name). AnsweredFrom {X = ℕ} s AskType (IsAt s.types) (Err c.in-Err.fault) mid new m n)
     meets.state c.in-Err.ensures.answered in
     second-stop {Z = NamedType} st AskName AskType (λ x t. (x, t)) (IsNamed c.name_number.new.log) (IsAt st.types)
-    (IsTypePair c.name_number.new.log) c.in_ok-name.name c.in-Err.fault old mid new l m n c.in_ok-name.ensures.answered second
+    (IsTypePair c.name_number.new.log) c.in_ok-name.name c.in-Err.fault old mid new l m n
+    c.in_ok-name.ensures.answered second
 
 pub returns-clause-variable : goal.returns-clause-variable
 returns-clause-variable g c =
@@ -68,7 +70,8 @@ returns-in-Err-clause-variable g c =
     let mid = c.name_number.new.reader in
     let new = c.type_number.new.reader in
     let meets = c.in_ok-name.ensures.meets in
-    let second = subst (λ (s : LogState Name). AnsweredFrom {X = ℕ} s AskType (IsAt s.types) (Err c.in-Err.fault) mid new m n)
+    let second =
+    subst (λ (s : LogState Name). AnsweredFrom {X = ℕ} s AskType (IsAt s.types) (Err c.in-Err.fault) mid new m n)
     meets.state c.in-Err.ensures.answered in
     second-stop {Z = NamedType} st AskName AskType (λ x t. record { name = x; ty = t })
     (IsNamed c.name_number.new.log) (IsAt st.types) (IsVariable c.name_number.new.log)

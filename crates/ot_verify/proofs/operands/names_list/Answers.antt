@@ -5,7 +5,8 @@ use Rattle.ot_records.specs.State.{LogState}
 use Rattle.ot_records.specs.Records.{AskName}
 use Rattle.ot_verify.specs.Asking.{AreEach, AnsweredFrom, CollectsFrom}
 use Rattle.ot_verify.specs.Logged.{IsNamed}
-use Rattle.ot_verify.proofs.Collecting.{collects-start, collects-next, collects-end, collects-stop, collects-none, advances-then}
+use Rattle.ot_verify.proofs.Collecting.{collects-start, collects-next, collects-end}
+use Rattle.ot_verify.proofs.Collecting.{collects-stop, collects-none, advances-then}
 use Rattle.ot_verify.proofs.Meeting.{meets-nothing, meets-then, named-later}
 use Rattle.ot_verify.proofs.operands.names_list.Goals as goal
 
@@ -22,7 +23,8 @@ each-init g c =
           subst (λ (is : List ℕ). CollectsFrom st AskName (IsNamed c.args.log.now)
           is (c.in-Ok.count - 0) c.args.reader.now c.count.new.self l m)
           (sym c.new-read.ensures.items) (subst
-          (λ n. CollectsFrom {X = ℕ} st AskName (IsNamed c.args.log.now) [] n c.args.reader.now c.count.new.self l m) k none);
+          (λ n. CollectsFrom {X = ℕ} st AskName (IsNamed c.args.log.now) [] n c.args.reader.now c.count.new.self l m)
+          k none);
       meets = meets-nothing c.args.log.now;
       advances = c.in-Ok.ensures.advances;
       later = c.count.ensures.later;
@@ -38,7 +40,9 @@ each-preserved g c =
     let m = g.S.Source.left c.each.source in
     let n = g.S.Source.left c.name_number.new.source in
     let k : c.in-Ok.count - c.each.done ≡ suc (c.in-Ok.count - (c.each.done + 1)) = omega arith in
-    let before = subst (λ n. CollectsFrom st AskName (IsNamed c.each.log) c.each.read.items n c.args.reader.now c.each.reader l m)
+    let before =
+    subst (λ n. CollectsFrom st AskName (IsNamed c.each.log) c.each.read.items n c.args.reader.now c.each.reader l
+    m)
     k c.each.invariant.so_far in
     record {
       so_far =
@@ -46,12 +50,15 @@ each-preserved g c =
           (c.in-Ok.count - (c.each.done + 1)) c.args.reader.now c.name_number.new.reader l n)
           (sym c.in_ok-push-in-Ok-name_number.ensures.items)
           (collects-next st AskName (IsNamed c.each.log) (IsNamed c.name_number.new.log)
-          (λ x y. named-later c.each.log c.name_number.new.log x y c.in-Ok-name_number.ensures.meets) c.each.read.items
-          c.in-Ok-name_number.item (c.in-Ok.count - (c.each.done + 1)) c.args.reader.now c.each.reader c.name_number.new.reader l
+          (λ x y. named-later c.each.log c.name_number.new.log x y c.in-Ok-name_number.ensures.meets)
+          c.each.read.items
+          c.in-Ok-name_number.item (c.in-Ok.count - (c.each.done + 1)) c.args.reader.now c.each.reader
+          c.name_number.new.reader l
           m n before (subst (λ (s : LogState Name). AnsweredFrom s AskName (IsNamed c.name_number.new.log)
           (Ok c.in-Ok-name_number.item) c.each.reader c.name_number.new.reader m n)
           c.each.invariant.meets.state c.in-Ok-name_number.ensures.answered));
-      meets = meets-then c.args.log.now c.each.log c.name_number.new.log c.each.invariant.meets c.in-Ok-name_number.ensures.meets;
+      meets = meets-then c.args.log.now c.each.log c.name_number.new.log c.each.invariant.meets
+          c.in-Ok-name_number.ensures.meets;
       advances =
           advances-then c.args.reader.now c.each.reader c.name_number.new.reader
           c.each.invariant.advances c.in-Ok-name_number.ensures.advances;
@@ -75,9 +82,12 @@ returns-in-Err-name_number-clause-answered g c =
     let m = g.S.Source.left c.each.source in
     let n = g.S.Source.left c.name_number.new.source in
     let k : c.in-Ok.count - c.each.done ≡ suc (c.in-Ok.count - (c.each.done + 1)) = omega arith in
-    let before = subst (λ n. CollectsFrom st AskName (IsNamed c.each.log) c.each.read.items n c.args.reader.now c.each.reader l m)
+    let before =
+    subst (λ n. CollectsFrom st AskName (IsNamed c.each.log) c.each.read.items n c.args.reader.now c.each.reader l
+    m)
     k c.each.invariant.so_far in
-    collects-stop st AskName (IsNamed c.each.log) c.each.read.items (c.in-Ok.count - (c.each.done + 1)) c.in-Err-name_number.fault
+    collects-stop st AskName (IsNamed c.each.log) c.each.read.items (c.in-Ok.count - (c.each.done + 1))
+    c.in-Err-name_number.fault
     c.args.reader.now c.each.reader c.name_number.new.reader l m n (IsNamed c.name_number.new.log)
     (λ (v : Vec ℕ Global). AreEach (IsNamed c.name_number.new.log) v.items) before
     (subst (λ (s : LogState Name). AnsweredFrom {X = ℕ} s AskName (IsNamed c.name_number.new.log)
@@ -90,6 +100,7 @@ returns-clause-answered g c =
     let l = g.S.Source.left c.args.source.now in
     let m = g.S.Source.left c.each.source in
     let k : c.in-Ok.count - c.each.done ≡ 0 = omega arith in
-    collects-end st AskName (IsNamed c.each.log) (λ (v : Vec ℕ Global). v.items) c.each.read c.args.reader.now c.each.reader l m
+    collects-end st AskName (IsNamed c.each.log) (λ (v : Vec ℕ Global). v.items) c.each.read c.args.reader.now
+    c.each.reader l m
     (subst (λ n. CollectsFrom st AskName (IsNamed c.each.log) c.each.read.items n c.args.reader.now c.each.reader l m)
     k c.each.invariant.so_far)

@@ -37,7 +37,8 @@ returns-in-Err-clause-answered g c =
     let mid = c.named_type.new.reader in
     let new = c.term_number.new.reader in
     let meets = c.in_ok-variable.ensures.meets in
-    let second = subst (λ (s : LogState Name). AnsweredFrom {X = ℕ} s AskTerm (IsAt s.terms) (Err c.in-Err.fault) mid new m n)
+    let second =
+    subst (λ (s : LogState Name). AnsweredFrom {X = ℕ} s AskTerm (IsAt s.terms) (Err c.in-Err.fault) mid new m n)
     meets.state c.in-Err.ensures.answered in
     second-stop {Z = TermPair} st ask_variable AskTerm (λ v t. (v, t)) (IsVariable c.named_type.new.log)
     (IsAt st.terms) (IsTermPair c.named_type.new.log) c.in_ok-variable.variable c.in-Err.fault old mid

@@ -6,7 +6,8 @@ use Rattle.ot_records.specs.Records.{ask_term_pair}
 use Rattle.ot_verify.specs.Asking.{AreEach, AnsweredFrom, CollectsFrom}
 use Rattle.ot_verify.specs.Logged.{IsTermPair}
 use Rattle.ot_verify.specs.declared.operand.TermPair.{TermPair}
-use Rattle.ot_verify.proofs.Collecting.{collects-start, collects-next, collects-end, collects-stop, collects-none, advances-then}
+use Rattle.ot_verify.proofs.Collecting.{collects-start, collects-next, collects-end}
+use Rattle.ot_verify.proofs.Collecting.{collects-stop, collects-none, advances-then}
 use Rattle.ot_verify.proofs.Meeting.{meets-nothing, meets-then, term_pair-later}
 use Rattle.ot_verify.proofs.operands.term_pairs.Goals as goal
 
@@ -49,12 +50,15 @@ each-preserved g c =
           is (c.in-Ok.count - (c.each.done + 1)) c.args.reader.now c.term_pair.new.reader l n)
           (sym c.in_ok-push-in-Ok-term_pair.ensures.items)
           (collects-next st ask_term_pair (IsTermPair c.each.log) (IsTermPair c.term_pair.new.log)
-          (λ x y. term_pair-later c.each.log c.term_pair.new.log x y c.in-Ok-term_pair.ensures.meets) c.each.read.items
-          c.in-Ok-term_pair.item (c.in-Ok.count - (c.each.done + 1)) c.args.reader.now c.each.reader c.term_pair.new.reader l m n
+          (λ x y. term_pair-later c.each.log c.term_pair.new.log x y c.in-Ok-term_pair.ensures.meets)
+          c.each.read.items
+          c.in-Ok-term_pair.item (c.in-Ok.count - (c.each.done + 1)) c.args.reader.now c.each.reader
+          c.term_pair.new.reader l m n
           before (subst (λ (s : LogState Name). AnsweredFrom s ask_term_pair (IsTermPair c.term_pair.new.log)
           (Ok c.in-Ok-term_pair.item) c.each.reader c.term_pair.new.reader m n)
           c.each.invariant.meets.state c.in-Ok-term_pair.ensures.answered));
-      meets = meets-then c.args.log.now c.each.log c.term_pair.new.log c.each.invariant.meets c.in-Ok-term_pair.ensures.meets;
+      meets = meets-then c.args.log.now c.each.log c.term_pair.new.log c.each.invariant.meets
+          c.in-Ok-term_pair.ensures.meets;
       advances =
           advances-then c.args.reader.now c.each.reader c.term_pair.new.reader
           c.each.invariant.advances c.in-Ok-term_pair.ensures.advances;
@@ -82,7 +86,8 @@ returns-in-Err-term_pair-clause-answered g c =
     c.each.read.items n c.args.reader.now c.each.reader l m)
     k c.each.invariant.so_far in
     collects-stop st ask_term_pair (IsTermPair c.each.log) c.each.read.items (c.in-Ok.count - (c.each.done + 1))
-    c.in-Err-term_pair.fault c.args.reader.now c.each.reader c.term_pair.new.reader l m n (IsTermPair c.term_pair.new.log)
+    c.in-Err-term_pair.fault c.args.reader.now c.each.reader c.term_pair.new.reader l m n
+    (IsTermPair c.term_pair.new.log)
     (λ (v : Vec TermPair Global). AreEach (IsTermPair c.term_pair.new.log) v.items) before
     (subst (λ (s : LogState Name). AnsweredFrom {X = TermPair} s ask_term_pair
     (IsTermPair c.term_pair.new.log) (Err c.in-Err-term_pair.fault) c.each.reader c.term_pair.new.reader m n)
@@ -94,7 +99,8 @@ returns-clause-answered g c =
     let l = g.S.Source.left c.args.source.now in
     let m = g.S.Source.left c.each.source in
     let k : c.in-Ok.count - c.each.done ≡ 0 = omega arith in
-    collects-end st ask_term_pair (IsTermPair c.each.log) (λ (v : Vec TermPair Global). v.items) c.each.read c.args.reader.now
+    collects-end st ask_term_pair (IsTermPair c.each.log) (λ (v : Vec TermPair Global). v.items) c.each.read
+    c.args.reader.now
     c.each.reader l m (subst (λ n. CollectsFrom st ask_term_pair
     (IsTermPair c.each.log) c.each.read.items n c.args.reader.now c.each.reader l m)
     k c.each.invariant.so_far)

@@ -2,7 +2,8 @@ use Rattle.std.specs.Prelude.{Vec}
 use Rattle.std.proofs.Common.{◌≡◌, ◌∙◌, ℕ, suc, ◌+◌, ◌-◌, List, [], sym, subst, arith, Global}
 use Rattle.ot_records.specs.Records.{AskTerm}
 use Rattle.ot_verify.specs.Asking.{IsAt, AreEach, CollectsFrom}
-use Rattle.ot_verify.proofs.Collecting.{collects-start, collects-next, collects-end, collects-stop, collects-none, advances-then}
+use Rattle.ot_verify.proofs.Collecting.{collects-start, collects-next, collects-end}
+use Rattle.ot_verify.proofs.Collecting.{collects-stop, collects-none, advances-then}
 use Rattle.ot_verify.proofs.operands.terms.Goals as goal
 
 pub each-init : goal.each-init
@@ -18,7 +19,8 @@ each-init g c =
           subst (λ (is : List ℕ). CollectsFrom st AskTerm (IsAt c.args.log.now.state.terms)
           is (c.in-Ok.count - 0) c.args.reader.now c.count.new.self l m)
           (sym c.new-read.ensures.items) (subst
-          (λ n. CollectsFrom {X = ℕ} st AskTerm (IsAt c.args.log.now.state.terms) [] n c.args.reader.now c.count.new.self l m) k
+          (λ n. CollectsFrom {X = ℕ} st AskTerm (IsAt c.args.log.now.state.terms) [] n c.args.reader.now
+          c.count.new.self l m) k
           none);
       advances = c.in-Ok.ensures.advances;
       later = c.count.ensures.later;
@@ -72,8 +74,10 @@ returns-in-Err-term_number-clause-answered g c =
     c.each.read.items n c.args.reader.now c.each.reader l m)
     k c.each.invariant.so_far in
     collects-stop st AskTerm (IsAt c.args.log.now.state.terms) c.each.read.items (c.in-Ok.count - (c.each.done + 1))
-    c.in-Err-term_number.fault c.args.reader.now c.each.reader c.term_number.new.reader l m n (IsAt c.args.log.now.state.terms)
-    (λ (v : Vec ℕ Global). AreEach (IsAt c.args.log.now.state.terms) v.items) before c.in-Err-term_number.ensures.answered
+    c.in-Err-term_number.fault c.args.reader.now c.each.reader c.term_number.new.reader l m n
+    (IsAt c.args.log.now.state.terms)
+    (λ (v : Vec ℕ Global). AreEach (IsAt c.args.log.now.state.terms) v.items) before
+    c.in-Err-term_number.ensures.answered
 
 pub returns-clause-answered : goal.returns-clause-answered
 returns-clause-answered g c =
@@ -81,7 +85,8 @@ returns-clause-answered g c =
     let l = g.S.Source.left c.args.source.now in
     let m = g.S.Source.left c.each.source in
     let k : c.in-Ok.count - c.each.done ≡ 0 = omega arith in
-    collects-end st AskTerm (IsAt c.args.log.now.state.terms) (λ (v : Vec ℕ Global). v.items) c.each.read c.args.reader.now
+    collects-end st AskTerm (IsAt c.args.log.now.state.terms) (λ (v : Vec ℕ Global). v.items) c.each.read
+    c.args.reader.now
     c.each.reader l m (subst (λ n. CollectsFrom st AskTerm (IsAt c.args.log.now.state.terms)
     c.each.read.items n c.args.reader.now c.each.reader l m)
     k c.each.invariant.so_far)

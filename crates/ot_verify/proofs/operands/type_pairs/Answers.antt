@@ -6,7 +6,8 @@ use Rattle.ot_records.specs.Records.{ask_type_pair}
 use Rattle.ot_verify.specs.Asking.{AreEach, AnsweredFrom, CollectsFrom}
 use Rattle.ot_verify.specs.Logged.{IsTypePair}
 use Rattle.ot_verify.specs.declared.operand.NamedType.{NamedType}
-use Rattle.ot_verify.proofs.Collecting.{collects-start, collects-next, collects-end, collects-stop, collects-none, advances-then}
+use Rattle.ot_verify.proofs.Collecting.{collects-start, collects-next, collects-end}
+use Rattle.ot_verify.proofs.Collecting.{collects-stop, collects-none, advances-then}
 use Rattle.ot_verify.proofs.Meeting.{meets-nothing, meets-then, type_pair-later}
 use Rattle.ot_verify.proofs.operands.type_pairs.Goals as goal
 
@@ -49,12 +50,15 @@ each-preserved g c =
           is (c.in-Ok.count - (c.each.done + 1)) c.args.reader.now c.named_type.new.reader l n)
           (sym c.in_ok-push-in-Ok-named_type.ensures.items)
           (collects-next st ask_type_pair (IsTypePair c.each.log) (IsTypePair c.named_type.new.log)
-          (λ x y. type_pair-later c.each.log c.named_type.new.log x y c.in-Ok-named_type.ensures.meets) c.each.read.items
-          c.in-Ok-named_type.item (c.in-Ok.count - (c.each.done + 1)) c.args.reader.now c.each.reader c.named_type.new.reader l m
+          (λ x y. type_pair-later c.each.log c.named_type.new.log x y c.in-Ok-named_type.ensures.meets)
+          c.each.read.items
+          c.in-Ok-named_type.item (c.in-Ok.count - (c.each.done + 1)) c.args.reader.now c.each.reader
+          c.named_type.new.reader l m
           n before (subst (λ (s : LogState Name). AnsweredFrom s ask_type_pair (IsTypePair c.named_type.new.log)
           (Ok c.in-Ok-named_type.item) c.each.reader c.named_type.new.reader m n)
           c.each.invariant.meets.state c.in-Ok-named_type.ensures.pair));
-      meets = meets-then c.args.log.now c.each.log c.named_type.new.log c.each.invariant.meets c.in-Ok-named_type.ensures.meets;
+      meets = meets-then c.args.log.now c.each.log c.named_type.new.log c.each.invariant.meets
+          c.in-Ok-named_type.ensures.meets;
       advances =
           advances-then c.args.reader.now c.each.reader c.named_type.new.reader
           c.each.invariant.advances c.in-Ok-named_type.ensures.advances;
@@ -82,7 +86,8 @@ returns-in-Err-named_type-clause-answered g c =
     c.each.read.items n c.args.reader.now c.each.reader l m)
     k c.each.invariant.so_far in
     collects-stop st ask_type_pair (IsTypePair c.each.log) c.each.read.items (c.in-Ok.count - (c.each.done + 1))
-    c.in-Err-named_type.fault c.args.reader.now c.each.reader c.named_type.new.reader l m n (IsTypePair c.named_type.new.log)
+    c.in-Err-named_type.fault c.args.reader.now c.each.reader c.named_type.new.reader l m n
+    (IsTypePair c.named_type.new.log)
     (λ (v : Vec NamedType Global). AreEach (IsTypePair c.named_type.new.log) v.items) before
     (subst (λ (s : LogState Name). AnsweredFrom {X = NamedType} s ask_type_pair
     (IsTypePair c.named_type.new.log) (Err c.in-Err-named_type.fault) c.each.reader c.named_type.new.reader m n)
@@ -94,7 +99,8 @@ returns-clause-answered g c =
     let l = g.S.Source.left c.args.source.now in
     let m = g.S.Source.left c.each.source in
     let k : c.in-Ok.count - c.each.done ≡ 0 = omega arith in
-    collects-end st ask_type_pair (IsTypePair c.each.log) (λ (v : Vec NamedType Global). v.items) c.each.read c.args.reader.now
+    collects-end st ask_type_pair (IsTypePair c.each.log) (λ (v : Vec NamedType Global). v.items) c.each.read
+    c.args.reader.now
     c.each.reader l m (subst (λ n. CollectsFrom st ask_type_pair
     (IsTypePair c.each.log) c.each.read.items n c.args.reader.now c.each.reader l m)
     k c.each.invariant.so_far)

@@ -23,7 +23,8 @@ returns-clause-recorded g c =
     (g.S.Source.left c.named_type.new.source) (g.S.Source.left c.sequent_number.new.source)
     c.in_ok-variable.ensures.variable
     (λ x0 h0. answered-then st now AskSequent (IsAt c.args.log.now.state.sequents) c.in_ok-equation.equation
-    (λ x1. Makes (makes_sequent names (abs_thm_step names x0 x1))) first (settled_at first made) c.named_type.new.reader
+    (λ x1. Makes (makes_sequent names (abs_thm_step names x0 x1))) first (settled_at first made)
+    c.named_type.new.reader
     c.sequent_number.new.reader c.sequent_number.new.reader (g.S.Source.left c.named_type.new.source)
     (g.S.Source.left c.sequent_number.new.source) (g.S.Source.left c.sequent_number.new.source)
     (subst (λ (s : LogState Name). AnsweredFrom s AskSequent (IsAt s.sequents)
@@ -32,6 +33,7 @@ returns-clause-recorded g c =
     c.in_ok-variable.ensures.meets.state c.in_ok-equation.ensures.answered)
     (λ x1 h1. made-settled (makes_sequent names (abs_thm_step names x0 x1)) first st now c.sequent_number.new.reader
     (g.S.Source.left c.sequent_number.new.source) made
-    (subst (λ s. MadeBy made (makes_sequent names (abs_thm_step names x0 x1)) s now) c.in_ok-variable.ensures.meets.state
+    (subst (λ s. MadeBy made (makes_sequent names (abs_thm_step names x0 x1)) s now)
+    c.in_ok-variable.ensures.meets.state
     (c.abs_thm-made.ensures x0 x1 h0 (subst (λ (s : LogState Name). IsAt s.sequents c.in_ok-equation.equation x1)
     (sym c.in_ok-variable.ensures.meets.state) h1))))))

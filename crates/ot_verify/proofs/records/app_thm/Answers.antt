@@ -20,7 +20,8 @@ returns-clause-recorded g c =
     (g.S.Source.left c.sequent_number.new.source) (g.S.Source.left c.sequent_number-2.new.source)
     c.in_ok-functions.ensures.answered
     (λ x0 h0. answered-then st now AskSequent (IsAt c.args.log.now.state.sequents) c.in_ok-arguments.arguments
-    (λ x1. Makes (makes_sequent names (app_thm_step names x0 x1))) first (settled_at first made) c.sequent_number.new.reader
+    (λ x1. Makes (makes_sequent names (app_thm_step names x0 x1))) first (settled_at first made)
+    c.sequent_number.new.reader
     c.sequent_number-2.new.reader c.sequent_number-2.new.reader (g.S.Source.left c.sequent_number.new.source)
     (g.S.Source.left c.sequent_number-2.new.source) (g.S.Source.left c.sequent_number-2.new.source)
     c.in_ok-arguments.ensures.answered

@@ -19,7 +19,8 @@ returns-clause-recorded g c =
     (answered-then st now AskTerm (IsAt c.args.log.now.state.terms) c.in_ok-concl.concl
     (λ x0. ask_list AskTerm (λ x1. Makes (makes_assumption names (assumption_step names x1 x0)))) first
     (settled_at first made) c.args.reader.now c.term_number.new.reader c.terms.new.reader
-    (g.S.Source.left c.args.source.now) (g.S.Source.left c.term_number.new.source) (g.S.Source.left c.terms.new.source)
+    (g.S.Source.left c.args.source.now) (g.S.Source.left c.term_number.new.source)
+    (g.S.Source.left c.terms.new.source)
     c.in_ok-concl.ensures.answered
     (λ x0 h0. answered-then st now (λ next. ask_list AskTerm next)
     (λ (v : Vec ℕ Global). AreEach (IsAt c.args.log.now.state.terms) v.items) c.in_ok-hyps.hyps

@@ -20,7 +20,8 @@ returns-clause-recorded g c =
     rw c.settle.ensures
     (answered-then st now (λ next. ask_list ask_constant_pair next)
     (λ (v : Vec ConstantPair Global). AreEach (IsConstantPair c.constant_pairs.new.log) v.items) c.in_ok-pairs.pairs
-    (λ x0. AskSequent (λ x1. Makes (makes_definition names (λ dl. constants_step names dl x0 x1)))) first (settled_at first made)
+    (λ x0. AskSequent (λ x1. Makes (makes_definition names (λ dl. constants_step names dl x0 x1)))) first
+    (settled_at first made)
     c.args.reader.now c.constant_pairs.new.reader c.sequent_number.new.reader (g.S.Source.left c.args.source.now)
     (g.S.Source.left c.constant_pairs.new.source) (g.S.Source.left c.sequent_number.new.source)
     c.in_ok-pairs.ensures.answered
@@ -33,9 +34,11 @@ returns-clause-recorded g c =
     (Ok c.in_ok-premise.premise) c.constant_pairs.new.reader c.sequent_number.new.reader
     (g.S.Source.left c.constant_pairs.new.source) (g.S.Source.left c.sequent_number.new.source))
     c.in_ok-pairs.ensures.meets.state c.in_ok-premise.ensures.answered)
-    (λ x1 h1. made-settled (makes_definition names (λ dl. constants_step names dl x0 x1)) first st now c.sequent_number.new.reader
+    (λ x1 h1. made-settled (makes_definition names (λ dl. constants_step names dl x0 x1)) first st now
+    c.sequent_number.new.reader
     (g.S.Source.left c.sequent_number.new.source) made
     (subst (λ s. MadeBy made (makes_definition names (λ dl. constants_step names dl x0 x1)) s now)
     c.in_ok-pairs.ensures.meets.state (c.define_constants-made.ensures x0 x1
     (subst (λ is. AreEach (IsConstantPair c.constant_pairs.new.log) is x0) (sym c.as_slice.ensures.value) h0)
-    (subst (λ (s : LogState Name). IsAt s.sequents c.in_ok-premise.premise x1) (sym c.in_ok-pairs.ensures.meets.state) h1))))))
+    (subst (λ (s : LogState Name). IsAt s.sequents c.in_ok-premise.premise x1) (sym c.in_ok-pairs.ensures.meets.state)
+    h1))))))

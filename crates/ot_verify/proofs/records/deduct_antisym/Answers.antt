@@ -15,7 +15,8 @@ returns-clause-recorded g c =
     let made = c.deduct_antisym-made.result in
     rw c.settle.ensures
     (answered-then st now AskSequent (IsAt c.args.log.now.state.sequents) c.in_ok-left.left
-    (λ x0. AskSequent (λ x1. Makes (makes_sequent names (deduct_antisym_step names x0 x1)))) first (settled_at first made)
+    (λ x0. AskSequent (λ x1. Makes (makes_sequent names (deduct_antisym_step names x0 x1)))) first
+    (settled_at first made)
     c.args.reader.now c.sequent_number.new.reader c.sequent_number-2.new.reader (g.S.Source.left c.args.source.now)
     (g.S.Source.left c.sequent_number.new.source) (g.S.Source.left c.sequent_number-2.new.source)
     c.in_ok-left.ensures.answered
@@ -25,5 +26,6 @@ returns-clause-recorded g c =
     c.sequent_number-2.new.reader (g.S.Source.left c.sequent_number.new.source)
     (g.S.Source.left c.sequent_number-2.new.source) (g.S.Source.left c.sequent_number-2.new.source)
     c.in_ok-right.ensures.answered
-    (λ x1 h1. made-settled (makes_sequent names (deduct_antisym_step names x0 x1)) first st now c.sequent_number-2.new.reader
+    (λ x1 h1. made-settled (makes_sequent names (deduct_antisym_step names x0 x1)) first st now
+    c.sequent_number-2.new.reader
     (g.S.Source.left c.sequent_number-2.new.source) made (c.deduct_antisym-made.ensures x0 x1 h0 h1))))

@@ -22,14 +22,18 @@ returns-clause-recorded g c =
     let made = c.subst-made.result in
     rw c.settle.ensures
     (answered-then st now AskSequent (IsAt c.args.log.now.state.sequents) c.in_ok-sequent.sequent
-    (λ x0. ask_list ask_type_pair (λ x1. ask_list ask_term_pair (λ x2. Makes (makes_sequent names (subst_step names x1 x2 x0)))))
+    (λ x0. ask_list ask_type_pair
+    (λ x1. ask_list ask_term_pair (λ x2. Makes (makes_sequent names (subst_step names x1 x2 x0)))))
     first (settled_at first made) c.args.reader.now c.sequent_number.new.reader c.term_pairs.new.reader
-    (g.S.Source.left c.args.source.now) (g.S.Source.left c.sequent_number.new.source) (g.S.Source.left c.term_pairs.new.source)
+    (g.S.Source.left c.args.source.now) (g.S.Source.left c.sequent_number.new.source)
+    (g.S.Source.left c.term_pairs.new.source)
     c.in_ok-sequent.ensures.answered
     (λ x0 h0. answered-then st now (λ next. ask_list ask_type_pair next)
     (λ (v : Vec NamedType Global). AreEach (IsTypePair c.type_pairs.new.log) v.items) c.in_ok-types.types
-    (λ x1. ask_list ask_term_pair (λ x2. Makes (makes_sequent names (subst_step names x1 x2 x0)))) first (settled_at first made)
-    c.sequent_number.new.reader c.type_pairs.new.reader c.term_pairs.new.reader (g.S.Source.left c.sequent_number.new.source)
+    (λ x1. ask_list ask_term_pair (λ x2. Makes (makes_sequent names (subst_step names x1 x2 x0)))) first
+    (settled_at first made)
+    c.sequent_number.new.reader c.type_pairs.new.reader c.term_pairs.new.reader
+    (g.S.Source.left c.sequent_number.new.source)
     (g.S.Source.left c.type_pairs.new.source) (g.S.Source.left c.term_pairs.new.source)
     c.in_ok-types.ensures.answered
     (λ x1 h1. answered-then st now (λ next. ask_list ask_term_pair next)

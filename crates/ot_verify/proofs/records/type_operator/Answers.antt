@@ -22,7 +22,8 @@ returns-clause-recorded g c =
     (λ x0. AskName (λ x1. AskName (λ x2. ask_list AskName (λ x3. AskSequent
     (λ x4. Makes (makes_definition names (λ dl. type_operator_step names dl x0 x1 x2 x3 x4)))))))
     first (settled_at first made) c.args.reader.now c.name_number.new.reader c.sequent_number.new.reader
-    (g.S.Source.left c.args.source.now) (g.S.Source.left c.name_number.new.source) (g.S.Source.left c.sequent_number.new.source)
+    (g.S.Source.left c.args.source.now) (g.S.Source.left c.name_number.new.source)
+    (g.S.Source.left c.sequent_number.new.source)
     c.in_ok-name.ensures.answered
     (λ x0 h0. answered-then st now AskName (IsNamed c.name_number-2.new.log) c.in_ok-abs.abs
     (λ x1. AskName (λ x2. ask_list AskName (λ x3. AskSequent
@@ -53,22 +54,27 @@ returns-clause-recorded g c =
     (g.S.Source.left c.name_number-3.new.source) (g.S.Source.left c.names_list.new.source)
     (g.S.Source.left c.sequent_number.new.source)
     (subst (λ (s : LogState Name). AnsweredFrom s (λ next. ask_list AskName next)
-    (λ (v : Vec ℕ Global). AreEach (IsNamed c.names_list.new.log) v.items) (Ok c.in_ok-vars.vars) c.name_number-3.new.reader
+    (λ (v : Vec ℕ Global). AreEach (IsNamed c.names_list.new.log) v.items) (Ok c.in_ok-vars.vars)
+    c.name_number-3.new.reader
     c.names_list.new.reader (g.S.Source.left c.name_number-3.new.source) (g.S.Source.left c.names_list.new.source))
     (meets-then c.args.log.now c.name_number-2.new.log c.name_number-3.new.log
-    (meets-then c.args.log.now c.name_number.new.log c.name_number-2.new.log c.in_ok-name.ensures.meets c.in_ok-abs.ensures.meets)
+    (meets-then c.args.log.now c.name_number.new.log c.name_number-2.new.log c.in_ok-name.ensures.meets
+    c.in_ok-abs.ensures.meets)
     c.in_ok-rep.ensures.meets).state
     c.in_ok-vars.ensures.answered)
     (λ x3 h3. answered-then st now AskSequent (IsAt c.args.log.now.state.sequents) c.in_ok-premise.premise
-    (λ x4. Makes (makes_definition names (λ dl. type_operator_step names dl x0 x1 x2 x3 x4))) first (settled_at first made)
-    c.names_list.new.reader c.sequent_number.new.reader c.sequent_number.new.reader (g.S.Source.left c.names_list.new.source)
+    (λ x4. Makes (makes_definition names (λ dl. type_operator_step names dl x0 x1 x2 x3 x4))) first
+    (settled_at first made)
+    c.names_list.new.reader c.sequent_number.new.reader c.sequent_number.new.reader
+    (g.S.Source.left c.names_list.new.source)
     (g.S.Source.left c.sequent_number.new.source) (g.S.Source.left c.sequent_number.new.source)
     (subst (λ (s : LogState Name). AnsweredFrom s AskSequent (IsAt s.sequents)
     (Ok c.in_ok-premise.premise) c.names_list.new.reader c.sequent_number.new.reader
     (g.S.Source.left c.names_list.new.source) (g.S.Source.left c.sequent_number.new.source))
     (meets-then c.args.log.now c.name_number-3.new.log c.names_list.new.log
     (meets-then c.args.log.now c.name_number-2.new.log c.name_number-3.new.log
-    (meets-then c.args.log.now c.name_number.new.log c.name_number-2.new.log c.in_ok-name.ensures.meets c.in_ok-abs.ensures.meets)
+    (meets-then c.args.log.now c.name_number.new.log c.name_number-2.new.log c.in_ok-name.ensures.meets
+    c.in_ok-abs.ensures.meets)
     c.in_ok-rep.ensures.meets)
     c.in_ok-vars.ensures.meets).state
     c.in_ok-premise.ensures.answered)
@@ -77,7 +83,8 @@ returns-clause-recorded g c =
     (subst (λ s. MadeBy made (makes_definition names (λ dl. type_operator_step names dl x0 x1 x2 x3 x4)) s now)
     (meets-then c.args.log.now c.name_number-3.new.log c.names_list.new.log
     (meets-then c.args.log.now c.name_number-2.new.log c.name_number-3.new.log
-    (meets-then c.args.log.now c.name_number.new.log c.name_number-2.new.log c.in_ok-name.ensures.meets c.in_ok-abs.ensures.meets)
+    (meets-then c.args.log.now c.name_number.new.log c.name_number-2.new.log c.in_ok-name.ensures.meets
+    c.in_ok-abs.ensures.meets)
     c.in_ok-rep.ensures.meets)
     c.in_ok-vars.ensures.meets).state
     (c.define_type-made.ensures x0 x1 x2 x3 x4
@@ -96,7 +103,8 @@ returns-clause-recorded g c =
     (subst (λ (s : LogState Name). IsAt s.sequents c.in_ok-premise.premise x4)
     (sym (meets-then c.args.log.now c.name_number-3.new.log c.names_list.new.log
     (meets-then c.args.log.now c.name_number-2.new.log c.name_number-3.new.log
-    (meets-then c.args.log.now c.name_number.new.log c.name_number-2.new.log c.in_ok-name.ensures.meets c.in_ok-abs.ensures.meets)
+    (meets-then c.args.log.now c.name_number.new.log c.name_number-2.new.log c.in_ok-name.ensures.meets
+    c.in_ok-abs.ensures.meets)
     c.in_ok-rep.ensures.meets)
     c.in_ok-vars.ensures.meets).state)
     h4)))))))))

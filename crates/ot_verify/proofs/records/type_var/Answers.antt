@@ -14,9 +14,11 @@ returns-clause-recorded g c =
     let first = c.args.first in
     let made = c.type_var-made.result in
     rw c.settle.ensures
-    (answered-then st now AskName (IsNamed c.name_number.new.log) c.in_ok-name.name (λ x0. Makes (makes_type names (TyVar x0)))
+    (answered-then st now AskName (IsNamed c.name_number.new.log) c.in_ok-name.name
+    (λ x0. Makes (makes_type names (TyVar x0)))
     first (settled_at first made) c.args.reader.now c.name_number.new.reader c.name_number.new.reader
-    (g.S.Source.left c.args.source.now) (g.S.Source.left c.name_number.new.source) (g.S.Source.left c.name_number.new.source)
+    (g.S.Source.left c.args.source.now) (g.S.Source.left c.name_number.new.source)
+    (g.S.Source.left c.name_number.new.source)
     c.in_ok-name.ensures.answered
     (λ x0 h0. made-settled (makes_type names (TyVar x0)) first st now c.name_number.new.reader
     (g.S.Source.left c.name_number.new.source) made

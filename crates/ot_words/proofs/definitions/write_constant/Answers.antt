@@ -17,5 +17,6 @@ returns-in_err-theorems-clause-accepts c = λ w ds h.
     let n = name_at ts c.args.n in
     let t = term_at ts c.args.t in
     let d = ConDef n t in
-    defines-taken c.from_residual-in_err-theorems.result _ d d _ c.constant.new.nodes c.from_residual-in_err-theorems.ensures.1
+    defines-taken c.from_residual-in_err-theorems.result _ d d _ c.constant.new.nodes
+    c.from_residual-in_err-theorems.ensures.1
     (c.in_err-theorems.ensures.defines [] (c.new-signature.ensures ts)) (constant-taken n t w ds h)

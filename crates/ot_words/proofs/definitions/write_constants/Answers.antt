@@ -19,7 +19,8 @@ returns-clause-defined c = λ os r.
     let ps = c.args.pairs.now in
     let d = c.in_ok-theorems.ensures.defines [] (c.new-signature.ensures ts) in
     let entry = constants-is ts ps c.args.i c.deref.result.now (c.deref.ensures.value ∙ c.in_ok-operands.ensures) in
-    let moves = subst (λ z. Moves ts c.args.sheet.now c.write.new.self (write_entry z)) entry c.in_ok-write.ensures.moves in
+    let moves = subst (λ z. Moves ts c.args.sheet.now c.write.new.self (write_entry z)) entry
+    c.in_ok-write.ensures.moves in
     constants-defined ts c.constants.new.nodes c.in_ok-theorems.ensures.extends c.args.sheet.now c.write.new.self
     c.in_ok-theorems.theorems.items d.0 (pairs_at ts ps) (sequent_at ts c.args.premise.now) c.args.i os moves d.1 r
 

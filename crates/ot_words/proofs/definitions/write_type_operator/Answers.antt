@@ -11,7 +11,8 @@ use Rattle.ot_words.proofs.definitions.write_type_operator.Goals as goal
 
 pub write-requires : goal.write-requires
 write-requires c = record {
-  operands = has-type_operator c.args.nodes.now c.args.n c.args.abs c.args.rep _ c.args.i c.args.vars.now c.deref.result.now
+  operands = has-type_operator c.args.nodes.now c.args.n c.args.abs c.args.rep _ c.args.i c.args.vars.now
+      c.deref.result.now
       (c.deref.ensures.value ∙ c.in_ok-operands.ensures) c.requires.n c.requires.abs c.requires.rep c.requires.vars;
 }
 
@@ -22,9 +23,12 @@ returns-clause-defined c = λ os r.
     let d = c.in_ok-theorems.ensures.defines [] (c.new-signature.ensures ts) in
     let entry = type_operator-is ts c.args.n c.args.abs c.args.rep c.args.i vars c.deref.result.now
     (c.deref.ensures.value ∙ c.in_ok-operands.ensures) in
-    let moves = subst (λ z. Moves ts c.args.sheet.now c.write.new.self (write_entry z)) entry c.in_ok-write.ensures.moves in
-    type_operator-defined ts c.type_operator.new.nodes c.in_ok-theorems.ensures.extends c.args.sheet.now c.write.new.self
-    c.in_ok-theorems.theorems.items d.0 (name_at ts c.args.n) (name_at ts c.args.abs) (name_at ts c.args.rep) (names_at ts vars)
+    let moves = subst (λ z. Moves ts c.args.sheet.now c.write.new.self (write_entry z)) entry
+    c.in_ok-write.ensures.moves in
+    type_operator-defined ts c.type_operator.new.nodes c.in_ok-theorems.ensures.extends c.args.sheet.now
+    c.write.new.self
+    c.in_ok-theorems.theorems.items d.0 (name_at ts c.args.n) (name_at ts c.args.abs) (name_at ts c.args.rep)
+    (names_at ts vars)
     (sequent_at ts c.args.premise.now) c.args.i os moves d.1 r
 
 pub returns-in_err-theorems-clause-accepts : goal.returns-in_err-theorems-clause-accepts
@@ -38,4 +42,5 @@ returns-in_err-theorems-clause-accepts c = λ os r ds h.
     let d = TyDef n abs rep vars q in
     defines-taken c.from_residual-in_err-theorems.result _ d d _ c.type_operator.new.nodes
     c.from_residual-in_err-theorems.ensures.1
-    (c.in_err-theorems.ensures.defines [] (c.new-signature.ensures ts)) (type_operator-taken n abs rep vars q os r ds h)
+    (c.in_err-theorems.ensures.defines [] (c.new-signature.ensures ts))
+    (type_operator-taken n abs rep vars q os r ds h)

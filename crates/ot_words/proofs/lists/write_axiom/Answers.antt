@@ -25,10 +25,12 @@ pub returns-clause-records : goal.returns-clause-records
 returns-clause-records c = λ os r.
     let ts = c.args.nodes.now in
     let sorted = ap (map (term_at ts)) c.deref.ensures.value ∙ c.in_ok-sorted.ensures.sorted in
-    axiom-records ts c.assumption.new.nodes c.in_ok-statement.ensures.extends c.args.sheet.now c.write_sequent.new.self
+    axiom-records ts c.assumption.new.nodes c.in_ok-statement.ensures.extends c.args.sheet.now
+    c.write_sequent.new.self
     c.in_ok-number.number c.in_ok-statement.statement c.args.hyps.now c.args.concl c.deref-2.result.now os
     (assumption-is ts c.args.concl c.deref.result.now (map (term_at ts) c.args.hyps.now) c.deref-2.result.now
-    (c.deref-2.ensures.value ∙ c.in_ok-operands.ensures) sorted) c.in_ok-number.ensures.adds c.in_ok-statement.ensures.gives r
+    (c.deref-2.ensures.value ∙ c.in_ok-operands.ensures) sorted) c.in_ok-number.ensures.adds
+    c.in_ok-statement.ensures.gives r
 
 pub returns-in_err-statement-clause-accepts : goal.returns-in_err-statement-clause-accepts
 returns-in_err-statement-clause-accepts c = λ os r h.

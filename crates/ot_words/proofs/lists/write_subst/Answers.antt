@@ -27,7 +27,8 @@ returns-clause-records c = λ os r.
     subst-records ts c.subst.new.nodes c.in_ok-statement.ensures.extends c.args.sheet.now c.write_sequent.new.self
     c.in_ok-number.number c.in_ok-statement.statement c.args.types.now c.args.terms.now c.args.a.now c.args.i
     c.deref.result.now os
-    (subst-is ts c.args.i c.args.types.now c.args.terms.now c.deref.result.now (c.deref.ensures.value ∙ c.in_ok-operands.ensures))
+    (subst-is ts c.args.i c.args.types.now c.args.terms.now c.deref.result.now
+    (c.deref.ensures.value ∙ c.in_ok-operands.ensures))
     c.in_ok-number.ensures.adds c.in_ok-statement.ensures.gives r
 
 pub returns-in_err-statement-clause-accepts : goal.returns-in_err-statement-clause-accepts

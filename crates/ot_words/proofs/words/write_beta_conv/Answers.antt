@@ -16,7 +16,8 @@ returns-clause-records c =
     let g = c.in_ok-statement.ensures.gives in
     made-records ts c.beta_conv.new.nodes c.args.sheet.now c.write_of_term.new.sheet c.in_ok-number.number
     c.in_ok-statement.statement c.in_ok-statement.ensures.extends
-    words.BetaConv (term (term_at ts c.args.t) ∷ []) [] c.in_ok-number.ensures.adds g.0 (beta-value (term_at ts c.args.t) _ g.1)
+    words.BetaConv (term (term_at ts c.args.t) ∷ []) [] c.in_ok-number.ensures.adds g.0
+    (beta-value (term_at ts c.args.t) _ g.1)
 
 pub returns-in_err-statement-clause-accepts : goal.returns-in_err-statement-clause-accepts
 returns-in_err-statement-clause-accepts c = λ w h.

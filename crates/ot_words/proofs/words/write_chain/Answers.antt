@@ -20,7 +20,8 @@ returns-then-eq-clause-adds c =
     (λ n A. subst (λ b. Adds ts c.write_trans.new.nodes old new
     (λ x. cond b (trans_entries x.sequents (type_at ts e.ty) (term_at ts e.left) c.args.i c.args.j)
     (trans_entries x.sequents (type_at ts f.ty) (term_at ts f.left) c.args.j c.args.i)) n)
-    (sym (chain-by ts c.primitives.ensures.once e f true c.requires.e c.requires.f (sym c.eq.ensures ∙ c.if-eq.true))) A)
+    (sym (chain-by ts c.primitives.ensures.once e f true c.requires.e c.requires.f (sym c.eq.ensures ∙ c.if-eq.true)))
+    A)
     c.write_trans.ensures.adds
 
 pub returns-else-eq-clause-adds : goal.returns-else-eq-clause-adds
@@ -35,5 +36,6 @@ returns-else-eq-clause-adds c =
     (λ n A. subst (λ b. Adds ts c.write_trans-else-eq.new.nodes old new
     (λ x. cond b (trans_entries x.sequents (type_at ts e.ty) (term_at ts e.left) c.args.i c.args.j)
     (trans_entries x.sequents (type_at ts f.ty) (term_at ts f.left) c.args.j c.args.i)) n)
-    (sym (chain-by ts c.primitives.ensures.once e f false c.requires.e c.requires.f (sym c.eq.ensures ∙ c.if-eq.false))) A)
+    (sym (chain-by ts c.primitives.ensures.once e f false c.requires.e c.requires.f
+    (sym c.eq.ensures ∙ c.if-eq.false))) A)
     c.write_trans-else-eq.ensures.adds

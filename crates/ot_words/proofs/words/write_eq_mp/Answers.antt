@@ -13,5 +13,6 @@ returns-in_err-statement-clause-accepts c = λ h.
     let a = sequent_at ts c.args.a.now in
     let b = sequent_at ts c.args.b.now in
     let r = result-of (eq_mp_rule names a b) h in
-    gives-taken c.from_residual-in_err-statement.result _ (eq_mp_step names a b) ts r.0 c.from_residual-in_err-statement.ensures.1
+    gives-taken c.from_residual-in_err-statement.result _ (eq_mp_step names a b) ts r.0
+    c.from_residual-in_err-statement.ensures.1
     c.in_err-statement.ensures.gives (eq_mp-ruled names tells_names a b r.0 r.1)

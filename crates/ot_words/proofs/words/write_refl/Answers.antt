@@ -14,9 +14,11 @@ pub returns-clause-records : goal.returns-clause-records
 returns-clause-records c =
     let ts = c.args.nodes.now in
     let g = c.in_ok-statement.ensures.gives in
-    made-records ts c.refl.new.nodes c.args.sheet.now c.write_of_term.new.sheet c.in_ok-number.number c.in_ok-statement.statement
+    made-records ts c.refl.new.nodes c.args.sheet.now c.write_of_term.new.sheet c.in_ok-number.number
+    c.in_ok-statement.statement
     c.in_ok-statement.ensures.extends
-    words.Refl (term (term_at ts c.args.t) ∷ []) [] c.in_ok-number.ensures.adds g.0 (refl-value (term_at ts c.args.t) _ g.1)
+    words.Refl (term (term_at ts c.args.t) ∷ []) [] c.in_ok-number.ensures.adds g.0
+    (refl-value (term_at ts c.args.t) _ g.1)
 
 pub returns-in_err-statement-clause-accepts : goal.returns-in_err-statement-clause-accepts
 returns-in_err-statement-clause-accepts c = λ w h.

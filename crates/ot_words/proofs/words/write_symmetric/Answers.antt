@@ -16,7 +16,8 @@ sym-requires c = record {
 pub returns-clause-records : goal.returns-clause-records
 returns-clause-records c =
     sym-records c.args.nodes.now c.write_sym.new.nodes c.sym.new.nodes c.in_ok-number.ensures.extends
-    c.in_ok-statement.ensures.extends c.args.sheet.now c.write_sym.new.sheet c.in_ok-number.number c.in_ok-statement.statement
+    c.in_ok-statement.ensures.extends c.args.sheet.now c.write_sym.new.sheet c.in_ok-number.number
+    c.in_ok-statement.statement
     c.args.a.now c.in-Some.sides c.args.i c.requires.a c.in-Some.ensures c.in_ok-number.ensures.adds c.requires.value
     c.in_ok-statement.ensures.made
 
@@ -32,5 +33,6 @@ returns-in_err-statement-clause-accepts c =
     let q = sequent_at ts c.args.a.now in
     let r = result-of (sym_rule names q) c.requires.value in
     let stay = sequent-stays ts c.write_sym.new.nodes c.in_ok-number.ensures.extends c.args.a.now c.requires.a in
-    derives-taken c.from_residual-in_err-statement.result _ c.sym.new.nodes r.0 c.from_residual-in_err-statement.ensures.1
+    derives-taken c.from_residual-in_err-statement.result _ c.sym.new.nodes r.0
+    c.from_residual-in_err-statement.ensures.1
     (c.in_err-statement.ensures.made r.0 (ap (sym_rule names) stay ∙ r.1))

@@ -8,11 +8,13 @@ use Rattle.ot_sheet.proofs.Deriving.{trans-none, trans-other}
 use Rattle.ot_words.proofs.words.write_transitive.Goals as goal
 
 pub trans-requires-clause-lower : goal.trans-requires-clause-lower
-trans-requires-clause-lower c = still-statement c.args.nodes.now c.write_chain.new.nodes c.in_ok-number.ensures.extends
+trans-requires-clause-lower c =
+    still-statement c.args.nodes.now c.write_chain.new.nodes c.in_ok-number.ensures.extends
     c.args.a.now c.requires.a
 
 pub trans-requires-clause-top : goal.trans-requires-clause-top
-trans-requires-clause-top c = still-statement c.args.nodes.now c.write_chain.new.nodes c.in_ok-number.ensures.extends c.args.b.now
+trans-requires-clause-top c = still-statement c.args.nodes.now c.write_chain.new.nodes c.in_ok-number.ensures.extends
+    c.args.b.now
     c.requires.b
 
 pub returns-clause-records : goal.returns-clause-records
@@ -20,7 +22,8 @@ returns-clause-records c =
     trans-records c.args.nodes.now c.write_chain.new.nodes c.trans.new.nodes c.in_ok-number.ensures.extends
     c.in_ok-statement.ensures.extends c.args.sheet.now c.write_chain.new.sheet c.in_ok-number.number
     c.in_ok-statement.statement
-    c.args.a.now c.args.b.now c.in-Some.e c.in-Some-as_equation.f c.args.i c.args.j c.requires.a c.requires.b c.in-Some.ensures
+    c.args.a.now c.args.b.now c.in-Some.e c.in-Some-as_equation.f c.args.i c.args.j c.requires.a c.requires.b
+    c.in-Some.ensures
     c.in-Some-as_equation.ensures c.in_ok-number.ensures.adds c.requires.value c.in_ok-statement.ensures.made
 
 pub unreachable-requires : goal.unreachable-requires
@@ -47,5 +50,6 @@ returns-in_err-statement-clause-accepts c =
     let r = result-of (trans_rule names q p) c.requires.value in
     let stay = sequent-stays ts mid e c.args.a.now c.requires.a in
     let stays = sequent-stays ts mid e c.args.b.now c.requires.b in
-    derives-taken c.from_residual-in_err-statement.result _ c.trans.new.nodes r.0 c.from_residual-in_err-statement.ensures.1
+    derives-taken c.from_residual-in_err-statement.result _ c.trans.new.nodes r.0
+    c.from_residual-in_err-statement.ensures.1
     (c.in_err-statement.ensures.made r.0 ((λ i. trans_rule names (stay i) (stays i)) ∙ r.1))

@@ -9,12 +9,15 @@ abbrev pub invariant-loop-id : goal.invariant-loop-id
 invariant-loop-id l = record {
   keys : HasKeys l.trace l.writer.keys.items l.writer.stored.items;
   shows : Shows (given l.names l.trace l.counts) l.max l.writer
-      (w.emit_definitions same (keep (given l.names l.trace l.counts)) (used (given l.names l.trace l.counts)) (map (origin_at l.trace) (take l.id-index l.definitions)) (w.beginning same (keep (given l.names l.trace l.counts)) (used (given l.names l.trace l.counts))));
+      (w.emit_definitions same (keep (given l.names l.trace l.counts)) (used (given l.names l.trace l.counts))
+      (map (origin_at l.trace) (take l.id-index l.definitions))
+      (w.beginning same (keep (given l.names l.trace l.counts)) (used (given l.names l.trace l.counts))));
 }
 
 abbrev pub invariant-loop-export : goal.invariant-loop-export
 invariant-loop-export l = record {
   keys : HasKeys l.trace l.writer.keys.items l.writer.stored.items;
   shows : Shows (given l.names l.trace l.counts) l.max l.writer
-      (w.written same (keep (given l.names l.trace l.counts)) (used (given l.names l.trace l.counts)) (map (origin_at l.trace) l.definitions) (map (roots_at l.trace) (take l.export-index l.exports)));
+      (w.written same (keep (given l.names l.trace l.counts)) (used (given l.names l.trace l.counts))
+      (map (origin_at l.trace) l.definitions) (map (roots_at l.trace) (take l.export-index l.exports)));
 }

@@ -4,8 +4,10 @@ use Rattle.ot_type.proofs.Entering.{entered, Entered}
 use Rattle.ot_class.proofs.table.Classes.intern.Goals as goal
 
 -- what the insert leaves
-left : (c : goal.In_ok-index) → Entered tree_of AreBelow Describes node_eq c.args.self.now c.args.node c.insert_full.new.self.entries c.in_ok-index.index
-left c = entered tree_of AreBelow Describes node_eq laws c.self.inside.nodes c.args.self.now c.self.view_is c.self.invariant c.args.node c.beside_new-beside.result c.requires c.beside_new-beside.ensures
+left : (c : goal.In_ok-index) → Entered tree_of AreBelow Describes node_eq c.args.self.now c.args.node
+    c.insert_full.new.self.entries c.in_ok-index.index
+left c = entered tree_of AreBelow Describes node_eq laws c.self.inside.nodes c.args.self.now c.self.view_is
+    c.self.invariant c.args.node c.beside_new-beside.result c.requires c.beside_new-beside.ensures
     c.insert_full.new.self.entries c.in_ok-index.ensures.entries c.in_ok-index.index c.in_ok-index.ensures.index
 
 pub invariant_of-self-2 : goal.invariant_of-self-2

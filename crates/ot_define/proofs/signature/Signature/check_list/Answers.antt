@@ -19,12 +19,22 @@ returns c =
     let tm = tm_at c.args.terms.now.terms in
     let vs = map (variable_of c.args.terms.now.types) c.args.vars.now in
     let q = sequent_at c.args.terms.now.terms c.args.hyps.now c.args.concl in
-    let paired = are_distinct nat_eq c.args.names.now && are_distinct (same_var numbers) vs && (length q.hyps == length vs) in
-    let symbols = checked_symbols numbers c.args.self.now.defined c.args.self.now.used (symbols_of numbers q) (map ConSymbol c.args.names.now) in
+    let paired = are_distinct nat_eq c.args.names.now && are_distinct (same_var numbers) vs
+    && (length q.hyps == length vs) in
+    let symbols = checked_symbols numbers c.args.self.now.defined c.args.self.now.used (symbols_of numbers q)
+    (map ConSymbol c.args.names.now) in
     let given = sym c.in_ok-given.ensures.given ∙ ap (option_map (λ ts. map tm ts.items)) c.in-Some.is in
     let once = are_distinct nat_eq c.args.names.now && are_distinct (same_var numbers) vs in
-    let long : unless {E = Fault ℕ} BadDefinitionList paired ≡ unless BadDefinitionList (once && (length c.args.hyps.now == length c.args.vars.now)) =
-    λ i. unless BadDefinitionList (once && (length-map c.args.hyps.now tm i == length-map c.args.vars.now (variable_of c.args.terms.now.types) i)) in
-    let last = checks-then r symbols (checked_given numbers vs (map tm c.in-Some.given.items) q.concl) c.in_ok-check_constants.ensures (subst (λ (is : List ℕ). Checks r (checked_given numbers vs (map tm is) q.concl)) c.as_slice.ensures.value c.check_given.ensures) in
-    checks-then r (unless BadDefinitionList paired) (some_or BadDefinitionList (terms_given numbers q.hyps vs) >>= λ ts. symbols >>= λ _. checked_given numbers vs ts q.concl) (long ∙ c.in_ok-check_pairs.ensures)
-    (checks-some r BadDefinitionList (terms_given numbers q.hyps vs) (map tm c.in-Some.given.items) (λ ts. symbols >>= λ _. checked_given numbers vs ts q.concl) given last)
+    let long : unless {E = Fault ℕ} BadDefinitionList paired
+    ≡ unless BadDefinitionList (once && (length c.args.hyps.now == length c.args.vars.now)) =
+    λ i. unless BadDefinitionList
+    (once && (length-map c.args.hyps.now tm i == length-map c.args.vars.now (variable_of c.args.terms.now.types)
+    i)) in
+    let last = checks-then r symbols (checked_given numbers vs (map tm c.in-Some.given.items) q.concl)
+    c.in_ok-check_constants.ensures
+    (subst (λ (is : List ℕ). Checks r (checked_given numbers vs (map tm is) q.concl)) c.as_slice.ensures.value
+    c.check_given.ensures) in
+    checks-then r (unless BadDefinitionList paired) (some_or BadDefinitionList (terms_given numbers q.hyps vs)
+    >>= λ ts. symbols >>= λ _. checked_given numbers vs ts q.concl) (long ∙ c.in_ok-check_pairs.ensures)
+    (checks-some r BadDefinitionList (terms_given numbers q.hyps vs) (map tm c.in-Some.given.items)
+    (λ ts. symbols >>= λ _. checked_given numbers vs ts q.concl) given last)

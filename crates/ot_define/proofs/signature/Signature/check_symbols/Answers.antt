@@ -17,6 +17,11 @@ returns c =
     let premise = map symbol_of c.in_ok-premise.premise.keys in
     let first = refuse_first numbers Primitive (λ s. is_among numbers s (primitives numbers)) ss in
     let second = refuse_defined numbers c.args.self.now.defined ss in
-    let third = refuse_first numbers SymbolInUse (λ s. is_among numbers s premise || is_among numbers s c.args.self.now.used) ss in
-    subst (Checks c.refuse_used.result) (checked-agree numbers tells_numbers c.args.self.now.defined c.args.self.now.used premise (symbols_of numbers (sequent_at c.args.terms.now.terms c.args.hyps.now c.args.concl)) ss c.in_ok-premise.ensures)
-    (checks-then c.refuse_used.result first (second >>= λ _. third) c.in_ok-refuse_primitive.ensures (checks-then c.refuse_used.result second third c.in_ok-refuse_defined.ensures c.refuse_used.ensures))
+    let third = refuse_first numbers SymbolInUse
+    (λ s. is_among numbers s premise || is_among numbers s c.args.self.now.used) ss in
+    subst (Checks c.refuse_used.result)
+    (checked-agree numbers tells_numbers c.args.self.now.defined c.args.self.now.used premise
+    (symbols_of numbers (sequent_at c.args.terms.now.terms c.args.hyps.now c.args.concl)) ss
+    c.in_ok-premise.ensures)
+    (checks-then c.refuse_used.result first (second >>= λ _. third) c.in_ok-refuse_primitive.ensures
+    (checks-then c.refuse_used.result second third c.in_ok-refuse_defined.ensures c.refuse_used.ensures))

@@ -6,4 +6,5 @@ use Rattle.ot_interp.proofs.interp.Interp.type_op.Goals as goal
 
 pub returns-clause-within : goal.returns-clause-within
 returns-clause-within c = λ size below h.
-    subst (λ n. n < size) (sym (c.renamed.ensures ∙ ap (λ i. renamed numbers i.type_ops c.args.name) c.self.view_is)) (renamed-within size c.args.self.now.type_ops c.args.name h.type_ops below)
+    subst (λ n. n < size) (sym (c.renamed.ensures ∙ ap (λ i. renamed numbers i.type_ops c.args.name) c.self.view_is))
+    (renamed-within size c.args.self.now.type_ops c.args.name h.type_ops below)

@@ -3,8 +3,17 @@ use Rattle.ot_kernel.proofs.Growth.{Grown, terms_grown}
 use Rattle.ot_kernel.proofs.Numbers.{makes_abs, abs-named}
 use Rattle.ot_kernel.proofs.kernel.Kernel.abs.Goals as goal
 
-grown : (c : goal.After-abs) → Grown c.args.self.now c.self.inside.names c.abs.new.self (record { theorems = c.self.inside.theorems.items; assumptions = c.self.inside.assumptions.items; definitions = c.self.inside.definitions.items; signature = c.self.inside.signature; places = c.self.inside.places })
-grown c = terms_grown (max (c.args.v.name + 1) 1) _ _ _ _ _ c.self.view_is c.self.invariant c.abs.ensures.grows c.abs.ensures.table c.abs.ensures.names (omega (arith, c.requires.name))
+grown : (c : goal.After-abs) → Grown c.args.self.now c.self.inside.names c.abs.new.self
+    (record {
+      theorems = c.self.inside.theorems.items;
+      assumptions = c.self.inside.assumptions.items;
+      definitions = c.self.inside.definitions.items;
+      signature = c.self.inside.signature;
+      places =
+          c.self.inside.places;
+    })
+grown c = terms_grown (max (c.args.v.name + 1) 1) _ _ _ _ _ c.self.view_is c.self.invariant c.abs.ensures.grows
+    c.abs.ensures.table c.abs.ensures.names (omega (arith, c.requires.name))
 
 pub invariant_of-self : goal.invariant_of-self
 invariant_of-self c = (grown c).kernel
@@ -17,7 +26,9 @@ returns-clause-same c = (grown c).same
 
 pub returns-clause-made : goal.returns-clause-made
 returns-clause-made c =
-    makes_abs _ _ _ _ c.self.view_is c.self.invariant c.abs.new.self _ _ _ c.requires.name c.requires.ty c.requires.body c.abs.ensures.ok c.abs.ensures.nesting c.abs.ensures.table
+    makes_abs _ _ _ _ c.self.view_is c.self.invariant c.abs.new.self _ _ _ c.requires.name c.requires.ty
+    c.requires.body c.abs.ensures.ok c.abs.ensures.nesting c.abs.ensures.table
 
 pub returns-clause-named : goal.returns-clause-named
-returns-clause-named c = abs-named _ _ _ _ c.self.view_is c.self.invariant c.abs.new.self _ _ _ c.requires.name c.requires.ty c.requires.body c.abs.ensures.ok
+returns-clause-named c = abs-named _ _ _ _ c.self.view_is c.self.invariant c.abs.new.self _ _ _ c.requires.name
+    c.requires.ty c.requires.body c.abs.ensures.ok

@@ -10,5 +10,7 @@ use Rattle.ot_kernel.proofs.kernel.Kernel.are_propositions.Goals as goal
 pub returns-clause-are : goal.returns-clause-are
 returns-clause-are c =
     let was = c.in_ok-boolean.ensures in
-    sym (tests_hypotheses c.boolean.new.self c.in_ok-boolean.boolean was.ok c.args.ts.now _ c.have_type.result c.have_type.ensures refl)
-    ∙ ap (list_all (λ t. has_type names t (bool_ty names))) (hyps-Extends c.args.self.now.terms c.boolean.new.self.terms was.keeps.terms c.args.ts.now c.requires)
+    sym (tests_hypotheses c.boolean.new.self c.in_ok-boolean.boolean was.ok c.args.ts.now _ c.have_type.result
+    c.have_type.ensures refl)
+    ∙ ap (list_all (λ t. has_type names t (bool_ty names)))
+    (hyps-Extends c.args.self.now.terms c.boolean.new.self.terms was.keeps.terms c.args.ts.now c.requires)

@@ -10,4 +10,5 @@ returns-clause-first c =
     let ids = c.assumptions.result.now in
     let n = c.first_place-from.result in
     c.first_same.ensures.first
-    ∙ sym (found-behind now ids (take (length ids - n) (drop n ids)) n (sequent_of now.terms c.args.theorem.now) c.assumptions.ensures.sequents (take_rest ids n) c.first_place-from.ensures.none)
+    ∙ sym (found-behind now ids (take (length ids - n) (drop n ids)) n (sequent_of now.terms c.args.theorem.now)
+    c.assumptions.ensures.sequents (take_rest ids n) c.first_place-from.ensures.none)

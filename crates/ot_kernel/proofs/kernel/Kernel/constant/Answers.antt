@@ -3,8 +3,17 @@ use Rattle.ot_kernel.proofs.Growth.{Grown, terms_grown}
 use Rattle.ot_kernel.proofs.Numbers.{constant-ok, within-ok}
 use Rattle.ot_kernel.proofs.kernel.Kernel.constant.Goals as goal
 
-grown : (c : goal.After-constant) → Grown c.args.self.now c.self.inside.names c.constant.new.self (record { theorems = c.self.inside.theorems.items; assumptions = c.self.inside.assumptions.items; definitions = c.self.inside.definitions.items; signature = c.self.inside.signature; places = c.self.inside.places })
-grown c = terms_grown (c.args.name + 1) _ _ _ _ _ c.self.view_is c.self.invariant c.constant.ensures.grows c.constant.ensures.table c.constant.ensures.names (omega (arith, c.requires.name))
+grown : (c : goal.After-constant) → Grown c.args.self.now c.self.inside.names c.constant.new.self
+    (record {
+      theorems = c.self.inside.theorems.items;
+      assumptions = c.self.inside.assumptions.items;
+      definitions = c.self.inside.definitions.items;
+      signature = c.self.inside.signature;
+      places =
+          c.self.inside.places;
+    })
+grown c = terms_grown (c.args.name + 1) _ _ _ _ _ c.self.view_is c.self.invariant c.constant.ensures.grows
+    c.constant.ensures.table c.constant.ensures.names (omega (arith, c.requires.name))
 
 pub invariant_of-self : goal.invariant_of-self
 invariant_of-self c = (grown c).kernel
@@ -16,7 +25,9 @@ pub returns-clause-same : goal.returns-clause-same
 returns-clause-same c = (grown c).same
 
 pub returns-clause-within : goal.returns-clause-within
-returns-clause-within c = within-ok _ _ _ _ c.self.view_is c.self.invariant c.constant.new.self _ _ c.constant.ensures.ok
+returns-clause-within c =
+    within-ok _ _ _ _ c.self.view_is c.self.invariant c.constant.new.self _ _ c.constant.ensures.ok
 
 pub returns-clause-ok : goal.returns-clause-ok
-returns-clause-ok c = constant-ok _ _ _ _ c.self.view_is c.self.invariant c.constant.new.self _ _ _ c.requires.name c.requires.ty c.constant.ensures.ok
+returns-clause-ok c = constant-ok _ _ _ _ c.self.view_is c.self.invariant c.constant.new.self _ _ _ c.requires.name
+    c.requires.ty c.constant.ensures.ok

@@ -8,19 +8,28 @@ use Rattle.ot_kernel.proofs.Derived.{Ruled, ruled-theorems, ruled-follows, ruled
 use Rattle.ot_kernel.proofs.kernel.Kernel.eq_mp.Goals as goal
 use Rattle.ot_kernel.proofs.kernel.Kernel.eq_mp.Goals.{After-eq_mp-theorem}
 
-ruled : (c : After-eq_mp-theorem) → Ruled c.eq_mp-theorem.result (eq_mp_rule names (theorem_at c.args.self.now c.args.lower) (theorem_at c.args.self.now c.args.top)) c.args.self.now c.args.self.now
+ruled : (c : After-eq_mp-theorem)
+    → Ruled c.eq_mp-theorem.result
+    (eq_mp_rule names (theorem_at c.args.self.now c.args.lower) (theorem_at c.args.self.now c.args.top))
+    c.args.self.now c.args.self.now
 ruled c =
     let l = unchanged _ _ _ _ c.self.view_is c.self.invariant in
-    ruled-theorems l (λ L a. eq_mp_rule a) (eq_mp_rule-sound names tells_names _ _) _ _ (held_at l _ _ _ c.requires.lower c.index.ensures c.lower.view_is) _ _ (held_at l _ _ _ c.requires.top c.index-2.ensures c.top.view_is) _ c.eq_mp-theorem.ensures.derives
+    ruled-theorems l (λ L a. eq_mp_rule a) (eq_mp_rule-sound names tells_names _ _) _ _
+    (held_at l _ _ _ c.requires.lower c.index.ensures c.lower.view_is) _ _
+    (held_at l _ _ _ c.requires.top c.index-2.ensures c.top.view_is) _ c.eq_mp-theorem.ensures.derives
 
 pub derived-requires : goal.derived-requires
 derived-requires c = ruled-follows _ (ruled (goal.at.derived-requires c).After-eq_mp-theorem)
 
 pub returns-clause-concludes : goal.returns-clause-concludes
-returns-clause-concludes c = (ruled-concluded _ _ _ (ruled (goal.at.returns-clause-concludes c).After-eq_mp-theorem) c.derived.ensures).concludes
+returns-clause-concludes c =
+    (ruled-concluded _ _ _ (ruled (goal.at.returns-clause-concludes c).After-eq_mp-theorem)
+    c.derived.ensures).concludes
 
 pub returns-clause-keeps : goal.returns-clause-keeps
-returns-clause-keeps c = (ruled-concluded _ _ _ (ruled (goal.at.returns-clause-keeps c).After-eq_mp-theorem) c.derived.ensures).keeps
+returns-clause-keeps c =
+    (ruled-concluded _ _ _ (ruled (goal.at.returns-clause-keeps c).After-eq_mp-theorem) c.derived.ensures).keeps
 
 pub returns-clause-same : goal.returns-clause-same
-returns-clause-same c = (ruled-concluded _ _ _ (ruled (goal.at.returns-clause-same c).After-eq_mp-theorem) c.derived.ensures).same
+returns-clause-same c =
+    (ruled-concluded _ _ _ (ruled (goal.at.returns-clause-same c).After-eq_mp-theorem) c.derived.ensures).same

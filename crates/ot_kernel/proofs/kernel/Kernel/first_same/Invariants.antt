@@ -8,4 +8,6 @@ use Rattle.ot_kernel.proofs.kernel.Kernel.first_same.Given as goal
 
 abbrev pub invariant-loop-id : goal.invariant-loop-id
 invariant-loop-id l =
-    find (λ r. same_sequent names r (sequent_of l.self.terms l.theorem)) (map (theorem_at l.self) l.among) ≡ find (λ r. same_sequent names r (sequent_of l.self.terms l.theorem)) (map (theorem_at l.self) (drop l.id-index l.among))
+    find (λ r. same_sequent names r (sequent_of l.self.terms l.theorem)) (map (theorem_at l.self) l.among)
+    ≡ find (λ r. same_sequent names r (sequent_of l.self.terms l.theorem))
+    (map (theorem_at l.self) (drop l.id-index l.among))

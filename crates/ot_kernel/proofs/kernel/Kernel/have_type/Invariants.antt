@@ -7,4 +7,5 @@ use Rattle.ot_kernel.proofs.kernel.Kernel.have_type.Given as goal
 
 abbrev pub invariant-loop-t : goal.invariant-loop-t
 invariant-loop-t l =
-    list_all (λ t. has_type names t (type_at l.self l.ty)) (terms_at l.self l.ts) ≡ list_all (λ t. has_type names t (type_at l.self l.ty)) (terms_at l.self (drop l.t-index l.ts))
+    list_all (λ t. has_type names t (type_at l.self l.ty)) (terms_at l.self l.ts)
+    ≡ list_all (λ t. has_type names t (type_at l.self l.ty)) (terms_at l.self (drop l.t-index l.ts))

@@ -15,6 +15,7 @@ invariant_of-result c =
       numbered = search rules;
       accepted = search rules;
       signature = search rules;
-      placed = subst (λ (is : List ℕ). ArePlaces c.new-2.result.classes c.new-3.result.items is c.new-5.result) (sym c.new-4.ensures.items) none;
+      placed = subst (λ (is : List ℕ). ArePlaces c.new-2.result.classes c.new-3.result.items is c.new-5.result)
+          (sym c.new-4.ensures.items) none;
       sound = search rules;
     }

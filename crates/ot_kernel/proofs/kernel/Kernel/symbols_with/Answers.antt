@@ -14,6 +14,10 @@ use Rattle.ot_kernel.proofs.kernel.Kernel.symbols_with.Goals as goal
 pub returns-clause-symbols : goal.returns-clause-symbols
 returns-clause-symbols c =
     let s = c.args.self.now in
-    let items = c.as_slice.ensures.value ∙ c.in_ok-extend_from_slice.ensures.items ∙ ap (λ (l : List ℕ). l ++ c.args.ids.now) (c.in_ok-push.ensures.items ∙ ap (λ (l : List ℕ). l ++ c.concl.result ∷ []) c.in_ok-all.ensures.items) in
-    let all = ap (λ (l : List ℕ). symbols_all names (terms_at s l)) items ∙ symbols-after s (theorem_at s c.args.th) c.hyps.result.now c.concl.result c.args.ids.now c.hyps.ensures.hyps c.concl.ensures.concl in
-    subst (λ (l : List (Symbol Name)). IfOk c.symbols_in.result (λ v. IsSameSet (map (map_symbol (name_at s)) (map symbol_of v.items)) l)) all c.symbols_in.ensures.symbols
+    let items = c.as_slice.ensures.value ∙ c.in_ok-extend_from_slice.ensures.items
+    ∙ ap (λ (l : List ℕ). l ++ c.args.ids.now)
+    (c.in_ok-push.ensures.items ∙ ap (λ (l : List ℕ). l ++ c.concl.result ∷ []) c.in_ok-all.ensures.items) in
+    let all = ap (λ (l : List ℕ). symbols_all names (terms_at s l)) items ∙ symbols-after s (theorem_at s c.args.th)
+    c.hyps.result.now c.concl.result c.args.ids.now c.hyps.ensures.hyps c.concl.ensures.concl in
+    subst (λ (l : List (Symbol Name)). IfOk c.symbols_in.result
+    (λ v. IsSameSet (map (map_symbol (name_at s)) (map symbol_of v.items)) l)) all c.symbols_in.ensures.symbols

@@ -9,10 +9,15 @@ use Rattle.ot_kernel.proofs.Derived.{Ruled, ruled-theorems, ruled-follows, ruled
 use Rattle.ot_kernel.proofs.kernel.Kernel.trans.Goals as goal
 use Rattle.ot_kernel.proofs.kernel.Kernel.trans.Goals.{After-trans-theorem}
 
-ruled : (c : After-trans-theorem) → Ruled c.trans-theorem.result (trans_rule names (theorem_at c.args.self.now c.args.lower) (theorem_at c.args.self.now c.args.top)) c.args.self.now (state_of c.self.inside.names c.trans-theorem.new.terms (held_of c.self.inside))
+ruled : (c : After-trans-theorem)
+    → Ruled c.trans-theorem.result
+    (trans_rule names (theorem_at c.args.self.now c.args.lower) (theorem_at c.args.self.now c.args.top))
+    c.args.self.now (state_of c.self.inside.names c.trans-theorem.new.terms (held_of c.self.inside))
 ruled c =
     let l = later_equations _ _ _ _ _ c.self.view_is c.self.invariant c.trans-theorem.ensures.grown in
-    ruled-theorems l (λ L a. trans_rule a) (trans_rule-sound names tells_names _ _) _ _ (held_at l _ _ _ c.requires.lower c.index.ensures c.lower.view_is) _ _ (held_at l _ _ _ c.requires.top c.index-2.ensures c.top.view_is) _ c.trans-theorem.ensures.derives
+    ruled-theorems l (λ L a. trans_rule a) (trans_rule-sound names tells_names _ _) _ _
+    (held_at l _ _ _ c.requires.lower c.index.ensures c.lower.view_is) _ _
+    (held_at l _ _ _ c.requires.top c.index-2.ensures c.top.view_is) _ c.trans-theorem.ensures.derives
 
 pub invariant_of-self : goal.invariant_of-self
 invariant_of-self c = (later_equations _ _ _ _ _ c.self.view_is c.self.invariant c.trans-theorem.ensures.grown).kernel
@@ -21,10 +26,14 @@ pub derived-requires : goal.derived-requires
 derived-requires c = ruled-follows _ (ruled (goal.at.derived-requires c).After-trans-theorem)
 
 pub returns-clause-concludes : goal.returns-clause-concludes
-returns-clause-concludes c = (ruled-concluded _ _ _ (ruled (goal.at.returns-clause-concludes c).After-trans-theorem) c.derived.ensures).concludes
+returns-clause-concludes c =
+    (ruled-concluded _ _ _ (ruled (goal.at.returns-clause-concludes c).After-trans-theorem)
+    c.derived.ensures).concludes
 
 pub returns-clause-keeps : goal.returns-clause-keeps
-returns-clause-keeps c = (ruled-concluded _ _ _ (ruled (goal.at.returns-clause-keeps c).After-trans-theorem) c.derived.ensures).keeps
+returns-clause-keeps c =
+    (ruled-concluded _ _ _ (ruled (goal.at.returns-clause-keeps c).After-trans-theorem) c.derived.ensures).keeps
 
 pub returns-clause-same : goal.returns-clause-same
-returns-clause-same c = (ruled-concluded _ _ _ (ruled (goal.at.returns-clause-same c).After-trans-theorem) c.derived.ensures).same
+returns-clause-same c =
+    (ruled-concluded _ _ _ (ruled (goal.at.returns-clause-same c).After-trans-theorem) c.derived.ensures).same

@@ -3,8 +3,17 @@ use Rattle.ot_kernel.proofs.Growth.{Grown, terms_grown}
 use Rattle.ot_kernel.proofs.Numbers.{type_var-ok}
 use Rattle.ot_kernel.proofs.kernel.Kernel.type_var.Goals as goal
 
-grown : (c : goal.After-type_var) → Grown c.args.self.now c.self.inside.names c.type_var.new.self (record { theorems = c.self.inside.theorems.items; assumptions = c.self.inside.assumptions.items; definitions = c.self.inside.definitions.items; signature = c.self.inside.signature; places = c.self.inside.places })
-grown c = terms_grown (c.args.name + 1) _ _ _ _ _ c.self.view_is c.self.invariant c.type_var.ensures.grows c.type_var.ensures.table c.type_var.ensures.names (omega (arith, c.requires))
+grown : (c : goal.After-type_var) → Grown c.args.self.now c.self.inside.names c.type_var.new.self
+    (record {
+      theorems = c.self.inside.theorems.items;
+      assumptions = c.self.inside.assumptions.items;
+      definitions = c.self.inside.definitions.items;
+      signature = c.self.inside.signature;
+      places =
+          c.self.inside.places;
+    })
+grown c = terms_grown (c.args.name + 1) _ _ _ _ _ c.self.view_is c.self.invariant c.type_var.ensures.grows
+    c.type_var.ensures.table c.type_var.ensures.names (omega (arith, c.requires))
 
 pub invariant_of-self : goal.invariant_of-self
 invariant_of-self c = (grown c).kernel
@@ -16,4 +25,5 @@ pub returns-clause-same : goal.returns-clause-same
 returns-clause-same c = (grown c).same
 
 pub returns-clause-ok : goal.returns-clause-ok
-returns-clause-ok c = type_var-ok _ _ _ _ c.self.view_is c.self.invariant c.type_var.new.self _ _ c.requires c.type_var.ensures.ok
+returns-clause-ok c = type_var-ok _ _ _ _ c.self.view_is c.self.invariant c.type_var.new.self _ _ c.requires
+    c.type_var.ensures.ok

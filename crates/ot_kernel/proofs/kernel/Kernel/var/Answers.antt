@@ -3,8 +3,17 @@ use Rattle.ot_kernel.proofs.Growth.{Grown, terms_grown}
 use Rattle.ot_kernel.proofs.Numbers.{var-ok, within-ok}
 use Rattle.ot_kernel.proofs.kernel.Kernel.var.Goals as goal
 
-grown : (c : goal.After-var) → Grown c.args.self.now c.self.inside.names c.var.new.self (record { theorems = c.self.inside.theorems.items; assumptions = c.self.inside.assumptions.items; definitions = c.self.inside.definitions.items; signature = c.self.inside.signature; places = c.self.inside.places })
-grown c = terms_grown (c.args.v.name + 1) _ _ _ _ _ c.self.view_is c.self.invariant c.var.ensures.grows c.var.ensures.table c.var.ensures.names (omega (arith, c.requires.name))
+grown : (c : goal.After-var) → Grown c.args.self.now c.self.inside.names c.var.new.self
+    (record {
+      theorems = c.self.inside.theorems.items;
+      assumptions = c.self.inside.assumptions.items;
+      definitions = c.self.inside.definitions.items;
+      signature = c.self.inside.signature;
+      places =
+          c.self.inside.places;
+    })
+grown c = terms_grown (c.args.v.name + 1) _ _ _ _ _ c.self.view_is c.self.invariant c.var.ensures.grows
+    c.var.ensures.table c.var.ensures.names (omega (arith, c.requires.name))
 
 pub invariant_of-self : goal.invariant_of-self
 invariant_of-self c = (grown c).kernel
@@ -19,4 +28,5 @@ pub returns-clause-within : goal.returns-clause-within
 returns-clause-within c = within-ok _ _ _ _ c.self.view_is c.self.invariant c.var.new.self _ _ c.var.ensures.ok
 
 pub returns-clause-ok : goal.returns-clause-ok
-returns-clause-ok c = var-ok _ _ _ _ c.self.view_is c.self.invariant c.var.new.self _ _ c.requires.name c.requires.ty c.var.ensures.ok
+returns-clause-ok c = var-ok _ _ _ _ c.self.view_is c.self.invariant c.var.new.self _ _ c.requires.name c.requires.ty
+    c.var.ensures.ok

@@ -11,7 +11,8 @@ use Rattle.ot_log.proofs.writer.Writer.close.Goals as goal
 pub put-requires-clause-some : goal.put-requires-clause-some
 put-requires-clause-some c =
     let s = c.args.session.now in
-    let e = made-origin s c.args.id c.trace.result.now c.step.result.now c.in-Make.word c.in-Make.operands c.as_slice.result.now
+    let e = made-origin s c.args.id c.trace.result.now c.step.result.now c.in-Make.word c.in-Make.operands
+    c.as_slice.result.now
     c.trace.ensures c.step.ensures.origin c.in-Make.is c.as_slice.ensures in
     (few-operands s c.in-Make.word c.as_slice.result.now (subst MakesTheorem e c.requires.makes)
     (subst (λ o. HasResult (value o)) e c.requires.value)).0
@@ -19,7 +20,8 @@ put-requires-clause-some c =
 pub put-requires-clause-few : goal.put-requires-clause-few
 put-requires-clause-few c =
     let s = c.args.session.now in
-    let e = made-origin s c.args.id c.trace.result.now c.step.result.now c.in-Make.word c.in-Make.operands c.as_slice.result.now
+    let e = made-origin s c.args.id c.trace.result.now c.step.result.now c.in-Make.word c.in-Make.operands
+    c.as_slice.result.now
     c.trace.ensures c.step.ensures.origin c.in-Make.is c.as_slice.ensures in
     (few-operands s c.in-Make.word c.as_slice.result.now (subst MakesTheorem e c.requires.makes)
     (subst (λ o. HasResult (value o)) e c.requires.value)).1
@@ -31,23 +33,30 @@ unreachable-requires-in_default c =
 
 pub put-requires-clause-value : goal.put-requires-clause-value
 put-requires-clause-value c =
-    subst (λ o. HasResult (value o)) (made-origin c.args.session.now c.args.id c.trace.result.now c.step.result.now c.in-Make.word
+    subst (λ o. HasResult (value o))
+    (made-origin c.args.session.now c.args.id c.trace.result.now c.step.result.now c.in-Make.word
     c.in-Make.operands c.as_slice.result.now c.trace.ensures c.step.ensures.origin c.in-Make.is c.as_slice.ensures)
     c.requires.value
 
 pub returns-clause-writer : goal.returns-clause-writer
 returns-clause-writer c =
-    let e = made-origin c.args.session.now c.args.id c.trace.result.now c.step.result.now c.in-Make.word c.in-Make.operands
+    let e = made-origin c.args.session.now c.args.id c.trace.result.now c.step.result.now c.in-Make.word
+    c.in-Make.operands
     c.as_slice.result.now c.trace.ensures c.step.ensures.origin c.in-Make.is c.as_slice.ensures in
-    on-ok c.mark.result (λ k. put-writer c.args.session.now c.requires.session c.args.self.now c.put.new.self c.mark.new.self
-    c.in-Make.word c.as_slice.result.now c.in-Ok.made c.in-Ok.ensures.puts c.args.id c.requires.inside e k) c.mark.ensures
+    on-ok c.mark.result
+    (λ k. put-writer c.args.session.now c.requires.session c.args.self.now c.put.new.self c.mark.new.self
+    c.in-Make.word c.as_slice.result.now c.in-Ok.made c.in-Ok.ensures.puts c.args.id c.requires.inside e k)
+    c.mark.ensures
 
 pub returns-clause-moves : goal.returns-clause-moves
 returns-clause-moves c =
-    let e = made-origin c.args.session.now c.args.id c.trace.result.now c.step.result.now c.in-Make.word c.in-Make.operands
+    let e = made-origin c.args.session.now c.args.id c.trace.result.now c.step.result.now c.in-Make.word
+    c.in-Make.operands
     c.as_slice.result.now c.trace.ensures c.step.ensures.origin c.in-Make.is c.as_slice.ensures in
-    on-ok c.mark.result (λ k. closed c.args.session.now c.requires.session c.args.self.now c.put.new.self c.mark.new.self
+    on-ok c.mark.result
+    (λ k. closed c.args.session.now c.requires.session c.args.self.now c.put.new.self c.mark.new.self
     c.in-Make.word c.as_slice.result.now c.in-Ok.made c.in-Ok.ensures.puts
     (made-inside (length c.args.session.now.trace) c.args.id c.step.result.now c.in-Make.word c.in-Make.operands
-    c.as_slice.result.now c.step.ensures.below c.in-Make.is c.as_slice.ensures c.requires.inside) c.args.id c.requires.inside
+    c.as_slice.result.now c.step.ensures.below c.in-Make.is c.as_slice.ensures c.requires.inside) c.args.id
+    c.requires.inside
     e k) c.mark.ensures

@@ -14,12 +14,15 @@ pub theorems-requires-clause-values : goal.theorems-requires-clause-values
 theorems-requires-clause-values c =
     let s = c.args.session.now in
     definable-values (origin_of s c.args.id) c.in-Define.word (origins_of s c.as_slice.result.now)
-    (defined-origin s c.args.id c.trace.result.now c.step.result.now c.in-Define.word c.in-Define.operands c.in-Define.field-2
-    c.as_slice.result.now c.trace.ensures c.step.ensures.origin c.in-Define.is c.as_slice.ensures) c.requires.definable
+    (defined-origin s c.args.id c.trace.result.now c.step.result.now c.in-Define.word c.in-Define.operands
+    c.in-Define.field-2
+    c.as_slice.result.now c.trace.ensures c.step.ensures.origin c.in-Define.is c.as_slice.ensures)
+    c.requires.definable
 
 pub put_definition-requires-clause-definable : goal.put_definition-requires-clause-definable
 put_definition-requires-clause-definable c =
-    subst IsDefinable (defined-origin c.args.session.now c.args.id c.trace.result.now c.step.result.now c.in-Define.word
+    subst IsDefinable
+    (defined-origin c.args.session.now c.args.id c.trace.result.now c.step.result.now c.in-Define.word
     c.in-Define.operands c.in-Define.field-2 c.as_slice-in-Define.result.now c.trace.ensures c.step.ensures.origin
     c.in-Define.is c.as_slice-in-Define.ensures) c.requires.definable
 
@@ -27,7 +30,8 @@ pub put_definition-requires-clause-count : goal.put_definition-requires-clause-c
 put_definition-requires-clause-count c =
     let s = c.args.session.now in
     let ids = c.as_slice-in-Define.result.now in
-    defined-long s c.in-Define.word ids (subst IsDefinable (defined-origin s c.args.id c.trace.result.now c.step.result.now
+    defined-long s c.in-Define.word ids
+    (subst IsDefinable (defined-origin s c.args.id c.trace.result.now c.step.result.now
     c.in-Define.word c.in-Define.operands c.in-Define.field-2 ids c.trace.ensures c.step.ensures.origin c.in-Define.is
     c.as_slice-in-Define.ensures) c.requires.definable)
 
@@ -35,14 +39,16 @@ pub unreachable-requires-in_default-word : goal.unreachable-requires-in_default-
 unreachable-requires-in_default-word c =
     let s = c.args.session.now in
     let ids = c.as_slice-in-Define.result.now in
-    defining-word s c.in-Define.word ids (subst IsDefinable (defined-origin s c.args.id c.trace.result.now c.step.result.now
+    defining-word s c.in-Define.word ids
+    (subst IsDefinable (defined-origin s c.args.id c.trace.result.now c.step.result.now
     c.in-Define.word c.in-Define.operands c.in-Define.field-2 ids c.trace.ensures c.step.ensures.origin c.in-Define.is
     c.as_slice-in-Define.ensures) c.requires.definable)
     c.in_default-word.not-DefineConst c.in_default-word.not-DefineConstList c.in_default-word.not-DefineTypeOp
 
 pub unreachable-requires-in_default : goal.unreachable-requires-in_default
 unreachable-requires-in_default c =
-    not-defined c.args.session.now c.args.id c.trace.result.now c.step.result.now c.trace.ensures c.step.ensures.origin
+    not-defined c.args.session.now c.args.id c.trace.result.now c.step.result.now c.trace.ensures
+    c.step.ensures.origin
     c.in_default.not-Define c.requires.definable
 
 pub mark_one-requires-clause-theorems : goal.mark_one-requires-clause-theorems
@@ -81,9 +87,11 @@ returns-in-DefineConst-clause-moves c =
     c.in-Define.field-2 ids c.trace.ensures c.step.ensures.origin c.in-Define.is c.as_slice-in-Define.ensures in
     let inside = defined-inside (length s.trace) c.args.id c.step.result.now c.in-Define.word c.in-Define.operands
     c.in-Define.field-2 ids c.step.ensures.below c.in-Define.is c.as_slice-in-Define.ensures c.requires.inside in
-    on-ok c.mark_one.result (λ m. define-moves s c.args.self.now c.theorems.new.self c.put_definition.new.self c.mark_one.new.self
+    on-ok c.mark_one.result
+    (λ m. define-moves s c.args.self.now c.theorems.new.self c.put_definition.new.self c.mark_one.new.self
     c.in-Define.word c.args.id c.as_slice.result.now ids c.in-Ok.made.items (Outcome 1 o ∷ [])
-    e (c.as_slice.ensures ∙ sym c.as_slice-in-Define.ensures) c.in_ok-theorems-in-Define.ensures.moves c.in-Ok.ensures.puts inside
+    e (c.as_slice.ensures ∙ sym c.as_slice-in-Define.ensures) c.in_ok-theorems-in-Define.ensures.moves
+    c.in-Ok.ensures.puts inside
     (ap (λ w. outcomes w o) c.in-DefineConst.is) m) c.mark_one.ensures.moves
 
 pub returns-in-DefineConstList-clause-moves : goal.returns-in-DefineConstList-clause-moves
@@ -95,10 +103,12 @@ returns-in-DefineConstList-clause-moves c =
     c.in-Define.field-2 ids c.trace.ensures c.step.ensures.origin c.in-Define.is c.as_slice-in-Define.ensures in
     let inside = defined-inside (length s.trace) c.args.id c.step.result.now c.in-Define.word c.in-Define.operands
     c.in-Define.field-2 ids c.step.ensures.below c.in-Define.is c.as_slice-in-Define.ensures c.requires.inside in
-    on-ok c.mark_one-in-DefineConstList.result (λ m. define-moves s c.args.self.now c.theorems.new.self c.put_definition.new.self
+    on-ok c.mark_one-in-DefineConstList.result
+    (λ m. define-moves s c.args.self.now c.theorems.new.self c.put_definition.new.self
     c.mark_one-in-DefineConstList.new.self c.in-Define.word c.args.id c.as_slice.result.now ids c.in-Ok.made.items
     (Outcome 1 o ∷ [])
-    e (c.as_slice.ensures ∙ sym c.as_slice-in-Define.ensures) c.in_ok-theorems-in-Define.ensures.moves c.in-Ok.ensures.puts inside
+    e (c.as_slice.ensures ∙ sym c.as_slice-in-Define.ensures) c.in_ok-theorems-in-Define.ensures.moves
+    c.in-Ok.ensures.puts inside
     (ap (λ w. outcomes w o) c.in-DefineConstList.is) m) c.mark_one-in-DefineConstList.ensures.moves
 
 pub returns-in-DefineTypeOp-clause-moves : goal.returns-in-DefineTypeOp-clause-moves
@@ -110,7 +120,9 @@ returns-in-DefineTypeOp-clause-moves c =
     c.in-Define.field-2 ids c.trace.ensures c.step.ensures.origin c.in-Define.is c.as_slice-in-Define.ensures in
     let inside = defined-inside (length s.trace) c.args.id c.step.result.now c.in-Define.word c.in-Define.operands
     c.in-Define.field-2 ids c.step.ensures.below c.in-Define.is c.as_slice-in-Define.ensures c.requires.inside in
-    on-ok c.mark_two.result (λ m. define-moves s c.args.self.now c.theorems.new.self c.put_definition.new.self c.mark_two.new.self
+    on-ok c.mark_two.result
+    (λ m. define-moves s c.args.self.now c.theorems.new.self c.put_definition.new.self c.mark_two.new.self
     c.in-Define.word c.args.id c.as_slice.result.now ids c.in-Ok.made.items (Outcome 1 o ∷ Outcome 2 o ∷ [])
-    e (c.as_slice.ensures ∙ sym c.as_slice-in-Define.ensures) c.in_ok-theorems-in-Define.ensures.moves c.in-Ok.ensures.puts inside
+    e (c.as_slice.ensures ∙ sym c.as_slice-in-Define.ensures) c.in_ok-theorems-in-Define.ensures.moves
+    c.in-Ok.ensures.puts inside
     (ap (λ w. outcomes w o) c.in-DefineTypeOp.is) m) c.mark_two.ensures.moves

@@ -13,7 +13,8 @@ returns-clause-writer c = λ s e.
     record {
       known = c.new-3.ensures s c.in_ok-new.field-0;
       typings = c.new-4.ensures c.in_ok-new.field-0;
-      statements = subst (All (HasStatement c.in_ok-new.field-0)) (sym none) (All-nil (HasStatement c.in_ok-new.field-0));
+      statements =
+          subst (All (HasStatement c.in_ok-new.field-0)) (sym none) (All-nil (HasStatement c.in_ok-new.field-0));
       long = ap length places ∙ replicate-long c.args.count _ ∙ sym e;
       placed = λ i p h. absurd (none-placed c.in_ok-vec.field-0.items c.args.count i p places h);
     }

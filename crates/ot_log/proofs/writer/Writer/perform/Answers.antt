@@ -7,12 +7,15 @@ use Rattle.ot_log.proofs.writer.Writer.perform.Goals as goal
 pub returns-in-Close-clause-moves : goal.returns-in-Close-clause-moves
 returns-in-Close-clause-moves c =
     let s = c.args.session.now in
-    subst (λ k. OnOk c.close.result (Replaces s c.args.self.now c.close.new.self c.args.work.now.items c.args.work.now.items
+    subst (λ k. OnOk c.close.result
+    (Replaces s c.args.self.now c.close.new.self c.args.work.now.items c.args.work.now.items
     (perform s k))) (sym c.in-Close.is)
-    (on-ok c.close.result (λ m. λ max x h. (close (origin_of s c.in-Close.id) x, m max x h, refl)) c.close.ensures.moves)
+    (on-ok c.close.result (λ m. λ max x h. (close (origin_of s c.in-Close.id) x, m max x h, refl))
+    c.close.ensures.moves)
 
 pub returns-in-Write-clause-moves : goal.returns-in-Write-clause-moves
 returns-in-Write-clause-moves c =
     let s = c.args.session.now in
-    subst (λ k. OnOk c.ask.result (Replaces s c.args.self.now c.args.self.now c.args.work.now.items c.ask.new.work.items
+    subst (λ k. OnOk c.ask.result
+    (Replaces s c.args.self.now c.args.self.now c.args.work.now.items c.ask.new.work.items
     (perform s k))) (sym c.in-Write.is) c.ask.ensures.moves

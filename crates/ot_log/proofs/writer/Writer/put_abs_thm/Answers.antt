@@ -11,7 +11,8 @@ use Rattle.ot_log.proofs.writer.Writer.put_abs_thm.Goals as goal
 
 pub write_abs_thm-requires-clause-a : goal.write_abs_thm-requires-clause-a
 write_abs_thm-requires-clause-a c =
-    (placed-later c.args.session.now c.args.self.now c.requires.writer c.variable.new.nodes c.in_ok-variable.ensures.extends
+    (placed-later c.args.session.now c.args.self.now c.requires.writer c.variable.new.nodes
+    c.in_ok-variable.ensures.extends
     c.args.a c.in_ok-p.p c.index.result.now c.in_ok-p.ensures.at c.index.ensures).0
 
 pub returns-clause-puts : goal.returns-clause-puts
@@ -21,13 +22,16 @@ returns-clause-puts c =
     let ts = c.variable.new.nodes in
     let v = c.in_ok-variable.ensures in
     let d = c.write_abs_thm in
-    let q = placed-later s w c.requires.writer ts v.extends c.args.a c.in_ok-p.p c.index.result.now c.in_ok-p.ensures.at
+    let q = placed-later s w c.requires.writer ts v.extends c.args.a c.in_ok-p.p c.index.result.now
+    c.in_ok-p.ensures.at
     c.index.ensures in
-    IfOk-weaker d.result _ _ (λ m r. abs_thm-puts s w c.requires.writer ts d.new.nodes c.variable.new.self w.typings d.new.sheet
+    IfOk-weaker d.result _ _
+    (λ m r. abs_thm-puts s w c.requires.writer ts d.new.nodes c.variable.new.self w.typings d.new.sheet
     v.extends d.ensures.extends v.known
     (typings-grown w.nodes d.new.nodes (Extends-trans v.extends d.ensures.extends) w.typings.known.entries
     c.requires.writer.typings)
-    c.args.v c.args.a c.in_ok-variable.variable c.in_ok-p.p (sequent_at ts c.index.result.now) m c.requires.value v.made
+    c.args.v c.args.a c.in_ok-variable.variable c.in_ok-p.p (sequent_at ts c.index.result.now) m c.requires.value
+    v.made
     c.in_ok-p.ensures.at q.1 r) d.ensures.records
 
 pub returns-clause-accepts : goal.returns-clause-accepts

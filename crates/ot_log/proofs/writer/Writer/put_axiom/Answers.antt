@@ -32,7 +32,8 @@ returns-clause-puts c =
     let e = Extends-trans h.extends t.extends in
     let are = subst (AreTermsOf s ts c.args.list) (sym c.deref.ensures.value)
     (terms-later s c.terms.new.nodes ts t.extends c.args.list c.in_ok-hyps.hyps.items h.made) in
-    if-each _ _ _ d.result (λ m r. axiom-puts s w c.requires.writer ts d.new.nodes c.term.new.self d.new.typings d.new.sheet e
+    if-each _ _ _ d.result
+    (λ m r. axiom-puts s w c.requires.writer ts d.new.nodes c.term.new.self d.new.typings d.new.sheet e
     d.ensures.extends t.known d.ensures.known
     c.args.list c.args.p c.deref.result.now c.in_ok-concl.concl m c.requires.value are t.made r) d.ensures.records
 
@@ -49,4 +50,5 @@ returns-clause-accepts c =
     (has-values words.Axiom (origins_of s (a ∷ d ∷ [])) c.requires.value) in
     let l = reads-list (as_each as_term) (origin_of s a) (terms_at ts c.deref.result.now) are.read has in
     c.write_axiom.ensures.accepts l.0 l.2
-    (two-applied s words.Axiom a d (list l.0) (term (term_at ts c.in_ok-concl.concl)) c.requires.value l.1 t.made.made)
+    (two-applied s words.Axiom a d (list l.0) (term (term_at ts c.in_ok-concl.concl)) c.requires.value l.1
+    t.made.made)

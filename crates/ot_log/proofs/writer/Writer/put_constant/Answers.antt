@@ -17,11 +17,13 @@ use Rattle.ot_log.proofs.writer.Writer.put_constant.Goals as goal
 
 pub term-requires-clause-known : goal.term-requires-clause-known
 term-requires-clause-known c =
-    known-later c.args.session.now c.args.self.now.nodes c.name.new.nodes c.in_ok-constant.ensures.extends c.args.self.now.values
+    known-later c.args.session.now c.args.self.now.nodes c.name.new.nodes c.in_ok-constant.ensures.extends
+    c.args.self.now.values
     c.requires.writer.known
 
 pub write_constant-requires-clause-n : goal.write_constant-requires-clause-n
-write_constant-requires-clause-n c = (name-later c.args.session.now c.name.new.nodes c.term.new.nodes c.in_ok-term.ensures.extends
+write_constant-requires-clause-n c =
+    (name-later c.args.session.now c.name.new.nodes c.term.new.nodes c.in_ok-term.ensures.extends
     c.args.n c.in_ok-constant.constant c.in_ok-constant.ensures.made).has
 
 pub write_constant-requires-clause-known : goal.write_constant-requires-clause-known
@@ -38,9 +40,12 @@ returns-clause-puts c =
     let d = c.write_constant in
     let x = d.ensures in
     let t = c.in_ok-term.ensures in
-    let n = name-later s c.name.new.nodes ts t.extends c.args.n c.in_ok-constant.constant c.in_ok-constant.ensures.made in
-    let hs = definable-values _ words.DefineConst (origins_of s (c.args.n ∷ c.args.t ∷ [])) refl c.requires.definable in
-    IfOk-weaker d.result _ _ (λ v r. constant-puts s w c.requires.writer ts d.new.nodes c.term.new.self d.new.typings d.new.sheet
+    let n = name-later s c.name.new.nodes ts t.extends c.args.n c.in_ok-constant.constant
+    c.in_ok-constant.ensures.made in
+    let hs = definable-values _ words.DefineConst (origins_of s (c.args.n ∷ c.args.t ∷ [])) refl
+    c.requires.definable in
+    IfOk-weaker d.result _ _
+    (λ v r. constant-puts s w c.requires.writer ts d.new.nodes c.term.new.self d.new.typings d.new.sheet
     (Extends-trans c.in_ok-constant.ensures.extends t.extends) x.extends t.known x.known
     c.args.n c.args.t c.in_ok-constant.constant c.in_ok-term.term v.items hs n t.made r) x.defined
 

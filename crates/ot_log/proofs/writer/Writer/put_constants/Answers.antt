@@ -19,7 +19,8 @@ use Rattle.ot_log.proofs.writer.Writer.put_constants.Goals as goal
 
 pub write_constants-requires-clause-premise : goal.write_constants-requires-clause-premise
 write_constants-requires-clause-premise c =
-    (placed-later c.args.session.now c.args.self.now c.requires.writer c.pairs.new.nodes c.in_ok-pairs.ensures.extends c.args.a
+    (placed-later c.args.session.now c.args.self.now c.requires.writer c.pairs.new.nodes c.in_ok-pairs.ensures.extends
+    c.args.a
     c.in_ok-p.p c.index.result.now c.in_ok-p.ensures.at c.index.ensures).0
 
 pub write_constants-requires-clause-typed : goal.write_constants-requires-clause-typed
@@ -28,10 +29,12 @@ write_constants-requires-clause-typed c =
     let ts = c.pairs.new.nodes in
     let o = origin_of s c.args.list in
     let up = origin_of s c.args.a in
-    let hs = definable-values _ words.DefineConstList (origins_of s (c.args.list ∷ c.args.a ∷ [])) refl c.requires.definable in
+    let hs = definable-values _ words.DefineConstList (origins_of s (c.args.list ∷ c.args.a ∷ [])) refl
+    c.requires.definable in
     let q = placed-later s c.args.self.now c.requires.writer ts c.in_ok-pairs.ensures.extends c.args.a
     c.in_ok-p.p c.index.result.now c.in_ok-p.ensures.at c.index.ensures in
-    typed-theorem up (sequent_at ts c.index.result.now) (has-first up NoOrigins (has-rest o (MoreOrigins up NoOrigins) hs)) q.1
+    typed-theorem up (sequent_at ts c.index.result.now)
+    (has-first up NoOrigins (has-rest o (MoreOrigins up NoOrigins) hs)) q.1
 
 pub returns-clause-puts : goal.returns-clause-puts
 returns-clause-puts c =
@@ -41,14 +44,18 @@ returns-clause-puts c =
     let d = c.write_constants in
     let x = d.ensures in
     let t = c.in_ok-pairs.ensures in
-    let q = placed-later s w c.requires.writer ts t.extends c.args.a c.in_ok-p.p c.index.result.now c.in_ok-p.ensures.at
+    let q = placed-later s w c.requires.writer ts t.extends c.args.a c.in_ok-p.p c.index.result.now
+    c.in_ok-p.ensures.at
     c.index.ensures in
-    let hs = definable-values _ words.DefineConstList (origins_of s (c.args.list ∷ c.args.a ∷ [])) refl c.requires.definable in
+    let hs = definable-values _ words.DefineConstList (origins_of s (c.args.list ∷ c.args.a ∷ [])) refl
+    c.requires.definable in
     let are = subst (ArePairsOf s ts c.args.list) (sym c.deref.ensures.value) t.made in
     let typings = typings-grown w.nodes d.new.nodes (Extends-trans t.extends x.extends) w.typings.known.entries
     c.requires.writer.typings in
-    if-each _ _ _ d.result (λ v r. constants-puts s w c.requires.writer ts d.new.nodes c.pairs.new.self w.typings d.new.sheet
-    t.extends x.extends t.known typings c.args.list c.args.a c.deref.result.now c.in_ok-p.p (sequent_at ts c.index.result.now)
+    if-each _ _ _ d.result
+    (λ v r. constants-puts s w c.requires.writer ts d.new.nodes c.pairs.new.self w.typings d.new.sheet
+    t.extends x.extends t.known typings c.args.list c.args.a c.deref.result.now c.in_ok-p.p
+    (sequent_at ts c.index.result.now)
     v.items hs are c.in_ok-p.ensures.at q.1 r) x.defined
 
 pub returns-clause-accepts : goal.returns-clause-accepts
@@ -60,12 +67,14 @@ returns-clause-accepts c =
     let is = c.args.list ∷ c.args.a ∷ [] in
     let o = origin_of s c.args.list in
     let up = origin_of s c.args.a in
-    let q = placed-later s w c.requires.writer ts t.extends c.args.a c.in_ok-p.p c.index.result.now c.in_ok-p.ensures.at
+    let q = placed-later s w c.requires.writer ts t.extends c.args.a c.in_ok-p.p c.index.result.now
+    c.in_ok-p.ensures.at
     c.index.ensures in
     let th = theorem (sequent_at ts c.index.result.now) in
     let hs = definable-values _ words.DefineConstList (origins_of s is) refl c.requires.definable in
     let are = subst (ArePairsOf s ts c.args.list) (sym c.deref.ensures.value) t.made in
-    let l = reads-list pairs_of o (pairs_at ts c.deref.result.now) are.read (has-first o (MoreOrigins up NoOrigins) hs) in
+    let l = reads-list pairs_of o (pairs_at ts c.deref.result.now) are.read
+    (has-first o (MoreOrigins up NoOrigins) hs) in
     let d = defines-something s words.DefineConstList is (list l.0 ∷ th ∷ []) c.requires.definable
     (more-are o (MoreOrigins up NoOrigins) (list l.0) (th ∷ []) l.1 (more-are up NoOrigins th [] q.1 none-are) hs) in
     c.write_constants.ensures.accepts l.0 l.2 d.0 d.1

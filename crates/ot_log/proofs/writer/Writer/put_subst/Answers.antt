@@ -10,11 +10,13 @@ use Rattle.ot_log.proofs.writer.Writer.put_subst.Goals as goal
 
 pub write_subst-requires-clause-a : goal.write_subst-requires-clause-a
 write_subst-requires-clause-a c =
-    (placed-later c.args.session.now c.args.self.now c.requires.writer c.maps.new.nodes c.in_ok-types.ensures.extends c.args.a
+    (placed-later c.args.session.now c.args.self.now c.requires.writer c.maps.new.nodes c.in_ok-types.ensures.extends
+    c.args.a
     c.in_ok-p.p c.index.result.now c.in_ok-p.ensures.at c.index.ensures).0
 
 pub write_subst-requires-clause-known : goal.write_subst-requires-clause-known
-write_subst-requires-clause-known c = typings-grown c.args.self.now.nodes c.maps.new.nodes c.in_ok-types.ensures.extends
+write_subst-requires-clause-known c =
+    typings-grown c.args.self.now.nodes c.maps.new.nodes c.in_ok-types.ensures.extends
     c.args.self.now.typings.known.entries c.requires.writer.typings
 
 pub returns-clause-puts : goal.returns-clause-puts
@@ -24,13 +26,16 @@ returns-clause-puts c =
     let ts = c.maps.new.nodes in
     let d = c.write_subst in
     let t = c.in_ok-types.ensures in
-    let q = placed-later s w c.requires.writer ts t.extends c.args.a c.in_ok-p.p c.index.result.now c.in_ok-p.ensures.at
+    let q = placed-later s w c.requires.writer ts t.extends c.args.a c.in_ok-p.p c.index.result.now
+    c.in_ok-p.ensures.at
     c.index.ensures in
     let are = subst (λ l. AreMapsOf s ts c.args.list l c.deref-2.result.now) (sym c.deref.ensures.value)
     (subst (AreMapsOf s ts c.args.list c.in_ok-types.types.items) (sym c.deref-2.ensures.value) t.made) in
-    if-each _ _ _ d.result (λ m r. subst-puts s w c.requires.writer ts d.new.nodes c.maps.new.self d.new.typings d.new.sheet
+    if-each _ _ _ d.result
+    (λ m r. subst-puts s w c.requires.writer ts d.new.nodes c.maps.new.self d.new.typings d.new.sheet
     t.extends d.ensures.extends t.known d.ensures.known
-    c.args.list c.args.a c.deref.result.now c.deref-2.result.now c.in_ok-p.p (sequent_at ts c.index.result.now) m c.requires.value
+    c.args.list c.args.a c.deref.result.now c.deref-2.result.now c.in_ok-p.p (sequent_at ts c.index.result.now) m
+    c.requires.value
     are c.in_ok-p.ensures.at q.1 r) d.ensures.records
 
 pub returns-clause-accepts : goal.returns-clause-accepts
@@ -43,6 +48,7 @@ returns-clause-accepts c =
     let th = sequent_at ts c.index.result.now in
     let are = subst (λ l. AreMapsOf s ts c.args.list l c.deref-2.result.now) (sym c.deref.ensures.value)
     (subst (AreMapsOf s ts c.args.list c.in_ok-types.types.items) (sym c.deref-2.ensures.value) t.made) in
-    let l = reads-maps s ts c.args.list c.args.a c.deref.result.now c.deref-2.result.now th c.requires.value are q.1 in
+    let l = reads-maps s ts c.args.list c.args.a c.deref.result.now c.deref-2.result.now th c.requires.value are
+    q.1 in
     c.write_subst.ensures.accepts l.0 l.2
     (two-applied s words.Subst c.args.list c.args.a (list l.0) (theorem th) c.requires.value l.1 q.1)

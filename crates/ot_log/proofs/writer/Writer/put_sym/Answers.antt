@@ -27,7 +27,8 @@ returns-clause-puts c =
     let w = c.args.self.now in
     let ts = w.nodes in
     let d = c.write_symmetric in
-    let q = placed-later s w c.requires.writer ts (Extends-refl ts) c.args.a c.in_ok-p.p c.index.result.now c.in_ok-p.ensures.at
+    let q = placed-later s w c.requires.writer ts (Extends-refl ts) c.args.a c.in_ok-p.p c.index.result.now
+    c.in_ok-p.ensures.at
     c.index.ensures in
     IfOk-weaker d.result _ _ (λ m r. one-puts s w c.requires.writer ts d.new.nodes w.values w.typings d.new.sheet
     (Extends-refl ts) d.ensures.extends c.requires.writer.known

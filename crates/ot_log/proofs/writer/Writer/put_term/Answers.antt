@@ -12,14 +12,16 @@ use Rattle.ot_log.proofs.Valued.{has-first, has-values}
 use Rattle.ot_log.proofs.writer.Writer.put_term.Goals as goal
 
 pub write_of_one_term-requires-clause-known : goal.write_of_one_term-requires-clause-known
-write_of_one_term-requires-clause-known c = typings-grown c.args.self.now.nodes c.term.new.nodes c.in_ok-t.ensures.extends
+write_of_one_term-requires-clause-known c =
+    typings-grown c.args.self.now.nodes c.term.new.nodes c.in_ok-t.ensures.extends
     c.args.self.now.typings.known.entries c.requires.writer.typings
 
 pub returns-clause-puts : goal.returns-clause-puts
 returns-clause-puts c =
     let t = c.in_ok-t.ensures in
     let d = c.write_of_one_term in
-    IfOk-weaker d.result _ _ (λ m r. term-puts c.args.session.now c.args.self.now c.requires.writer c.term.new.nodes d.new.nodes
+    IfOk-weaker d.result _ _
+    (λ m r. term-puts c.args.session.now c.args.self.now c.requires.writer c.term.new.nodes d.new.nodes
     c.term.new.self d.new.typings d.new.sheet t.extends d.ensures.extends t.known d.ensures.known
     c.args.word c.args.a c.in_ok-t.t m c.requires.value t.made r) d.ensures.records
 

@@ -26,9 +26,11 @@ write_of_theorems-requires-clause-value c =
     let ts = w.nodes in
     two-applied s c.args.word c.args.a c.args.b (theorem (sequent_at ts c.index.result.now))
     (theorem (sequent_at ts c.index-2.result.now)) c.requires.value
-    (placed-later s w c.requires.writer ts (Extends-refl ts) c.args.a c.in_ok-p.p c.index.result.now c.in_ok-p.ensures.at
+    (placed-later s w c.requires.writer ts (Extends-refl ts) c.args.a c.in_ok-p.p c.index.result.now
+    c.in_ok-p.ensures.at
     c.index.ensures).1
-    (placed-later s w c.requires.writer ts (Extends-refl ts) c.args.b c.in_ok-q.q c.index-2.result.now c.in_ok-q.ensures.at
+    (placed-later s w c.requires.writer ts (Extends-refl ts) c.args.b c.in_ok-q.q c.index-2.result.now
+    c.in_ok-q.ensures.at
     c.index-2.ensures).1
 
 pub returns-clause-puts : goal.returns-clause-puts
@@ -37,12 +39,15 @@ returns-clause-puts c =
     let w = c.args.self.now in
     let ts = w.nodes in
     let d = c.write_of_theorems in
-    let q = placed-later s w c.requires.writer ts (Extends-refl ts) c.args.a c.in_ok-p.p c.index.result.now c.in_ok-p.ensures.at
+    let q = placed-later s w c.requires.writer ts (Extends-refl ts) c.args.a c.in_ok-p.p c.index.result.now
+    c.in_ok-p.ensures.at
     c.index.ensures in
-    let r = placed-later s w c.requires.writer ts (Extends-refl ts) c.args.b c.in_ok-q.q c.index-2.result.now c.in_ok-q.ensures.at
+    let r = placed-later s w c.requires.writer ts (Extends-refl ts) c.args.b c.in_ok-q.q c.index-2.result.now
+    c.in_ok-q.ensures.at
     c.index-2.ensures in
     IfOk-weaker d.result _ _ (λ m x. two-puts s w c.requires.writer ts d.new.nodes w.values w.typings d.new.sheet
     (Extends-refl ts) d.ensures.extends c.requires.writer.known
     (typings-grown ts d.new.nodes d.ensures.extends w.typings.known.entries c.requires.writer.typings)
-    c.args.word c.args.a c.args.b c.in_ok-p.p c.in_ok-q.q (sequent_at ts c.index.result.now) (sequent_at ts c.index-2.result.now)
+    c.args.word c.args.a c.args.b c.in_ok-p.p c.in_ok-q.q (sequent_at ts c.index.result.now)
+    (sequent_at ts c.index-2.result.now)
     m c.requires.value c.in_ok-p.ensures.at c.in_ok-q.ensures.at q.1 r.1 x) d.ensures.records

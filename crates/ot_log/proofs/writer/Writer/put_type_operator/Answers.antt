@@ -23,7 +23,8 @@ pub write_type_operator-requires-clause-n : goal.write_type_operator-requires-cl
 write_type_operator-requires-clause-n c =
     let f = Extends-trans c.in_ok-from.ensures.extends c.in_ok-vars.ensures.extends in
     let g = Extends-trans c.in_ok-to.ensures.extends f in
-    (name-later c.args.session.now _ c.names.new.nodes g c.args.n c.in_ok-operator.operator c.in_ok-operator.ensures.made).has
+    (name-later c.args.session.now _ c.names.new.nodes g c.args.n c.in_ok-operator.operator
+    c.in_ok-operator.ensures.made).has
 
 pub write_type_operator-requires-clause-abs : goal.write_type_operator-requires-clause-abs
 write_type_operator-requires-clause-abs c =
@@ -65,7 +66,8 @@ pub write_type_operator-requires-clause-known : goal.write_type_operator-require
 write_type_operator-requires-clause-known c =
     let e = Extends-trans (Extends-trans (Extends-trans c.in_ok-operator.ensures.extends c.in_ok-to.ensures.extends)
     c.in_ok-from.ensures.extends) c.in_ok-vars.ensures.extends in
-    typings-grown c.args.self.now.nodes c.names.new.nodes e c.args.self.now.typings.known.entries c.requires.writer.typings
+    typings-grown c.args.self.now.nodes c.names.new.nodes e c.args.self.now.typings.known.entries
+    c.requires.writer.typings
 
 pub returns-clause-puts : goal.returns-clause-puts
 returns-clause-puts c =
@@ -79,13 +81,15 @@ returns-clause-puts c =
     let e = Extends-trans c.in_ok-operator.ensures.extends g in
     let n = name-later s _ ts g c.args.n c.in_ok-operator.operator c.in_ok-operator.ensures.made in
     let to = name-later s _ ts f c.args.abs c.in_ok-to.to c.in_ok-to.ensures.made in
-    let from = name-later s _ ts c.in_ok-vars.ensures.extends c.args.rep c.in_ok-from.from c.in_ok-from.ensures.made in
+    let from = name-later s _ ts c.in_ok-vars.ensures.extends c.args.rep c.in_ok-from.from
+    c.in_ok-from.ensures.made in
     let q = placed-later s w c.requires.writer ts e c.args.a c.in_ok-p.p c.index.result.now c.in_ok-p.ensures.at
     c.index.ensures in
     let is = c.args.n ∷ c.args.abs ∷ c.args.rep ∷ c.args.list ∷ c.args.a ∷ [] in
     let hs = definable-values _ words.DefineTypeOp (origins_of s is) refl c.requires.definable in
     let are = subst (AreNamesOf s ts c.args.list) (sym c.deref.ensures.value) c.in_ok-vars.ensures.made in
-    if-each _ _ _ d.result (λ v r. type_operator-puts s w c.requires.writer ts d.new.nodes w.values d.new.typings d.new.sheet
+    if-each _ _ _ d.result
+    (λ v r. type_operator-puts s w c.requires.writer ts d.new.nodes w.values d.new.typings d.new.sheet
     e x.extends (known-later s w.nodes ts e w.values c.requires.writer.known) x.known
     c.args.n c.args.abs c.args.rep c.args.list c.args.a c.in_ok-operator.operator c.in_ok-to.to c.in_ok-from.from
     c.deref.result.now
@@ -100,7 +104,8 @@ returns-clause-accepts c =
     let e = Extends-trans c.in_ok-operator.ensures.extends g in
     let n = name-later s _ ts g c.args.n c.in_ok-operator.operator c.in_ok-operator.ensures.made in
     let to = name-later s _ ts f c.args.abs c.in_ok-to.to c.in_ok-to.ensures.made in
-    let from = name-later s _ ts c.in_ok-vars.ensures.extends c.args.rep c.in_ok-from.from c.in_ok-from.ensures.made in
+    let from = name-later s _ ts c.in_ok-vars.ensures.extends c.args.rep c.in_ok-from.from
+    c.in_ok-from.ensures.made in
     let q = placed-later s c.args.self.now c.requires.writer ts e c.args.a
     c.in_ok-p.p c.index.result.now c.in_ok-p.ensures.at c.index.ensures in
     let th = sequent_at ts c.index.result.now in
@@ -113,9 +118,11 @@ returns-clause-accepts c =
     let r2 = MoreOrigins (origin_of s c.args.rep) r3 in
     let r1 = MoreOrigins (origin_of s c.args.abs) r2 in
     let has = has-first og r4
-    (has-rest (origin_of s c.args.rep) r3 (has-rest (origin_of s c.args.abs) r2 (has-rest (origin_of s c.args.n) r1 hs))) in
+    (has-rest (origin_of s c.args.rep) r3
+    (has-rest (origin_of s c.args.abs) r2 (has-rest (origin_of s c.args.n) r1 hs))) in
     let l = reads-list (as_each as_name) og (names_at ts c.deref.result.now) are.read has in
-    let vs = name (name_at ts c.in_ok-operator.operator) ∷ name (name_at ts c.in_ok-to.to) ∷ name (name_at ts c.in_ok-from.from)
+    let vs = name (name_at ts c.in_ok-operator.operator) ∷ name (name_at ts c.in_ok-to.to)
+    ∷ name (name_at ts c.in_ok-from.from)
     ∷ list l.0 ∷ theorem th ∷ [] in
     let d = defines-something s words.DefineTypeOp is vs c.requires.definable
     (type_operator-values s ts c.args.n c.args.abs c.args.rep c.args.list c.args.a

@@ -5,7 +5,8 @@ use Rattle.ot_log.proofs.Worked.{leads-more, leads-all, pop-cheaper}
 use Rattle.ot_log.proofs.writer.Writer.run.Goals as goal
 
 pub tasks-smaller : goal.tasks-smaller
-tasks-smaller c = pop-cheaper c.args.session.now _ _ _ c.in-Some.task c.in-Some.ensures.items c.in_ok-perform.ensures.cheaper
+tasks-smaller c = pop-cheaper c.args.session.now _ _ _ c.in-Some.task c.in-Some.ensures.items
+    c.in_ok-perform.ensures.cheaper
 
 pub tasks-preserved : goal.tasks-preserved
 tasks-preserved c =
@@ -14,12 +15,14 @@ tasks-preserved c =
       writer = e.writer;
       tasks = e.work;
       so_far = leads-more c.args.session.now c.args.self.now c.tasks.self c.perform.new.self
-          (rest c.args.session.now c.args.work.items) _ _ _ c.in-Some.task c.in-Some.ensures.items c.tasks.invariant.so_far
+          (rest c.args.session.now c.args.work.items) _ _ _ c.in-Some.task c.in-Some.ensures.items
+          c.tasks.invariant.so_far
           e.moves;
     }
 
 pub returns-clause-moves : goal.returns-clause-moves
 returns-clause-moves c =
     let empty : c.tasks.work.items ≡ [] = first_of (search rules, grind (arith, common_steps)) in
-    leads-all c.args.session.now c.args.self.now c.tasks.self (rest c.args.session.now c.args.work.items) c.tasks.work.items empty
+    leads-all c.args.session.now c.args.self.now c.tasks.self (rest c.args.session.now c.args.work.items)
+    c.tasks.work.items empty
     c.tasks.invariant.so_far

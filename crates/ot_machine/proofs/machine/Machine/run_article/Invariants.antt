@@ -7,7 +7,8 @@ use Rattle.ot_machine.proofs.machine.Machine.run_article.Given as goal
 
 abbrev pub invariant-lines : goal.invariant-lines
 invariant-lines g l = record {
-  so_far : Follows (context_of l.fn.session l.ctx) l.max_bytes (state_of l.fn.session l.fn.self) (state_of l.session l.self) l.lines (g.S.Source.left l.fn.source) (g.S.Source.left l.source);
+  so_far : Follows (context_of l.fn.session l.ctx) l.max_bytes (state_of l.fn.session l.fn.self)
+      (state_of l.session l.self) l.lines (g.S.Source.left l.fn.source) (g.S.Source.left l.source);
   led : LeadsTo (context_of l.fn.session l.ctx) (state_of l.fn.session l.fn.self) (state_of l.session l.self);
   of : IsOf l.session l.self;
   grown : Grows l.fn.session l.session;

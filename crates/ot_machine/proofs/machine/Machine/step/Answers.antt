@@ -16,17 +16,30 @@ use Rattle.ot_machine.proofs.machine.Machine.step.Goals.{In_ok-version}
 -- the command and the state as they were before the command's name was interned
 abbrev stated : In_ok-version → Result State (faults.Fault Name)
 stated c =
-    row (version_of c.in_ok-version.version) (context_of c.args.session.now c.args.ctx.now) (command_at c.command.new.self.kernel c.in_ok-command.command) (state_of c.args.session.now c.args.self.now)
+    row (version_of c.in_ok-version.version) (context_of c.args.session.now c.args.ctx.now)
+    (command_at c.command.new.self.kernel c.in_ok-command.command) (state_of c.args.session.now c.args.self.now)
 
-by_row : (c : In_ok-version) → step (context_of c.args.session.now c.args.ctx.now) (state_of c.args.session.now c.args.self.now) (word_value c.args.word) ≡ with_count (version_of c.in_ok-version.version) (stated c)
+by_row : (c : In_ok-version)
+    → step (context_of c.args.session.now c.args.ctx.now) (state_of c.args.session.now c.args.self.now)
+    (word_value c.args.word) ≡ with_count (version_of c.in_ok-version.version) (stated c)
 by_row c =
-    stepped (context_of c.args.session.now c.args.ctx.now) (state_of c.args.session.now c.args.self.now) (word_value c.args.word) (command_at c.command.new.self.kernel c.in_ok-command.command) (version_of c.in_ok-version.version) c.in_ok-command.ensures.made (c.in_ok-version.ensures c.command.new.self.kernel)
+    stepped (context_of c.args.session.now c.args.ctx.now) (state_of c.args.session.now c.args.self.now)
+    (word_value c.args.word) (command_at c.command.new.self.kernel c.in_ok-command.command)
+    (version_of c.in_ok-version.version) c.in_ok-command.ensures.made
+    (c.in_ok-version.ensures c.command.new.self.kernel)
 
-as_stated : (c : In_ok-version) → row (version_of c.in_ok-version.version) (context_of c.command.new.self c.args.ctx.now) (command_at c.command.new.self.kernel c.in_ok-command.command) (state_of c.command.new.self c.args.self.now) ≡ stated c
+as_stated : (c : In_ok-version)
+    → row (version_of c.in_ok-version.version) (context_of c.command.new.self c.args.ctx.now)
+    (command_at c.command.new.self.kernel c.in_ok-command.command) (state_of c.command.new.self c.args.self.now)
+    ≡ stated c
 as_stated c =
     let there = c.in_ok-command.ensures.kept in
-    let context = context-kept c.args.session.now c.command.new.self c.requires.of.run (record { kernel = there.machine.grown; trace = trace-same _ _ there.machine.trace }) c.args.ctx.now c.requires.context in
-    λ i. row (version_of c.in_ok-version.version) (context i) (command_at c.command.new.self.kernel c.in_ok-command.command) (record { article = there.machine.article i; run = there.run i })
+    let context = context-kept c.args.session.now c.command.new.self c.requires.of.run
+    (record { kernel = there.machine.grown; trace = trace-same _ _ there.machine.trace }) c.args.ctx.now
+    c.requires.context in
+    λ i. row (version_of c.in_ok-version.version) (context i)
+    (command_at c.command.new.self.kernel c.in_ok-command.command)
+    (record { article = there.machine.article i; run = there.run i })
 
 pub returns-in_err-row-clause-moves : goal.returns-in_err-row-clause-moves
 returns-in_err-row-clause-moves c =
@@ -34,9 +47,15 @@ returns-in_err-row-clause-moves c =
     let before = (goal.at.returns-in_err-row-clause-moves c).In_ok-version in
     let m = c.in_err-row.ensures.moves in
     let there = c.in_ok-command.ensures.kept in
-    let same : state_of c.command.new.self c.args.self.now ≡ state_of c.args.session.now c.args.self.now = λ i. record { article = there.machine.article i; run = there.run i } in
-    refused-moves c.from_residual-in_err-row.result c.in_err-row.field-0.0 l _ (state_of c.args.session.now c.args.self.now) (state_of c.row.new.session c.row.new.self) (search rules) (m.0 ∙ same)
-    (m.1.0, λ f p. by_row before ∙ ap (with_count (version_of c.in_ok-version.version)) (sym (as_stated before) ∙ m.1.1 f p))
+    let same : state_of c.command.new.self c.args.self.now ≡ state_of c.args.session.now c.args.self.now =
+    λ i. record { article = there.machine.article i; run = there.run i } in
+    refused-moves c.from_residual-in_err-row.result c.in_err-row.field-0.0 l _
+    (state_of c.args.session.now c.args.self.now) (state_of c.row.new.session c.row.new.self) (search rules)
+    (m.0 ∙ same) (
+      m.1.0,
+      λ f p. by_row before ∙ ap (with_count (version_of c.in_ok-version.version))
+          (sym (as_stated before) ∙ m.1.1 f p),
+    )
 
 pub returns-clause-moves : goal.returns-clause-moves
 returns-clause-moves c =
@@ -45,9 +64,15 @@ returns-clause-moves c =
     let counts : min (next.count + 1) (2 ^ 64 - 1) ≡ c.saturating_add-self.result = search rules in
     by_row before
     ∙ ap (with_count (version_of c.in_ok-version.version)) (sym (as_stated before) ∙ c.in_ok-row.ensures.moves)
-    ∙ ap (λ n. Ok (record (state_of c.row.new.session next) { article = record (article_of c.row.new.session next) { count = n; version = version_of c.in_ok-version.version } })) counts
+    ∙ ap (λ n.
+    Ok (record (state_of c.row.new.session next) {
+      article = record (article_of c.row.new.session next)
+          { count = n; version = version_of c.in_ok-version.version };
+    })) counts
 
 pub row-requires-clause-context : goal.row-requires-clause-context
 row-requires-clause-context c =
     let there = c.in_ok-command.ensures.kept in
-    of_context-kept c.args.session.now c.command.new.self c.requires.of.run (record { kernel = there.machine.grown; trace = trace-same _ _ there.machine.trace }) c.args.ctx.now c.requires.context
+    of_context-kept c.args.session.now c.command.new.self c.requires.of.run
+    (record { kernel = there.machine.grown; trace = trace-same _ _ there.machine.trace }) c.args.ctx.now
+    c.requires.context

@@ -11,7 +11,9 @@ returns-in-Err-clause-made c = λ k l stated h.
     rw c.from.ensures (refuses-rule l c.in-Err.fault stated x.1)
 
 pub returns-in-Ok-clause-made : goal.returns-in-Ok-clause-made
-returns-in-Ok-clause-made c = λ k l stated h. (concluded c.in-Ok.theorem stated k l (subst (λ r. Concludes r stated k l) c.in-Ok.is h)).0
+returns-in-Ok-clause-made c =
+    λ k l stated h. (concluded c.in-Ok.theorem stated k l (subst (λ r. Concludes r stated k l) c.in-Ok.is h)).0
 
 pub returns-in-Ok-clause-inside : goal.returns-in-Ok-clause-inside
-returns-in-Ok-clause-inside c = λ k l stated h. (concluded c.in-Ok.theorem stated k l (subst (λ r. Concludes r stated k l) c.in-Ok.is h)).1
+returns-in-Ok-clause-inside c =
+    λ k l stated h. (concluded c.in-Ok.theorem stated k l (subst (λ r. Concludes r stated k l) c.in-Ok.is h)).1

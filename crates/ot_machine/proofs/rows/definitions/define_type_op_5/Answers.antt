@@ -19,10 +19,14 @@ returns-in_err-defined c =
     let k = s.kernel in
     let m = c.args.machine.now in
     let there = c.in_err-defined.ensures in
-    let symbols = type_op_entry (name_at k c.type_op_named-name.result) ∷ constant_entry (name_at k c.constant_named-abs.result) ∷ constant_entry (name_at k c.constant_named-rep.result) ∷ [] in
-    let row = type_op_5-read (context_of s c.args.ctx.now) (state_of s m) _ (map (name_at k) c.deref.result.now) _ _ _ _ _ _ c.in_ok-premise.ensures.found (c.in_ok-variables.ensures.found ∙ ap (λ is. Ok (map (name_at k) is)) (sym c.deref.ensures.value)) c.in_ok-rep.ensures.found c.in_ok-abs.ensures.found c.in_ok-name.ensures.found
+    let symbols = type_op_entry (name_at k c.type_op_named-name.result) ∷ constant_entry
+    (name_at k c.constant_named-abs.result) ∷ constant_entry (name_at k c.constant_named-rep.result) ∷ [] in
+    let row = type_op_5-read (context_of s c.args.ctx.now) (state_of s m) _ (map (name_at k) c.deref.result.now) _ _ _
+    _ _ _ c.in_ok-premise.ensures.found (c.in_ok-variables.ensures.found ∙ ap (λ is. Ok (map (name_at k) is))
+    (sym c.deref.ensures.value)) c.in_ok-rep.ensures.found c.in_ok-abs.ensures.found c.in_ok-name.ensures.found
     c.constant_named-rep.ensures.renamed c.constant_named-abs.ensures.renamed c.type_op_named-name.ensures.renamed in
-    refused-turn _ c.in_err-defined.field-0.0 (define_type_op_5_row (context_of s c.args.ctx.now)) s m t m (search rules)
+    refused-turn _ c.in_err-defined.field-0.0 (define_type_op_5_row (context_of s c.args.ctx.now)) s m t m
+    (search rules)
     (λ i. record { article = there.article i; run = there.refused i })
     (there.made.0, λ f p. row ∙ ap (λ r. r >>= λ d. Ok (with_defined 5 symbols d (state_of s m))) (there.made.1 f p))
     there.grown there.of
@@ -39,14 +43,19 @@ returns c =
     let rep = name-kept k l there.grown.kernel c.constant_named-rep.result c.constant_named-rep.ensures.inside in
     let abs = name-kept k l there.grown.kernel c.constant_named-abs.result c.constant_named-abs.ensures.inside in
     let name = name-kept k l there.grown.kernel c.type_op_named-name.result c.type_op_named-name.ensures.inside in
-    let symbols = type_op_entry (name_at k c.type_op_named-name.result) ∷ constant_entry (name_at k c.constant_named-abs.result) ∷ constant_entry (name_at k c.constant_named-rep.result) ∷ [] in
+    let symbols = type_op_entry (name_at k c.type_op_named-name.result) ∷ constant_entry
+    (name_at k c.constant_named-abs.result) ∷ constant_entry (name_at k c.constant_named-rep.result) ∷ [] in
     let first : Entry = record { object = theorem (theorem_at l d.abs_rep); origin = origin_of t d.abs_rep_step } in
     let second : Entry = record { object = theorem (theorem_at l d.rep_abs); origin = origin_of t d.rep_abs_step } in
     record {
-      moves = type_op_5-read (context_of s c.args.ctx.now) (state_of s m) _ (map (name_at k) c.deref.result.now) _ _ _ _ _ _ c.in_ok-premise.ensures.found (c.in_ok-variables.ensures.found ∙ ap (λ is. Ok (map (name_at k) is)) (sym c.deref.ensures.value)) c.in_ok-rep.ensures.found c.in_ok-abs.ensures.found c.in_ok-name.ensures.found
-          c.constant_named-rep.ensures.renamed c.constant_named-abs.ensures.renamed c.type_op_named-name.ensures.renamed
+      moves = type_op_5-read (context_of s c.args.ctx.now) (state_of s m) _ (map (name_at k) c.deref.result.now) _ _ _
+          _ _ _ c.in_ok-premise.ensures.found (c.in_ok-variables.ensures.found ∙ ap (λ is. Ok (map (name_at k) is))
+          (sym c.deref.ensures.value)) c.in_ok-rep.ensures.found c.in_ok-abs.ensures.found c.in_ok-name.ensures.found
+          c.constant_named-rep.ensures.renamed c.constant_named-abs.ensures.renamed
+          c.type_op_named-name.ensures.renamed
           ∙ ap (λ r. r >>= λ d. Ok (with_defined 5 symbols d (state_of s m))) there.made
-          ∙ ap Ok (state-defined s t m m c.exchange.new.machine 5 _ symbols (operator_theorems t d) there.article c.exchange.ensures.changed
+          ∙ ap Ok (state-defined s t m m c.exchange.new.machine 5 _ symbols (operator_theorems t d) there.article
+          c.exchange.ensures.changed
           (λ i.
           record { object = type_op (name i); origin = there.operator.op i }
           ∷ record { object = constant (abs i); origin = there.operator.abs i }

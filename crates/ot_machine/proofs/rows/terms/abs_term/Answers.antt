@@ -10,17 +10,20 @@ make_two-requires-clause-of c = (leaves _ _ _ c.requires c.abs.ensures.keeps c.a
 
 pub returns-in_err-term : goal.returns-in_err-term
 returns-in_err-term c =
-    let kept = leaves c.args.session.now c.abs.new.self c.args.machine.now c.requires c.abs.ensures.keeps c.abs.ensures.same.basis in
+    let kept = leaves c.args.session.now c.abs.new.self c.args.machine.now c.requires c.abs.ensures.keeps
+    c.abs.ensures.same.basis in
     search rules
 
 pub returns-in_err-make_two : goal.returns-in_err-make_two
 returns-in_err-make_two c =
-    let kept = leaves c.args.session.now c.abs.new.self c.args.machine.now c.requires c.abs.ensures.keeps c.abs.ensures.same.basis in
+    let kept = leaves c.args.session.now c.abs.new.self c.args.machine.now c.requires c.abs.ensures.keeps
+    c.abs.ensures.same.basis in
     search rules
 
 pub returns : goal.returns
 returns c =
     let there = c.in_ok-make_two.ensures in
     turned _ _ _ _ _ words.AbsTerm _ (leaves _ _ _ c.requires c.abs.ensures.keeps c.abs.ensures.same.basis)
-    (bind-to _ _ _ _ c.in_ok-body.ensures.found (bind-to _ _ _ _ c.in_ok-variable.ensures.found (bind-to _ _ _ _ c.in_ok-term.ensures.made.1 refl)))
+    (bind-to _ _ _ _ c.in_ok-body.ensures.found
+    (bind-to _ _ _ _ c.in_ok-variable.ensures.found (bind-to _ _ _ _ c.in_ok-term.ensures.made.1 refl)))
     there.ok there.kernel there.run there.trace there.of

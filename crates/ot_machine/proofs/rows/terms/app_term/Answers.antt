@@ -10,17 +10,20 @@ make_two-requires-clause-of c = (leaves _ _ _ c.requires c.app.ensures.keeps c.a
 
 pub returns-in_err-term : goal.returns-in_err-term
 returns-in_err-term c =
-    let kept = leaves c.args.session.now c.app.new.self c.args.machine.now c.requires c.app.ensures.keeps c.app.ensures.same.basis in
+    let kept = leaves c.args.session.now c.app.new.self c.args.machine.now c.requires c.app.ensures.keeps
+    c.app.ensures.same.basis in
     search rules
 
 pub returns-in_err-make_two : goal.returns-in_err-make_two
 returns-in_err-make_two c =
-    let kept = leaves c.args.session.now c.app.new.self c.args.machine.now c.requires c.app.ensures.keeps c.app.ensures.same.basis in
+    let kept = leaves c.args.session.now c.app.new.self c.args.machine.now c.requires c.app.ensures.keeps
+    c.app.ensures.same.basis in
     search rules
 
 pub returns : goal.returns
 returns c =
     let there = c.in_ok-make_two.ensures in
     turned _ _ _ _ _ words.AppTerm _ (leaves _ _ _ c.requires c.app.ensures.keeps c.app.ensures.same.basis)
-    (bind-to _ _ _ _ c.in_ok-argument.ensures.found (bind-to _ _ _ _ c.in_ok-function.ensures.found (bind-to _ _ _ _ c.in_ok-term.ensures.made.1 refl)))
+    (bind-to _ _ _ _ c.in_ok-argument.ensures.found
+    (bind-to _ _ _ _ c.in_ok-function.ensures.found (bind-to _ _ _ _ c.in_ok-term.ensures.made.1 refl)))
     there.ok there.kernel there.run there.trace there.of

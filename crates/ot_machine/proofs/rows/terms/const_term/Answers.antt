@@ -8,21 +8,26 @@ use Rattle.ot_machine.proofs.rows.terms.const_term.Goals as goal
 use Rattle.ot_plain.proofs.Results.{bind-to}
 
 pub make_two-requires-clause-of : goal.make_two-requires-clause-of
-make_two-requires-clause-of c = (leaves _ _ _ c.requires c.constant.ensures.keeps c.constant.ensures.same.basis).machine.of
+make_two-requires-clause-of c =
+    (leaves _ _ _ c.requires c.constant.ensures.keeps c.constant.ensures.same.basis).machine.of
 
 pub returns-in_err-term : goal.returns-in_err-term
 returns-in_err-term c =
-    let kept = leaves c.args.session.now c.constant.new.self c.args.machine.now c.requires c.constant.ensures.keeps c.constant.ensures.same.basis in
+    let kept = leaves c.args.session.now c.constant.new.self c.args.machine.now c.requires c.constant.ensures.keeps
+    c.constant.ensures.same.basis in
     search rules
 
 pub returns-in_err-make_two : goal.returns-in_err-make_two
 returns-in_err-make_two c =
-    let kept = leaves c.args.session.now c.constant.new.self c.args.machine.now c.requires c.constant.ensures.keeps c.constant.ensures.same.basis in
+    let kept = leaves c.args.session.now c.constant.new.self c.args.machine.now c.requires c.constant.ensures.keeps
+    c.constant.ensures.same.basis in
     search rules
 
 pub returns : goal.returns
 returns c =
     let there = c.in_ok-make_two.ensures in
-    turned _ _ _ _ _ words.ConstTerm _ (leaves _ _ _ c.requires c.constant.ensures.keeps c.constant.ensures.same.basis)
-    (bind-to _ _ _ _ c.in_ok-ty.ensures.found (bind-to _ _ _ _ c.in_ok-name.ensures.found (ap (λ t. Ok (term t)) (sym c.in_ok-term.ensures.ok))))
+    turned _ _ _ _ _ words.ConstTerm _
+    (leaves _ _ _ c.requires c.constant.ensures.keeps c.constant.ensures.same.basis)
+    (bind-to _ _ _ _ c.in_ok-ty.ensures.found
+    (bind-to _ _ _ _ c.in_ok-name.ensures.found (ap (λ t. Ok (term t)) (sym c.in_ok-term.ensures.ok))))
     there.ok there.kernel there.run there.trace there.of

@@ -12,12 +12,14 @@ make_one-requires-clause-of c = (leaves _ _ _ c.requires c.var.ensures.keeps c.v
 
 pub returns-in_err-term : goal.returns-in_err-term
 returns-in_err-term c =
-    let kept = leaves c.args.session.now c.var.new.self c.args.machine.now c.requires c.var.ensures.keeps c.var.ensures.same.basis in
+    let kept = leaves c.args.session.now c.var.new.self c.args.machine.now c.requires c.var.ensures.keeps
+    c.var.ensures.same.basis in
     search rules
 
 pub returns-in_err-make_one : goal.returns-in_err-make_one
 returns-in_err-make_one c =
-    let kept = leaves c.args.session.now c.var.new.self c.args.machine.now c.requires c.var.ensures.keeps c.var.ensures.same.basis in
+    let kept = leaves c.args.session.now c.var.new.self c.args.machine.now c.requires c.var.ensures.keeps
+    c.var.ensures.same.basis in
     search rules
 
 pub returns : goal.returns

@@ -6,7 +6,8 @@ use Rattle.ot_machine.proofs.rows.theorems.assume.Goals as goal
 use Rattle.ot_plain.proofs.Results.{bind-to}
 
 pub conclude_one-requires-clause-of : goal.conclude_one-requires-clause-of
-conclude_one-requires-clause-of c = (leaves _ _ _ c.requires c.assume-answer.ensures.keeps c.assume-answer.ensures.same).machine.of
+conclude_one-requires-clause-of c =
+    (leaves _ _ _ c.requires c.assume-answer.ensures.keeps c.assume-answer.ensures.same).machine.of
 
 pub conclude_one-requires-clause-inside : goal.conclude_one-requires-clause-inside
 conclude_one-requires-clause-inside c = gives-inside c.assume-answer.result _ _ _ c.assume-answer.ensures.concludes
@@ -14,5 +15,6 @@ conclude_one-requires-clause-inside c = gives-inside c.assume-answer.result _ _ 
 pub returns : goal.returns
 returns c =
     by-rule _ _ _ _ _ words.Assume _ c.assume-answer.result _
-    (leaves _ _ _ c.requires c.assume-answer.ensures.keeps c.assume-answer.ensures.same) c.assume-answer.ensures.concludes
+    (leaves _ _ _ c.requires c.assume-answer.ensures.keeps c.assume-answer.ensures.same)
+    c.assume-answer.ensures.concludes
     (bind-to _ _ _ _ c.in_ok-term.ensures.found refl) (c.conclude_one.ensures _)

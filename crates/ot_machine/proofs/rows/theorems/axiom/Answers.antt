@@ -18,10 +18,17 @@ returns-in_err-given c =
     let m = c.args.machine.now in
     let st = state_of s m in
     let there = c.in_err-given.ensures in
-    let row = axiom-read (context_of s c.args.ctx.now) st _ _ _ (map (term_at k) c.deref.result.now) c.in_ok-concl.ensures.found c.in_ok-list.ensures.entry (c.in_ok-hyps.ensures.found ∙ ap (λ is. Ok (map (term_at k) is)) (sym c.deref.ensures.value)) in
+    let row = axiom-read (context_of s c.args.ctx.now) st _ _ _ (map (term_at k) c.deref.result.now)
+    c.in_ok-concl.ensures.found c.in_ok-list.ensures.entry
+    (c.in_ok-hyps.ensures.found ∙ ap (λ is. Ok (map (term_at k) is)) (sym c.deref.ensures.value)) in
     refused-turn _ c.in_err-given.field-0.0 (axiom_row (context_of s c.args.ctx.now)) s m t m (search rules)
-    (λ i. record { article = there.article i; run = there.refused i })
-    (there.made.0, λ f p. row ∙ ap (λ r. r >>= λ e. Ok (record { article = record st.article { stack = replaced 2 e.0 st.article.stack }; run = e.1 })) (there.made.1 f p))
+    (λ i. record { article = there.article i; run = there.refused i }) (
+      there.made.0,
+      λ f p. row
+          ∙ ap (λ r. r >>= λ e.
+          Ok (record { article = record st.article { stack = replaced 2 e.0 st.article.stack }; run = e.1 }))
+          (there.made.1 f p),
+    )
     there.grown there.of
 
 pub returns : goal.returns
@@ -32,12 +39,19 @@ returns c =
     let m = c.args.machine.now in
     let st = state_of s m in
     let there = c.in_ok-given.ensures in
-    let row = axiom-read (context_of s c.args.ctx.now) st _ _ _ (map (term_at k) c.deref.result.now) c.in_ok-concl.ensures.found c.in_ok-list.ensures.entry (c.in_ok-hyps.ensures.found ∙ ap (λ is. Ok (map (term_at k) is)) (sym c.deref.ensures.value)) in
+    let row = axiom-read (context_of s c.args.ctx.now) st _ _ _ (map (term_at k) c.deref.result.now)
+    c.in_ok-concl.ensures.found c.in_ok-list.ensures.entry
+    (c.in_ok-hyps.ensures.found ∙ ap (λ is. Ok (map (term_at k) is)) (sym c.deref.ensures.value)) in
     let e = theorem_entry (given_of t c.in_ok-given.given) in
     record {
       moves = row
-          ∙ ap (λ r. r >>= λ e. Ok (record { article = record st.article { stack = replaced 2 e.0 st.article.stack }; run = e.1 })) there.made
-          ∙ sym (ap (λ a. Ok (record { article = a; run = run_of t })) (c.replace.ensures.changed ∙ (λ i. let a = there.article i in record a { stack = replaced 2 e a.stack })));
+          ∙ ap (λ r. r
+          >>= λ e. Ok (record {
+            article = record st.article { stack = replaced 2 e.0 st.article.stack };
+            run = e.1;
+          })) there.made
+          ∙ sym (ap (λ a. Ok (record { article = a; run = run_of t })) (c.replace.ensures.changed
+          ∙ (λ i. let a = there.article i in record a { stack = replaced 2 e a.stack })));
       grown = there.grown;
       of = c.replace.ensures.of;
     }

@@ -6,13 +6,16 @@ use Rattle.ot_machine.proofs.rows.theorems.beta_conv.Goals as goal
 use Rattle.ot_plain.proofs.Results.{bind-to}
 
 pub conclude_one-requires-clause-of : goal.conclude_one-requires-clause-of
-conclude_one-requires-clause-of c = (leaves _ _ _ c.requires c.beta_conv-answer.ensures.keeps c.beta_conv-answer.ensures.same).machine.of
+conclude_one-requires-clause-of c =
+    (leaves _ _ _ c.requires c.beta_conv-answer.ensures.keeps c.beta_conv-answer.ensures.same).machine.of
 
 pub conclude_one-requires-clause-inside : goal.conclude_one-requires-clause-inside
-conclude_one-requires-clause-inside c = gives-inside c.beta_conv-answer.result _ _ _ c.beta_conv-answer.ensures.concludes
+conclude_one-requires-clause-inside c =
+    gives-inside c.beta_conv-answer.result _ _ _ c.beta_conv-answer.ensures.concludes
 
 pub returns : goal.returns
 returns c =
     by-rule _ _ _ _ _ words.BetaConv _ c.beta_conv-answer.result _
-    (leaves _ _ _ c.requires c.beta_conv-answer.ensures.keeps c.beta_conv-answer.ensures.same) c.beta_conv-answer.ensures.concludes
+    (leaves _ _ _ c.requires c.beta_conv-answer.ensures.keeps c.beta_conv-answer.ensures.same)
+    c.beta_conv-answer.ensures.concludes
     (bind-to _ _ _ _ c.in_ok-term.ensures.found refl) (c.conclude_one.ensures _)

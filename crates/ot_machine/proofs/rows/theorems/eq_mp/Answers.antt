@@ -6,7 +6,8 @@ use Rattle.ot_machine.proofs.rows.theorems.eq_mp.Goals as goal
 use Rattle.ot_plain.proofs.Results.{bind-to}
 
 pub conclude_two-requires-clause-of : goal.conclude_two-requires-clause-of
-conclude_two-requires-clause-of c = (leaves _ _ _ c.requires c.eq_mp-answer.ensures.keeps c.eq_mp-answer.ensures.same).machine.of
+conclude_two-requires-clause-of c =
+    (leaves _ _ _ c.requires c.eq_mp-answer.ensures.keeps c.eq_mp-answer.ensures.same).machine.of
 
 pub conclude_two-requires-clause-inside : goal.conclude_two-requires-clause-inside
 conclude_two-requires-clause-inside c = gives-inside c.eq_mp-answer.result _ _ _ c.eq_mp-answer.ensures.concludes
@@ -14,5 +15,7 @@ conclude_two-requires-clause-inside c = gives-inside c.eq_mp-answer.result _ _ _
 pub returns : goal.returns
 returns c =
     by-rule _ _ _ _ _ words.EqMp _ c.eq_mp-answer.result _
-    (leaves _ _ _ c.requires c.eq_mp-answer.ensures.keeps c.eq_mp-answer.ensures.same) c.eq_mp-answer.ensures.concludes
-    (bind-to _ _ _ _ c.in_ok-top.ensures.found (bind-to _ _ _ _ c.in_ok-lower.ensures.found refl)) (c.conclude_two.ensures _)
+    (leaves _ _ _ c.requires c.eq_mp-answer.ensures.keeps c.eq_mp-answer.ensures.same)
+    c.eq_mp-answer.ensures.concludes
+    (bind-to _ _ _ _ c.in_ok-top.ensures.found (bind-to _ _ _ _ c.in_ok-lower.ensures.found refl))
+    (c.conclude_two.ensures _)

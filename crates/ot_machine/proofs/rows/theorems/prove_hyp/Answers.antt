@@ -6,13 +6,17 @@ use Rattle.ot_machine.proofs.rows.theorems.prove_hyp.Goals as goal
 use Rattle.ot_plain.proofs.Results.{bind-to}
 
 pub conclude_two-requires-clause-of : goal.conclude_two-requires-clause-of
-conclude_two-requires-clause-of c = (leaves _ _ _ c.requires c.prove_hyp-answer.ensures.keeps c.prove_hyp-answer.ensures.same).machine.of
+conclude_two-requires-clause-of c =
+    (leaves _ _ _ c.requires c.prove_hyp-answer.ensures.keeps c.prove_hyp-answer.ensures.same).machine.of
 
 pub conclude_two-requires-clause-inside : goal.conclude_two-requires-clause-inside
-conclude_two-requires-clause-inside c = gives-inside c.prove_hyp-answer.result _ _ _ c.prove_hyp-answer.ensures.concludes
+conclude_two-requires-clause-inside c =
+    gives-inside c.prove_hyp-answer.result _ _ _ c.prove_hyp-answer.ensures.concludes
 
 pub returns : goal.returns
 returns c =
     by-rule _ _ _ _ _ words.ProveHyp _ c.prove_hyp-answer.result _
-    (leaves _ _ _ c.requires c.prove_hyp-answer.ensures.keeps c.prove_hyp-answer.ensures.same) c.prove_hyp-answer.ensures.concludes
-    (bind-to _ _ _ _ c.in_ok-top.ensures.found (bind-to _ _ _ _ c.in_ok-lower.ensures.found refl)) (c.conclude_two.ensures _)
+    (leaves _ _ _ c.requires c.prove_hyp-answer.ensures.keeps c.prove_hyp-answer.ensures.same)
+    c.prove_hyp-answer.ensures.concludes
+    (bind-to _ _ _ _ c.in_ok-top.ensures.found (bind-to _ _ _ _ c.in_ok-lower.ensures.found refl))
+    (c.conclude_two.ensures _)

@@ -6,7 +6,8 @@ use Rattle.ot_machine.proofs.rows.theorems.refl.Goals as goal
 use Rattle.ot_plain.proofs.Results.{bind-to}
 
 pub conclude_one-requires-clause-of : goal.conclude_one-requires-clause-of
-conclude_one-requires-clause-of c = (leaves _ _ _ c.requires c.refl-answer.ensures.keeps c.refl-answer.ensures.same).machine.of
+conclude_one-requires-clause-of c =
+    (leaves _ _ _ c.requires c.refl-answer.ensures.keeps c.refl-answer.ensures.same).machine.of
 
 pub conclude_one-requires-clause-inside : goal.conclude_one-requires-clause-inside
 conclude_one-requires-clause-inside c = gives-inside c.refl-answer.result _ _ _ c.refl-answer.ensures.concludes

@@ -11,7 +11,9 @@ use Rattle.ot_machine.specs.declared.makers.canonical.Part.{Part}
 use Rattle.ot_machine.specs.declared.makers.canonical.Binder.{Binder}
 use Rattle.ot_machine.proofs.Kept.{origin-kept, traces-grow}
 use Rattle.ot_machine.proofs.Traced.{traces-on}
-use Rattle.ot_machine.proofs.Canonical.{adds-traces, adds-on, canon-agree, binders-inside, binders-later, named-later, type-later, name-later, key-later, types-later, terms-later, known-later, terms-insert}
+use Rattle.ot_machine.proofs.Canonical.{adds-traces, adds-on, canon-agree, binders-inside}
+use Rattle.ot_machine.proofs.Canonical.{binders-later, named-later, type-later, name-later, key-later}
+use Rattle.ot_machine.proofs.Canonical.{types-later, terms-later, known-later, terms-insert}
 use Rattle.ot_machine.proofs.Occurrences.{occurrences-later}
 use Rattle.ot_machine.proofs.session.Session.+term_origin.Goals as goal
 
@@ -20,7 +22,8 @@ term_origin-returns-in-Some-clause-made t c =
     let s = c.args.self.now in
     let part : Part = record { id = c.args.id; depth = c.args.depth; binders = c.in_ok-binders.binders } in
     (c.requires.known.terms.known part c.in-Some.step.now (sym c.in-Some.ensures.value)).origin
-    ∙ canon-agree c.args.depth (binders_at s c.in_ok-binders.binders.items) (binders_at s c.args.binders.now) (named_at s.kernel.terms c.args.id) c.in_ok-binders.ensures.same
+    ∙ canon-agree c.args.depth (binders_at s c.in_ok-binders.binders.items) (binders_at s c.args.binders.now)
+    (named_at s.kernel.terms c.args.id) c.in_ok-binders.ensures.same
 
 pub term_origin-returns-in-Some-clause-inside : goal.term_origin-returns-in-Some-clause-inside
 term_origin-returns-in-Some-clause-inside t c =
@@ -30,7 +33,10 @@ term_origin-returns-in-Some-clause-inside t c =
 pub term_origin-returns-clause-made : goal.term_origin-returns-clause-made
 term_origin-returns-clause-made t c =
     let s = c.args.self.now in
-    c.in_ok-step.ensures.made ∙ (λ k. canon_in c.args.depth (binders_at s (c.deref.ensures.value k)) (named_at s.kernel.terms c.args.id)) ∙ canon-agree c.args.depth (binders_at s c.in_ok-binders.binders.items) (binders_at s c.args.binders.now) (named_at s.kernel.terms c.args.id) c.in_ok-binders.ensures.same
+    c.in_ok-step.ensures.made
+    ∙ (λ k. canon_in c.args.depth (binders_at s (c.deref.ensures.value k)) (named_at s.kernel.terms c.args.id))
+    ∙ canon-agree c.args.depth (binders_at s c.in_ok-binders.binders.items) (binders_at s c.args.binders.now)
+    (named_at s.kernel.terms c.args.id) c.in_ok-binders.ensures.same
 
 pub term_origin-returns-clause-known : goal.term_origin-returns-clause-known
 term_origin-returns-clause-known t c =
@@ -43,12 +49,16 @@ term_origin-returns-clause-known t c =
     let here = named-later s u grown c.args.id c.requires.id in
     record {
       types = c.in_ok-step.ensures.known.types;
-      terms = terms-insert u c.node_origin.new.known.terms.entries c.insert.new.self.entries (record { id = c.args.id; depth = c.args.depth; binders = c.in_ok-binders.binders }) c.in_ok-step.step c.in_ok-step.ensures.known.terms
+      terms = terms-insert u c.node_origin.new.known.terms.entries c.insert.new.self.entries
+          (record { id = c.args.id; depth = c.args.depth; binders = c.in_ok-binders.binders }) c.in_ok-step.step
+          c.in_ok-step.ensures.known.terms
           (record {
             id = omega (arith, c.requires.id, grown.kernel.terms.longer);
             step = c.in_ok-step.ensures.inside;
             binders = binders-inside s u grown items inside;
-            origin = c.in_ok-step.ensures.made ∙ (λ k. canon_in c.args.depth (binders_at s (c.deref.ensures.value k)) (named_at s.kernel.terms c.args.id)) ∙ (λ k. canon_in c.args.depth (sym bs k) (sym here k));
+            origin = c.in_ok-step.ensures.made
+                ∙ (λ k. canon_in c.args.depth (binders_at s (c.deref.ensures.value k))
+                (named_at s.kernel.terms c.args.id)) ∙ (λ k. canon_in c.args.depth (sym bs k) (sym here k));
           }) c.in_ok-insert.ensures.updates.0;
       free = c.in_ok-step.ensures.known.free;
     }
@@ -58,13 +68,15 @@ pub node_origin-returns-in_ok-made_of-in-Var-clause-made : goal.node_origin-retu
 node_origin-returns-in_ok-made_of-in-Var-clause-made t c =
     let s = c.args.self.now in
     let tree = rw c.in-Var.is at c.term_node.ensures.tree in
-    c.in_ok-made_of-in-Var.ensures.made ∙ ap var_term c.in_ok-variable-in-Var.ensures.made ∙ ap (canon_in c.args.depth (binders_at s c.args.binders.now)) (sym tree)
+    c.in_ok-made_of-in-Var.ensures.made ∙ ap var_term c.in_ok-variable-in-Var.ensures.made
+    ∙ ap (canon_in c.args.depth (binders_at s c.args.binders.now)) (sym tree)
 
 pub node_origin-returns-in_ok-made_of-in-Var-clause-known : goal.node_origin-returns-in_ok-made_of-in-Var-clause-known
 node_origin-returns-in_ok-made_of-in-Var-clause-known t c =
     let t1 = c.variable_origin.new.self in
     let t2 = c.made_of.new.self in
-    known-later t1 t2 (traces-grow t1 t2 c.args.machine.now c.in_ok-made_of-in-Var.ensures.kept) c.in_ok-variable-in-Var.ensures.kept.of.run c.variable_origin.new.known c.in_ok-variable-in-Var.ensures.known
+    known-later t1 t2 (traces-grow t1 t2 c.args.machine.now c.in_ok-made_of-in-Var.ensures.kept)
+    c.in_ok-variable-in-Var.ensures.kept.of.run c.variable_origin.new.known c.in_ok-variable-in-Var.ensures.known
 
 -- ---- a constant
 pub node_origin-returns-in_ok-constant_step-in-Const-clause-made : goal.node_origin-returns-in_ok-constant_step-in-Const-clause-made
@@ -72,7 +84,10 @@ node_origin-returns-in_ok-constant_step-in-Const-clause-made t c =
     let s = c.args.self.now in
     let tree = rw c.in-Const.is at c.term_node.ensures.tree in
     let one = c.in_ok-ty-in-Const.ensures.kept in
-    c.in_ok-constant_step-in-Const.ensures.made ∙ (λ i. make_two words.ConstTerm (constant_origin (Named (name_at (one.kernel i) c.in-Const.name))) (c.in_ok-ty-in-Const.ensures.made i)) ∙ ap (canon_in c.args.depth (binders_at s c.args.binders.now)) (sym tree)
+    c.in_ok-constant_step-in-Const.ensures.made
+    ∙ (λ i. make_two words.ConstTerm (constant_origin (Named (name_at (one.kernel i) c.in-Const.name)))
+    (c.in_ok-ty-in-Const.ensures.made i)) ∙ ap (canon_in c.args.depth (binders_at s c.args.binders.now))
+    (sym tree)
 
 pub node_origin-returns-in_ok-constant_step-in-Const-clause-known : goal.node_origin-returns-in_ok-constant_step-in-Const-clause-known
 node_origin-returns-in_ok-constant_step-in-Const-clause-known t c =
@@ -83,9 +98,12 @@ node_origin-returns-in_ok-constant_step-in-Const-clause-known t c =
     let one = c.in_ok-ty-in-Const.ensures.kept in
     let two = c.in_ok-constant_step-in-Const.ensures.kept in
     record {
-      types = types-later t1 t2 (traces-grow t1 t2 m two) one.of.run c.type_origin.new.known.entries c.in_ok-ty-in-Const.ensures.known;
-      terms = terms-later s t2 (traces-grow s t2 m (traces-on s t1 t2 m one two)) c.requires.of.run c.args.known.now.terms.entries c.requires.known.terms;
-      free = occurrences-later s.kernel t2.kernel (traces-grow s t2 m (traces-on s t1 t2 m one two)).kernel c.args.known.now.free.entries c.requires.known.free;
+      types = types-later t1 t2 (traces-grow t1 t2 m two) one.of.run c.type_origin.new.known.entries
+          c.in_ok-ty-in-Const.ensures.known;
+      terms = terms-later s t2 (traces-grow s t2 m (traces-on s t1 t2 m one two)) c.requires.of.run
+          c.args.known.now.terms.entries c.requires.known.terms;
+      free = occurrences-later s.kernel t2.kernel (traces-grow s t2 m (traces-on s t1 t2 m one two)).kernel
+          c.args.known.now.free.entries c.requires.known.free;
     }
 
 -- ---- an application
@@ -100,15 +118,18 @@ node_origin-returns-in_ok-made_of-in-App-clause-made t c =
     let below = rw c.in-App.is at c.term_node.ensures.inside in
     let bs = binders-later s t1 one.grown c.requires.of.run c.args.binders.now c.requires.binders in
     let x = named-later s t1 one.grown c.in-App.x (omega (arith, below.1, c.requires.id)) in
-    let left = origin-kept t1 t2 one.of.run two.grown c.in_ok-f-in-App.f c.in_ok-f-in-App.ensures.inside ∙ c.in_ok-f-in-App.ensures.made in
+    let left = origin-kept t1 t2 one.of.run two.grown c.in_ok-f-in-App.f c.in_ok-f-in-App.ensures.inside
+    ∙ c.in_ok-f-in-App.ensures.made in
     let right = c.in_ok-x-in-App.ensures.made ∙ (λ i. canon_in c.args.depth (bs i) (x i)) in
-    c.in_ok-made_of-in-App.ensures.made ∙ (λ i. app (left i) (right i)) ∙ ap (canon_in c.args.depth (binders_at s c.args.binders.now)) (sym tree)
+    c.in_ok-made_of-in-App.ensures.made ∙ (λ i. app (left i) (right i))
+    ∙ ap (canon_in c.args.depth (binders_at s c.args.binders.now)) (sym tree)
 
 pub node_origin-returns-in_ok-made_of-in-App-clause-known : goal.node_origin-returns-in_ok-made_of-in-App-clause-known
 node_origin-returns-in_ok-made_of-in-App-clause-known t c =
     let t2 = c.term_origin-in-App.new.self in
     let t3 = c.made_of-in-App.new.self in
-    known-later t2 t3 (traces-grow t2 t3 c.args.machine.now c.in_ok-made_of-in-App.ensures.kept) c.in_ok-x-in-App.ensures.kept.of.run c.term_origin-in-App.new.known c.in_ok-x-in-App.ensures.known
+    known-later t2 t3 (traces-grow t2 t3 c.args.machine.now c.in_ok-made_of-in-App.ensures.kept)
+    c.in_ok-x-in-App.ensures.kept.of.run c.term_origin-in-App.new.known c.in_ok-x-in-App.ensures.known
 
 -- ---- an abstraction
 pub node_origin-returns-in_ok-made_of-in-Abs-clause-made : goal.node_origin-returns-in_ok-made_of-in-Abs-clause-made
@@ -125,7 +146,8 @@ node_origin-returns-in_ok-made_of-in-Abs-clause-made t c =
     let v = c.in-Abs.v in
     let tree = rw c.in-Abs.is at c.term_node.ensures.tree in
     let below = rw c.in-Abs.is at c.term_node.ensures.inside in
-    let step = c.in_ok-step-in-Abs.ensures.made ∙ ap (λ o. make_two words.Var (Named (decimal c.args.depth ∷ [])) o) c.in_ok-ty-in-Abs.ensures.made in
+    let step = c.in_ok-step-in-Abs.ensures.made ∙ ap (λ o. make_two words.Var (Named (decimal c.args.depth ∷ [])) o)
+    c.in_ok-ty-in-Abs.ensures.made in
     let n = name-later s t2 grown v.name below.0.0 in
     let y = type-later s t2 grown v.ty below.0.1 in
     let rest = binders-later s t2 grown c.requires.of.run c.args.binders.now c.requires.binders in
@@ -133,15 +155,18 @@ node_origin-returns-in_ok-made_of-in-Abs-clause-made t c =
     let bs = ap (binders_at t2) items ∙ (λ i. (record { name = n i; ty = y i }, step i) ∷ rest i) in
     let b = named-later s t2 grown c.in-Abs.body (omega (arith, below.1, c.requires.id)) in
     let deeper : c.args.depth + 1 ≡ suc c.args.depth = omega arith in
-    let binder = origin-kept t2 t3 two.of.run three.grown c.in_ok-step-in-Abs.step c.in_ok-step-in-Abs.ensures.inside ∙ step in
+    let binder = origin-kept t2 t3 two.of.run three.grown c.in_ok-step-in-Abs.step c.in_ok-step-in-Abs.ensures.inside
+    ∙ step in
     let inner = c.in_ok-body-in-Abs.ensures.made ∙ (λ i. canon_in (deeper i) (bs i) (b i)) in
-    c.in_ok-made_of-in-Abs.ensures.made ∙ (λ i. lam (binder i) (inner i)) ∙ ap (canon_in c.args.depth (binders_at s c.args.binders.now)) (sym tree)
+    c.in_ok-made_of-in-Abs.ensures.made ∙ (λ i. lam (binder i) (inner i))
+    ∙ ap (canon_in c.args.depth (binders_at s c.args.binders.now)) (sym tree)
 
 pub node_origin-returns-in_ok-made_of-in-Abs-clause-known : goal.node_origin-returns-in_ok-made_of-in-Abs-clause-known
 node_origin-returns-in_ok-made_of-in-Abs-clause-known t c =
     let t3 = c.term_origin-in-Abs.new.self in
     let t4 = c.made_of-in-Abs.new.self in
-    known-later t3 t4 (traces-grow t3 t4 c.args.machine.now c.in_ok-made_of-in-Abs.ensures.kept) c.in_ok-body-in-Abs.ensures.kept.of.run c.term_origin-in-Abs.new.known c.in_ok-body-in-Abs.ensures.known
+    known-later t3 t4 (traces-grow t3 t4 c.args.machine.now c.in_ok-made_of-in-Abs.ensures.kept)
+    c.in_ok-body-in-Abs.ensures.kept.of.run c.term_origin-in-Abs.new.known c.in_ok-body-in-Abs.ensures.known
 
 pub node_origin-term_origin-requires-in-Abs : goal.node_origin-term_origin-requires-in-Abs
 node_origin-term_origin-requires-in-Abs t c =
@@ -164,11 +189,16 @@ node_origin-term_origin-requires-in-Abs t c =
           (
             omega (arith, below.1, c.requires.room),
             (
-              subst (All (IsBinderIn t2)) (sym items) (All-cons (IsBinderIn t2) binder c.args.binders.now here (binders-inside s t2 grown c.args.binders.now c.requires.binders)),
+              subst (All (IsBinderIn t2)) (sym items)
+                  (All-cons (IsBinderIn t2) binder c.args.binders.now here
+                  (binders-inside s t2 grown c.args.binders.now c.requires.binders)),
               record {
-                types = types-later t1 t2 two.grown one.of.run c.type_origin-in-Abs.new.known.entries c.in_ok-ty-in-Abs.ensures.known;
-                terms = terms-later s t2 grown c.requires.of.run c.args.known.now.terms.entries c.requires.known.terms;
-                free = occurrences-later s.kernel t2.kernel grown.kernel c.args.known.now.free.entries c.requires.known.free;
+                types = types-later t1 t2 two.grown one.of.run c.type_origin-in-Abs.new.known.entries
+                    c.in_ok-ty-in-Abs.ensures.known;
+                terms = terms-later s t2 grown c.requires.of.run c.args.known.now.terms.entries
+                    c.requires.known.terms;
+                free = occurrences-later s.kernel t2.kernel grown.kernel c.args.known.now.free.entries
+                    c.requires.known.free;
               },
             ),
           ),

@@ -1,4 +1,5 @@
-use Rattle.std.proofs.Common.{◌<◌, ℕ, List, [], ◌∷◌, ◌++◌, ◌+◌, refl, sym, ap, subst, ◌∙◌, length, arith, length-append}
+use Rattle.std.proofs.Common.{◌<◌, ℕ, List, [], ◌∷◌, ◌++◌, ◌+◌, refl, sym}
+use Rattle.std.proofs.Common.{ap, subst, ◌∙◌, length, arith, length-append}
 use Rattle.std.specs.List.{All}
 use Rattle.std.proofs.lemmas.List.{take_at, get_or-append-add}
 use Rattle.std.proofs.lemmas.List.Elements.{All-take, All-nil, All-cons}
@@ -9,11 +10,13 @@ use Rattle.ot_machine.specs.Version5.{canon_ty, canon_tys}
 use Rattle.ot_machine.specs.Meaning.{origin_of}
 use Rattle.ot_machine.proofs.Kept.{traces-grow}
 use Rattle.ot_machine.proofs.Traced.{traces-on, traced-origin, origin-number}
-use Rattle.ot_machine.proofs.Canonical.{types-later, types-insert, types_onto, types_onto-push, types_onto-whole, rest-empty}
+use Rattle.ot_machine.proofs.Canonical.{types-later, types-insert, types_onto}
+use Rattle.ot_machine.proofs.Canonical.{types_onto-push, types_onto-whole, rest-empty}
 use Rattle.ot_machine.proofs.session.Session.+type_origin.Goals as goal
 
 pub type_origin-returns-in-Some-clause-inside : goal.type_origin-returns-in-Some-clause-inside
-type_origin-returns-in-Some-clause-inside t c = (c.requires.known.known c.args.id c.in-Some.step.now (sym c.in-Some.ensures.value)).1
+type_origin-returns-in-Some-clause-inside t c =
+    (c.requires.known.known c.args.id c.in-Some.step.now (sym c.in-Some.ensures.value)).1
 
 pub type_origin-returns-clause-known : goal.type_origin-returns-clause-known
 type_origin-returns-clause-known t c =
@@ -21,8 +24,11 @@ type_origin-returns-clause-known t c =
     let u = c.type_node_origin.new.self in
     let kept = c.in_ok-step.ensures.kept in
     let same = λ (i : ℕ). ap (λ k. type_at k c.args.id) (sym kept.kernel) in
-    types-insert u c.type_node_origin.new.known.entries c.insert.new.self.entries c.args.id c.in_ok-step.step c.in_ok-step.ensures.known
-    (subst (λ k. c.args.id < length k.types) (sym kept.kernel) c.requires.id) c.in_ok-step.ensures.inside (c.in_ok-step.ensures.made ∙ ap canon_ty (ap (λ k. type_at k c.args.id) (sym kept.kernel))) c.in_ok-insert.ensures.updates.0
+    types-insert u c.type_node_origin.new.known.entries c.insert.new.self.entries c.args.id c.in_ok-step.step
+    c.in_ok-step.ensures.known
+    (subst (λ k. c.args.id < length k.types) (sym kept.kernel) c.requires.id) c.in_ok-step.ensures.inside
+    (c.in_ok-step.ensures.made ∙ ap canon_ty (ap (λ k. type_at k c.args.id) (sym kept.kernel)))
+    c.in_ok-insert.ensures.updates.0
 
 pub type_node_origin-types_origin-requires : goal.type_node_origin-types_origin-requires
 type_node_origin-types_origin-requires t c =
@@ -36,7 +42,11 @@ type_node_origin-types_origin-requires t c =
         kept.of,
         (
           subst (λ k. c.args.id < length k.types) (sym kept.kernel) c.requires.id,
-          (subst (All (λ i. i < c.args.id)) (sym items) inside.1, types-later s u (traces-grow s u c.args.machine.now kept) c.requires.of.run c.args.known.now.entries c.requires.known),
+          (
+            subst (All (λ i. i < c.args.id)) (sym items) inside.1,
+            types-later s u
+                (traces-grow s u c.args.machine.now kept) c.requires.of.run c.args.known.now.entries c.requires.known,
+          ),
         ),
       ),
     )
@@ -45,7 +55,8 @@ pub type_node_origin-returns-in_ok-step-in-Var-clause-known : goal.type_node_ori
 type_node_origin-returns-in_ok-step-in-Var-clause-known t c =
     let s = c.args.self.now in
     let u = c.symbol_steps.new.self in
-    types-later s u (traces-grow s u c.args.machine.now c.in_ok-step-in-Var.ensures.kept) c.requires.of.run c.args.known.now.entries c.requires.known
+    types-later s u (traces-grow s u c.args.machine.now c.in_ok-step-in-Var.ensures.kept) c.requires.of.run
+    c.args.known.now.entries c.requires.known
 
 pub type_node_origin-returns-in_ok-made_of-in-Op-clause-made : goal.type_node_origin-returns-in_ok-made_of-in-Op-clause-made
 type_node_origin-returns-in_ok-made_of-in-Op-clause-made t c =
@@ -58,7 +69,8 @@ type_node_origin-returns-in_ok-made_of-in-Op-clause-made t c =
     let node = c.in-Op.name in
     let tree = rw c.in-Op.is at c.type_node.ensures.tree in
     let items = c.deref.ensures.value ∙ c.in_ok-args-in-Op.ensures.items ∙ c.as_slice.ensures in
-    let op = traced-origin u w m one.of two c.in_ok-op-in-Op.op c.in_ok-op-in-Op.ensures.symbol_step ∙ origin-number s u m one c.in_ok-op-in-Op.op (type_op_origin (Named node)) c.in_ok-op-in-Op.ensures.symbol in
+    let op = traced-origin u w m one.of two c.in_ok-op-in-Op.op c.in_ok-op-in-Op.ensures.symbol_step
+    ∙ origin-number s u m one c.in_ok-op-in-Op.op (type_op_origin (Named node)) c.in_ok-op-in-Op.ensures.symbol in
     let list = c.in_ok-list-in-Op.ensures.made ∙ (λ i. canon_tys (types_at (one.kernel i) (items i))) in
     c.in_ok-made_of-in-Op.ensures.made ∙ (λ i. make_two words.OpType (op i) (list i)) ∙ ap canon_ty (sym tree)
 
@@ -66,7 +78,8 @@ pub type_node_origin-returns-in_ok-made_of-in-Op-clause-known : goal.type_node_o
 type_node_origin-returns-in_ok-made_of-in-Op-clause-known t c =
     let w = c.types_origin.new.self in
     let u = c.made_of.new.self in
-    types-later w u (traces-grow w u c.args.machine.now c.in_ok-made_of-in-Op.ensures.kept) c.in_ok-list-in-Op.ensures.kept.of.run c.types_origin.new.known.entries c.in_ok-list-in-Op.ensures.known
+    types-later w u (traces-grow w u c.args.machine.now c.in_ok-made_of-in-Op.ensures.kept)
+    c.in_ok-list-in-Op.ensures.kept.of.run c.types_origin.new.known.entries c.in_ok-list-in-Op.ensures.known
 
 pub types_origin-types-init : goal.types_origin-types-init
 types_origin-types-init t c =
@@ -74,36 +87,52 @@ types_origin-types-init t c =
     let kept = c.in_ok-list.ensures.kept in
     record {
       kept = kept;
-      known = types-later s c.made_of.new.self (traces-grow s c.made_of.new.self c.args.machine.now kept) c.requires.of.run c.args.known.now.entries c.requires.known;
+      known = types-later s c.made_of.new.self (traces-grow s c.made_of.new.self c.args.machine.now kept)
+          c.requires.of.run c.args.known.now.entries c.requires.known;
       inside = c.in_ok-list.ensures.inside;
       below = c.requires.below;
-      so_far = ap (types_onto s.kernel c.args.ids.now) c.in_ok-list.ensures.made ∙ types_onto-whole s.kernel c.args.ids.now;
+      so_far = ap (types_onto s.kernel c.args.ids.now) c.in_ok-list.ensures.made
+          ∙ types_onto-whole s.kernel c.args.ids.now;
     }
 
 All-last : (P : ℕ → Type 0) (xs : List ℕ) (x : ℕ) → All P (xs ++ x ∷ []) → P x
-All-last P xs x all = subst P (get_or-append-add xs (x ∷ []) 0 x) (all (length xs + 0) x (omega (arith, length-append xs (x ∷ []))))
+All-last P xs x all =
+    subst P (get_or-append-add xs (x ∷ []) 0 x) (all (length xs + 0) x (omega (arith, length-append xs (x ∷ []))))
 
 pub types_origin-type_origin-requires : goal.types_origin-type_origin-requires
 types_origin-type_origin-requires t c =
     let split = c.in-Some.ensures.cases.0 in
     let kept = c.types.invariant.kept in
     let P = λ (i : ℕ). i < c.args.bound in
-    let low = All-last P c.in-Some.front.now c.in-Some.id.now (subst (All P) split c.types.invariant.below) in
-    (omega (arith, c.decreases, low), (kept.of, (omega (arith, low, subst (λ k. c.args.bound < length k.types) (sym kept.kernel) c.requires.bound), c.types.invariant.known)))
+    let low = All-last P c.in-Some.front.now c.in-Some.id.now (subst (All P) split c.types.invariant.below) in (
+      omega (arith, c.decreases, low),
+      (
+        kept.of,
+        (
+          omega (arith, low, subst (λ k. c.args.bound < length k.types) (sym kept.kernel) c.requires.bound),
+          c.types.invariant.known,
+        ),
+      ),
+    )
 
 pub types_origin-returns-in_err-head-clause-kept : goal.types_origin-returns-in_err-head-clause-kept
-types_origin-returns-in_err-head-clause-kept t c = traces-on c.args.self.now c.types.self c.type_origin.new.self c.args.machine.now c.types.invariant.kept c.in_err-head.ensures.kept
+types_origin-returns-in_err-head-clause-kept t c = traces-on c.args.self.now c.types.self c.type_origin.new.self
+    c.args.machine.now c.types.invariant.kept c.in_err-head.ensures.kept
 
 pub types_origin-made_of-requires-in-Some-clause-inside : goal.types_origin-made_of-requires-in-Some-clause-inside
 types_origin-made_of-requires-in-Some-clause-inside t c =
     let P = λ (i : ℕ). i < length c.type_origin.new.self.trace in
-    All-cons P c.in_ok-head.head (c.types.list ∷ []) c.in_ok-head.ensures.inside (All-cons P c.types.list [] (omega (arith, c.types.invariant.inside, c.in_ok-head.ensures.kept.grown.longer)) (All-nil P))
+    All-cons P c.in_ok-head.head (c.types.list ∷ []) c.in_ok-head.ensures.inside
+    (All-cons P c.types.list [] (omega (arith, c.types.invariant.inside, c.in_ok-head.ensures.kept.grown.longer))
+    (All-nil P))
 
 pub types_origin-returns-in_err-list-2-clause-kept : goal.types_origin-returns-in_err-list-2-clause-kept
 types_origin-returns-in_err-list-2-clause-kept t c =
     let s = c.args.self.now in
     let m = c.args.machine.now in
-    traces-on s c.type_origin.new.self c.made_of-in-Some.new.self m (traces-on s c.types.self c.type_origin.new.self m c.types.invariant.kept c.in_ok-head.ensures.kept) c.in_err-list-2.ensures.kept
+    traces-on s c.type_origin.new.self c.made_of-in-Some.new.self m
+    (traces-on s c.types.self c.type_origin.new.self m c.types.invariant.kept c.in_ok-head.ensures.kept)
+    c.in_err-list-2.ensures.kept
 
 pub types_origin-types-preserved : goal.types_origin-types-preserved
 types_origin-types-preserved t c =
@@ -124,9 +153,11 @@ types_origin-types-preserved t c =
     let list = traced-origin t0 t1 m before.of one c.types.list c.types.invariant.inside in
     record {
       kept = traces-on s t1 t2 m (traces-on s t0 t1 m before one) two;
-      known = types-later t1 t2 (traces-grow t1 t2 m two) one.of.run c.type_origin.new.known.entries c.in_ok-head.ensures.known;
+      known = types-later t1 t2 (traces-grow t1 t2 m two) one.of.run c.type_origin.new.known.entries
+          c.in_ok-head.ensures.known;
       inside = c.in_ok-list-2.ensures.inside;
-      below = subst (All P) (take_at front (id ∷ []) _ refl) (All-take P (length front) _ (subst (All P) split c.types.invariant.below));
+      below = subst (All P) (take_at front (id ∷ []) _ refl)
+          (All-take P (length front) _ (subst (All P) split c.types.invariant.below));
       so_far = ap (types_onto k front) (c.in_ok-list-2.ensures.made ∙ (λ i. make_two words.Cons (head i) (list i)))
           ∙ sym (types_onto-push k front id (origin_of t0 c.types.list))
           ∙ ap (λ is. types_onto k is (origin_of t0 c.types.list)) (sym split)
@@ -134,7 +165,9 @@ types_origin-types-preserved t c =
     }
 
 pub types_origin-returns-clause-made : goal.types_origin-returns-clause-made
-types_origin-returns-clause-made t c = ap (λ is. types_onto c.args.self.now.kernel is (origin_of c.types.self c.types.list)) (sym (rest-empty c.types.rest.now c.in_default.ensures.cases)) ∙ c.types.invariant.so_far
+types_origin-returns-clause-made t c =
+    ap (λ is. types_onto c.args.self.now.kernel is (origin_of c.types.self c.types.list))
+    (sym (rest-empty c.types.rest.now c.in_default.ensures.cases)) ∙ c.types.invariant.so_far
 
 pub types_origin-returns-clause-inside : goal.types_origin-returns-clause-inside
 types_origin-returns-clause-inside t c = c.types.invariant.inside

@@ -16,17 +16,26 @@ pub assume_new-requires-clause-new : goal.assume_new-requires-clause-new
 assume_new-requires-clause-new c =
     let s = c.args.self.now in
     let m = c.args.machine.now in
-    let traced = traces-on s c.operand_at-2.new.self c.made_of.new.self m (traces-on s c.operand_at.new.self c.operand_at-2.new.self m c.in_ok-upper.ensures.kept c.in_ok-lower.ensures.kept) c.in_ok-step.ensures.kept in
-    c.requires.new ∙ sym (λ i. given_as (stated (map (term_at (traced.kernel i)) c.args.hyps.now) (term_at (traced.kernel i) c.args.concl)) (traced.run i).assumptions)
+    let traced =
+    traces-on s c.operand_at-2.new.self c.made_of.new.self m
+    (traces-on s c.operand_at.new.self c.operand_at-2.new.self m c.in_ok-upper.ensures.kept
+    c.in_ok-lower.ensures.kept) c.in_ok-step.ensures.kept in
+    c.requires.new
+    ∙ sym (λ i. given_as
+    (stated (map (term_at (traced.kernel i)) c.args.hyps.now) (term_at (traced.kernel i) c.args.concl))
+    (traced.run i).assumptions)
 
 pub returns-in_err-upper-clause-grown : goal.returns-in_err-upper-clause-grown
 returns-in_err-upper-clause-grown c = traces-grow _ _ _ c.in_err-upper.ensures.kept
 
 pub returns-in_err-lower-clause-grown : goal.returns-in_err-lower-clause-grown
-returns-in_err-lower-clause-grown c = grows-on (traces-grow _ _ _ c.in_ok-upper.ensures.kept) (traces-grow _ _ _ c.in_err-lower.ensures.kept)
+returns-in_err-lower-clause-grown c =
+    grows-on (traces-grow _ _ _ c.in_ok-upper.ensures.kept) (traces-grow _ _ _ c.in_err-lower.ensures.kept)
 
 pub returns-in_err-step-clause-grown : goal.returns-in_err-step-clause-grown
-returns-in_err-step-clause-grown c = grows-on (grows-on (traces-grow _ _ _ c.in_ok-upper.ensures.kept) (traces-grow _ _ _ c.in_ok-lower.ensures.kept)) (traces-grow _ _ _ c.in_err-step.ensures.kept)
+returns-in_err-step-clause-grown c =
+    grows-on (grows-on (traces-grow _ _ _ c.in_ok-upper.ensures.kept) (traces-grow _ _ _ c.in_ok-lower.ensures.kept))
+    (traces-grow _ _ _ c.in_err-step.ensures.kept)
 
 pub returns-clause-made : goal.returns-clause-made
 returns-clause-made c =
@@ -35,16 +44,25 @@ returns-clause-made c =
     let t = c.made_of.new.self in
     let u = c.assume_new.new.self in
     let stack = (article_of s m).stack in
-    let le : 2 ≤ length stack = omega (arith, c.requires.there, m.stack.ok.0, length-map m.stack.items (entry_of s (lists_of s m))) in
+    let le : 2 ≤ length stack =
+    omega (arith, c.requires.there, m.stack.ok.0, length-map m.stack.items (entry_of s (lists_of s m))) in
     let one = c.in_ok-upper.ensures.kept in
     let two = c.in_ok-lower.ensures.kept in
-    let upper = traced-origin c.operand_at.new.self c.operand_at-2.new.self m one.of two c.in_ok-upper.upper c.in_ok-upper.ensures.inside ∙ c.in_ok-upper.ensures.made in
+    let upper = traced-origin c.operand_at.new.self c.operand_at-2.new.self m one.of two c.in_ok-upper.upper
+    c.in_ok-upper.ensures.inside ∙ c.in_ok-upper.ensures.made in
     let lower = c.in_ok-lower.ensures.made ∙ ap (λ a. origin_at 1 a.stack) one.article in
-    let traced = traces-on s c.operand_at-2.new.self t m (traces-on s c.operand_at.new.self c.operand_at-2.new.self m one two) c.in_ok-step.ensures.kept in
-    let origin = c.in_ok-step.ensures.made ∙ sym (ap (Make words.Axiom) (two-origins stack le ∙ (λ i. MoreOrigins (sym lower i) (MoreOrigins (sym upper i) NoOrigins)))) in
-    let is = assumed-same _ _ _ _ _ _ _ _ (ap (λ k. map (term_at k) c.args.hyps.now) traced.kernel) (ap (λ k. term_at k c.args.concl) traced.kernel) origin traced.run in
-    subst (Makes u.kernel (λ g. (theorem_entry (given_of u g), run_of u)) c.assume_new.result) is c.assume_new.ensures.made
+    let traced = traces-on s c.operand_at-2.new.self t m
+    (traces-on s c.operand_at.new.self c.operand_at-2.new.self m one two) c.in_ok-step.ensures.kept in
+    let origin = c.in_ok-step.ensures.made
+    ∙ sym (ap (Make words.Axiom)
+    (two-origins stack le ∙ (λ i. MoreOrigins (sym lower i) (MoreOrigins (sym upper i) NoOrigins)))) in
+    let is = assumed-same _ _ _ _ _ _ _ _ (ap (λ k. map (term_at k) c.args.hyps.now) traced.kernel)
+    (ap (λ k. term_at k c.args.concl) traced.kernel) origin traced.run in
+    subst (Makes u.kernel (λ g. (theorem_entry (given_of u g), run_of u)) c.assume_new.result) is
+    c.assume_new.ensures.made
 
 pub returns-clause-grown : goal.returns-clause-grown
 returns-clause-grown c =
-    grows-on (grows-on (grows-on (traces-grow _ _ _ c.in_ok-upper.ensures.kept) (traces-grow _ _ _ c.in_ok-lower.ensures.kept)) (traces-grow _ _ _ c.in_ok-step.ensures.kept)) c.assume_new.ensures.grown
+    grows-on (grows-on
+    (grows-on (traces-grow _ _ _ c.in_ok-upper.ensures.kept) (traces-grow _ _ _ c.in_ok-lower.ensures.kept))
+    (traces-grow _ _ _ c.in_ok-step.ensures.kept)) c.assume_new.ensures.grown

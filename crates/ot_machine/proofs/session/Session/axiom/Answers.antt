@@ -22,18 +22,22 @@ returns-then-not-proper-clause-made c =
     let s = c.args.self.now in
     let hs = map (term_at s.kernel) c.args.hyps.now in
     let p = term_at s.kernel c.args.concl in
-    let rule = subst (λ b. MatchBool b (axiom_rule hs p ≡ Ok (once hs p)) (axiom_rule hs p ≡ Err faults.NotBool)) c.if-not-proper.true c.in_ok-proper.ensures.proper in
+    let rule = subst (λ b. MatchBool b (axiom_rule hs p ≡ Ok (once hs p)) (axiom_rule hs p ≡ Err faults.NotBool))
+    c.if-not-proper.true c.in_ok-proper.ensures.proper in
     refuses-named c.is_proper.new.self.kernel code.NotBool faults.NotBool _ (λ read. refl) tt
-    (used-refused (context_of s c.args.ctx.now) (run_of s) hs p (origin_of s c.args.list_step) (origins_of (top 2 (article_of s c.args.machine.now).stack)) faults.NotBool rule)
+    (used-refused (context_of s c.args.ctx.now) (run_of s) hs p (origin_of s c.args.list_step)
+    (origins_of (top 2 (article_of s c.args.machine.now).stack)) faults.NotBool rule)
 
 pub returns-then-not-proper-clause-grown : goal.returns-then-not-proper-clause-grown
 returns-then-not-proper-clause-grown c = c.in_ok-proper.ensures.stays.grown
 
 pub proper_axiom-requires-clause-context : goal.proper_axiom-requires-clause-context
-proper_axiom-requires-clause-context c = of_context-kept c.args.self.now c.is_proper.new.self c.requires.of.run c.in_ok-proper.ensures.stays.grown c.args.ctx.now c.requires.context
+proper_axiom-requires-clause-context c = of_context-kept c.args.self.now c.is_proper.new.self c.requires.of.run
+    c.in_ok-proper.ensures.stays.grown c.args.ctx.now c.requires.context
 
 pub proper_axiom-requires-clause-hyps : goal.proper_axiom-requires-clause-hyps
-proper_axiom-requires-clause-hyps c = terms-inside c.args.self.now c.is_proper.new.self c.args.machine.now c.requires.of c.in_ok-proper.ensures.stays c.args.hyps.now c.requires.hyps
+proper_axiom-requires-clause-hyps c = terms-inside c.args.self.now c.is_proper.new.self c.args.machine.now
+    c.requires.of c.in_ok-proper.ensures.stays c.args.hyps.now c.requires.hyps
 
 pub proper_axiom-requires-clause-proper : goal.proper_axiom-requires-clause-proper
 proper_axiom-requires-clause-proper c =
@@ -45,7 +49,8 @@ proper_axiom-requires-clause-proper c =
     let p = term_at s.kernel c.args.concl in
     let a = stays-terms s t m c.requires.of stays c.args.hyps.now c.requires.hyps in
     let b = stays-term s t m c.requires.of stays c.args.concl c.requires.concl in
-    let rule = subst (λ b. MatchBool b (axiom_rule hs p ≡ Ok (once hs p)) (axiom_rule hs p ≡ Err faults.NotBool)) c.if-not-proper.false c.in_ok-proper.ensures.proper in
+    let rule = subst (λ b. MatchBool b (axiom_rule hs p ≡ Ok (once hs p)) (axiom_rule hs p ≡ Err faults.NotBool))
+    c.if-not-proper.false c.in_ok-proper.ensures.proper in
     (λ j. axiom_rule (a j) (b j)) ∙ rule ∙ (λ j. Ok (once (sym a j) (sym b j)))
 
 pub returns-clause-made : goal.returns-clause-made
@@ -56,12 +61,17 @@ returns-clause-made c =
     let m = c.args.machine.now in
     let stays = c.in_ok-proper.ensures.stays in
     let same = used-same (context_of t c.args.ctx.now) (context_of s c.args.ctx.now) _ _ _ _ _ _ _ _ _ _
-    (context-kept s t c.requires.of.run stays.grown c.args.ctx.now c.requires.context) (stays-terms s t m c.requires.of stays c.args.hyps.now c.requires.hyps) (stays-term s t m c.requires.of stays c.args.concl c.requires.concl)
-    (stays-origin s t m c.requires.of stays c.args.list_step c.requires.list_step) (ap (λ a. origins_of (top 2 a.stack)) stays.article) stays.run in
-    subst (Makes u.kernel (λ g. (theorem_entry (given_of u g), run_of u)) c.proper_axiom.result) same c.proper_axiom.ensures.made
+    (context-kept s t c.requires.of.run stays.grown c.args.ctx.now c.requires.context)
+    (stays-terms s t m c.requires.of stays c.args.hyps.now c.requires.hyps)
+    (stays-term s t m c.requires.of stays c.args.concl c.requires.concl)
+    (stays-origin s t m c.requires.of stays c.args.list_step c.requires.list_step)
+    (ap (λ a. origins_of (top 2 a.stack)) stays.article) stays.run in
+    subst (Makes u.kernel (λ g. (theorem_entry (given_of u g), run_of u)) c.proper_axiom.result) same
+    c.proper_axiom.ensures.made
 
 pub returns-clause-refused : goal.returns-clause-refused
-returns-clause-refused c = on-err-map c.proper_axiom.result (λ e. e ∙ c.in_ok-proper.ensures.stays.run) c.proper_axiom.ensures.refused
+returns-clause-refused c = on-err-map c.proper_axiom.result (λ e. e ∙ c.in_ok-proper.ensures.stays.run)
+    c.proper_axiom.ensures.refused
 
 pub returns-clause-grown : goal.returns-clause-grown
 returns-clause-grown c = grows-on c.in_ok-proper.ensures.stays.grown c.proper_axiom.ensures.grown

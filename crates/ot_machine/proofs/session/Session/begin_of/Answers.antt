@@ -4,7 +4,8 @@ use Rattle.std.proofs.lemmas.List.Elements.{All-head}
 use Rattle.std.proofs.lemmas.Bool.{eqb-true, eqb-false}
 use Rattle.ot_kernel.specs.State.{name_at}
 use Rattle.ot_machine.specs.RenamedLists.{cons_numbers}
-use Rattle.ot_machine.proofs.RenamedLists.{first-of, none-of, cons-below, no-begin_read, other_begin-read, begin-read, begin-inside}
+use Rattle.ot_machine.proofs.RenamedLists.{first-of, none-of, cons-below, no-begin_read}
+use Rattle.ot_machine.proofs.RenamedLists.{other_begin-read, begin-read, begin-inside}
 use Rattle.ot_machine.proofs.session.Session.begin_of.Goals as goal
 use Rattle.ot_machine.proofs.session.Session.begin_of.Goals.{After-index-operands-0}
 

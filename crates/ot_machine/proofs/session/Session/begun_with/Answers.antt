@@ -24,7 +24,8 @@ changed c = c.deref.ensures.value
 pub made_of-requires-clause-inside : goal.made_of-requires-clause-inside
 made_of-requires-clause-inside c =
     let t = c.name_step.new.self in
-    let there : c.args.pair < length t.trace = omega (arith, c.requires.inside, c.in_ok-begin.ensures.kept.grown.longer) in
+    let there : c.args.pair < length t.trace =
+    omega (arith, c.requires.inside, c.in_ok-begin.ensures.kept.grown.longer) in
     begun-inside c.args.self.now t c.args.machine.now c.requires.of c.in_ok-begin.ensures.kept c.args.pair
     c.requires.begun.0 c.requires.inside c.requires.begun.1 c.step.result.now c.step.ensures.origin
     c.deref.result.now c.in_ok-begin.begin there c.step.ensures.below c.in_ok-begin.ensures.inside

@@ -12,6 +12,10 @@ binders-preserved c =
     let split = c.in-Some.ensures.cases.0 in
     let v = variable_at s.kernel c.args.v.now in
     record {
-      inside = All-tail (IsBinderIn s) c.in-Some.binder.now c.in-Some.others.now (subst (All (IsBinderIn s)) split c.binders.invariant.inside);
-      same = sym (variable-skip s [] c.in-Some.others.now c.in-Some.binder.now v (sym c.same_variable.ensures ∙ c.if-same_variable.false)) ∙ ap (λ bs. variable_in (binders_at s bs) v) (sym split) ∙ c.binders.invariant.same;
+      inside = All-tail (IsBinderIn s) c.in-Some.binder.now c.in-Some.others.now
+          (subst (All (IsBinderIn s)) split c.binders.invariant.inside);
+      same = sym
+          (variable-skip s [] c.in-Some.others.now c.in-Some.binder.now v
+          (sym c.same_variable.ensures ∙ c.if-same_variable.false))
+          ∙ ap (λ bs. variable_in (binders_at s bs) v) (sym split) ∙ c.binders.invariant.same;
     }

@@ -7,7 +7,8 @@ use Rattle.ot_machine.proofs.session.Session.binder_of.Given as goal
 abbrev pub invariant-binders : goal.invariant-binders
 invariant-binders l = record {
   inside : All (IsBinderIn l.self) l.rest;
-  same : variable_in (binders_at l.self l.rest) (variable_at l.self.kernel l.v) ≡ variable_in (binders_at l.self l.binders) (variable_at l.self.kernel l.v);
+  same : variable_in (binders_at l.self l.rest) (variable_at l.self.kernel l.v)
+      ≡ variable_in (binders_at l.self l.binders) (variable_at l.self.kernel l.v);
 }
 
 abbrev pub decreases-binders : goal.decreases-binders

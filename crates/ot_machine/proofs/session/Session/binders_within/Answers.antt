@@ -21,7 +21,8 @@ binders-init c =
 pub is_free-requires-clause-key : goal.is_free-requires-clause-key
 is_free-requires-clause-key c =
     let s = c.args.self.now in
-    (All-head (IsBinderIn s) c.in-Some.binder.now c.in-Some.others.now (subst (All (IsBinderIn s)) c.in-Some.ensures.cases.0 c.binders.invariant.left)).0
+    (All-head (IsBinderIn s) c.in-Some.binder.now c.in-Some.others.now
+    (subst (All (IsBinderIn s)) c.in-Some.ensures.cases.0 c.binders.invariant.left)).0
 
 pub binders-preserved-in_ok-push : goal.binders-preserved-in_ok-push
 binders-preserved-in_ok-push c =
@@ -32,7 +33,9 @@ binders-preserved-in_ok-push c =
     let left = subst (All (IsBinderIn s)) split c.binders.invariant.left in
     let pushed = c.in_ok-push.ensures.items in
     record {
-      here = subst (All (IsBinderIn s)) (sym pushed) (All-append (IsBinderIn s) c.binders.kept.items (b ∷ []) c.binders.invariant.here (All-cons (IsBinderIn s) b [] (All-head (IsBinderIn s) b others left) (All-nil (IsBinderIn s))));
+      here = subst (All (IsBinderIn s)) (sym pushed)
+          (All-append (IsBinderIn s) c.binders.kept.items (b ∷ []) c.binders.invariant.here
+          (All-cons (IsBinderIn s) b [] (All-head (IsBinderIn s) b others left) (All-nil (IsBinderIn s))));
       left = All-tail (IsBinderIn s) b others left;
       known = c.in_ok-free.ensures.known;
       same = λ v p.
@@ -53,7 +56,9 @@ binders-preserved c =
       left = All-tail (IsBinderIn s) b others (subst (All (IsBinderIn s)) split c.binders.invariant.left);
       known = c.in_ok-free.ensures.known;
       same = λ v p.
-          sym (variable-skip s c.binders.kept.items others b v (other-variable (named_at s.kernel.terms c.args.id) (variable_at s.kernel b.variable) v c.in_ok-free.free c.in_ok-free.ensures.free c.if-free.false p))
+          sym (variable-skip s c.binders.kept.items others b v
+          (other-variable (named_at s.kernel.terms c.args.id) (variable_at s.kernel b.variable) v
+          c.in_ok-free.free c.in_ok-free.ensures.free c.if-free.false p))
           ∙ ap (λ bs. variable_in (binders_at s (c.binders.kept.items ++ bs)) v) (sym split)
           ∙ c.binders.invariant.same v p;
     }
@@ -63,5 +68,6 @@ returns-clause-inside c = c.binders.invariant.here
 
 pub returns-clause-same : goal.returns-clause-same
 returns-clause-same c = λ v p.
-    ap (λ bs. variable_in (binders_at c.args.self.now bs) v) (sym (append-nil c.binders.kept.items) ∙ ap (λ bs. c.binders.kept.items ++ bs) (sym (rest-empty c.binders.rest.now c.in_default.ensures.cases)))
+    ap (λ bs. variable_in (binders_at c.args.self.now bs) v) (sym (append-nil c.binders.kept.items)
+    ∙ ap (λ bs. c.binders.kept.items ++ bs) (sym (rest-empty c.binders.rest.now c.in_default.ensures.cases)))
     ∙ c.binders.invariant.same v p

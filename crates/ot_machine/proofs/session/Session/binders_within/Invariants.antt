@@ -14,7 +14,8 @@ invariant-binders l = record {
   here : All (IsBinderIn l.self) l.kept.items;
   left : All (IsBinderIn l.self) l.rest;
   known : AreOccurrences l.self.kernel l.known.entries;
-  same : (v : Variable Name) → IsFreeIn names v (named_at l.self.kernel.terms l.fn.id) → variable_in (binders_at l.self (l.kept.items ++ l.rest)) v ≡ variable_in (binders_at l.self l.binders) v;
+  same : (v : Variable Name) → IsFreeIn names v (named_at l.self.kernel.terms l.fn.id)
+      → variable_in (binders_at l.self (l.kept.items ++ l.rest)) v ≡ variable_in (binders_at l.self l.binders) v;
 }
 
 abbrev pub decreases-binders : goal.decreases-binders

@@ -7,4 +7,5 @@ pub returns-in-Err : goal.returns-in-Err
 returns-in-Err c = λ stated given.
     let s = c.args.self.now in
     let refuses = subst (λ r. Gives s.kernel r stated) c.in-Err.is given in
-    rw c.from.ensures (conclude-refused s c.args.machine.now 1 c.args.word stated c.in-Err.fault c.requires.of refuses)
+    rw c.from.ensures
+    (conclude-refused s c.args.machine.now 1 c.args.word stated c.in-Err.fault c.requires.of refuses)

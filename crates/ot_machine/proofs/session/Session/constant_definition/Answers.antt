@@ -17,7 +17,8 @@ pub returns-in_err-symbol-clause-grown : goal.returns-in_err-symbol-clause-grown
 returns-in_err-symbol-clause-grown c = traces-grow _ _ _ c.in_err-symbol.ensures.kept
 
 pub returns-in_err-step-clause-grown : goal.returns-in_err-step-clause-grown
-returns-in_err-step-clause-grown c = grows-on (traces-grow _ _ _ c.in_ok-symbol.ensures.kept) (traces-grow _ _ _ c.in_err-step.ensures.kept)
+returns-in_err-step-clause-grown c =
+    grows-on (traces-grow _ _ _ c.in_ok-symbol.ensures.kept) (traces-grow _ _ _ c.in_err-step.ensures.kept)
 
 -- the definition is stated of the session as it was
 pub returns-in_err-theorem-clause-made : goal.returns-in_err-theorem-clause-made
@@ -31,19 +32,29 @@ returns-in_err-theorem-clause-made c =
     let two = c.in_ok-step.ensures.kept in
     let traced = traces-on s t1 t2 m one two in
     let j = c.in_ok-symbol.definition in
-    let origin = traced-origin t1 t2 m one.of two j c.in_ok-symbol.ensures.definition_step ∙ c.in_ok-symbol.ensures.definition ∙ ap (λ o. Define words.DefineConst (from_list (Named (name_at s.kernel c.args.name) ∷ o ∷ []))) c.requires.origin in
-    let same = const-same t2.kernel s.kernel _ _ (run_of t2) (run_of s) traced.kernel origin traced.run c.args.name c.args.term in
-    refused t.kernel _ _ c.in_err-theorem.field-0.0 _ (search rules) (subst (Refuses t.kernel c.in_err-theorem.field-0.0) same c.in_err-theorem.ensures.made)
+    let origin = traced-origin t1 t2 m one.of two j c.in_ok-symbol.ensures.definition_step
+    ∙ c.in_ok-symbol.ensures.definition
+    ∙ ap (λ o. Define words.DefineConst (from_list (Named (name_at s.kernel c.args.name) ∷ o ∷ [])))
+    c.requires.origin in
+    let same = const-same t2.kernel s.kernel _ _ (run_of t2) (run_of s) traced.kernel origin traced.run c.args.name
+    c.args.term in
+    refused t.kernel _ _ c.in_err-theorem.field-0.0 _ (search rules)
+    (subst (Refuses t.kernel c.in_err-theorem.field-0.0) same c.in_err-theorem.ensures.made)
 
 pub returns-in_err-theorem-clause-refused : goal.returns-in_err-theorem-clause-refused
-returns-in_err-theorem-clause-refused c = on-err c.from_residual-in_err-theorem.result (c.in_err-theorem.ensures.refused ∙ c.in_ok-step.ensures.kept.run ∙ c.in_ok-symbol.ensures.kept.run)
+returns-in_err-theorem-clause-refused c = on-err c.from_residual-in_err-theorem.result
+    (c.in_err-theorem.ensures.refused ∙ c.in_ok-step.ensures.kept.run ∙ c.in_ok-symbol.ensures.kept.run)
 
 pub returns-in_err-theorem-clause-grown : goal.returns-in_err-theorem-clause-grown
-returns-in_err-theorem-clause-grown c = grows-on (grows-on (traces-grow _ _ _ c.in_ok-symbol.ensures.kept) (traces-grow _ _ _ c.in_ok-step.ensures.kept)) c.in_err-theorem.ensures.grown
+returns-in_err-theorem-clause-grown c =
+    grows-on (grows-on (traces-grow _ _ _ c.in_ok-symbol.ensures.kept) (traces-grow _ _ _ c.in_ok-step.ensures.kept))
+    c.in_err-theorem.ensures.grown
 
 pub returns-in_err-theorem-clause-name : goal.returns-in_err-theorem-clause-name
 returns-in_err-theorem-clause-name c =
-    let all = grows-on (grows-on (traces-grow _ _ _ c.in_ok-symbol.ensures.kept) (traces-grow _ _ _ c.in_ok-step.ensures.kept)) c.in_err-theorem.ensures.grown in
+    let all =
+    grows-on (grows-on (traces-grow _ _ _ c.in_ok-symbol.ensures.kept)
+    (traces-grow _ _ _ c.in_ok-step.ensures.kept)) c.in_err-theorem.ensures.grown in
     name-kept c.args.self.now.kernel c.accept_constant.new.self.kernel all.kernel c.args.name c.requires.name
 
 pub returns-clause-made : goal.returns-clause-made
@@ -59,10 +70,19 @@ returns-clause-made c =
     let j = c.in_ok-symbol.definition in
     let there = c.in_ok-theorem.ensures in
     let later = traced-origin t1 t2 m one.of two j c.in_ok-symbol.ensures.definition_step in
-    let origin = later ∙ c.in_ok-symbol.ensures.definition ∙ ap (λ o. Define words.DefineConst (from_list (Named (name_at s.kernel c.args.name) ∷ o ∷ []))) c.requires.origin in
-    let same = const-same t2.kernel s.kernel _ _ (run_of t2) (run_of s) traced.kernel origin traced.run c.args.name c.args.term in
-    let step = origin-kept t2 t two.of.run there.grown c.in_ok-step.step c.in_ok-step.ensures.inside ∙ c.in_ok-step.ensures.made ∙ ap (Outcome 1) (sym later) in
-    sym same ∙ there.made ∙ (λ i. Ok (record { object = theorem (theorem_at t.kernel c.in_ok-theorem.theorem); origin = sym step i } ∷ [], run_of t))
+    let origin = later ∙ c.in_ok-symbol.ensures.definition
+    ∙ ap (λ o. Define words.DefineConst (from_list (Named (name_at s.kernel c.args.name) ∷ o ∷ [])))
+    c.requires.origin in
+    let same = const-same t2.kernel s.kernel _ _ (run_of t2) (run_of s) traced.kernel origin traced.run c.args.name
+    c.args.term in
+    let step = origin-kept t2 t two.of.run there.grown c.in_ok-step.step c.in_ok-step.ensures.inside
+    ∙ c.in_ok-step.ensures.made ∙ ap (Outcome 1) (sym later) in
+    sym same ∙ there.made
+    ∙ (λ i. Ok (
+      record { object = theorem (theorem_at t.kernel c.in_ok-theorem.theorem); origin = sym step i }
+          ∷ [],
+      run_of t,
+    ))
 
 pub returns-clause-symbol : goal.returns-clause-symbol
 returns-clause-symbol c =
@@ -73,12 +93,17 @@ returns-clause-symbol c =
     let one = c.in_ok-symbol.ensures.kept in
     let two = c.in_ok-step.ensures.kept in
     let all = grows-on (traces-grow t1 t2 m two) c.in_ok-theorem.ensures.grown in
-    origin-kept t1 t one.of.run all c.in_ok-symbol.symbol c.in_ok-symbol.ensures.symbol_step ∙ c.in_ok-symbol.ensures.symbol
+    origin-kept t1 t one.of.run all c.in_ok-symbol.symbol c.in_ok-symbol.ensures.symbol_step
+    ∙ c.in_ok-symbol.ensures.symbol
 
 pub returns-clause-grown : goal.returns-clause-grown
-returns-clause-grown c = grows-on (grows-on (traces-grow _ _ _ c.in_ok-symbol.ensures.kept) (traces-grow _ _ _ c.in_ok-step.ensures.kept)) c.in_ok-theorem.ensures.grown
+returns-clause-grown c =
+    grows-on (grows-on (traces-grow _ _ _ c.in_ok-symbol.ensures.kept) (traces-grow _ _ _ c.in_ok-step.ensures.kept))
+    c.in_ok-theorem.ensures.grown
 
 pub returns-clause-name : goal.returns-clause-name
 returns-clause-name c =
-    let all = grows-on (grows-on (traces-grow _ _ _ c.in_ok-symbol.ensures.kept) (traces-grow _ _ _ c.in_ok-step.ensures.kept)) c.in_ok-theorem.ensures.grown in
+    let all =
+    grows-on (grows-on (traces-grow _ _ _ c.in_ok-symbol.ensures.kept)
+    (traces-grow _ _ _ c.in_ok-step.ensures.kept)) c.in_ok-theorem.ensures.grown in
     name-kept c.args.self.now.kernel c.accept_constant.new.self.kernel all.kernel c.args.name c.requires.name

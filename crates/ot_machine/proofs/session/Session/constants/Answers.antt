@@ -27,7 +27,9 @@ names-preserved c =
     record {
       of = c.in-Ok.ensures.of;
       inside = c.in-Ok.ensures.inside;
-      numbers = subst (All (λ n. n < length k.names)) (take_at c.in-Some.front.now (c.in-Some.name.now ∷ []) _ refl) (All-take (λ n. n < length k.names) (length c.in-Some.front.now) _ (subst (All (λ n. n < length k.names)) split c.names.invariant.numbers));
+      numbers = subst (All (λ n. n < length k.names)) (take_at c.in-Some.front.now (c.in-Some.name.now ∷ []) _ refl)
+          (All-take (λ n. n < length k.names) (length c.in-Some.front.now) _
+          (subst (All (λ n. n < length k.names)) split c.names.invariant.numbers));
       so_far = ap (constants_onto (map (name_at k) c.in-Some.front.now)) made
           ∙ sym (constants_onto-push (map (name_at k) c.in-Some.front.now) (name_at k c.in-Some.name.now) os)
           ∙ ap (λ ns. constants_onto ns os) (sym view)

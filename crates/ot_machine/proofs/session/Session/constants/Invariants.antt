@@ -11,7 +11,8 @@ invariant-names l = record {
   of : IsOf l.self l.machine;
   inside : IsListIn (length l.machine.cells.items) l.list;
   numbers : All (λ n. n < length l.self.kernel.names) l.rest;
-  so_far : constants_onto (map (name_at l.self.kernel) l.rest) (list_at (lists_of l.self l.machine) l.list) ≡ constants_of (map (name_at l.self.kernel) l.names);
+  so_far : constants_onto (map (name_at l.self.kernel) l.rest) (list_at (lists_of l.self l.machine) l.list)
+      ≡ constants_of (map (name_at l.self.kernel) l.names);
   kept : article_of l.self l.machine ≡ article_of l.self l.fn.machine;
   stack : l.machine.stack ≡ l.fn.machine.stack;
 }

@@ -8,6 +8,8 @@ use Rattle.ot_machine.proofs.session.Session.constants_named.Given as goal
 
 abbrev pub invariant-loop-pair : goal.invariant-loop-pair
 invariant-loop-pair l = record {
-  renamed : map (name_at l.self.kernel) l.names.items ≡ map (λ p. renamed names (context_of l.self l.ctx).interpretation.constants (name_at l.self.kernel p.0)) (take l.pair-index l.pairs);
+  renamed : map (name_at l.self.kernel) l.names.items
+      ≡ map (λ p. renamed names (context_of l.self l.ctx).interpretation.constants (name_at l.self.kernel p.0))
+      (take l.pair-index l.pairs);
   inside : All (λ n. n < length l.self.kernel.names) l.names.items;
 }

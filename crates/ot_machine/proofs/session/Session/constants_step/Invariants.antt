@@ -11,7 +11,8 @@ invariant-names l = record {
   kept : Traces l.fn.self l.self l.machine;
   inside : l.list < length l.self.trace;
   numbers : All (λ n. n < length l.fn.self.kernel.names) l.rest;
-  so_far : constants_from (map (name_at l.fn.self.kernel) l.rest) (origin_of l.self l.list) ≡ constants_origin (map (name_at l.fn.self.kernel) l.constants);
+  so_far : constants_from (map (name_at l.fn.self.kernel) l.rest) (origin_of l.self l.list)
+      ≡ constants_origin (map (name_at l.fn.self.kernel) l.constants);
 }
 
 abbrev pub decreases-names : goal.decreases-names

@@ -7,5 +7,6 @@ pub returns-clause-changed : goal.returns-clause-changed
 returns-clause-changed c =
     let cs = lists_of c.args.self.now c.args.machine.now in
     let stack = c.args.machine.now.stack in
-    let same = ap (map (entry_of c.args.self.now cs)) c.truncate.ensures.items ∙ dropped_view c.args.self.now cs stack.items c.args.count c.len.result (omega (arith, c.len.ensures, stack.ok.0)) in
+    let same = ap (map (entry_of c.args.self.now cs)) c.truncate.ensures.items ∙ dropped_view c.args.self.now cs
+    stack.items c.args.count c.len.result (omega (arith, c.len.ensures, stack.ok.0)) in
     λ i. record (article_of c.args.self.now c.args.machine.now) { stack = same i }

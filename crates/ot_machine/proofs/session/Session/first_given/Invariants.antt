@@ -8,4 +8,5 @@ use Rattle.ot_machine.proofs.session.Session.first_given.Given as goal
 abbrev pub invariant-loop-given : goal.invariant-loop-given
 invariant-loop-given l =
     let q = stated (map (term_at l.self.kernel) l.hyps) (term_at l.self.kernel l.concl) in
-    given_for q (map (given_of l.self) l.theorems) ≡ given_for q (map (given_of l.self) (drop l.given-index l.theorems))
+    given_for q (map (given_of l.self) l.theorems)
+    ≡ given_for q (map (given_of l.self) (drop l.given-index l.theorems))

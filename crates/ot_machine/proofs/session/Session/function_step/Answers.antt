@@ -29,6 +29,8 @@ returns-clause-made c =
     let x3_1both = e_last in
     let e_both = c.in_ok-both.ensures.made ∙ (λ i. make_two words.Cons (x3_0both i) (x3_1both i)) in
     let x4_0out = e_both in
-    let n4out = ap (λ k. name_at k 0) a0_3.kernel ∙ get_or_from_slice_get s.kernel.names 0 _ [] (c.sound.ensures.names.first.keeps 0 _ refl) in
-    let e_out = c.in_ok-operated_step.ensures.made ∙ (λ i. make_two words.OpType (type_op_origin (Named (n4out i))) (x4_0out i)) in
+    let n4out = ap (λ k. name_at k 0) a0_3.kernel
+    ∙ get_or_from_slice_get s.kernel.names 0 _ [] (c.sound.ensures.names.first.keeps 0 _ refl) in
+    let e_out = c.in_ok-operated_step.ensures.made
+    ∙ (λ i. make_two words.OpType (type_op_origin (Named (n4out i))) (x4_0out i)) in
     e_out

@@ -6,4 +6,5 @@ use Rattle.ot_machine.proofs.session.Session.is_among.Given as goal
 
 abbrev pub invariant-loop-export : goal.invariant-loop-export
 invariant-loop-export l =
-    is_exported (theorem_at l.self.kernel l.theorem) (map (export_of l.self) l.exports) ≡ is_exported (theorem_at l.self.kernel l.theorem) (map (export_of l.self) (drop l.export-index l.exports))
+    is_exported (theorem_at l.self.kernel l.theorem) (map (export_of l.self) l.exports)
+    ≡ is_exported (theorem_at l.self.kernel l.theorem) (map (export_of l.self) (drop l.export-index l.exports))

@@ -14,8 +14,10 @@ returns-in-Some c =
     let q = theorem_at s.kernel c.args.theorem in
     let es = c.args.exports.now in
     let concls = concls_of s.kernel (map (λ e. e.th) es) in
-    let none = subst (λ p. All (λ r. same_tm names r p ≡ false) (take c.in-Some.place concls)) c.concl.ensures.concl (c.in-Some.ensures concls c.requires.placed).1 in
-    c.is_among.ensures ∙ ap (λ xs. is_exported q (map (export_of s) xs)) (behind c.in-Some.place es) ∙ exported_from s q es c.in-Some.place none
+    let none = subst (λ p. All (λ r. same_tm names r p ≡ false) (take c.in-Some.place concls)) c.concl.ensures.concl
+    (c.in-Some.ensures concls c.requires.placed).1 in
+    c.is_among.ensures ∙ ap (λ xs. is_exported q (map (export_of s) xs)) (behind c.in-Some.place es)
+    ∙ exported_from s q es c.in-Some.place none
 
 pub returns-in-None : goal.returns-in-None
 returns-in-None c =
@@ -23,4 +25,5 @@ returns-in-None c =
     let q = theorem_at s.kernel c.args.theorem in
     let es = c.args.exports.now in
     let concls = concls_of s.kernel (map (λ e. e.th) es) in
-    sym (not_exported s q es (subst (λ p. All (λ r. same_tm names r p ≡ false) concls) c.concl.ensures.concl (c.in-None.ensures concls c.requires.placed)))
+    sym (not_exported s q es (subst (λ p. All (λ r. same_tm names r p ≡ false) concls) c.concl.ensures.concl
+    (c.in-None.ensures concls c.requires.placed)))

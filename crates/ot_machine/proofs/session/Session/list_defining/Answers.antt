@@ -7,17 +7,23 @@ use Rattle.ot_machine.proofs.Traced.{traces-on, traced-origin}
 use Rattle.ot_machine.proofs.session.Session.list_defining.Goals as goal
 
 pub defining_step-requires-clause-defined : goal.defining_step-requires-clause-defined
-defining_step-requires-clause-defined c = subst (All (λ i. i < length c.renamed_list.new.self.trace)) (sym c.deref.ensures.value) c.in_ok-list.ensures.symbol_steps
+defining_step-requires-clause-defined c = subst (All (λ i. i < length c.renamed_list.new.self.trace))
+    (sym c.deref.ensures.value) c.in_ok-list.ensures.symbol_steps
 
 pub defining_step-requires-clause-symbols : goal.defining_step-requires-clause-symbols
-defining_step-requires-clause-symbols c = ap (map (origin_at c.renamed_list.new.self.trace)) c.deref.ensures.value ∙ c.in_ok-list.ensures.symbols
+defining_step-requires-clause-symbols c = ap (map (origin_at c.renamed_list.new.self.trace)) c.deref.ensures.value
+    ∙ c.in_ok-list.ensures.symbols
 
 pub returns-clause-made : goal.returns-clause-made
 returns-clause-made c =
     let s = c.args.self.now in
     let m = c.args.machine.now in
-    let premise = traced-origin s c.renamed_list.new.self m c.requires.of c.in_ok-list.ensures.kept c.args.premise_step c.requires.premise_step in
-    c.in_ok-defining_step.ensures.made ∙ (λ i. Define words.DefineConstList (MoreOrigins (c.in_ok-list.ensures.made i) (MoreOrigins (premise i) NoOrigins)))
+    let premise = traced-origin s c.renamed_list.new.self m c.requires.of c.in_ok-list.ensures.kept
+    c.args.premise_step c.requires.premise_step in
+    c.in_ok-defining_step.ensures.made
+    ∙ (λ i. Define words.DefineConstList
+    (MoreOrigins (c.in_ok-list.ensures.made i) (MoreOrigins (premise i) NoOrigins)))
 
 pub returns-clause-kept : goal.returns-clause-kept
-returns-clause-kept c = traces-on c.args.self.now c.renamed_list.new.self c.defining_step.new.self c.args.machine.now c.in_ok-list.ensures.kept c.in_ok-defining_step.ensures.kept
+returns-clause-kept c = traces-on c.args.self.now c.renamed_list.new.self c.defining_step.new.self c.args.machine.now
+    c.in_ok-list.ensures.kept c.in_ok-defining_step.ensures.kept

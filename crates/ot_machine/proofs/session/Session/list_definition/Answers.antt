@@ -19,7 +19,8 @@ pub returns-in_err-definition-clause-grown : goal.returns-in_err-definition-clau
 returns-in_err-definition-clause-grown c = traces-grow _ _ _ c.in_err-definition.ensures.kept
 
 pub returns-in_err-step-clause-grown : goal.returns-in_err-step-clause-grown
-returns-in_err-step-clause-grown c = grows-on (traces-grow _ _ _ c.in_ok-definition.ensures.kept) (traces-grow _ _ _ c.in_err-step.ensures.kept)
+returns-in_err-step-clause-grown c =
+    grows-on (traces-grow _ _ _ c.in_ok-definition.ensures.kept) (traces-grow _ _ _ c.in_err-step.ensures.kept)
 
 pub returns-in_err-theorem-clause-made : goal.returns-in_err-theorem-clause-made
 returns-in_err-theorem-clause-made c =
@@ -33,15 +34,23 @@ returns-in_err-theorem-clause-made c =
     let traced = traces-on s t1 t2 m one two in
     let j = c.in_ok-definition.definition in
     let read = renamed_pairs (renamed names (context_of s c.args.ctx.now).interpretation.constants) in
-    let origin = traced-origin t1 t2 m one.of two j c.in_ok-definition.ensures.inside ∙ c.in_ok-definition.ensures.made ∙ (λ i. Define words.DefineConstList (from_list (read (c.requires.list_origin i) ∷ c.requires.premise_origin i ∷ []))) in
-    let same = list-same t2.kernel s.kernel _ _ (run_of t2) (run_of s) traced.kernel origin traced.run c.args.constants.now c.args.variables.now c.args.premise in
-    refused t.kernel _ _ c.in_err-theorem.field-0.0 _ (search rules) (subst (Refuses t.kernel c.in_err-theorem.field-0.0) same c.in_err-theorem.ensures.made)
+    let origin = traced-origin t1 t2 m one.of two j c.in_ok-definition.ensures.inside
+    ∙ c.in_ok-definition.ensures.made
+    ∙ (λ i. Define words.DefineConstList
+    (from_list (read (c.requires.list_origin i) ∷ c.requires.premise_origin i ∷ []))) in
+    let same = list-same t2.kernel s.kernel _ _ (run_of t2) (run_of s) traced.kernel origin traced.run
+    c.args.constants.now c.args.variables.now c.args.premise in
+    refused t.kernel _ _ c.in_err-theorem.field-0.0 _ (search rules)
+    (subst (Refuses t.kernel c.in_err-theorem.field-0.0) same c.in_err-theorem.ensures.made)
 
 pub returns-in_err-theorem-clause-refused : goal.returns-in_err-theorem-clause-refused
-returns-in_err-theorem-clause-refused c = on-err c.from_residual-in_err-theorem.result (c.in_err-theorem.ensures.refused ∙ c.in_ok-step.ensures.kept.run ∙ c.in_ok-definition.ensures.kept.run)
+returns-in_err-theorem-clause-refused c = on-err c.from_residual-in_err-theorem.result
+    (c.in_err-theorem.ensures.refused ∙ c.in_ok-step.ensures.kept.run ∙ c.in_ok-definition.ensures.kept.run)
 
 pub returns-in_err-theorem-clause-grown : goal.returns-in_err-theorem-clause-grown
-returns-in_err-theorem-clause-grown c = grows-on (grows-on (traces-grow _ _ _ c.in_ok-definition.ensures.kept) (traces-grow _ _ _ c.in_ok-step.ensures.kept)) c.in_err-theorem.ensures.grown
+returns-in_err-theorem-clause-grown c =
+    grows-on (grows-on (traces-grow _ _ _ c.in_ok-definition.ensures.kept)
+    (traces-grow _ _ _ c.in_ok-step.ensures.kept)) c.in_err-theorem.ensures.grown
 
 pub returns-clause-made : goal.returns-clause-made
 returns-clause-made c =
@@ -57,10 +66,21 @@ returns-clause-made c =
     let there = c.in_ok-theorem.ensures in
     let read = renamed_pairs (renamed names (context_of s c.args.ctx.now).interpretation.constants) in
     let later = traced-origin t1 t2 m one.of two j c.in_ok-definition.ensures.inside in
-    let origin = later ∙ c.in_ok-definition.ensures.made ∙ (λ i. Define words.DefineConstList (from_list (read (c.requires.list_origin i) ∷ c.requires.premise_origin i ∷ []))) in
-    let same = list-same t2.kernel s.kernel _ _ (run_of t2) (run_of s) traced.kernel origin traced.run c.args.constants.now c.args.variables.now c.args.premise in
-    let step = origin-kept t2 t two.of.run there.grown c.in_ok-step.step c.in_ok-step.ensures.inside ∙ c.in_ok-step.ensures.made ∙ ap (Outcome 1) (sym later) in
-    sym same ∙ there.made ∙ (λ i. Ok (record { object = theorem (theorem_at t.kernel c.in_ok-theorem.theorem); origin = sym step i } ∷ [], run_of t))
+    let origin = later ∙ c.in_ok-definition.ensures.made
+    ∙ (λ i. Define words.DefineConstList
+    (from_list (read (c.requires.list_origin i) ∷ c.requires.premise_origin i ∷ []))) in
+    let same = list-same t2.kernel s.kernel _ _ (run_of t2) (run_of s) traced.kernel origin traced.run
+    c.args.constants.now c.args.variables.now c.args.premise in
+    let step = origin-kept t2 t two.of.run there.grown c.in_ok-step.step c.in_ok-step.ensures.inside
+    ∙ c.in_ok-step.ensures.made ∙ ap (Outcome 1) (sym later) in
+    sym same ∙ there.made
+    ∙ (λ i. Ok (
+      record { object = theorem (theorem_at t.kernel c.in_ok-theorem.theorem); origin = sym step i }
+          ∷ [],
+      run_of t,
+    ))
 
 pub returns-clause-grown : goal.returns-clause-grown
-returns-clause-grown c = grows-on (grows-on (traces-grow _ _ _ c.in_ok-definition.ensures.kept) (traces-grow _ _ _ c.in_ok-step.ensures.kept)) c.in_ok-theorem.ensures.grown
+returns-clause-grown c =
+    grows-on (grows-on (traces-grow _ _ _ c.in_ok-definition.ensures.kept)
+    (traces-grow _ _ _ c.in_ok-step.ensures.kept)) c.in_ok-theorem.ensures.grown

@@ -15,7 +15,8 @@ use Rattle.ot_machine.proofs.session.Session.list_step.Goals.{In-Some}
 here : (c : In-Some) → c.in-Some.element.now < length c.args.self.now.trace
 here c =
     let P = λ (n : ℕ). n < length c.args.self.now.trace in
-    All-last P c.in-Some.front.now c.in-Some.element.now (subst (All P) c.in-Some.ensures.cases.0 c.elements.invariant.inside)
+    All-last P c.in-Some.front.now c.in-Some.element.now
+    (subst (All P) c.in-Some.ensures.cases.0 c.elements.invariant.inside)
 
 pub made_of-requires-clause-inside : goal.made_of-requires-clause-inside
 made_of-requires-clause-inside c =

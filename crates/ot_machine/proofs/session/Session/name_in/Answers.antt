@@ -9,6 +9,8 @@ pub returns-in_default : goal.returns-in_default
 returns-in_default c =
     let k = c.args.self.now.kernel in
     record {
-      read = refuses-named k c.bad.result (bad_list c.args.form) _ c.bad.ensures.named (c.bad.ensures.symbol k) (ap (or_bad (bad_list c.args.form)) (name-other k (lists_of c.args.self.now c.args.machine.now) c.args.object c.in_default.not-Name));
+      read = refuses-named k c.bad.result (bad_list c.args.form) _ c.bad.ensures.named (c.bad.ensures.symbol k)
+          (ap (or_bad (bad_list c.args.form))
+          (name-other k (lists_of c.args.self.now c.args.machine.now) c.args.object c.in_default.not-Name));
       inside = tt;
     }

@@ -15,35 +15,45 @@ pub returns-in_default-head : goal.returns-in_default-head
 returns-in_default-head c =
     let k = c.args.self.now.kernel in
     let cs = lists_of c.args.self.now c.args.machine.now in
-    let next = next_cell k c.args.machine.now.cells.items c.requires.of.cells c.cells.rest c.in-Cell.place c.index-cell.result.now c.in-Cell.is c.cells.invariant.inside c.index-cell.ensures in
+    let next = next_cell k c.args.machine.now.cells.items c.requires.of.cells c.cells.rest c.in-Cell.place
+    c.index-cell.result.now c.in-Cell.is c.cells.invariant.inside c.index-cell.ensures in
     let head = c.index-cell.result.now.head in
     record {
       found = (
         tt,
         λ f p.
-            let other = name-other k cs head c.in_default-head.not-Name ∙ ap (λ q. Err (WrongKind kinds.Name q)) (sym (c.kind.ensures k cs)) ∙ ap Err (same_Some _ _ p) in
-            sym c.cells.invariant.so_far ∙ read-other as_name (map (name_at k) c.cells.names.items) (object_of k cs head) (list_at cs c.cells.rest) _ f other next.list_is,
+            let other = name-other k cs head c.in_default-head.not-Name
+            ∙ ap (λ q. Err (WrongKind kinds.Name q)) (sym (c.kind.ensures k cs)) ∙ ap Err (same_Some _ _ p) in
+            sym c.cells.invariant.so_far ∙ read-other as_name (map (name_at k) c.cells.names.items)
+            (object_of k cs head) (list_at cs c.cells.rest) _ f other next.list_is,
       );
       inside = tt;
     }
 
 pub cells-smaller : goal.cells-smaller
 cells-smaller c =
-    (next_cell c.args.self.now.kernel c.args.machine.now.cells.items c.requires.of.cells c.cells.rest c.in-Cell.place c.index-cell.result.now c.in-Cell.is c.cells.invariant.inside c.index-cell.ensures).shorter
+    (next_cell c.args.self.now.kernel c.args.machine.now.cells.items c.requires.of.cells c.cells.rest c.in-Cell.place
+    c.index-cell.result.now c.in-Cell.is c.cells.invariant.inside c.index-cell.ensures).shorter
 
 pub cells-preserved : goal.cells-preserved
 cells-preserved c =
     let k = c.args.self.now.kernel in
     let cs = lists_of c.args.self.now c.args.machine.now in
-    let next = next_cell k c.args.machine.now.cells.items c.requires.of.cells c.cells.rest c.in-Cell.place c.index-cell.result.now c.in-Cell.is c.cells.invariant.inside c.index-cell.ensures in
+    let next = next_cell k c.args.machine.now.cells.items c.requires.of.cells c.cells.rest c.in-Cell.place
+    c.index-cell.result.now c.in-Cell.is c.cells.invariant.inside c.index-cell.ensures in
     let head = c.index-cell.result.now.head in
-    let here : c.in-Name.name < length k.names = subst (IsIn k (length c.args.machine.now.cells.items)) c.in-Name.is next.head in
+    let here : c.in-Name.name < length k.names =
+    subst (IsIn k (length c.args.machine.now.cells.items)) c.in-Name.is next.head in
     let one = ap (λ o. as_name (object_of k cs o)) c.in-Name.is in
-    let items = ap (map (name_at k)) c.in_ok-push.ensures.items ∙ map-append (name_at k) c.cells.names.items (c.in-Name.name ∷ []) in
+    let items = ap (map (name_at k)) c.in_ok-push.ensures.items
+    ∙ map-append (name_at k) c.cells.names.items (c.in-Name.name ∷ []) in
     record {
       inside = next.tail;
-      numbers = subst (All (λ i. i < length k.names)) (sym c.in_ok-push.ensures.items) (All-push (λ i. i < length k.names) c.cells.names.items c.in-Name.name c.cells.invariant.numbers here);
+      numbers = subst (All (λ i. i < length k.names)) (sym c.in_ok-push.ensures.items)
+          (All-push (λ i. i < length k.names) c.cells.names.items c.in-Name.name c.cells.invariant.numbers here);
       so_far = ap (λ xs. joined as_name xs (as_each as_name (list_at cs c.index-cell.result.now.tail))) items
-          ∙ sym (read-more as_name (map (name_at k) c.cells.names.items) (name_at k c.in-Name.name) (object_of k cs head) (list_at cs c.cells.rest) (list_at cs c.index-cell.result.now.tail) one next.list_is)
+          ∙ sym (read-more as_name (map (name_at k) c.cells.names.items) (name_at k c.in-Name.name)
+          (object_of k cs head) (list_at cs c.cells.rest) (list_at cs c.index-cell.result.now.tail) one
+          next.list_is)
           ∙ c.cells.invariant.so_far;
     }

@@ -10,7 +10,9 @@ abbrev pub invariant-cells : goal.invariant-cells
 invariant-cells l = record {
   inside : IsListIn (length l.machine.cells.items) l.rest;
   numbers : All (λ i. i < length l.self.kernel.names) l.names.items;
-  so_far : joined as_name (map (name_at l.self.kernel) l.names.items) (as_each as_name (list_at (lists_of l.self l.machine) l.rest)) ≡ as_each as_name (list_at (lists_of l.self l.machine) l.fn.list);
+  so_far : joined as_name (map (name_at l.self.kernel) l.names.items)
+      (as_each as_name (list_at (lists_of l.self l.machine) l.rest))
+      ≡ as_each as_name (list_at (lists_of l.self l.machine) l.fn.list);
 }
 
 abbrev pub decreases-cells : goal.decreases-cells

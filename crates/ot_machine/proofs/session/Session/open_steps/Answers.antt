@@ -6,7 +6,8 @@ use Rattle.ot_plain.specs.Hol.{nameless, tys_of_vars}
 use Rattle.ot_plain.specs.declared.command.Cmd.TheVariants as words
 use Rattle.ot_kernel.specs.State.{name_at, type_at, named_at}
 use Rattle.ot_trace.specs.Origins.{Named, make_two, type_op_origin}
-use Rattle.ot_machine.specs.OpenTypes.{fun_origin, bool_origin, constant_at, returned_origin, opened_origin, first_origin, second_origin}
+use Rattle.ot_machine.specs.OpenTypes.{fun_origin, bool_origin, constant_at, returned_origin}
+use Rattle.ot_machine.specs.OpenTypes.{opened_origin, first_origin, second_origin}
 use Rattle.ot_machine.specs.Version5.{canon_ty, canon_tys}
 use Rattle.ot_machine.specs.Meaning.{origin_of}
 use Rattle.ot_machine.proofs.Kept.{origin-kept, traces-grow, grows-on}
@@ -54,7 +55,9 @@ returns-in_ok-second-in-App-clause-first c =
     let u = named_at k.terms c.in-App.t in
     let p = named_at k.terms c.in-App.p in
     let concl = sym c.concl.ensures.concl ∙ ap (nameless names) tree in
-    let o2 = c.in_ok-old-in-App.ensures.made ∙ ap canon_ty (type-later s t1 k1.grown c.type_of-ty.result c.type_of-ty.ensures.below ∙ type-is u (type_at k c.type_of-ty.result) c.type_of-ty.ensures.typed) in
+    let o2 = c.in_ok-old-in-App.ensures.made
+    ∙ ap canon_ty (type-later s t1 k1.grown c.type_of-ty.result c.type_of-ty.ensures.below
+    ∙ type-is u (type_at k c.type_of-ty.result) c.type_of-ty.ensures.typed) in
     let o4 = traced-origin t2 t4 m k2.of a2_4 c.in_ok-old-in-App.old c.in_ok-old-in-App.ensures.inside ∙ o2 in
     let nm = name-later s t3 g3 c.args.name c.requires.name in
     let vs = names-later s t2 g2 c.args.variables.now c.requires.variables in
@@ -68,7 +71,8 @@ returns-in_ok-second-in-App-clause-first c =
     let n5 = traced-origin t4 t5 m k4.of k5 c.in_ok-new-in-App.new c.in_ok-new-in-App.ensures.inside ∙ n4 in
     let d5 = origin-kept s t5 c.requires.of.run g5 d c.requires.definition in
     traced-origin t6 t7 m k6.of k7 c.in_ok-first-in-App.first c.in_ok-first-in-App.ensures.inside
-    ∙ c.in_ok-first-in-App.ensures.made ∙ (λ i. returned_origin (d5 i) (a5 i) (r5 i) (n5 i)) ∙ ap (first_origin (origin_of s d) ab rp ty) (sym concl)
+    ∙ c.in_ok-first-in-App.ensures.made ∙ (λ i. returned_origin (d5 i) (a5 i) (r5 i) (n5 i))
+    ∙ ap (first_origin (origin_of s d) ab rp ty) (sym concl)
 
 pub returns-in_ok-second-in-App-clause-second : goal.returns-in_ok-second-in-App-clause-second
 returns-in_ok-second-in-App-clause-second c =
@@ -110,7 +114,9 @@ returns-in_ok-second-in-App-clause-second c =
     let u = named_at k.terms c.in-App.t in
     let p = named_at k.terms c.in-App.p in
     let concl = sym c.concl.ensures.concl ∙ ap (nameless names) tree in
-    let o2 = c.in_ok-old-in-App.ensures.made ∙ ap canon_ty (type-later s t1 k1.grown c.type_of-ty.result c.type_of-ty.ensures.below ∙ type-is u (type_at k c.type_of-ty.result) c.type_of-ty.ensures.typed) in
+    let o2 = c.in_ok-old-in-App.ensures.made
+    ∙ ap canon_ty (type-later s t1 k1.grown c.type_of-ty.result c.type_of-ty.ensures.below
+    ∙ type-is u (type_at k c.type_of-ty.result) c.type_of-ty.ensures.typed) in
     let o4 = traced-origin t2 t4 m k2.of a2_4 c.in_ok-old-in-App.old c.in_ok-old-in-App.ensures.inside ∙ o2 in
     let nm = name-later s t3 g3 c.args.name c.requires.name in
     let vs = names-later s t2 g2 c.args.variables.now c.requires.variables in
@@ -127,9 +133,11 @@ returns-in_ok-second-in-App-clause-second c =
     let a6 = traced-origin t5 t6 m k5.of k6 constants.abs are.abs_step ∙ a5 in
     let r6 = traced-origin t5 t6 m k5.of k6 constants.rep are.rep_step ∙ r5 in
     let e6 = traced-origin t5 t6 m k5.of k6 constants.equality are.equality_step ∙ e5 in
-    let p6 = traced-origin t1 t6 m k1.of a1_6 c.in_ok-predicate-in-App.predicate c.in_ok-predicate-in-App.ensures.inside ∙ c.in_ok-predicate-in-App.ensures.made ∙ canon-is p in
+    let p6 = traced-origin t1 t6 m k1.of a1_6 c.in_ok-predicate-in-App.predicate
+    c.in_ok-predicate-in-App.ensures.inside ∙ c.in_ok-predicate-in-App.ensures.made ∙ canon-is p in
     let o6 = traced-origin t2 t6 m k2.of a2_6 c.in_ok-old-in-App.old c.in_ok-old-in-App.ensures.inside ∙ o2 in
-    c.in_ok-second-in-App.ensures.made ∙ (λ i. opened_origin (d6 i) (a6 i) (r6 i) (e6 i) (p6 i) (o6 i)) ∙ ap (second_origin (origin_of s d) ab rp ty) (sym concl)
+    c.in_ok-second-in-App.ensures.made ∙ (λ i. opened_origin (d6 i) (a6 i) (r6 i) (e6 i) (p6 i) (o6 i))
+    ∙ ap (second_origin (origin_of s d) ab rp ty) (sym concl)
 
 -- ---- the machine stays
 pub returns-in_err-new-in-App-clause-kept : goal.returns-in_err-new-in-App-clause-kept

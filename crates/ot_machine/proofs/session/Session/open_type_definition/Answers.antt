@@ -18,10 +18,12 @@ pub returns-in_err-steps-clause-grown : goal.returns-in_err-steps-clause-grown
 returns-in_err-steps-clause-grown c = traces-grow _ _ _ c.in_err-steps.ensures.kept
 
 pub returns-in_err-abs_rep_step-clause-grown : goal.returns-in_err-abs_rep_step-clause-grown
-returns-in_err-abs_rep_step-clause-grown c = grows-on (traces-grow _ _ _ c.in_ok-steps.ensures.kept) c.in_err-abs_rep_step.ensures.kept.grown
+returns-in_err-abs_rep_step-clause-grown c =
+    grows-on (traces-grow _ _ _ c.in_ok-steps.ensures.kept) c.in_err-abs_rep_step.ensures.kept.grown
 
 pub open_steps-requires-clause-variables : goal.open_steps-requires-clause-variables
-open_steps-requires-clause-variables c = subst (λ k. All (λ n. n < length k.names) c.args.variables.now) (sym c.in_ok-steps.ensures.kept.kernel) c.requires.variables
+open_steps-requires-clause-variables c = subst (λ k. All (λ n. n < length k.names) c.args.variables.now)
+    (sym c.in_ok-steps.ensures.kept.kernel) c.requires.variables
 
 pub accept_open_type-requires-clause-variables : goal.accept_open_type-requires-clause-variables
 accept_open_type-requires-clause-variables c =
@@ -50,16 +52,25 @@ returns-in_err-abs_rep-clause-made c =
     let grown = grows-on (traces-grow s t1 m one) two.grown in
     let kept = origin-kept t1 t2 one.of.run two.grown d.definition made.definition_step in
     let named = λ (n : ℕ). Named (name_at s.kernel n) in
-    let origin = kept ∙ made.definition ∙ (λ i. Define words.DefineTypeOp (from_list (named c.args.name ∷ named c.args.abs ∷ named c.args.rep ∷ c.requires.list_origin i ∷ c.requires.premise_origin i ∷ []))) in
-    let same = open-same s t2 grown c.args.name c.args.abs c.args.rep c.args.variables.now c.args.premise c.requires.name c.requires.abs c.requires.rep c.requires.variables c.requires.premise _ _ origin (two.run ∙ one.run) in
+    let origin = kept ∙ made.definition
+    ∙ (λ i. Define words.DefineTypeOp
+    (from_list (named c.args.name ∷ named c.args.abs ∷ named c.args.rep ∷ c.requires.list_origin i
+    ∷ c.requires.premise_origin i ∷ []))) in
+    let same = open-same s t2 grown c.args.name c.args.abs c.args.rep c.args.variables.now c.args.premise
+    c.requires.name c.requires.abs c.requires.rep c.requires.variables c.requires.premise _ _ origin
+    (two.run ∙ one.run) in
     let t = c.accept_open_type.new.self in
-    refused t.kernel _ _ c.in_err-abs_rep.field-0.0 _ (search rules) (subst (Refuses t.kernel c.in_err-abs_rep.field-0.0) same c.in_err-abs_rep.ensures.made)
+    refused t.kernel _ _ c.in_err-abs_rep.field-0.0 _ (search rules)
+    (subst (Refuses t.kernel c.in_err-abs_rep.field-0.0) same c.in_err-abs_rep.ensures.made)
 
 pub returns-in_err-abs_rep-clause-refused : goal.returns-in_err-abs_rep-clause-refused
-returns-in_err-abs_rep-clause-refused c = on-err c.from_residual-in_err-abs_rep.result (c.in_err-abs_rep.ensures.refused ∙ c.in_ok-abs_rep_step.ensures.kept.run ∙ c.in_ok-steps.ensures.kept.run)
+returns-in_err-abs_rep-clause-refused c = on-err c.from_residual-in_err-abs_rep.result
+    (c.in_err-abs_rep.ensures.refused ∙ c.in_ok-abs_rep_step.ensures.kept.run ∙ c.in_ok-steps.ensures.kept.run)
 
 pub returns-in_err-abs_rep-clause-grown : goal.returns-in_err-abs_rep-clause-grown
-returns-in_err-abs_rep-clause-grown c = grows-on (grows-on (traces-grow _ _ _ c.in_ok-steps.ensures.kept) c.in_ok-abs_rep_step.ensures.kept.grown) c.in_err-abs_rep.ensures.grown
+returns-in_err-abs_rep-clause-grown c =
+    grows-on (grows-on (traces-grow _ _ _ c.in_ok-steps.ensures.kept) c.in_ok-abs_rep_step.ensures.kept.grown)
+    c.in_err-abs_rep.ensures.grown
 
 pub returns-clause-made : goal.returns-clause-made
 returns-clause-made c =
@@ -74,20 +85,36 @@ returns-clause-made c =
     let grown = grows-on (traces-grow s t1 m one) two.grown in
     let kept = origin-kept t1 t2 one.of.run two.grown d.definition made.definition_step in
     let named = λ (n : ℕ). Named (name_at s.kernel n) in
-    let origin = kept ∙ made.definition ∙ (λ i. Define words.DefineTypeOp (from_list (named c.args.name ∷ named c.args.abs ∷ named c.args.rep ∷ c.requires.list_origin i ∷ c.requires.premise_origin i ∷ []))) in
-    let same = open-same s t2 grown c.args.name c.args.abs c.args.rep c.args.variables.now c.args.premise c.requires.name c.requires.abs c.requires.rep c.requires.variables c.requires.premise _ _ origin (two.run ∙ one.run) in
+    let origin = kept ∙ made.definition
+    ∙ (λ i. Define words.DefineTypeOp
+    (from_list (named c.args.name ∷ named c.args.abs ∷ named c.args.rep ∷ c.requires.list_origin i
+    ∷ c.requires.premise_origin i ∷ []))) in
+    let same = open-same s t2 grown c.args.name c.args.abs c.args.rep c.args.variables.now c.args.premise
+    c.requires.name c.requires.abs c.requires.rep c.requires.variables c.requires.premise _ _ origin
+    (two.run ∙ one.run) in
     let t = c.accept_open_type.new.self in
     let there = c.in_ok-abs_rep.ensures in
     let steps = c.in_ok-abs_rep_step.ensures in
     let at1 = λ (n : ℕ) (h : n < length s.kernel.names). subst (λ k. n < length k.names) (sym one.kernel) h in
     let v1 = subst (λ k. All (λ n. n < length k.names) c.args.variables.now) (sym one.kernel) c.requires.variables in
     let q1 = subst (λ k. c.args.premise < length k.theorems) (sym one.kernel) c.requires.premise in
-    let first = origin-kept t2 t two.of.run there.grown c.in_ok-abs_rep_step.abs_rep_step steps.first_step ∙ steps.first
-    ∙ sym (first-same t1 t2 two.grown c.args.name c.args.abs c.args.rep c.args.variables.now c.args.premise (at1 c.args.name c.requires.name) (at1 c.args.abs c.requires.abs) (at1 c.args.rep c.requires.rep) v1 q1 _ _ kept) in
-    let second = origin-kept t2 t two.of.run there.grown c.in_ok-abs_rep_step.rep_abs_step steps.second_step ∙ steps.second
-    ∙ sym (second-same t1 t2 two.grown c.args.name c.args.abs c.args.rep c.args.variables.now c.args.premise (at1 c.args.name c.requires.name) (at1 c.args.abs c.requires.abs) (at1 c.args.rep c.requires.rep) v1 q1 _ _ kept) in
+    let first = origin-kept t2 t two.of.run there.grown c.in_ok-abs_rep_step.abs_rep_step steps.first_step
+    ∙ steps.first
+    ∙ sym (first-same t1 t2 two.grown c.args.name c.args.abs c.args.rep c.args.variables.now c.args.premise
+    (at1 c.args.name c.requires.name) (at1 c.args.abs c.requires.abs) (at1 c.args.rep c.requires.rep) v1 q1 _ _
+    kept) in
+    let second = origin-kept t2 t two.of.run there.grown c.in_ok-abs_rep_step.rep_abs_step steps.second_step
+    ∙ steps.second
+    ∙ sym (second-same t1 t2 two.grown c.args.name c.args.abs c.args.rep c.args.variables.now c.args.premise
+    (at1 c.args.name c.requires.name) (at1 c.args.abs c.requires.abs) (at1 c.args.rep c.requires.rep) v1 q1 _ _
+    kept) in
     sym same ∙ there.made
-    ∙ (λ i. Ok (record { object = theorem (theorem_at t.kernel c.in_ok-abs_rep.abs_rep); origin = sym first i } ∷ record { object = theorem (theorem_at t.kernel c.in_ok-abs_rep.rep_abs); origin = sym second i } ∷ [], run_of t))
+    ∙ (λ i. Ok (
+      record { object = theorem (theorem_at t.kernel c.in_ok-abs_rep.abs_rep); origin = sym first i }
+          ∷ record { object = theorem (theorem_at t.kernel c.in_ok-abs_rep.rep_abs); origin = sym second i }
+          ∷ [],
+      run_of t,
+    ))
 
 pub returns-clause-operator : goal.returns-clause-operator
 returns-clause-operator c =
@@ -119,4 +146,6 @@ returns-clause-operator c =
     }
 
 pub returns-clause-grown : goal.returns-clause-grown
-returns-clause-grown c = grows-on (grows-on (traces-grow _ _ _ c.in_ok-steps.ensures.kept) c.in_ok-abs_rep_step.ensures.kept.grown) c.in_ok-abs_rep.ensures.grown
+returns-clause-grown c =
+    grows-on (grows-on (traces-grow _ _ _ c.in_ok-steps.ensures.kept) c.in_ok-abs_rep_step.ensures.kept.grown)
+    c.in_ok-abs_rep.ensures.grown

@@ -47,7 +47,8 @@ returns-clause-made c =
     let x2_0claim = traced-origin s t1 m c.requires.of k1 c.args.predicate c.requires.predicate in
     let x2_1claim = e_r in
     let e_claim = c.in_ok-claim.ensures.made ∙ (λ i. make_two words.AppTerm (x2_0claim i) (x2_1claim i)) in
-    let x3_0left = traced-origin t1 t2 m k1.of k2 c.in_ok-variable.variable c.in_ok-variable.ensures.variable_step ∙ e_variable in
+    let x3_0left = traced-origin t1 t2 m k1.of k2 c.in_ok-variable.variable c.in_ok-variable.ensures.variable_step
+    ∙ e_variable in
     let x3_1left = e_claim in
     let x3_2left = traced-origin t1 t2 m k1.of k2 c.in_ok-variable.r c.in_ok-variable.ensures.term_step ∙ e_r in
     let e_left = c.in_ok-left.ensures.made ∙ (λ i. redex (x3_0left i) (x3_1left i) (x3_2left i)) in
@@ -55,8 +56,11 @@ returns-clause-made c =
     let x4_1equation = traced-origin s t3 m c.requires.of a0_3 c.args.constants.rep c.requires.rep in
     let x4_2equation = traced-origin s t3 m c.requires.of a0_3 c.args.constants.abs c.requires.abs in
     let x4_3equation = traced-origin t1 t3 m k1.of a1_3 c.in_ok-variable.r c.in_ok-variable.ensures.term_step ∙ e_r in
-    let e_equation = c.in_ok-equation.ensures.made ∙ (λ i. app (app (x4_0equation i) (composed (x4_1equation i) (x4_2equation i) (x4_3equation i))) (x4_3equation i)) in
-    let x5_0right = traced-origin t1 t4 m k1.of a1_4 c.in_ok-variable.variable c.in_ok-variable.ensures.variable_step ∙ e_variable in
+    let e_equation = c.in_ok-equation.ensures.made
+    ∙ (λ i. app (app (x4_0equation i) (composed (x4_1equation i) (x4_2equation i) (x4_3equation i)))
+    (x4_3equation i)) in
+    let x5_0right = traced-origin t1 t4 m k1.of a1_4 c.in_ok-variable.variable c.in_ok-variable.ensures.variable_step
+    ∙ e_variable in
     let x5_1right = e_equation in
     let x5_2right = traced-origin t1 t4 m k1.of a1_4 c.in_ok-variable.r c.in_ok-variable.ensures.term_step ∙ e_r in
     let e_right = c.in_ok-right.ensures.made ∙ (λ i. redex (x5_0right i) (x5_1right i) (x5_2right i)) in

@@ -7,4 +7,5 @@ use Rattle.ot_machine.proofs.session.Session.operand_of.Goals as goal
 
 pub returns-clause-operand : goal.returns-clause-operand
 returns-clause-operand c =
-    ap (map_origin (name_at c.args.self.now.kernel)) c.operand.ensures.operand ∙ operand-read (name_at c.args.self.now.kernel) c.args.place (origin_at c.args.self.now.trace c.args.step)
+    ap (map_origin (name_at c.args.self.now.kernel)) c.operand.ensures.operand
+    ∙ operand-read (name_at c.args.self.now.kernel) c.args.place (origin_at c.args.self.now.trace c.args.step)

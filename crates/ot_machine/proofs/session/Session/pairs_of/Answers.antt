@@ -35,11 +35,17 @@ pairs-preserved c =
     let k = c.args.self.now.kernel in
     let cs = lists_of c.args.self.now c.args.machine.now in
     let next = c.in-Some.ensures in
-    let items = ap (map (pair_at k)) c.in_ok-push.ensures.items ∙ map-append (pair_at k) c.pairs.pairs.items (c.in_ok-pair.pair ∷ []) in
+    let items = ap (map (pair_at k)) c.in_ok-push.ensures.items
+    ∙ map-append (pair_at k) c.pairs.pairs.items (c.in_ok-pair.pair ∷ []) in
     record {
       inside = next.tail;
-      names = subst (All (λ p. p.0 < length k.names)) (sym c.in_ok-push.ensures.items) (All-push (λ p. p.0 < length k.names) c.pairs.pairs.items c.in_ok-pair.pair c.pairs.invariant.names c.in_ok-pair.ensures.name);
-      variables = subst (All (IsVariableIn k)) (sym c.in_ok-push.ensures.items) (All-push (IsVariableIn k) c.pairs.pairs.items c.in_ok-pair.pair c.pairs.invariant.variables c.in_ok-pair.ensures.variable);
+      names = subst (All (λ p. p.0 < length k.names)) (sym c.in_ok-push.ensures.items)
+          (All-push (λ p. p.0 < length k.names) c.pairs.pairs.items c.in_ok-pair.pair c.pairs.invariant.names
+          c.in_ok-pair.ensures.name);
+      variables =
+          subst (All (IsVariableIn k)) (sym c.in_ok-push.ensures.items)
+          (All-push (IsVariableIn k) c.pairs.pairs.items c.in_ok-pair.pair c.pairs.invariant.variables
+          c.in_ok-pair.ensures.variable);
       so_far = ap (λ xs. joined definition_pair xs (as_each definition_pair (list_at cs c.in-Some.tail))) items
           ∙ sym (read-more definition_pair _ _ _ _ _ c.in_ok-pair.ensures.read next.list_is)
           ∙ c.pairs.invariant.so_far;

@@ -14,15 +14,22 @@ pub returns-in-Some-clause-made : goal.returns-in-Some-clause-made
 returns-in-Some-clause-made c =
     let s = c.args.self.now in
     let t = c.weakened.new.self in
-    let is = used-given (context_of s c.args.ctx.now) (run_of s) (map (term_at s.kernel) c.args.hyps.now) (term_at s.kernel c.args.concl) (origin_of s c.args.list_step) (origins_of (top 2 (article_of s c.args.machine.now).stack)) c.requires.proper
+    let is = used-given (context_of s c.args.ctx.now) (run_of s) (map (term_at s.kernel) c.args.hyps.now)
+    (term_at s.kernel c.args.concl) (origin_of s c.args.list_step)
+    (origins_of (top 2 (article_of s c.args.machine.now).stack)) c.requires.proper
     (given_of s c.in-Some.given) (rw c.in-Some.is at c.given_for.ensures.first) in
-    subst (Makes t.kernel (λ g. (theorem_entry (given_of t g), run_of t)) c.weakened.result) (sym is) (with-run t.kernel (λ g. theorem_entry (given_of t g)) c.weakened.result _ (run_of s) (run_of t) c.weakened.ensures.stays.run c.weakened.ensures.made)
+    subst (Makes t.kernel (λ g. (theorem_entry (given_of t g), run_of t)) c.weakened.result) (sym is)
+    (with-run t.kernel (λ g. theorem_entry (given_of t g)) c.weakened.result _ (run_of s) (run_of t)
+    c.weakened.ensures.stays.run c.weakened.ensures.made)
 
 pub returns-in-Some-assumed-clause-made : goal.returns-in-Some-assumed-clause-made
 returns-in-Some-assumed-clause-made c =
     let s = c.args.self.now in
-    used-there (context_of s c.args.ctx.now) (run_of s) (map (term_at s.kernel) c.args.hyps.now) (term_at s.kernel c.args.concl) (origin_of s c.args.list_step) (origins_of (top 2 (article_of s c.args.machine.now).stack)) c.requires.proper
-    (given_of s c.in-Some-assumed.given) (rw c.in_default.is at c.given_for.ensures.first) (rw c.in-Some-assumed.is at c.assumed.ensures.first)
+    used-there (context_of s c.args.ctx.now) (run_of s) (map (term_at s.kernel) c.args.hyps.now)
+    (term_at s.kernel c.args.concl) (origin_of s c.args.list_step)
+    (origins_of (top 2 (article_of s c.args.machine.now).stack)) c.requires.proper
+    (given_of s c.in-Some-assumed.given) (rw c.in_default.is at c.given_for.ensures.first)
+    (rw c.in-Some-assumed.is at c.assumed.ensures.first)
 
 pub returns-in-Some-assumed-clause-grown : goal.returns-in-Some-assumed-clause-grown
 returns-in-Some-assumed-clause-grown c = grows-same c.args.self.now
@@ -31,6 +38,9 @@ pub returns-clause-made : goal.returns-clause-made
 returns-clause-made c =
     let s = c.args.self.now in
     let t = c.assume_stated.new.self in
-    let is = used-assumes (context_of s c.args.ctx.now) (run_of s) (map (term_at s.kernel) c.args.hyps.now) (term_at s.kernel c.args.concl) (origin_of s c.args.list_step) (origins_of (top 2 (article_of s c.args.machine.now).stack)) c.requires.proper
+    let is = used-assumes (context_of s c.args.ctx.now) (run_of s) (map (term_at s.kernel) c.args.hyps.now)
+    (term_at s.kernel c.args.concl) (origin_of s c.args.list_step)
+    (origins_of (top 2 (article_of s c.args.machine.now).stack)) c.requires.proper
     (rw c.in_default.is at c.given_for.ensures.first) (rw c.in_default-assumed.is at c.assumed.ensures.first) in
-    subst (Makes t.kernel (λ g. (theorem_entry (given_of t g), run_of t)) c.assume_stated.result) (sym is) c.assume_stated.ensures.made
+    subst (Makes t.kernel (λ g. (theorem_entry (given_of t g), run_of t)) c.assume_stated.result)
+    (sym is) c.assume_stated.ensures.made

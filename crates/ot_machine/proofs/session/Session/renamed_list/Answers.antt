@@ -12,7 +12,8 @@ use Rattle.ot_machine.proofs.RenamedLists.{list-renamed, list-made, constants-ma
 use Rattle.ot_machine.proofs.session.Session.renamed_list.Goals as goal
 
 pub renamed_each-requires-clause-inside : goal.renamed_each-requires-clause-inside
-renamed_each-requires-clause-inside c = subst (All (λ i. i < length c.args.self.now.trace)) (sym c.deref.ensures.value)
+renamed_each-requires-clause-inside c =
+    subst (All (λ i. i < length c.args.self.now.trace)) (sym c.deref.ensures.value)
     c.in_ok-found.ensures.inside
 
 pub list_step-requires-clause-inside : goal.list_step-requires-clause-inside
@@ -20,7 +21,8 @@ list_step-requires-clause-inside c = subst (All (λ i. i < length c.renamed_each
     (sym c.deref-2.ensures.value) c.in_ok-pairs.ensures.inside
 
 pub list_step-requires-clause-end : goal.list_step-requires-clause-end
-list_step-requires-clause-end c = omega (arith, c.in_ok-found.ensures.end_inside, c.in_ok-pairs.ensures.kept.grown.longer)
+list_step-requires-clause-end c =
+    omega (arith, c.in_ok-found.ensures.end_inside, c.in_ok-pairs.ensures.kept.grown.longer)
 
 pub symbols_of-requires-clause-inside : goal.symbols_of-requires-clause-inside
 symbols_of-requires-clause-inside c =
@@ -40,13 +42,15 @@ returns-in_err-list-clause-kept c = traces-on c.args.self.now c.renamed_each.new
 
 pub returns-in_err-symbols-clause-kept : goal.returns-in_err-symbols-clause-kept
 returns-in_err-symbols-clause-kept c =
-    traces-on c.args.self.now c.renamed_each.new.self c.symbols_of.new.self c.args.machine.now c.in_ok-pairs.ensures.kept
+    traces-on c.args.self.now c.renamed_each.new.self c.symbols_of.new.self c.args.machine.now
+    c.in_ok-pairs.ensures.kept
     (traces-on c.renamed_each.new.self c.list_step.new.self c.symbols_of.new.self c.args.machine.now
     c.in_ok-list.ensures.kept c.in_err-symbols.ensures.kept)
 
 pub returns-clause-kept : goal.returns-clause-kept
 returns-clause-kept c =
-    traces-on c.args.self.now c.renamed_each.new.self c.symbols_of.new.self c.args.machine.now c.in_ok-pairs.ensures.kept
+    traces-on c.args.self.now c.renamed_each.new.self c.symbols_of.new.self c.args.machine.now
+    c.in_ok-pairs.ensures.kept
     (traces-on c.renamed_each.new.self c.list_step.new.self c.symbols_of.new.self c.args.machine.now
     c.in_ok-list.ensures.kept c.in_ok-symbols.ensures.kept)
 
@@ -92,7 +96,8 @@ returns-clause-symbols c =
     let at = origin_at t1.trace in
     let made = number-later t2 t m c.in_ok-symbols.ensures.kept list c.in_ok-list.ensures.inside
     ∙ c.in_ok-list.ensures.made ∙ ap (λ ps. list_onto (map at ps) (at end)) c.deref-2.ensures.value in
-    let ends = ap elements (number-later s t1 m one end c.in_ok-found.ensures.end_inside) ∙ c.in_ok-found.ensures.end in
+    let ends = ap elements (number-later s t1 m one end c.in_ok-found.ensures.end_inside)
+    ∙ c.in_ok-found.ensures.end in
     let symbols = c.in_ok-symbols.ensures.made
     ∙ ap (map (λ i. constant_origin (operand 0 (origin_at t2.trace i)))) c.deref-3.ensures.value in
     constants-made t1 t2 m one.of two end pairs (map (origin_at t.trace) c.in_ok-symbols.symbols.items)

@@ -35,14 +35,16 @@ returns-clause-made c =
     let x2_1round = traced-origin s t1 m c.requires.of k1 c.args.rep c.requires.rep in
     let x2_2round = e_a in
     let e_round = c.in_ok-round.ensures.made ∙ (λ i. composed (x2_0round i) (x2_1round i) (x2_2round i)) in
-    let x3_0left = traced-origin t1 t2 m k1.of k2 c.in_ok-variable.variable c.in_ok-variable.ensures.variable_step ∙ e_variable in
+    let x3_0left = traced-origin t1 t2 m k1.of k2 c.in_ok-variable.variable c.in_ok-variable.ensures.variable_step
+    ∙ e_variable in
     let x3_1left = e_round in
     let x3_2left = traced-origin t1 t2 m k1.of k2 c.in_ok-variable.a c.in_ok-variable.ensures.term_step ∙ e_a in
     let e_left = c.in_ok-left.ensures.made ∙ (λ i. redex (x3_0left i) (x3_1left i) (x3_2left i)) in
     let x4_0theorem = traced-origin s t3 m c.requires.of a0_3 c.args.definition c.requires.definition in
     let x4_1theorem = traced-origin t1 t3 m k1.of a1_3 c.in_ok-variable.a c.in_ok-variable.ensures.term_step ∙ e_a in
     let e_theorem = c.in_ok-theorem.ensures.made ∙ (λ i. outcome_at 1 (x4_0theorem i) (x4_1theorem i)) in
-    let x5_0right = traced-origin t1 t4 m k1.of a1_4 c.in_ok-variable.variable c.in_ok-variable.ensures.variable_step ∙ e_variable in
+    let x5_0right = traced-origin t1 t4 m k1.of a1_4 c.in_ok-variable.variable c.in_ok-variable.ensures.variable_step
+    ∙ e_variable in
     let x5_1right = traced-origin t1 t4 m k1.of a1_4 c.in_ok-variable.a c.in_ok-variable.ensures.term_step ∙ e_a in
     let x5_2right = traced-origin t1 t4 m k1.of a1_4 c.in_ok-variable.a c.in_ok-variable.ensures.term_step ∙ e_a in
     let e_right = c.in_ok-right.ensures.made ∙ (λ i. redex (x5_0right i) (x5_1right i) (x5_2right i)) in

@@ -3,13 +3,20 @@ use Rattle.ot_machine.proofs.Refusals.{refused-first, then-rest}
 use Rattle.ot_machine.proofs.session.Session.term_pair.Goals as goal
 
 pub returns-in_err-list-clause-read : goal.returns-in_err-list-clause-read
-returns-in_err-list-clause-read c = refused-first c.args.self.now.kernel _ _ _ _ _ (search rules) c.in_err-list.ensures.read
+returns-in_err-list-clause-read c =
+    refused-first c.args.self.now.kernel _ _ _ _ _ (search rules) c.in_err-list.ensures.read
 
 pub returns-in_err-variable-clause-read : goal.returns-in_err-variable-clause-read
-returns-in_err-variable-clause-read c = then-rest c.args.self.now.kernel _ _ _ _ _ c.in_ok-list.ensures.read (refused-first c.args.self.now.kernel _ _ _ _ _ (search rules) c.in_err-variable.ensures.read)
+returns-in_err-variable-clause-read c = then-rest c.args.self.now.kernel _ _ _ _ _ c.in_ok-list.ensures.read
+    (refused-first c.args.self.now.kernel _ _ _ _ _ (search rules) c.in_err-variable.ensures.read)
 
 pub returns-in_err-variable-2-clause-read : goal.returns-in_err-variable-2-clause-read
-returns-in_err-variable-2-clause-read c = then-rest c.args.self.now.kernel _ _ _ _ _ c.in_ok-list.ensures.read (then-rest c.args.self.now.kernel _ _ _ _ _ c.in_ok-variable.ensures.read (refused-first c.args.self.now.kernel _ _ _ _ _ (search rules) c.in_err-variable-2.ensures.read))
+returns-in_err-variable-2-clause-read c = then-rest c.args.self.now.kernel _ _ _ _ _ c.in_ok-list.ensures.read
+    (then-rest c.args.self.now.kernel _ _ _ _ _ c.in_ok-variable.ensures.read
+    (refused-first c.args.self.now.kernel _ _ _ _ _ (search rules) c.in_err-variable-2.ensures.read))
 
 pub returns-in_err-term-clause-read : goal.returns-in_err-term-clause-read
-returns-in_err-term-clause-read c = then-rest c.args.self.now.kernel _ _ _ _ _ c.in_ok-list.ensures.read (then-rest c.args.self.now.kernel _ _ _ _ _ c.in_ok-variable.ensures.read (then-rest c.args.self.now.kernel _ _ _ _ _ c.in_ok-variable-2.ensures.read (refused-first c.args.self.now.kernel _ _ _ _ _ (search rules) c.in_err-term.ensures.read)))
+returns-in_err-term-clause-read c = then-rest c.args.self.now.kernel _ _ _ _ _ c.in_ok-list.ensures.read
+    (then-rest c.args.self.now.kernel _ _ _ _ _ c.in_ok-variable.ensures.read
+    (then-rest c.args.self.now.kernel _ _ _ _ _ c.in_ok-variable-2.ensures.read
+    (refused-first c.args.self.now.kernel _ _ _ _ _ (search rules) c.in_err-term.ensures.read)))

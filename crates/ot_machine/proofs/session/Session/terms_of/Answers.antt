@@ -15,35 +15,45 @@ pub returns-in_default-head : goal.returns-in_default-head
 returns-in_default-head c =
     let k = c.args.self.now.kernel in
     let cs = lists_of c.args.self.now c.args.machine.now in
-    let next = next_cell k c.args.machine.now.cells.items c.requires.of.cells c.cells.rest c.in-Cell.place c.index-cell.result.now c.in-Cell.is c.cells.invariant.inside c.index-cell.ensures in
+    let next = next_cell k c.args.machine.now.cells.items c.requires.of.cells c.cells.rest c.in-Cell.place
+    c.index-cell.result.now c.in-Cell.is c.cells.invariant.inside c.index-cell.ensures in
     let head = c.index-cell.result.now.head in
     record {
       found = (
         tt,
         λ f p.
-            let other = term-other k cs head c.in_default-head.not-Term ∙ ap (λ q. Err (WrongKind kinds.Tm q)) (sym (c.kind.ensures k cs)) ∙ ap Err (same_Some _ _ p) in
-            sym c.cells.invariant.so_far ∙ read-other as_term (map (term_at k) c.cells.terms.items) (object_of k cs head) (list_at cs c.cells.rest) _ f other next.list_is,
+            let other = term-other k cs head c.in_default-head.not-Term
+            ∙ ap (λ q. Err (WrongKind kinds.Tm q)) (sym (c.kind.ensures k cs)) ∙ ap Err (same_Some _ _ p) in
+            sym c.cells.invariant.so_far ∙ read-other as_term (map (term_at k) c.cells.terms.items)
+            (object_of k cs head) (list_at cs c.cells.rest) _ f other next.list_is,
       );
       inside = tt;
     }
 
 pub cells-smaller : goal.cells-smaller
 cells-smaller c =
-    (next_cell c.args.self.now.kernel c.args.machine.now.cells.items c.requires.of.cells c.cells.rest c.in-Cell.place c.index-cell.result.now c.in-Cell.is c.cells.invariant.inside c.index-cell.ensures).shorter
+    (next_cell c.args.self.now.kernel c.args.machine.now.cells.items c.requires.of.cells c.cells.rest c.in-Cell.place
+    c.index-cell.result.now c.in-Cell.is c.cells.invariant.inside c.index-cell.ensures).shorter
 
 pub cells-preserved : goal.cells-preserved
 cells-preserved c =
     let k = c.args.self.now.kernel in
     let cs = lists_of c.args.self.now c.args.machine.now in
-    let next = next_cell k c.args.machine.now.cells.items c.requires.of.cells c.cells.rest c.in-Cell.place c.index-cell.result.now c.in-Cell.is c.cells.invariant.inside c.index-cell.ensures in
+    let next = next_cell k c.args.machine.now.cells.items c.requires.of.cells c.cells.rest c.in-Cell.place
+    c.index-cell.result.now c.in-Cell.is c.cells.invariant.inside c.index-cell.ensures in
     let head = c.index-cell.result.now.head in
-    let here : c.in-Term.term < length k.terms = subst (IsIn k (length c.args.machine.now.cells.items)) c.in-Term.is next.head in
+    let here : c.in-Term.term < length k.terms =
+    subst (IsIn k (length c.args.machine.now.cells.items)) c.in-Term.is next.head in
     let one = ap (λ o. as_term (object_of k cs o)) c.in-Term.is in
-    let items = ap (map (term_at k)) c.in_ok-push.ensures.items ∙ map-append (term_at k) c.cells.terms.items (c.in-Term.term ∷ []) in
+    let items = ap (map (term_at k)) c.in_ok-push.ensures.items
+    ∙ map-append (term_at k) c.cells.terms.items (c.in-Term.term ∷ []) in
     record {
       inside = next.tail;
-      numbers = subst (All (λ i. i < length k.terms)) (sym c.in_ok-push.ensures.items) (All-push (λ i. i < length k.terms) c.cells.terms.items c.in-Term.term c.cells.invariant.numbers here);
+      numbers = subst (All (λ i. i < length k.terms)) (sym c.in_ok-push.ensures.items)
+          (All-push (λ i. i < length k.terms) c.cells.terms.items c.in-Term.term c.cells.invariant.numbers here);
       so_far = ap (λ xs. joined as_term xs (as_each as_term (list_at cs c.index-cell.result.now.tail))) items
-          ∙ sym (read-more as_term (map (term_at k) c.cells.terms.items) (term_at k c.in-Term.term) (object_of k cs head) (list_at cs c.cells.rest) (list_at cs c.index-cell.result.now.tail) one next.list_is)
+          ∙ sym (read-more as_term (map (term_at k) c.cells.terms.items) (term_at k c.in-Term.term)
+          (object_of k cs head) (list_at cs c.cells.rest) (list_at cs c.index-cell.result.now.tail) one
+          next.list_is)
           ∙ c.cells.invariant.so_far;
     }

@@ -9,7 +9,8 @@ invariant-pairs l = record {
   inside : IsListIn (length l.machine.cells.items) l.rest;
   types_are : l.maps.types ≡ l.fn.types;
   fits : IsSubstIn l.self.kernel l.maps;
-  so_far : terms_onto (term_pairs l.self.kernel l.maps) (list_at (lists_of l.self l.machine) l.rest) ≡ terms_onto [] (list_at (lists_of l.self l.machine) l.fn.list);
+  so_far : terms_onto (term_pairs l.self.kernel l.maps) (list_at (lists_of l.self l.machine) l.rest)
+      ≡ terms_onto [] (list_at (lists_of l.self l.machine) l.fn.list);
 }
 
 abbrev pub decreases-pairs : goal.decreases-pairs

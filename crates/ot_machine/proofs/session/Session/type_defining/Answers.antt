@@ -13,13 +13,18 @@ defining_step-requires-clause-symbols c =
     let two = c.in_ok-abs_name.ensures.kept in
     let three = c.in_ok-rep_name.ensures.kept in
     let both = traces-on s1 s2 s3 m two three in
-    let n = number-later s1 s3 m both c.in_ok-name_step.name_step c.in_ok-name_step.ensures.name_step ∙ c.in_ok-name_step.ensures.name in
-    let op = number-later s1 s3 m both c.in_ok-name_step.op c.in_ok-name_step.ensures.symbol_step ∙ c.in_ok-name_step.ensures.symbol in
-    let a = number-later s2 s3 m three c.in_ok-abs_name.abs_name c.in_ok-abs_name.ensures.name_step ∙ c.in_ok-abs_name.ensures.name in
-    let abs = number-later s2 s3 m three c.in_ok-abs_name.abs c.in_ok-abs_name.ensures.symbol_step ∙ c.in_ok-abs_name.ensures.symbol in
+    let n = number-later s1 s3 m both c.in_ok-name_step.name_step c.in_ok-name_step.ensures.name_step
+    ∙ c.in_ok-name_step.ensures.name in
+    let op = number-later s1 s3 m both c.in_ok-name_step.op c.in_ok-name_step.ensures.symbol_step
+    ∙ c.in_ok-name_step.ensures.symbol in
+    let a = number-later s2 s3 m three c.in_ok-abs_name.abs_name c.in_ok-abs_name.ensures.name_step
+    ∙ c.in_ok-abs_name.ensures.name in
+    let abs = number-later s2 s3 m three c.in_ok-abs_name.abs c.in_ok-abs_name.ensures.symbol_step
+    ∙ c.in_ok-abs_name.ensures.symbol in
     let r = c.in_ok-rep_name.ensures.name in
     let rep = c.in_ok-rep_name.ensures.symbol in
-    λ i. (op ∙ ap type_op_origin (sym n)) i ∷ (abs ∙ ap constant_origin (sym a)) i ∷ (rep ∙ ap constant_origin (sym r)) i ∷ []
+    λ i. (op ∙ ap type_op_origin (sym n)) i ∷ (abs ∙ ap constant_origin (sym a)) i
+    ∷ (rep ∙ ap constant_origin (sym r)) i ∷ []
 
 pub returns-clause-made : goal.returns-clause-made
 returns-clause-made c =
@@ -37,7 +42,8 @@ returns-clause-made c =
     let upto3 = traces-on s s2 s3 m upto2 three in
     let from2 = traces-on s2 s3 s4 m three four in
     let from1 = traces-on s1 s2 s4 m two from2 in
-    let n = traced-origin s1 s3 m one.of (traces-on s1 s2 s3 m two three) c.in_ok-name_step.name_step c.in_ok-name_step.ensures.name_step
+    let n = traced-origin s1 s3 m one.of (traces-on s1 s2 s3 m two three) c.in_ok-name_step.name_step
+    c.in_ok-name_step.ensures.name_step
     ∙ origin-number s s1 m one c.in_ok-name_step.name_step (Named c.args.name) c.in_ok-name_step.ensures.name in
     let a = traced-origin s2 s3 m two.of three c.in_ok-abs_name.abs_name c.in_ok-abs_name.ensures.name_step
     ∙ origin-number s s2 m upto2 c.in_ok-abs_name.abs_name (Named c.args.abs) c.in_ok-abs_name.ensures.name in
@@ -46,13 +52,18 @@ returns-clause-made c =
     let premise = traced-origin s s3 m c.requires.of upto3 c.args.premise_step c.requires.premise_step in
     record {
       op = traced-origin s1 s4 m one.of from1 c.in_ok-name_step.op c.in_ok-name_step.ensures.symbol_step
-          ∙ origin-number s s1 m one c.in_ok-name_step.op (type_op_origin (Named c.args.name)) c.in_ok-name_step.ensures.symbol;
+          ∙ origin-number s s1 m one c.in_ok-name_step.op (type_op_origin (Named c.args.name))
+          c.in_ok-name_step.ensures.symbol;
       abs = traced-origin s2 s4 m two.of from2 c.in_ok-abs_name.abs c.in_ok-abs_name.ensures.symbol_step
-          ∙ origin-number s s2 m upto2 c.in_ok-abs_name.abs (constant_origin (Named c.args.abs)) c.in_ok-abs_name.ensures.symbol;
+          ∙ origin-number s s2 m upto2 c.in_ok-abs_name.abs (constant_origin (Named c.args.abs))
+          c.in_ok-abs_name.ensures.symbol;
       rep = traced-origin s3 s4 m three.of four c.in_ok-rep_name.rep c.in_ok-rep_name.ensures.symbol_step
-          ∙ origin-number s s3 m upto3 c.in_ok-rep_name.rep (constant_origin (Named c.args.rep)) c.in_ok-rep_name.ensures.symbol;
+          ∙ origin-number s s3 m upto3 c.in_ok-rep_name.rep (constant_origin (Named c.args.rep))
+          c.in_ok-rep_name.ensures.symbol;
       definition = c.in_ok-definition.ensures.made
-          ∙ (λ i. Define words.DefineTypeOp (MoreOrigins (n i) (MoreOrigins (a i) (MoreOrigins (r i) (MoreOrigins (list i) (MoreOrigins (premise i) NoOrigins))))));
+          ∙ (λ i. Define words.DefineTypeOp
+          (MoreOrigins (n i)
+          (MoreOrigins (a i) (MoreOrigins (r i) (MoreOrigins (list i) (MoreOrigins (premise i) NoOrigins))))));
       op_step = omega (arith, c.in_ok-name_step.ensures.symbol_step, from1.grown.longer);
       abs_step = omega (arith, c.in_ok-abs_name.ensures.symbol_step, from2.grown.longer);
       rep_step = omega (arith, c.in_ok-rep_name.ensures.symbol_step, four.grown.longer);
@@ -64,5 +75,7 @@ returns-clause-kept c =
     let s = c.args.self.now in
     let m = c.args.machine.now in
     traces-on s c.symbol_steps-3.new.self c.defining_step.new.self m
-    (traces-on s c.symbol_steps-2.new.self c.symbol_steps-3.new.self m (traces-on s c.symbol_steps.new.self c.symbol_steps-2.new.self m c.in_ok-name_step.ensures.kept c.in_ok-abs_name.ensures.kept) c.in_ok-rep_name.ensures.kept)
+    (traces-on s c.symbol_steps-2.new.self c.symbol_steps-3.new.self m
+    (traces-on s c.symbol_steps.new.self c.symbol_steps-2.new.self m c.in_ok-name_step.ensures.kept
+    c.in_ok-abs_name.ensures.kept) c.in_ok-rep_name.ensures.kept)
     c.in_ok-definition.ensures.kept

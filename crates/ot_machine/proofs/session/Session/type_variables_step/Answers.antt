@@ -1,4 +1,5 @@
-use Rattle.std.proofs.Common.{◌<◌, ℕ, [], ◌∷◌, ◌++◌, ◌+◌, List, map, refl, sym, ap, subst, ◌∙◌, length, arith, length-append}
+use Rattle.std.proofs.Common.{◌<◌, ℕ, [], ◌∷◌, ◌++◌, ◌+◌, List, map, refl, sym}
+use Rattle.std.proofs.Common.{ap, subst, ◌∙◌, length, arith, length-append}
 use Rattle.std.specs.List.{All}
 use Rattle.std.proofs.lemmas.List.{map-append, take_at, get_or-append-add}
 use Rattle.std.proofs.lemmas.List.Elements.{All-take}
@@ -21,12 +22,14 @@ names-init c =
     }
 
 All-last : (P : ℕ → Type 0) (xs : List ℕ) (x : ℕ) → All P (xs ++ x ∷ []) → P x
-All-last P xs x all = subst P (get_or-append-add xs (x ∷ []) 0 x) (all (length xs + 0) x (omega (arith, length-append xs (x ∷ []))))
+All-last P xs x all =
+    subst P (get_or-append-add xs (x ∷ []) 0 x) (all (length xs + 0) x (omega (arith, length-append xs (x ∷ []))))
 
 pub symbol_steps-requires-clause-inside : goal.symbol_steps-requires-clause-inside
 symbol_steps-requires-clause-inside c =
     let P = λ (n : ℕ). n < length c.args.self.now.kernel.names in
-    let here = All-last P c.in-Some.front.now c.in-Some.name.now (subst (All P) c.in-Some.ensures.cases.0 c.names.invariant.numbers) in
+    let here = All-last P c.in-Some.front.now c.in-Some.name.now
+    (subst (All P) c.in-Some.ensures.cases.0 c.names.invariant.numbers) in
     subst (λ k. c.in-Some.name.now < length k.names) (sym c.names.invariant.kept.kernel) here
 
 pub names-preserved : goal.names-preserved
@@ -45,12 +48,14 @@ names-preserved c =
     let P = λ (n : ℕ). n < length k.names in
     let front = map (name_at k) c.in-Some.front.now in
     let view = ap (map (name_at k)) split ∙ map-append (name_at k) c.in-Some.front.now (c.in-Some.name.now ∷ []) in
-    let head = origin-number s t1 m upto1 c.in_ok-head.head (make_one words.VarType (Named c.in-Some.name.now)) c.in_ok-head.ensures.symbol in
+    let head = origin-number s t1 m upto1 c.in_ok-head.head (make_one words.VarType (Named c.in-Some.name.now))
+    c.in_ok-head.ensures.symbol in
     let list = traced-origin t t1 m before.of one c.names.list c.names.invariant.inside in
     record {
       kept = traces-on s t1 t2 m upto1 two;
       inside = c.in_ok-list-2.ensures.inside;
-      numbers = subst (All P) (take_at c.in-Some.front.now (c.in-Some.name.now ∷ []) _ refl) (All-take P (length c.in-Some.front.now) _ (subst (All P) split c.names.invariant.numbers));
+      numbers = subst (All P) (take_at c.in-Some.front.now (c.in-Some.name.now ∷ []) _ refl)
+          (All-take P (length c.in-Some.front.now) _ (subst (All P) split c.names.invariant.numbers));
       so_far = ap (variables_onto front) (c.in_ok-list-2.ensures.made ∙ (λ i. make_two words.Cons (head i) (list i)))
           ∙ sym (variables_onto-push front (name_at k c.in-Some.name.now) (origin_of t c.names.list))
           ∙ ap (λ ns. variables_onto ns (origin_of t c.names.list)) (sym view)

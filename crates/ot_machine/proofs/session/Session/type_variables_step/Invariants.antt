@@ -13,7 +13,8 @@ invariant-names l = record {
   kept : Traces l.fn.self l.self l.machine;
   inside : l.list < length l.self.trace;
   numbers : All (λ n. n < length l.fn.self.kernel.names) l.rest;
-  so_far : variables_onto (map (name_at l.fn.self.kernel) l.rest) (origin_of l.self l.list) ≡ canon_tys (tys_of_vars names (map (name_at l.fn.self.kernel) l.variables));
+  so_far : variables_onto (map (name_at l.fn.self.kernel) l.rest) (origin_of l.self l.list)
+      ≡ canon_tys (tys_of_vars names (map (name_at l.fn.self.kernel) l.variables));
 }
 
 abbrev pub decreases-names : goal.decreases-names

@@ -10,7 +10,9 @@ abbrev pub invariant-cells : goal.invariant-cells
 invariant-cells l = record {
   inside : IsListIn (length l.machine.cells.items) l.rest;
   numbers : All (λ i. i < length l.self.kernel.types) l.types.items;
-  so_far : joined as_type (map (type_at l.self.kernel) l.types.items) (as_each as_type (list_at (lists_of l.self l.machine) l.rest)) ≡ as_each as_type (list_at (lists_of l.self l.machine) l.fn.list);
+  so_far : joined as_type (map (type_at l.self.kernel) l.types.items)
+      (as_each as_type (list_at (lists_of l.self l.machine) l.rest))
+      ≡ as_each as_type (list_at (lists_of l.self l.machine) l.fn.list);
 }
 
 abbrev pub decreases-cells : goal.decreases-cells

@@ -8,7 +8,8 @@ abbrev pub invariant-pairs : goal.invariant-pairs
 invariant-pairs l = record {
   inside : IsListIn (length l.machine.cells.items) l.rest;
   fits : AreTypePairs l.self.kernel l.types;
-  so_far : types_onto (type_pairs l.self.kernel l.types) (list_at (lists_of l.self l.machine) l.rest) ≡ types_onto [] (list_at (lists_of l.self l.machine) l.fn.list);
+  so_far : types_onto (type_pairs l.self.kernel l.types) (list_at (lists_of l.self l.machine) l.rest)
+      ≡ types_onto [] (list_at (lists_of l.self l.machine) l.fn.list);
 }
 
 abbrev pub decreases-pairs : goal.decreases-pairs

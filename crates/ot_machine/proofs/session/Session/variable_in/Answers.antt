@@ -9,7 +9,9 @@ pub returns-in_default : goal.returns-in_default
 returns-in_default c =
     let k = c.args.self.now.kernel in
     record {
-      read = refuses-named k c.bad.result (bad_list c.args.form) _ c.bad.ensures.named (c.bad.ensures.symbol k) (ap (or_bad (bad_list c.args.form)) (variable-other k (lists_of c.args.self.now c.args.machine.now) c.args.object c.in_default.not-Var));
+      read = refuses-named k c.bad.result (bad_list c.args.form) _ c.bad.ensures.named (c.bad.ensures.symbol k)
+          (ap (or_bad (bad_list c.args.form))
+          (variable-other k (lists_of c.args.self.now c.args.machine.now) c.args.object c.in_default.not-Var));
       name = tt;
       ty = tt;
     }

@@ -13,7 +13,10 @@ returns-in_ok-variable_step-in-None-clause-known c =
     let one = c.in_ok-ty-in-None.ensures.kept in
     let two = c.in_ok-variable_step-in-None.ensures.kept in
     record {
-      types = types-later t1 t2 (traces-grow t1 t2 m two) one.of.run c.type_origin.new.known.entries c.in_ok-ty-in-None.ensures.known;
-      terms = terms-later s t2 (traces-grow s t2 m (traces-on s t1 t2 m one two)) c.requires.of.run c.args.known.now.terms.entries c.requires.known.terms;
-      free = occurrences-later s.kernel t2.kernel (traces-grow s t2 m (traces-on s t1 t2 m one two)).kernel c.args.known.now.free.entries c.requires.known.free;
+      types = types-later t1 t2 (traces-grow t1 t2 m two) one.of.run c.type_origin.new.known.entries
+          c.in_ok-ty-in-None.ensures.known;
+      terms = terms-later s t2 (traces-grow s t2 m (traces-on s t1 t2 m one two)) c.requires.of.run
+          c.args.known.now.terms.entries c.requires.known.terms;
+      free = occurrences-later s.kernel t2.kernel (traces-grow s t2 m (traces-on s t1 t2 m one two)).kernel
+          c.args.known.now.free.entries c.requires.known.free;
     }

@@ -1,6 +1,7 @@
 use Rattle.std.specs.Prelude.{Ok, Err}
 use Rattle.std.specs.List.{All}
-use Rattle.std.proofs.Common.{rules, ◌≡◌, ◌<◌, ◌+◌, ◌∷◌, ℕ, List, drop, get_or, length, map, refl, ap, sym, subst, ◌∙◌, arith}
+use Rattle.std.proofs.Common.{rules, ◌≡◌, ◌<◌, ◌+◌, ◌∷◌, ℕ, List, drop, get_or}
+use Rattle.std.proofs.Common.{length, map, refl, ap, sym, subst, ◌∙◌, arith}
 use Rattle.std.proofs.lemmas.List.{drop_more, drop_all}
 use Rattle.ot_kernel.specs.State.{State, term_at}
 use Rattle.ot_trace.specs.Origins.{operand}
@@ -13,7 +14,8 @@ use Rattle.ot_machine.proofs.Refusals.{refused}
 use Rattle.ot_machine.proofs.Weakening.{stays-same, stays-on, stays-term, stays-origin, weakened-next, stated}
 use Rattle.ot_machine.proofs.session.Session.weakened.Goals as goal
 
-inside : (k : State) (is : List ℕ) (i j : ℕ) → i < length is → j ≡ get_or is i j → All (λ x. x < length k.terms) is → j < length k.terms
+inside : (k : State) (is : List ℕ) (i j : ℕ) → i < length is → j ≡ get_or is i j → All (λ x. x < length k.terms) is
+    → j < length k.terms
 inside k is i j lt e all = subst (λ x. x < length k.terms) (sym e) (all i j lt)
 
 pub loop-hyp-init : goal.loop-hyp-init
@@ -28,7 +30,8 @@ loop-hyp-init c = record {
 pub with_hypothesis-requires-clause-hyp : goal.with_hypothesis-requires-clause-hyp
 with_hypothesis-requires-clause-hyp c =
     let s = c.args.self.now in
-    let here = inside s.kernel c.args.hyps.now c.loop-hyp.hyp-index c.hyp-item.result c.loop-hyp-test.true c.hyp-item.is c.requires.hyps in
+    let here = inside s.kernel c.args.hyps.now c.loop-hyp.hyp-index c.hyp-item.result c.loop-hyp-test.true
+    c.hyp-item.is c.requires.hyps in
     omega (arith, here, c.loop-hyp.invariant.stays.grown.kernel.terms.longer)
 
 pub loop-hyp-preserved : goal.loop-hyp-preserved
@@ -46,12 +49,15 @@ loop-hyp-preserved c =
     let ps = map (term_at k) (drop (i + 1) hyps) in
     let o = origin_of t c.loop-hyp.rest in
     let e = theorem_entry (given_of t c.loop-hyp.weaker) in
-    let split = ap (map (term_at k)) (drop_more hyps i hyp c.loop-hyp-test.true ∙ ap (λ z. z ∷ drop (i + 1) hyps) (sym c.hyp-item.is)) in
+    let split =
+    ap (map (term_at k))
+    (drop_more hyps i hyp c.loop-hyp-test.true ∙ ap (λ z. z ∷ drop (i + 1) hyps) (sym c.hyp-item.is)) in
     let kept = stays-term s t m c.requires.of inv.stays hyp here in
     let one : supposing (stated (term_at k hyp) (operand 0 o)) e ≡ supposing (stated (term_at t.kernel hyp) (origin_of t c.operand_of-step.result)) e = λ j. supposing (stated (sym kept j) (sym c.operand_of-step.ensures.operand j)) e in
     let there = c.in_ok-weaker.ensures in
     let after = theorem_entry (given_of u c.in_ok-weaker.weaker) in
-    let rest = c.operand_of-rest.ensures.operand ∙ ap (operand 1) (stays-origin t u m inv.stays.of there.stays c.loop-hyp.rest inv.rest) in
+    let rest = c.operand_of-rest.ensures.operand
+    ∙ ap (operand 1) (stays-origin t u m inv.stays.of there.stays c.loop-hyp.rest inv.rest) in
     record {
       stays = stays-on inv.stays there.stays;
       theorem = there.theorem;
@@ -78,12 +84,17 @@ returns-in_err-weaker-clause-made c =
     let ps = map (term_at k) (drop (i + 1) hyps) in
     let o = origin_of t c.loop-hyp.rest in
     let e = theorem_entry (given_of t c.loop-hyp.weaker) in
-    let split = ap (map (term_at k)) (drop_more hyps i hyp c.loop-hyp-test.true ∙ ap (λ z. z ∷ drop (i + 1) hyps) (sym c.hyp-item.is)) in
+    let split =
+    ap (map (term_at k))
+    (drop_more hyps i hyp c.loop-hyp-test.true ∙ ap (λ z. z ∷ drop (i + 1) hyps) (sym c.hyp-item.is)) in
     let kept = stays-term s t m c.requires.of inv.stays hyp here in
     let one : supposing (stated (term_at k hyp) (operand 0 o)) e ≡ supposing (stated (term_at t.kernel hyp) (origin_of t c.operand_of-step.result)) e = λ j. supposing (stated (sym kept j) (sym c.operand_of-step.ensures.operand j)) e in
     let there = c.in_err-weaker.ensures.made in
-    refused u.kernel _ _ c.in_err-weaker.field-0.0 _ (search rules)
-    (there.0, λ f q. sym inv.so_far ∙ ap (λ ps. weakened (term_entries ps o) e) split ∙ weakened-next (term_at k hyp) ps o e (Err f) (one ∙ there.1 f q))
+    refused u.kernel _ _ c.in_err-weaker.field-0.0 _ (search rules) (
+      there.0,
+      λ f q. sym inv.so_far ∙ ap (λ ps. weakened (term_entries ps o) e) split
+          ∙ weakened-next (term_at k hyp) ps o e (Err f) (one ∙ there.1 f q),
+    )
 
 pub returns-in_err-weaker-clause-stays : goal.returns-in_err-weaker-clause-stays
 returns-in_err-weaker-clause-stays c = stays-on c.loop-hyp.invariant.stays c.in_err-weaker.ensures.stays
@@ -93,4 +104,6 @@ returns-clause-made c =
     let s = c.args.self.now in
     let t = c.loop-hyp.self in
     sym c.loop-hyp.invariant.so_far
-    ∙ ap (λ l. weakened (term_entries (map (term_at s.kernel) l) (origin_of t c.loop-hyp.rest)) (theorem_entry (given_of t c.loop-hyp.weaker))) (drop_all c.loop-hyp.hyp-index c.args.hyps.now c.loop-hyp-test.false)
+    ∙ ap (λ l. weakened (term_entries (map (term_at s.kernel) l) (origin_of t c.loop-hyp.rest))
+    (theorem_entry (given_of t c.loop-hyp.weaker)))
+    (drop_all c.loop-hyp.hyp-index c.args.hyps.now c.loop-hyp-test.false)

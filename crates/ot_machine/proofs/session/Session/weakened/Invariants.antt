@@ -16,6 +16,8 @@ invariant-loop-hyp l =
       theorem : l.weaker.th < length l.self.kernel.theorems;
       step : l.weaker.step < length l.self.trace;
       rest : l.rest < length l.self.trace;
-      so_far : weakened (term_entries (map (term_at k) (drop l.hyp-index l.hyps)) (origin_of l.self l.rest)) (theorem_entry (given_of l.self l.weaker))
-          ≡ weakened (term_entries (map (term_at k) l.hyps) (origin_of l.fn.self l.fn.list_step)) (theorem_entry (given_of l.fn.self l.fn.given));
+      so_far : weakened (term_entries (map (term_at k) (drop l.hyp-index l.hyps)) (origin_of l.self l.rest))
+          (theorem_entry (given_of l.self l.weaker))
+          ≡ weakened (term_entries (map (term_at k) l.hyps) (origin_of l.fn.self l.fn.list_step))
+          (theorem_entry (given_of l.fn.self l.fn.given));
     }

@@ -21,5 +21,6 @@ invariant-inst_each-loop-id l = record {
   here : All (HasType l.self) l.ids;
   pairs : HasTypes l.self l.fn.pairs.entries;
   done : AreInstances l.self (type_map l.self l.fn.pairs.entries) l.done.entries;
-  found : HasInstances l.fn.self l.self (type_map l.fn.self l.fn.pairs.entries) (take l.id-index l.ids) l.instances.items;
+  found : HasInstances l.fn.self l.self (type_map l.fn.self l.fn.pairs.entries) (take l.id-index l.ids)
+      l.instances.items;
 }

@@ -13,5 +13,7 @@ typed-requires c = has-type c.fun.new.self c.in_ok-fun-in-Some.fun _ c.in_ok-fun
 
 pub returns-in_ok-fun-in-Some-clause-ok : goal.returns-in_ok-fun-in-Some-clause-ok
 returns-in_ok-fun-in-Some-clause-ok c = λ l b h.
-    typing-abstraction c.args.self.now c.fun.new.self l c.args.ty b c.in-Some.body c.in_ok-fun-in-Some.fun c.typed.result c.in_ok-fun-in-Some.ensures.extends
-    (subst (IsTyping c.args.self.now (type_at c.args.self.now c.args.ty ∷ l) b) c.in-Some.is h) c.in_ok-fun-in-Some.ensures.ok c.typed.ensures
+    typing-abstraction c.args.self.now c.fun.new.self l c.args.ty b c.in-Some.body c.in_ok-fun-in-Some.fun
+    c.typed.result c.in_ok-fun-in-Some.ensures.extends
+    (subst (IsTyping c.args.self.now (type_at c.args.self.now c.args.ty ∷ l) b) c.in-Some.is h)
+    c.in_ok-fun-in-Some.ensures.ok c.typed.ensures

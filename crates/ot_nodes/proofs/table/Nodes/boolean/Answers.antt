@@ -10,4 +10,6 @@ type_op-requires-clause-name c = has-bool c.args.self.now c.primitives.ensures.f
 
 pub returns-clause-ok : goal.returns-clause-ok
 returns-clause-ok c =
-    IfOk-weaker c.type_op.result _ _ (λ r h. h ∙ ap (λ n. Some (TypeItem (TyOp n NoTys))) (name-bool c.args.self.now c.primitives.ensures.first)) c.type_op.ensures.ok
+    IfOk-weaker c.type_op.result _ _
+    (λ r h. h ∙ ap (λ n. Some (TypeItem (TyOp n NoTys))) (name-bool c.args.self.now c.primitives.ensures.first))
+    c.type_op.ensures.ok

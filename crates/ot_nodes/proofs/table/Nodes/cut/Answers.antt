@@ -9,4 +9,5 @@ returns-then-count-binders-clause-cut c = λ l e.
     let ts = c.args.self.now in
     let t = term_at ts c.args.id in
     let is = c.args.binders.now in
-    subst (λ l. IsCut ts l t (take c.loose-count.result is)) (sym e) (subst (λ n. IsCut ts (binders_at ts is) t (take n is)) (sym c.loose-count.ensures) (cut-taken ts t is))
+    subst (λ l. IsCut ts l t (take c.loose-count.result is)) (sym e)
+    (subst (λ n. IsCut ts (binders_at ts is) t (take n is)) (sym c.loose-count.ensures) (cut-taken ts t is))

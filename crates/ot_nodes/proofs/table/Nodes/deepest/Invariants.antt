@@ -6,4 +6,5 @@ use Rattle.ot_nodes.proofs.table.Nodes.deepest.Given as goal
 
 -- the depths so far and those of the types that are left are those of all
 abbrev pub invariant-loop-id : goal.invariant-loop-id
-invariant-loop-id l = max l.most (depth_all names (types_at l.self (drop l.id-index l.ids))) ≡ depth_all names (types_at l.self l.ids)
+invariant-loop-id l = max l.most (depth_all names (types_at l.self (drop l.id-index l.ids)))
+    ≡ depth_all names (types_at l.self l.ids)

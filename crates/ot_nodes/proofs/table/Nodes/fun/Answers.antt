@@ -11,4 +11,7 @@ type_op-requires-clause-name c = has-arrow c.args.self.now c.primitives.ensures.
 pub returns-clause-ok : goal.returns-clause-ok
 returns-clause-ok c =
     let ts = c.args.self.now in
-    IfOk-weaker c.type_op.result _ _ (λ r h. h ∙ ap (λ n. Some (TypeItem (TyOp n (MoreTys (type_at ts c.args.a) (MoreTys (type_at ts c.args.b) NoTys))))) (name-arrow ts c.primitives.ensures.first)) c.type_op.ensures.ok
+    IfOk-weaker c.type_op.result _ _
+    (λ r h. h ∙ ap
+    (λ n. Some (TypeItem (TyOp n (MoreTys (type_at ts c.args.a) (MoreTys (type_at ts c.args.b) NoTys)))))
+    (name-arrow ts c.primitives.ensures.first)) c.type_op.ensures.ok

@@ -11,12 +11,17 @@ use Rattle.ot_nodes.proofs.table.Nodes.intern.Goals as goal
 
 pub returns-in-Some-clause-ok : goal.returns-in-Some-clause-ok
 returns-in-Some-clause-ok c =
-    let sound = subst (IsSound tree_of AreBelow Fits c.self.inside.nodes.entries) c.self.view_is c.self.invariant.nodes in
-    found tree_of AreBelow Fits node_eq laws _ c.args.self.now sound c.args.node c.in-Some.index (sym c.in-Some.ensures.index)
+    let sound = subst (IsSound tree_of AreBelow Fits c.self.inside.nodes.entries) c.self.view_is
+    c.self.invariant.nodes in
+    found tree_of AreBelow Fits node_eq laws _ c.args.self.now sound c.args.node c.in-Some.index
+    (sym c.in-Some.ensures.index)
 
 -- what the insert leaves
-grown : (c : goal.In_ok-insert-in-None) → Pushed tree_of AreBelow Fits node_eq laws c.self.inside.nodes.entries c.args.self.now c.args.node c.insert.new.self.entries
-grown c = pushed tree_of AreBelow Fits node_eq laws c.self.inside.nodes c.args.self.now c.self.view_is c.self.invariant.nodes c.args.node c.in_ok-beside-in-None.beside (parts-below _ _ c.requires) (c.requires, c.in_ok-beside-in-None.ensures)
+grown : (c : goal.In_ok-insert-in-None) → Pushed tree_of AreBelow Fits node_eq laws c.self.inside.nodes.entries
+    c.args.self.now c.args.node c.insert.new.self.entries
+grown c = pushed tree_of AreBelow Fits node_eq laws c.self.inside.nodes c.args.self.now c.self.view_is
+    c.self.invariant.nodes c.args.node c.in_ok-beside-in-None.beside (parts-below _ _ c.requires)
+    (c.requires, c.in_ok-beside-in-None.ensures)
     (sym c.in-None.ensures.index) c.insert.new.self.entries c.in_ok-insert-in-None.ensures.entries
 
 pub invariant_of-self-in-None : goal.invariant_of-self-in-None

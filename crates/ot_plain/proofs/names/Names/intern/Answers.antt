@@ -9,7 +9,9 @@ use Rattle.ot_plain.proofs.names.Names.intern.Goals as goal
 grown : (c : goal.In_ok-index) → IsNameTable c.insert_full.new.self.keys
 grown c =
     let keys = c.in_ok-index.ensures.keys in
-    subst IsNameTable (sym keys) (name_table-insert _ _ c.self.invariant.1 (subst (λ n. IsName n) c.name.view_is c.name.invariant) (subst (IsDistinct same_name) keys c.insert_full.ensures.unique))
+    subst IsNameTable (sym keys)
+    (name_table-insert _ _ c.self.invariant.1 (subst (λ n. IsName n) c.name.view_is c.name.invariant)
+    (subst (IsDistinct same_name) keys c.insert_full.ensures.unique))
 
 pub invariant_of-self-2 : goal.invariant_of-self-2
 invariant_of-self-2 c = (c.insert_full.ensures.unique, grown c)

@@ -9,7 +9,9 @@ loop-id-init c = λ s n m h. finds-nothing s n m c.args.self.now
 
 pub loop-id-preserved : goal.loop-id-preserved
 loop-id-preserved c =
-    types-step c.args.self.now c.loop-id.self c.add_type.new.self c.args.ids.now c.loop-id.id-index c.id-item.result c.loop-id-test.true c.id-item.is c.loop-id.invariant c.in_ok-add_type.ensures
+    types-step c.args.self.now c.loop-id.self c.add_type.new.self c.args.ids.now c.loop-id.id-index c.id-item.result
+    c.loop-id-test.true c.id-item.is c.loop-id.invariant c.in_ok-add_type.ensures
 
 pub returns : goal.returns
-returns c = λ s n m h. subst (λ is. Finds s n m c.args.self.now c.loop-id.self (type_symbols s is)) (take_all c.loop-id.id-index c.args.ids.now (omega arith)) (c.loop-id.invariant s n m h)
+returns c = λ s n m h. subst (λ is. Finds s n m c.args.self.now c.loop-id.self (type_symbols s is))
+    (take_all c.loop-id.id-index c.args.ids.now (omega arith)) (c.loop-id.invariant s n m h)

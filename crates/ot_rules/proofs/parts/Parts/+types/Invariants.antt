@@ -13,4 +13,5 @@ abbrev pub decreases-add_types : goal.decreases-add_types
 decreases-add_types l = 3 * l.above
 
 abbrev pub invariant-add_types-loop-id : goal.invariant-add_types-loop-id
-invariant-add_types-loop-id l = Gathers l.nodes (marks_all (types_at l.nodes (take l.id-index l.ids))) l.fn.self l.self
+invariant-add_types-loop-id l = Gathers l.nodes (marks_all (types_at l.nodes (take l.id-index l.ids))) l.fn.self
+    l.self

@@ -6,4 +6,6 @@ use Rattle.ot_rules.proofs.parts.Parts.add_mark.Goals as goal
 
 pub returns : goal.returns
 returns c =
-    gathers-mark c.args.nodes.now mark_eq mark-is c.args.self.now (record c.args.self.now { marks = c.insert.new.self }) c.args.mark c.requires.gone c.requires.mark c.in_ok-insert.ensures.keys refl refl
+    gathers-mark c.args.nodes.now mark_eq mark-is c.args.self.now
+    (record c.args.self.now { marks = c.insert.new.self }) c.args.mark c.requires.gone c.requires.mark
+    c.in_ok-insert.ensures.keys refl refl

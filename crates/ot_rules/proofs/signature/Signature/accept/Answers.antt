@@ -10,6 +10,11 @@ pub returns-clause-ok : goal.returns-clause-ok
 returns-clause-ok c =
     let ts = c.args.nodes.now in
     let s = c.args.self.now in
-    on_ok-both c.add.result (λ defs uses dl sig are. signature-more ts c.primitives.ensures.once dl (definition_at ts c.args.definition.now) s c.add.new.self sig c.in_ok-symbols.symbols.items c.in_ok-occurring.occurring (map (sequent_at ts) c.args.made.now)
-    c.in_ok-symbols.ensures.marks c.in_ok-symbols.ensures.are c.in_ok-occurring.ensures are (defs ∙ ap (insert_all mark_eq s.defined.keys) c.deref.ensures.value) (uses ∙ ap (insert_all mark_eq s.used.keys) c.as_slice.ensures.keys))
+    on_ok-both c.add.result
+    (λ defs uses dl sig are. signature-more ts c.primitives.ensures.once dl
+    (definition_at ts c.args.definition.now) s c.add.new.self sig c.in_ok-symbols.symbols.items
+    c.in_ok-occurring.occurring (map (sequent_at ts) c.args.made.now)
+    c.in_ok-symbols.ensures.marks c.in_ok-symbols.ensures.are c.in_ok-occurring.ensures are
+    (defs ∙ ap (insert_all mark_eq s.defined.keys) c.deref.ensures.value)
+    (uses ∙ ap (insert_all mark_eq s.used.keys) c.as_slice.ensures.keys))
     c.add.ensures.defined c.add.ensures.used

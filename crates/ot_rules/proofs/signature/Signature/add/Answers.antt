@@ -7,6 +7,7 @@ pub returns-in-Err-clause-err : goal.returns-in-Err-clause-err
 returns-in-Err-clause-err c =
     let old = c.args.self.now.defined.keys in
     record {
-      defined = c.truncate.ensures.keys ∙ ap (λ n. take n c.add_all.new.set.keys) c.len-before.ensures.len ∙ ap (take (length old)) c.in_ok-add_all.ensures.ok ∙ all-kept mark_eq old c.args.defined.now;
+      defined = c.truncate.ensures.keys ∙ ap (λ n. take n c.add_all.new.set.keys) c.len-before.ensures.len
+          ∙ ap (take (length old)) c.in_ok-add_all.ensures.ok ∙ all-kept mark_eq old c.args.defined.now;
       used = c.in-Err.ensures.err;
     }

@@ -17,24 +17,35 @@ returns-in_err-len-clause-found g c =
 
 pub returns-in_err-check_limits-clause-found : goal.returns-in_err-check_limits-clause-found
 returns-in_err-check_limits-clause-found g c =
-    let p = err_from_is_err_and c.from_residual-in_err-check_limits.result c.from_residual-in_err-check_limits.ensures.1 in
+    let p = err_from_is_err_and c.from_residual-in_err-check_limits.result
+    c.from_residual-in_err-check_limits.ensures.1 in
     let scan = c.first_piece.new.self in
     let len = c.in_ok-len.len in
     let fault = c.in_err-check_limits.field-0.0 in
     rw (p.1, p.2) (stop-found scan len _ fault c.in_ok-len.ensures.first (omega arith)
-    (subst (λ (s : Scan). ChecksLimits (Err fault) (s.number + 1) (limit_fault s.max s.before (take len s.held))) (seen scan _ _ c.self.view_is c.held.ensures) c.in_err-check_limits.ensures.limits))
+    (subst (λ (s : Scan). ChecksLimits (Err fault) (s.number + 1) (limit_fault s.max s.before (take len s.held)))
+    (seen scan _ _ c.self.view_is c.held.ensures) c.in_err-check_limits.ensures.limits))
 
 pub returns-then-not-is_passed_over-clause-found : goal.returns-then-not-is_passed_over-clause-found
 returns-then-not-is_passed_over-clause-found g c =
     let scan = c.first_piece.new.self in
     let len = c.in_ok-len.len in
-    let limits : limit_fault scan.max scan.before (take len scan.held) ≡ None = limits-kept scan _ _ len c.self.view_is c.held.ensures c.in_ok-check_limits.ensures.limits in
-    let holds : is_skipped (text_of (take len scan.held)) ≡ false = ap (λ bs. is_skipped (text_of (take len bs))) (sym c.held.ensures) ∙ sym c.if-not-is_passed_over.ensures in
+    let limits : limit_fault scan.max scan.before (take len scan.held) ≡ None =
+    limits-kept scan _ _ len c.self.view_is c.held.ensures c.in_ok-check_limits.ensures.limits in
+    let holds : is_skipped (text_of (take len scan.held)) ≡ false =
+    ap (λ bs. is_skipped (text_of (take len bs))) (sym c.held.ensures) ∙ sym c.if-not-is_passed_over.ensures in
     let some : 0 < len = omega arith in
     record {
       line = λ _. record {
         within = c.in_ok-len.ensures.first.within;
-        limited = omega (arith, subst (λ (s : Scan). s.before + length (take len s.held) ≤ s.max) (seen scan _ _ c.self.view_is c.held.ensures) c.in_ok-check_limits.ensures.within, length-take-le len scan.held c.in_ok-len.ensures.first.within);
+        limited =
+            omega (
+              arith,
+              subst (λ (s : Scan). s.before + length (take len s.held) ≤ s.max)
+                  (seen scan _ _ c.self.view_is c.held.ensures) c.in_ok-check_limits.ensures.within,
+              length-take-le len
+                  scan.held c.in_ok-len.ensures.first.within,
+            );
         holds = holds;
         fits = line-fits scan.max scan.before len scan.held _ c.in_ok-len.ensures.first limits;
         next = next-found scan len _ c.in_ok-len.ensures.first some limits holds;
@@ -47,15 +58,27 @@ lines-preserved g c =
     let scan = c.first_piece.new.self in
     let len = c.in_ok-len.len in
     let left = g.S.Source.left c.first_piece.new.source in
-    let limits : limit_fault scan.max scan.before (take len scan.held) ≡ None = limits-kept scan _ _ len c.self.view_is c.held.ensures c.in_ok-check_limits.ensures.limits in
-    let skipped = ap (λ bs. is_skipped (text_of (take len bs))) (sym c.held.ensures) ∙ sym c.if-not-is_passed_over.ensures in
+    let limits : limit_fault scan.max scan.before (take len scan.held) ≡ None =
+    limits-kept scan _ _ len c.self.view_is c.held.ensures c.in_ok-check_limits.ensures.limits in
+    let skipped = ap (λ bs. is_skipped (text_of (take len bs))) (sym c.held.ensures)
+    ∙ sym c.if-not-is_passed_over.ensures in
     record {
-      kept = keeps-more c.args.self.now c.lines.self c.take_piece.follows.lender-at-none (g.S.Source.left c.args.source.now) (g.S.Source.left c.lines.source) left c.lines.invariant.kept
-          (keeps-more c.lines.self scan c.take_piece.follows.lender-at-none (g.S.Source.left c.lines.source) left left (keeps-reads c.lines.self scan (g.S.Source.left c.lines.source) left c.in_ok-len.ensures.read)
-          (subst (λ (s : Scan). KeepsLines scan s left left) (sym c.take_piece.follows.holds-at-none) (keeps-skipped scan len left c.in_ok-len.ensures.first (omega arith) limits skipped)));
+      kept = keeps-more c.args.self.now c.lines.self c.take_piece.follows.lender-at-none
+          (g.S.Source.left c.args.source.now) (g.S.Source.left c.lines.source) left c.lines.invariant.kept
+          (keeps-more c.lines.self scan c.take_piece.follows.lender-at-none (g.S.Source.left c.lines.source) left left
+          (keeps-reads c.lines.self scan (g.S.Source.left c.lines.source) left c.in_ok-len.ensures.read)
+          (subst (λ (s : Scan). KeepsLines scan s left left) (sym c.take_piece.follows.holds-at-none)
+          (keeps-skipped scan len left c.in_ok-len.ensures.first (omega arith) limits skipped)));
       goes_on = record {
-        max = ap (λ (s : Scan). s.max) (c.take_piece.follows.holds-at-none) ∙ ap (λ (s : Scan). s.max) c.in_ok-len.ensures.read.held ∙ c.lines.invariant.goes_on.max;
-        number = omega (arith, c.lines.invariant.goes_on.number, ap (λ (s : Scan). s.number) c.take_piece.follows.holds-at-none, ap (λ (s : Scan). s.number) c.in_ok-len.ensures.read.held);
+        max = ap (λ (s : Scan). s.max) (c.take_piece.follows.holds-at-none)
+            ∙ ap (λ (s : Scan). s.max) c.in_ok-len.ensures.read.held ∙ c.lines.invariant.goes_on.max;
+        number = omega (
+          arith,
+          c.lines.invariant.goes_on.number,
+          ap (λ (s : Scan). s.number)
+              c.take_piece.follows.holds-at-none,
+          ap (λ (s : Scan). s.number) c.in_ok-len.ensures.read.held,
+        );
       };
       later = omega (arith, c.lines.invariant.later, c.in_ok-len.ensures.cause.later);
       folder = c.in_ok-len.ensures.folder ∙ c.lines.invariant.folder;

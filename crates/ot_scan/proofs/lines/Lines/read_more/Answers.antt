@@ -11,7 +11,10 @@ returns-clause-read g c =
       bytes = take c.in_ok-count.count c.read.new.buf;
       lost = c.in_ok-count.ensures.bytes.0;
       held =
-          ap (with_held (record { max = old.max_bytes; held = []; before = old.before; number = old.number })) (part-filled old.buffer c.move_to_front.new.buffer c.read.new.buf old.start old.end _ c.in_ok-count.count c.self.invariant.ordered (omega arith) c.in_ok-count.ensures.bound.0 c.move_to_front.ensures)
+          ap (with_held (record { max = old.max_bytes; held = []; before = old.before; number = old.number }))
+          (part-filled old.buffer c.move_to_front.new.buffer c.read.new.buf old.start old.end _
+          c.in_ok-count.count c.self.invariant.ordered (omega arith) c.in_ok-count.ensures.bound.0
+          c.move_to_front.ensures)
           ∙ ap (λ (s : Scan). with_held s (s.held ++ take c.in_ok-count.count c.read.new.buf)) c.self.view_is;
     }
 
@@ -22,6 +25,8 @@ returns-in_err-count-clause-read g c =
       bytes = [];
       lost = Consumes-kept _ _ c.in_err-count.ensures.bytes;
       held =
-          ap (with_held (record { max = old.max_bytes; held = []; before = old.before; number = old.number })) (part-unfilled old.buffer c.move_to_front.new.buffer c.read.new.buf old.start old.end _ c.self.invariant.ordered (omega arith) c.move_to_front.ensures)
+          ap (with_held (record { max = old.max_bytes; held = []; before = old.before; number = old.number }))
+          (part-unfilled old.buffer c.move_to_front.new.buffer c.read.new.buf old.start old.end _
+          c.self.invariant.ordered (omega arith) c.move_to_front.ensures)
           ∙ ap (λ (s : Scan). with_held s (s.held ++ [])) c.self.view_is;
     }

@@ -28,7 +28,8 @@ pub write_new_term-returns-in_ok-write_term-in-App-2 :
     goal.write_new_term-returns-in_ok-write_term-in-App-2
 write_new_term-returns-in_ok-write_term-in-App-2 t c = record {
   moves = as-term c.args.nodes.now _ _ _ _ (rw c.in-App.is at c.term_node.ensures.tree)
-      (moves-then c.args.nodes.now _ _ _ _ _ (nodes-then c.args.nodes.now _ _ _ (term_nodes (term_at c.args.nodes.now c.in-App.f))
+      (moves-then c.args.nodes.now _ _ _ _ _
+      (nodes-then c.args.nodes.now _ _ _ (term_nodes (term_at c.args.nodes.now c.in-App.f))
       (term_nodes (term_at c.args.nodes.now c.in-App.x)) c.in_ok-write_term-in-App.ensures.moves
       c.in_ok-write_term-in-App-2.ensures.moves) c.put-in-App.ensures.moves);
 }
@@ -51,6 +52,7 @@ write_term-returns-then-contains t c = record {
 pub write_term-returns : goal.write_term-returns
 write_term-returns t c = record {
   moves = term-added c.args.nodes.now _ _ _ c.args.id c.primitives.ensures.once c.requires.id
-      (sym c.contains.ensures ∙ c.if-contains.false) c.in_ok-write_new_term.ensures.moves c.in_ok-insert.ensures.keys refl refl
+      (sym c.contains.ensures ∙ c.if-contains.false) c.in_ok-write_new_term.ensures.moves c.in_ok-insert.ensures.keys
+      refl refl
       refl;
 }

@@ -9,5 +9,6 @@ pub returns : goal.returns
 returns c = record {
   moves = moves-as c.args.nodes.now _ _ _ _ (λ x. tokens-more (Word (spelling c.args.word) ∷ [])
       (map (token_of x) (map (operand_at c.args.nodes.now) c.args.operands.now)) x)
-      (moves-then c.args.nodes.now _ _ _ _ _ (c.put_word.ensures.moves c.args.nodes.now) c.put_operands.ensures.moves);
+      (moves-then c.args.nodes.now _ _ _ _ _ (c.put_word.ensures.moves c.args.nodes.now)
+      c.put_operands.ensures.moves);
 }

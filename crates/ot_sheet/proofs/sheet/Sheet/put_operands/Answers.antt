@@ -3,8 +3,10 @@ use Rattle.ot_sheet.proofs.Showing.{leads-step, leads-end, tokens-next, tokens-e
 use Rattle.ot_sheet.proofs.sheet.Sheet.put_operands.Goals as goal
 
 pub loop-operand-preserved : goal.loop-operand-preserved
-loop-operand-preserved c = leads-step c.args.nodes.now _ _ _ _ _ _ _ c.loop-operand.invariant c.put_operand.ensures.moves
-    (λ y. tokens-next c.args.nodes.now c.args.operands.now c.loop-operand.operand-index c.operand-item.result y (omega arith)
+loop-operand-preserved c =
+    leads-step c.args.nodes.now _ _ _ _ _ _ _ c.loop-operand.invariant c.put_operand.ensures.moves
+    (λ y. tokens-next c.args.nodes.now c.args.operands.now c.loop-operand.operand-index c.operand-item.result y
+    (omega arith)
     c.operand-item.is)
 
 pub returns : goal.returns

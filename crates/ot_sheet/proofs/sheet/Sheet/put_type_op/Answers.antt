@@ -6,5 +6,6 @@ returns c = record {
   moves = moves-as c.args.nodes.now _ _ _ _ (λ x. type-operator-tokens c.args.nodes.now c.args.name c.args.args.now x)
       (moves-then c.args.nodes.now _ _ _ _ _ (c.put_word.ensures.moves c.args.nodes.now)
       (moves-then c.args.nodes.now _ _ _ _ _ c.put_operand.ensures.moves
-      (moves-then c.args.nodes.now _ _ _ _ _ (c.put_number.ensures.moves c.args.nodes.now) c.put_types.ensures.moves)));
+      (moves-then c.args.nodes.now _ _ _ _ _ (c.put_number.ensures.moves c.args.nodes.now)
+      c.put_types.ensures.moves)));
 }

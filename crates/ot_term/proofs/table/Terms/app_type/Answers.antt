@@ -10,12 +10,17 @@ use Rattle.ot_term.proofs.table.Terms.app_type.Goals as goal
 use Rattle.ot_term.proofs.table.Terms.app_type.Goals.{Else-ne}
 
 -- the argument is of the type that the function takes
-typed : (c : Else-ne) → named_type numbers (NApp (term_at c.args.self.now.terms c.args.f) (term_at c.args.self.now.terms c.args.x)) ≡ Some (type_at c.args.self.now.types c.in-Some.parts.1)
+typed : (c : Else-ne)
+    → named_type numbers (NApp (term_at c.args.self.now.terms c.args.f) (term_at c.args.self.now.terms c.args.x))
+    ≡ Some (type_at c.args.self.now.types c.in-Some.parts.1)
 typed c =
     let types : c.self.inside.types ≡ c.args.self.now.types = ap (λ t. t.types) c.self.view_is in
-    let shape = subst (λ ts. type_at ts c.type_of.result ≡ fun_ty numbers (type_at ts c.in-Some.parts.0) (type_at ts c.in-Some.parts.1)) types c.in-Some.ensures.0 in
+    let shape =
+    subst (λ ts. type_at ts c.type_of.result ≡ fun_ty numbers (type_at ts c.in-Some.parts.0)
+    (type_at ts c.in-Some.parts.1)) types c.in-Some.ensures.0 in
     let same = eqb-true c.in-Some.parts.0 c.type_of-2.result (not-false _ (sym c.if-ne.ensures)) in
-    application-typed (term_at c.args.self.now.terms c.args.f) (term_at c.args.self.now.terms c.args.x) _ _ _ _ c.type_of.ensures.typed shape c.type_of-2.ensures.typed (ap (type_at c.args.self.now.types) same)
+    application-typed (term_at c.args.self.now.terms c.args.f) (term_at c.args.self.now.terms c.args.x) _ _ _ _
+    c.type_of.ensures.typed shape c.type_of-2.ensures.typed (ap (type_at c.args.self.now.types) same)
 
 pub returns-clause-typed : goal.returns-clause-typed
 returns-clause-typed c = typed (goal.at.returns-clause-typed c).Else-ne

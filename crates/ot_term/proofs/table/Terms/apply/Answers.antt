@@ -11,15 +11,24 @@ use Rattle.ot_term.proofs.table.Terms.apply.Goals as goal
 
 pub returns-then-deepest-ge-DEPTH_LIMIT-clause-nesting : goal.returns-then-deepest-ge-DEPTH_LIMIT-clause-nesting
 returns-then-deepest-ge-DEPTH_LIMIT-clause-nesting c =
-    λ _. past-depth (NApp (term_at c.args.self.now.terms c.args.f) (term_at c.args.self.now.terms c.args.x)) (omega (arith, c.depth.ensures.depth, c.depth-2.ensures.depth, c.max-deepest.ensures, c.if-deepest-ge-DEPTH_LIMIT.true))
+    λ _. past-depth (NApp (term_at c.args.self.now.terms c.args.f) (term_at c.args.self.now.terms c.args.x))
+    (omega (
+      arith,
+      c.depth.ensures.depth,
+      c.depth-2.ensures.depth,
+      c.max-deepest.ensures,
+      c.if-deepest-ge-DEPTH_LIMIT.true,
+    ))
 
 pub intern-requires-clause-suits : goal.intern-requires-clause-suits
 intern-requires-clause-suits c =
     let depth : c.max-deepest.result + 1 ≡ named_depth numbers (NApp (term_at c.args.self.now.terms c.args.f) (term_at c.args.self.now.terms c.args.x)) = omega (arith, c.depth.ensures.depth, c.depth-2.ensures.depth, c.max-deepest.ensures) in
-    suits-application c.args.self.now c.depth.ensures.table c.args.f c.args.x c.args.ty (c.max-deepest.result + 1) c.requires.f c.requires.x c.requires.ty c.requires.typed depth (omega arith)
+    suits-application c.args.self.now c.depth.ensures.table c.args.f c.args.x c.args.ty (c.max-deepest.result + 1)
+    c.requires.f c.requires.x c.requires.ty c.requires.typed depth (omega arith)
 
 pub returns-clause-names : goal.returns-clause-names
 returns-clause-names c = record {
   types = let e = ap names_in c.intern.ensures.types in omega (arith, e);
-  terms = omega (arith, c.intern.ensures.names, bound_named-term_at _ _ c.requires.f, bound_named-term_at _ _ c.requires.x);
+  terms = omega
+      (arith, c.intern.ensures.names, bound_named-term_at _ _ c.requires.f, bound_named-term_at _ _ c.requires.x);
 }

@@ -6,7 +6,8 @@ use Rattle.ot_term.proofs.Suiting.{suits-constant}
 use Rattle.ot_term.proofs.table.Terms.constant.Goals as goal
 
 pub intern-requires-clause-suits : goal.intern-requires-clause-suits
-intern-requires-clause-suits c = suits-constant c.args.self.now (subst IsTermTable c.self.view_is c.self.invariant.table) c.args.name c.args.ty c.requires
+intern-requires-clause-suits c = suits-constant c.args.self.now
+    (subst IsTermTable c.self.view_is c.self.invariant.table) c.args.name c.args.ty c.requires
 
 pub returns-clause-names : goal.returns-clause-names
 returns-clause-names c = record {

@@ -7,18 +7,23 @@ use Rattle.ot_term.proofs.FreeLemmas.{free_result, entry_within}
 use Rattle.ot_term.proofs.table.Terms.free_keys.Goals as goal
 
 pub class_beside-class-requires : goal.class_beside-class-requires
-class_beside-class-requires c = entry_within _ _ _ c.self.invariant c.args.self.now c.self.view_is c.args.id c.requires
+class_beside-class-requires c = entry_within _ _ _ c.self.invariant c.args.self.now c.self.view_is c.args.id
+    c.requires
 
 pub free_vars-requires : goal.free_vars-requires
 free_vars-requires c =
     let within = entry_within _ _ _ c.self.invariant c.args.self.now c.self.view_is c.args.id c.requires in
-    subst (λ k. k < length c.self.inside.classes) (sym c.class_beside-class.ensures) (classes_within _ _ _ c.self.invariant c.args.id within)
+    subst (λ k. k < length c.self.inside.classes) (sym c.class_beside-class.ensures)
+    (classes_within _ _ _ c.self.invariant c.args.id within)
 
 pub returns : goal.returns
 returns c =
     let tys = c.self.inside.types in
     let es = c.self.inside.nodes.entries in
     let within = entry_within _ _ _ c.self.invariant c.args.self.now c.self.view_is c.args.id c.requires in
-    let class = subst (IsClassOf tys c.self.inside.classes (term_at (terms_of tys es) c.args.id)) (sym c.class_beside-class.ensures) (class_at-number _ _ _ c.self.invariant c.args.id within) in
-    subst (λ (t : TermTable). IfOk c.free_vars.result (λ ks. AreFree t.types (term_at t.terms c.args.id) (map var_key ks.keys))) c.self.view_is
-    (free_result c.free_vars.result tys c.self.inside.classes _ _ class c.free_vars.ensures.free c.free_vars.ensures.once)
+    let class = subst (IsClassOf tys c.self.inside.classes (term_at (terms_of tys es) c.args.id))
+    (sym c.class_beside-class.ensures) (class_at-number _ _ _ c.self.invariant c.args.id within) in
+    subst (λ (t : TermTable). IfOk c.free_vars.result
+    (λ ks. AreFree t.types (term_at t.terms c.args.id) (map var_key ks.keys))) c.self.view_is
+    (free_result c.free_vars.result tys c.self.inside.classes _ _ class c.free_vars.ensures.free
+    c.free_vars.ensures.once)

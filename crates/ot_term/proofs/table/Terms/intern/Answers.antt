@@ -8,19 +8,25 @@ use Rattle.ot_term.proofs.NamesIn.{names_in_terms-push}
 use Rattle.ot_term.proofs.TermTableLemmas.{sound-classes, classes_below, looked_up, put_in, number_new}
 use Rattle.ot_term.proofs.table.Terms.intern.Goals as goal
 
-sound_still : (tys : List (Ty ℕ)) (cs : List (Tm ℕ)) (es new : List (TermNode × Beside)) → es ≡ new → IsTermSound tys cs es (terms_of tys es) → IsTermSound tys cs new (terms_of tys new)
+sound_still : (tys : List (Ty ℕ)) (cs : List (Tm ℕ)) (es new : List (TermNode × Beside)) → es ≡ new
+    → IsTermSound tys cs es (terms_of tys es) → IsTermSound tys cs new (terms_of tys new)
 sound_still tys cs es new same = subst (λ es. IsTermSound tys cs es (terms_of tys es)) same
 
 pub class_of-requires : goal.class_of-requires
-class_of-requires c = subst (IsFormBelow _) (sym c.with_classes-form.ensures) (classes_below _ _ c.self.inside.nodes c.self.invariant c.args.self.now c.self.view_is c.args.node c.requires.below)
+class_of-requires c =
+    subst (IsFormBelow _) (sym c.with_classes-form.ensures)
+    (classes_below _ _ c.self.inside.nodes c.self.invariant c.args.self.now c.self.view_is c.args.node
+    c.requires.below)
 
 pub invariant_of-self-in_err-class-in-Vacant : goal.invariant_of-self-in_err-class-in-Vacant
 invariant_of-self-in_err-class-in-Vacant c =
-    sound_still _ _ c.self.inside.nodes.entries _ (search rules) (sound-classes _ _ _ _ _ c.class_of.ensures.extends c.class_of.ensures.once c.self.invariant)
+    sound_still _ _ c.self.inside.nodes.entries _ (search rules)
+    (sound-classes _ _ _ _ _ c.class_of.ensures.extends c.class_of.ensures.once c.self.invariant)
 
 pub returns-in-Occupied-clause-ok : goal.returns-in-Occupied-clause-ok
 returns-in-Occupied-clause-ok c =
-    let found = looked_up _ _ c.self.inside.nodes c.self.invariant c.args.self.now c.self.view_is c.args.node (search rules) c.index.result (search rules) in
+    let found = looked_up _ _ c.self.inside.nodes c.self.invariant c.args.self.now c.self.view_is c.args.node
+    (search rules) c.index.result (search rules) in
     search (rules, found)
 
 pub overflow_cast-index : goal.overflow_cast-index
@@ -30,14 +36,18 @@ overflow_cast-index c =
 
 pub invariant_of-self-in-Vacant : goal.invariant_of-self-in-Vacant
 invariant_of-self-in-Vacant c =
-    (put_in _ _ c.self.inside.nodes c.self.invariant c.args.self.now c.self.view_is c.args.node c.class_of.new.classes c.class_of.ensures.extends c.class_of.ensures.once
-    (record { ty = c.args.ty; depth = c.args.depth; class = c.in_ok-class-in-Vacant.class }) c.requires.below c.requires.suits (search rules) (search rules) _ (search rules)).sound
+    (put_in _ _ c.self.inside.nodes c.self.invariant c.args.self.now c.self.view_is c.args.node c.class_of.new.classes
+    c.class_of.ensures.extends c.class_of.ensures.once
+    (record { ty = c.args.ty; depth = c.args.depth; class = c.in_ok-class-in-Vacant.class }) c.requires.below
+    c.requires.suits (search rules) (search rules) _ (search rules)).sound
 
 pub returns-in_ok-class-in-Vacant : goal.returns-in_ok-class-in-Vacant
 returns-in_ok-class-in-Vacant c =
     let last = number_new c.self.inside.nodes c.args.node (search rules) c.index-index.result (search rules) in
-    let put = put_in _ _ c.self.inside.nodes c.self.invariant c.args.self.now c.self.view_is c.args.node c.class_of.new.classes c.class_of.ensures.extends c.class_of.ensures.once
-    (record { ty = c.args.ty; depth = c.args.depth; class = c.in_ok-class-in-Vacant.class }) c.requires.below c.requires.suits (search rules) (search rules) _ (search rules) in
+    let put = put_in _ _ c.self.inside.nodes c.self.invariant c.args.self.now c.self.view_is c.args.node
+    c.class_of.new.classes c.class_of.ensures.extends c.class_of.ensures.once
+    (record { ty = c.args.ty; depth = c.args.depth; class = c.in_ok-class-in-Vacant.class }) c.requires.below
+    c.requires.suits (search rules) (search rules) _ (search rules) in
     record {
       grows = put.grows;
       ok = rw last put.last;

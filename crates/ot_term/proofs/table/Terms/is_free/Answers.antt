@@ -10,4 +10,5 @@ returns c =
     let t = c.args.self.now in
     c.contains.ensures.value
     ∙ ap (λ (ks : List ℕ). list_any (λ j. nat_eq j c.args.v.now.ty) ks) c.deref.ensures.value
-    ∙ named-is_free t.types c.types_of_name.ensures.table.types.injective c.args.v.now c.requires.ty (term_at t.terms c.args.id) c.in_ok-types.types.items c.in_ok-types.ensures.types
+    ∙ named-is_free t.types c.types_of_name.ensures.table.types.injective c.args.v.now c.requires.ty
+    (term_at t.terms c.args.id) c.in_ok-types.types.items c.in_ok-types.ensures.types

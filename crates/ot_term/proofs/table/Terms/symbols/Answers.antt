@@ -17,26 +17,44 @@ pub types_in-requires : goal.types_in-requires
 types_in-requires c = rw c.as_slice.ensures.value (All-from_member _ _ (λ i m. (c.in_ok-terms.ensures.each i m).0))
 
 pub add_constants-requires : goal.add_constants-requires
-add_constants-requires c = rw c.as_slice-2.ensures.value (All-from_member _ _ (λ i m. (c.in_ok-terms.ensures.each i m).0))
+add_constants-requires c =
+    rw c.as_slice-2.ensures.value (All-from_member _ _ (λ i m. (c.in_ok-terms.ensures.each i m).0))
 
 pub add_operators-requires : goal.add_operators-requires
-add_operators-requires c = rw (c.types.ensures.types, c.as_slice-3.ensures.value) (All-from_member _ _ (λ x m. (c.in_ok-types.ensures.each x m).0))
+add_operators-requires c = rw (c.types.ensures.types, c.as_slice-3.ensures.value)
+    (All-from_member _ _ (λ x m. (c.in_ok-types.ensures.each x m).0))
 
 -- the symbols before repetitions are dropped
-all_symbols : (c : goal.After-drop-terms-2) → c.as_slice-4.result.now ≡ flat_map (λ i. constant_of (term_at c.args.self.now.terms i)) c.in_ok-terms.terms.items ++ flat_map (λ i. operator_of (type_at c.args.self.now.types i)) c.in_ok-types.types.items
+all_symbols : (c : goal.After-drop-terms-2) → c.as_slice-4.result.now
+    ≡ flat_map (λ i. constant_of (term_at c.args.self.now.terms i)) c.in_ok-terms.terms.items
+    ++ flat_map (λ i. operator_of (type_at c.args.self.now.types i)) c.in_ok-types.types.items
 all_symbols c =
     c.as_slice-4.ensures.value ∙ c.in_ok-add_operators.ensures
-    ∙ rw (c.types.ensures.types, c.as_slice-3.ensures.value, c.in_ok-add_constants.ensures, c.as_slice-2.ensures.value, c.new-symbols.ensures.items)
+    ∙ rw (
+      c.types.ensures.types,
+      c.as_slice-3.ensures.value,
+      c.in_ok-add_constants.ensures,
+      c.as_slice-2.ensures.value,
+      c.new-symbols.ensures.items,
+    )
 
 pub returns-clause-symbols : goal.returns-clause-symbols
 returns-clause-symbols c =
     let root = term_at c.args.self.now.terms c.args.id in
     let types = rw c.as_slice.ensures.value at c.in_ok-types.ensures in
-    let found = symbols_found c.args.self.now root c.in_ok-terms.terms.items c.in_ok-types.types.items c.in_ok-terms.ensures types in
+    let found = symbols_found c.args.self.now root c.in_ok-terms.terms.items c.in_ok-types.types.items
+    c.in_ok-terms.ensures types in
     let members = distinct_members symbol_eq symbol-is [] c.as_slice-4.result.now in
-    let all = same_set-then (same_set-map symbol_of members) (subst (λ l. IsSameSet (map symbol_of l) (symbols_tm numbers (nameless numbers root))) (sym (all_symbols c)) found) in
-    IfOk-weaker c.distinct.result _ _ (λ symbols is. subst (λ l. IsSameSet (map symbol_of l) (symbols_tm numbers (nameless numbers root))) (sym is) all) c.distinct.ensures
+    let all =
+    same_set-then (same_set-map symbol_of members)
+    (subst (λ l. IsSameSet (map symbol_of l) (symbols_tm numbers (nameless numbers root))) (sym (all_symbols c))
+    found) in
+    IfOk-weaker c.distinct.result _ _
+    (λ symbols is. subst (λ l. IsSameSet (map symbol_of l) (symbols_tm numbers (nameless numbers root)))
+    (sym is) all) c.distinct.ensures
 
 pub returns-clause-once : goal.returns-clause-once
 returns-clause-once c =
-    IfOk-weaker c.distinct.result _ _ (λ symbols is. subst AreDistinct (sym is) (distinct_once symbol_eq symbol-is [] c.as_slice-4.result.now tt)) c.distinct.ensures
+    IfOk-weaker c.distinct.result _ _
+    (λ symbols is. subst AreDistinct (sym is) (distinct_once symbol_eq symbol-is [] c.as_slice-4.result.now tt))
+    c.distinct.ensures

@@ -1,7 +1,8 @@
 use Rattle.ot_term.proofs.TypesGrow.{TypesGrown, types_grown}
 use Rattle.ot_term.proofs.table.Terms.type_bool.Goals as goal
 
-grown : (c : goal.After-boolean) → TypesGrown c.self.inside.types c.self.inside.classes c.self.inside.nodes.entries c.args.self.now c.boolean.new.self
+grown : (c : goal.After-boolean) → TypesGrown c.self.inside.types c.self.inside.classes c.self.inside.nodes.entries
+    c.args.self.now c.boolean.new.self
 grown c = types_grown _ _ _ _ _ c.self.view_is c.self.invariant c.boolean.ensures.extends c.boolean.ensures.table
 
 pub invariant_of-self : goal.invariant_of-self

@@ -1,7 +1,8 @@
 use Rattle.ot_term.proofs.TypesGrow.{TypesGrown, types_grown}
 use Rattle.ot_term.proofs.table.Terms.type_fun.Goals as goal
 
-grown : (c : goal.After-fun) → TypesGrown c.self.inside.types c.self.inside.classes c.self.inside.nodes.entries c.args.self.now c.fun.new.self
+grown : (c : goal.After-fun) → TypesGrown c.self.inside.types c.self.inside.classes c.self.inside.nodes.entries
+    c.args.self.now c.fun.new.self
 grown c = types_grown _ _ _ _ _ c.self.view_is c.self.invariant c.fun.ensures.extends c.fun.ensures.table
 
 pub invariant_of-self : goal.invariant_of-self

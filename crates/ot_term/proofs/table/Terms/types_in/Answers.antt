@@ -7,4 +7,7 @@ pub subtypes-requires : goal.subtypes-requires
 subtypes-requires c = All-from_member _ _ (λ k m. (c.in_ok-pending.ensures.each k m).0)
 
 pub returns : goal.returns
-returns c = IfOk-weaker c.subtypes.result _ _ (λ types found. mentioned c.args.self.now c.args.ids.now c.in_ok-pending.pending.keys types.items c.in_ok-pending.ensures found) c.subtypes.ensures
+returns c =
+    IfOk-weaker c.subtypes.result _ _
+    (λ types found. mentioned c.args.self.now c.args.ids.now c.in_ok-pending.pending.keys types.items
+    c.in_ok-pending.ensures found) c.subtypes.ensures

@@ -8,18 +8,23 @@ use Rattle.ot_term.proofs.FreeLemmas.{entry_within}
 use Rattle.ot_term.proofs.table.Terms.types_of_name.Goals as goal
 
 pub class_beside-class-requires : goal.class_beside-class-requires
-class_beside-class-requires c = entry_within _ _ _ c.self.invariant c.args.self.now c.self.view_is c.args.id c.requires
+class_beside-class-requires c = entry_within _ _ _ c.self.invariant c.args.self.now c.self.view_is c.args.id
+    c.requires
 
 pub types_of-requires : goal.types_of-requires
 types_of-requires c =
     let within = entry_within _ _ _ c.self.invariant c.args.self.now c.self.view_is c.args.id c.requires in
-    subst (λ k. k < length c.self.inside.classes) (sym c.class_beside-class.ensures) (classes_within _ _ _ c.self.invariant c.args.id within)
+    subst (λ k. k < length c.self.inside.classes) (sym c.class_beside-class.ensures)
+    (classes_within _ _ _ c.self.invariant c.args.id within)
 
 pub returns-clause-types : goal.returns-clause-types
 returns-clause-types c =
     let tys = c.self.inside.types in
     let es = c.self.inside.nodes.entries in
     let within = entry_within _ _ _ c.self.invariant c.args.self.now c.self.view_is c.args.id c.requires in
-    let class = subst (IsClassOf tys c.self.inside.classes (term_at (terms_of tys es) c.args.id)) (sym c.class_beside-class.ensures) (class_at-number _ _ _ c.self.invariant c.args.id within) in
-    subst (λ (t : TermTable). IfOk c.types_of.result (λ ks. AreTypesOf t.types c.args.name (term_at t.terms c.args.id) ks.items)) c.self.view_is
-    (types_of_result c.types_of.result tys c.self.inside.classes _ _ c.args.name class c.types_of.ensures.free c.types_of.ensures.once)
+    let class = subst (IsClassOf tys c.self.inside.classes (term_at (terms_of tys es) c.args.id))
+    (sym c.class_beside-class.ensures) (class_at-number _ _ _ c.self.invariant c.args.id within) in
+    subst (λ (t : TermTable). IfOk c.types_of.result
+    (λ ks. AreTypesOf t.types c.args.name (term_at t.terms c.args.id) ks.items)) c.self.view_is
+    (types_of_result c.types_of.result tys c.self.inside.classes _ _ c.args.name class c.types_of.ensures.free
+    c.types_of.ensures.once)

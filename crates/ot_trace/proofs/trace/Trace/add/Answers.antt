@@ -4,7 +4,9 @@ use Rattle.ot_trace.proofs.trace.Trace.add.Goals as goal
 
 -- what the insert leaves
 left : (c : goal.In_ok-index) → Entered c.args.self.now c.args.step c.insert_full.new.self.entries c.in_ok-index.index
-left c = entered c.self.inside.steps c.args.self.now c.self.view_is c.self.invariant.0 c.args.step c.requires.inside c.requires.symbols c.insert_full.new.self.entries c.in_ok-index.ensures.entries c.in_ok-index.index c.in_ok-index.ensures.index
+left c = entered c.self.inside.steps c.args.self.now c.self.view_is c.self.invariant.0 c.args.step c.requires.inside
+    c.requires.symbols c.insert_full.new.self.entries c.in_ok-index.ensures.entries c.in_ok-index.index
+    c.in_ok-index.ensures.index
 
 pub invariant_of-self-2 : goal.invariant_of-self-2
 invariant_of-self-2 c =

@@ -6,8 +6,10 @@ use Rattle.ot_type.proofs.TypeTableLemmas.{node_eq, laws, type_sound}
 use Rattle.ot_type.proofs.table.Types.intern.Goals as goal
 
 -- what the insert leaves
-left : (c : goal.In_ok-index) → Entered tree_of ArgsBelow Describes node_eq c.args.self.now c.args.node c.insert_full.new.self.entries c.in_ok-index.index
-left c = entered tree_of ArgsBelow Describes node_eq laws c.self.inside.nodes c.args.self.now c.self.view_is c.self.invariant.nodes c.args.node c.args.beside c.requires.args c.requires.beside
+left : (c : goal.In_ok-index) → Entered tree_of ArgsBelow Describes node_eq c.args.self.now c.args.node
+    c.insert_full.new.self.entries c.in_ok-index.index
+left c = entered tree_of ArgsBelow Describes node_eq laws c.self.inside.nodes c.args.self.now c.self.view_is
+    c.self.invariant.nodes c.args.node c.args.beside c.requires.args c.requires.beside
     c.insert_full.new.self.entries c.in_ok-index.ensures.entries c.in_ok-index.index c.in_ok-index.ensures.index
 
 pub invariant_of-self-2 : goal.invariant_of-self-2

@@ -19,7 +19,8 @@ use Rattle.ot_values.proofs.values.Values.+term.Goals as goal
 
 -- ---- what is remembered
 pub term-returns-in-Some-clause-made : goal.term-returns-in-Some-clause-made
-term-returns-in-Some-clause-made t c = c.requires.known.terms.each c.args.id c.in-Some.known.now (sym c.in-Some.ensures.value)
+term-returns-in-Some-clause-made t c =
+    c.requires.known.terms.each c.args.id c.in-Some.known.now (sym c.in-Some.ensures.value)
 
 pub term-returns-clause-known : goal.term-returns-clause-known
 term-returns-clause-known t c =
@@ -27,7 +28,8 @@ term-returns-clause-known t c =
     let us = c.new_term.new.nodes in
     record {
       types = c.in_ok-term.ensures.known.types;
-      terms = kept-insert (IsTermOf s us) c.new_term.new.self.terms.entries c.insert.new.self.entries c.args.id c.in_ok-term.term
+      terms = kept-insert (IsTermOf s us) c.new_term.new.self.terms.entries c.insert.new.self.entries c.args.id
+          c.in_ok-term.term
           c.in_ok-term.ensures.known.terms c.in_ok-term.ensures.made c.in_ok-insert.ensures.updates.0;
     }
 
@@ -38,17 +40,21 @@ new_term-returns-in_ok-v-in-VarTerm-clause-made t c =
     let us = c.variable.new.nodes in
     let variable = c.in_ok-variable-in-VarTerm.variable in
     let v = variable_at us c.in_ok-v-in-VarTerm.v in
-    let is = c.in_ok-word.ensures.made ∙ (λ i. Make (c.in-VarTerm.is i) (origins_of s (c.in_ok-variable-in-VarTerm.ensures i))) in
-    let made = var_term-makes (origin_of s c.args.id) (origin_of s variable) v is c.in_ok-v-in-VarTerm.ensures.made.made in
+    let is = c.in_ok-word.ensures.made
+    ∙ (λ i. Make (c.in-VarTerm.is i) (origins_of s (c.in_ok-variable-in-VarTerm.ensures i))) in
+    let made =
+    var_term-makes (origin_of s c.args.id) (origin_of s variable) v is c.in_ok-v-in-VarTerm.ensures.made.made in
     IfOk-weaker c.free.result _ _ (λ r h. term-made s c.free.new.self c.args.id r (Free v) h made) c.free.ensures.ok
 
 pub new_term-returns-in_ok-v-in-VarTerm-clause-known : goal.new_term-returns-in_ok-v-in-VarTerm-clause-known
-new_term-returns-in_ok-v-in-VarTerm-clause-known t c = known-later c.args.session.now c.variable.new.nodes c.free.new.self
+new_term-returns-in_ok-v-in-VarTerm-clause-known t c =
+    known-later c.args.session.now c.variable.new.nodes c.free.new.self
     c.free.ensures.extends c.variable.new.self c.in_ok-v-in-VarTerm.ensures.known
 
 -- ---- a constant
 pub new_term-returns-in_err-name-in-ConstTerm-clause-known : goal.new_term-returns-in_err-name-in-ConstTerm-clause-known
-new_term-returns-in_err-name-in-ConstTerm-clause-known t c = known-later c.args.session.now c.args.nodes.now c.constant.new.nodes
+new_term-returns-in_err-name-in-ConstTerm-clause-known t c =
+    known-later c.args.session.now c.args.nodes.now c.constant.new.nodes
     c.in_err-name-in-ConstTerm.ensures.extends c.args.self.now c.requires.known
 
 pub new_term-ty-requires-clause-known : goal.new_term-ty-requires-clause-known
@@ -87,7 +93,8 @@ new_term-returns-in_ok-ty-in-ConstTerm-clause-known t c =
 
 -- ---- an application
 pub new_term-app-requires-clause-f : goal.new_term-app-requires-clause-f
-new_term-app-requires-clause-f t c = still-term c.term.new.nodes c.term-in-AppTerm.new.nodes c.in_ok-x-in-AppTerm.ensures.extends
+new_term-app-requires-clause-f t c =
+    still-term c.term.new.nodes c.term-in-AppTerm.new.nodes c.in_ok-x-in-AppTerm.ensures.extends
     c.in_ok-f-in-AppTerm.f c.in_ok-f-in-AppTerm.ensures.made.has
 
 pub new_term-returns-in_ok-x-in-AppTerm-clause-made : goal.new_term-returns-in_ok-x-in-AppTerm-clause-made
@@ -101,18 +108,23 @@ new_term-returns-in_ok-x-in-AppTerm-clause-made t c =
     function c.in_ok-f-in-AppTerm.f c.in_ok-f-in-AppTerm.ensures.made in
     let left = term_at ws c.in_ok-f-in-AppTerm.f in
     let right = term_at ws c.in_ok-x-in-AppTerm.x in
-    let is = c.in_ok-word.ensures.made ∙ (λ i. Make (c.in-AppTerm.is i) (origins_of s (c.in_ok-function-in-AppTerm.ensures i))) in
-    let made = app_term-makes (origin_of s c.args.id) (origin_of s function) (origin_of s argument) left right is f.made
+    let is = c.in_ok-word.ensures.made
+    ∙ (λ i. Make (c.in-AppTerm.is i) (origins_of s (c.in_ok-function-in-AppTerm.ensures i))) in
+    let made = app_term-makes (origin_of s c.args.id) (origin_of s function) (origin_of s argument) left right is
+    f.made
     c.in_ok-x-in-AppTerm.ensures.made.made in
-    IfOk-weaker c.app.result _ _ (λ r h. term-made s c.app.new.self c.args.id r (App left right) h made) c.app.ensures.ok
+    IfOk-weaker c.app.result _ _ (λ r h. term-made s c.app.new.self c.args.id r (App left right) h made)
+    c.app.ensures.ok
 
 pub new_term-returns-in_ok-x-in-AppTerm-clause-known : goal.new_term-returns-in_ok-x-in-AppTerm-clause-known
-new_term-returns-in_ok-x-in-AppTerm-clause-known t c = known-later c.args.session.now c.term-in-AppTerm.new.nodes c.app.new.self
+new_term-returns-in_ok-x-in-AppTerm-clause-known t c =
+    known-later c.args.session.now c.term-in-AppTerm.new.nodes c.app.new.self
     c.app.ensures.extends c.term-in-AppTerm.new.self c.in_ok-x-in-AppTerm.ensures.known
 
 -- ---- an abstraction
 pub new_term-abstraction-requires-clause-v : goal.new_term-abstraction-requires-clause-v
-new_term-abstraction-requires-clause-v t c = still-variable c.variable-in-AbsTerm.new.nodes c.term-in-AbsTerm.new.nodes
+new_term-abstraction-requires-clause-v t c =
+    still-variable c.variable-in-AbsTerm.new.nodes c.term-in-AbsTerm.new.nodes
     c.in_ok-body-in-AbsTerm.ensures.extends c.in_ok-v-in-AbsTerm.v c.in_ok-v-in-AbsTerm.ensures.made.has
 
 pub new_term-returns-in_ok-body-in-AbsTerm-clause-made : goal.new_term-returns-in_ok-body-in-AbsTerm-clause-made
@@ -125,7 +137,8 @@ new_term-returns-in_ok-body-in-AbsTerm-clause-made t c =
     variable c.in_ok-v-in-AbsTerm.v c.in_ok-v-in-AbsTerm.ensures.made in
     let v = variable_at ws c.in_ok-v-in-AbsTerm.v in
     let body = term_at ws c.in_ok-body-in-AbsTerm.body in
-    let is = c.in_ok-word.ensures.made ∙ (λ i. Make (c.in-AbsTerm.is i) (origins_of s (c.in_ok-variable-in-AbsTerm.ensures i))) in
+    let is = c.in_ok-word.ensures.made
+    ∙ (λ i. Make (c.in-AbsTerm.is i) (origins_of s (c.in_ok-variable-in-AbsTerm.ensures i))) in
     let made = abs_term-makes (origin_of s c.args.id) (origin_of s variable)
     (origin_of s c.in_ok-variable-in-AbsTerm.body) v body is w.made
     c.in_ok-body-in-AbsTerm.ensures.made.made in

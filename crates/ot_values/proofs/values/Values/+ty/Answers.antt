@@ -19,7 +19,8 @@ use Rattle.ot_values.proofs.values.Values.+ty.Goals as goal
 
 -- ---- a type variable
 pub new_type-returns-in_err-name-in-VarType-clause-known : goal.new_type-returns-in_err-name-in-VarType-clause-known
-new_type-returns-in_err-name-in-VarType-clause-known t c = known-later c.args.session.now c.args.nodes.now c.name.new.nodes
+new_type-returns-in_err-name-in-VarType-clause-known t c =
+    known-later c.args.session.now c.args.nodes.now c.name.new.nodes
     c.in_err-name-in-VarType.ensures.extends c.args.self.now c.requires.known
 
 pub new_type-returns-in_ok-name-in-VarType-clause-made : goal.new_type-returns-in_ok-name-in-VarType-clause-made
@@ -29,14 +30,17 @@ new_type-returns-in_ok-name-in-VarType-clause-made t c =
     let ws = c.type_var.new.self in
     let spelled = c.in_ok-spelled-in-VarType.spelled in
     let n = name_at us c.in_ok-name-in-VarType.name in
-    let is = c.in_ok-word.ensures.made ∙ (λ i. Make (c.in-VarType.is i) (origins_of s (c.in_ok-spelled-in-VarType.ensures i))) in
-    let made = var_type-makes (origin_of s c.args.id) (origin_of s spelled) n is c.in_ok-name-in-VarType.ensures.made.is in
+    let is = c.in_ok-word.ensures.made
+    ∙ (λ i. Make (c.in-VarType.is i) (origins_of s (c.in_ok-spelled-in-VarType.ensures i))) in
+    let made =
+    var_type-makes (origin_of s c.args.id) (origin_of s spelled) n is c.in_ok-name-in-VarType.ensures.made.is in
     IfOk-weaker c.type_var.result _ _ (λ r h. type-made s ws c.args.id r (TyVar n) h made) c.type_var.ensures.ok
 
 pub new_type-returns-in_ok-name-in-VarType-clause-known : goal.new_type-returns-in_ok-name-in-VarType-clause-known
 new_type-returns-in_ok-name-in-VarType-clause-known t c =
     known-later c.args.session.now c.args.nodes.now c.type_var.new.self
-    (Extends-trans c.in_ok-name-in-VarType.ensures.extends c.type_var.ensures.extends) c.args.self.now c.requires.known
+    (Extends-trans c.in_ok-name-in-VarType.ensures.extends c.type_var.ensures.extends) c.args.self.now
+    c.requires.known
 
 -- ---- a type operator with its arguments
 pub new_type-returns-in_err-name-in-OpType-clause-known : goal.new_type-returns-in_err-name-in-OpType-clause-known
@@ -77,28 +81,33 @@ new_type-returns-in_ok-args-in-OpType-clause-made t c =
     let n = name_at ws id in
     let symbol = symbol-later s us ws c.in_ok-args-in-OpType.ensures.extends
     words.TypeOp operator id c.in_ok-name-in-OpType.ensures.made in
-    let is = c.in_ok-word.ensures.made ∙ (λ i. Make (c.in-OpType.is i) (origins_of s (c.in_ok-operator-in-OpType.ensures i))) in
+    let is = c.in_ok-word.ensures.made
+    ∙ (λ i. Make (c.in-OpType.is i) (origins_of s (c.in_ok-operator-in-OpType.ensures i))) in
     let made = op_type-makes ws (origin_of s c.args.id) (origin_of s operator)
     (origin_of s list) n c.in_ok-args-in-OpType.args.items is
-    (type_op-makes (origin_of s operator) symbol.spelled n symbol.is symbol.name_is) c.in_ok-args-in-OpType.ensures.made.read in
+    (type_op-makes (origin_of s operator) symbol.spelled n symbol.is symbol.name_is)
+    c.in_ok-args-in-OpType.ensures.made.read in
     IfOk-weaker c.type_op.result _ _
     (λ r h. type-made s zs c.args.id r (TyOp n (types_at ws c.in_ok-args-in-OpType.args.items))
     (subst (λ ids. IsType zs r (TyOp n (types_at ws ids))) c.deref.ensures.value h) made) c.type_op.ensures.ok
 
 pub new_type-returns-in_ok-args-in-OpType-clause-known : goal.new_type-returns-in_ok-args-in-OpType-clause-known
-new_type-returns-in_ok-args-in-OpType-clause-known t c = known-later c.args.session.now c.types.new.nodes c.type_op.new.self
+new_type-returns-in_ok-args-in-OpType-clause-known t c =
+    known-later c.args.session.now c.types.new.nodes c.type_op.new.self
     c.type_op.ensures.extends c.types.new.self c.in_ok-args-in-OpType.ensures.known
 
 -- ---- what is remembered
 pub ty-returns-in-Some-clause-made : goal.ty-returns-in-Some-clause-made
-ty-returns-in-Some-clause-made t c = c.requires.known.types.each c.args.id c.in-Some.known.now (sym c.in-Some.ensures.value)
+ty-returns-in-Some-clause-made t c =
+    c.requires.known.types.each c.args.id c.in-Some.known.now (sym c.in-Some.ensures.value)
 
 pub ty-returns-clause-known : goal.ty-returns-clause-known
 ty-returns-clause-known t c =
     let s = c.args.session.now in
     let us = c.new_type.new.nodes in
     record {
-      types = kept-insert (IsTypeOf s us) c.new_type.new.self.types.entries c.insert.new.self.entries c.args.id c.in_ok-ty.ty
+      types = kept-insert (IsTypeOf s us) c.new_type.new.self.types.entries c.insert.new.self.entries c.args.id
+          c.in_ok-ty.ty
           c.in_ok-ty.ensures.known.types c.in_ok-ty.ensures.made c.in_ok-insert.ensures.updates.0;
       terms = c.in_ok-ty.ensures.known.terms;
     }
@@ -114,13 +123,15 @@ types-loop-step-preserved t c =
       extends = Extends-trans c.loop-step.invariant.extends e;
       known = c.in_ok-ty.ensures.known;
       each =
-          each-next (IsTypeOf s us) (IsTypeOf s ws) (type_of-later s us ws e) c.deref-step-items.result.now c.loop-step.step-index
+          each-next (IsTypeOf s us) (IsTypeOf s ws) (type_of-later s us ws e) c.deref-step-items.result.now
+          c.loop-step.step-index
           c.step-item.result c.loop-step.found.items c.push.new.self.items c.in_ok-ty.ty (omega arith) c.step-item.is
           c.loop-step.invariant.each c.in_ok-ty.ensures.made c.in_ok-push.ensures.items;
     }
 
 pub types-returns-clause-made : goal.types-returns-clause-made
 types-returns-clause-made t c =
-    types-gathered c.args.session.now c.loop-step.nodes c.args.list c.in_ok-steps.steps.items c.deref-step-items.result.now
+    types-gathered c.args.session.now c.loop-step.nodes c.args.list c.in_ok-steps.steps.items
+    c.deref-step-items.result.now
     c.loop-step.step-index c.deref-step-items.ensures.value c.in_ok-steps.ensures.made
     (omega arith) c.loop-step.found.items c.loop-step.invariant.each

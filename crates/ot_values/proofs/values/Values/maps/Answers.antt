@@ -16,7 +16,8 @@ returns-clause-made c =
     let list = c.args.list in
     let types = c.in_ok-types.types.items in
     let terms = c.in_ok-terms.terms.items in
-    let pairs = type_pairs-later s us ws c.in_ok-terms.ensures.extends c.in_ok-first.first types c.in_ok-types.ensures.made in
+    let pairs = type_pairs-later s us ws c.in_ok-terms.ensures.extends c.in_ok-first.first types
+    c.in_ok-types.ensures.made in
     let read = maps-read s ws c.primitives.ensures.once list c.in_ok-first.first
     c.in_ok-first.second types terms c.in_ok-first.ensures.made
     pairs c.in_ok-terms.ensures.made in

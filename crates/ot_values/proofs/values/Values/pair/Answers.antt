@@ -8,7 +8,8 @@ returns-in_err-name-clause-known c =
     c.args.self.now c.requires.known
 
 pub variable-requires-clause-known : goal.variable-requires-clause-known
-variable-requires-clause-known c = known-later c.args.session.now c.args.nodes.now c.name.new.nodes c.in_ok-name.ensures.extends
+variable-requires-clause-known c =
+    known-later c.args.session.now c.args.nodes.now c.name.new.nodes c.in_ok-name.ensures.extends
     c.args.self.now c.requires.known
 
 pub returns-clause-made : goal.returns-clause-made
@@ -18,5 +19,6 @@ returns-clause-made c =
     let ws = c.variable.new.nodes in
     let name = name-later s us ws c.in_ok-variable.ensures.extends
     c.in_ok-spelled.spelled c.in_ok-name.name c.in_ok-name.ensures.made in
-    pair-read s ws c.args.list c.in_ok-spelled.spelled c.in_ok-spelled.variable c.in_ok-name.name c.in_ok-variable.variable
+    pair-read s ws c.args.list c.in_ok-spelled.spelled c.in_ok-spelled.variable c.in_ok-name.name
+    c.in_ok-variable.variable
     c.in_ok-spelled.ensures.made name c.in_ok-variable.ensures.made

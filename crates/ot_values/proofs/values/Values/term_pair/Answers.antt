@@ -9,5 +9,6 @@ returns-clause-made c =
     let ws = c.term.new.nodes in
     let w = variable-later s us ws c.in_ok-term.ensures.extends
     c.in_ok-first.first c.in_ok-variable.variable c.in_ok-variable.ensures.made in
-    term_pair-read s ws c.args.list c.in_ok-first.first c.in_ok-first.second c.in_ok-variable.variable c.in_ok-term.term
+    term_pair-read s ws c.args.list c.in_ok-first.first c.in_ok-first.second c.in_ok-variable.variable
+    c.in_ok-term.term
     c.in_ok-first.ensures.made w c.in_ok-term.ensures.made

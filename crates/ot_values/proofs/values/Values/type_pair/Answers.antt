@@ -9,7 +9,8 @@ returns-in_err-name-clause-known c =
 
 pub ty-requires-clause-known : goal.ty-requires-clause-known
 ty-requires-clause-known c =
-    known-later c.args.session.now c.args.nodes.now c.name.new.nodes c.in_ok-name.ensures.extends c.args.self.now c.requires.known
+    known-later c.args.session.now c.args.nodes.now c.name.new.nodes c.in_ok-name.ensures.extends c.args.self.now
+    c.requires.known
 
 pub returns-clause-made : goal.returns-clause-made
 returns-clause-made c =

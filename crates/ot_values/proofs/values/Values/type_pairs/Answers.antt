@@ -15,13 +15,16 @@ loop-step-preserved c =
     record {
       extends = Extends-trans c.loop-step.invariant.extends e;
       known = c.in_ok-pair.ensures.known;
-      each = each-next (IsTypePairOf s us) (IsTypePairOf s ws) (type_pair-later s us ws e) c.deref-step-items.result.now
-          c.loop-step.step-index c.step-item.result c.loop-step.found.items c.push.new.self.items c.in_ok-pair.pair (omega arith)
+      each = each-next (IsTypePairOf s us) (IsTypePairOf s ws) (type_pair-later s us ws e)
+          c.deref-step-items.result.now
+          c.loop-step.step-index c.step-item.result c.loop-step.found.items c.push.new.self.items c.in_ok-pair.pair
+          (omega arith)
           c.step-item.is c.loop-step.invariant.each c.in_ok-pair.ensures.made c.in_ok-push.ensures.items;
     }
 
 pub returns-clause-made : goal.returns-clause-made
 returns-clause-made c =
-    type_pairs-gathered c.args.session.now c.loop-step.nodes c.args.list c.in_ok-steps.steps.items c.deref-step-items.result.now
+    type_pairs-gathered c.args.session.now c.loop-step.nodes c.args.list c.in_ok-steps.steps.items
+    c.deref-step-items.result.now
     c.loop-step.step-index c.deref-step-items.ensures.value c.in_ok-steps.ensures.made
     (omega arith) c.loop-step.found.items c.loop-step.invariant.each

@@ -12,7 +12,8 @@ returns-in_err-name-in-Var-clause-known c = known-later c.args.session.now c.arg
     c.in_err-name-in-Var.ensures.extends c.args.self.now c.requires.known
 
 pub ty-requires-clause-known : goal.ty-requires-clause-known
-ty-requires-clause-known c = known-later c.args.session.now c.args.nodes.now c.name.new.nodes c.in_ok-name-in-Var.ensures.extends
+ty-requires-clause-known c =
+    known-later c.args.session.now c.args.nodes.now c.name.new.nodes c.in_ok-name-in-Var.ensures.extends
     c.args.self.now c.requires.known
 
 pub returns-in_ok-ty-in-Var-clause-made : goal.returns-in_ok-ty-in-Var-clause-made
@@ -24,9 +25,11 @@ returns-in_ok-ty-in-Var-clause-made c =
     let id = c.in_ok-name-in-Var.name in
     let ty = c.in_ok-ty-in-Var.ensures.made in
     let name = name-later s us ws c.in_ok-ty-in-Var.ensures.extends spelled id c.in_ok-name-in-Var.ensures.made in
-    let made = c.in_ok-word.ensures.made ∙ (λ i. Make (c.in-Var.is i) (origins_of s (c.in_ok-spelled-in-Var.ensures i))) in
+    let made = c.in_ok-word.ensures.made
+    ∙ (λ i. Make (c.in-Var.is i) (origins_of s (c.in_ok-spelled-in-Var.ensures i))) in
     record {
       has = (name.has, ty.has);
-      made = var-makes (origin_of s c.args.id) (origin_of s spelled) (origin_of s c.in_ok-spelled-in-Var.ty) (name_at ws id)
+      made = var-makes (origin_of s c.args.id) (origin_of s spelled) (origin_of s c.in_ok-spelled-in-Var.ty)
+          (name_at ws id)
           (type_at ws c.in_ok-ty-in-Var.ty) made name.is ty.made;
     }

@@ -10,14 +10,16 @@ use Rattle.ot_verify.specs.Finding.{IsFoundVariable}
 use Rattle.ot_verify.specs.Held.{view_of}
 use Rattle.ot_verify.specs.Logged.{MadeBy}
 use Rattle.ot_verify.proofs.Found.{variable-found, variable-there, variable-held}
-use Rattle.ot_verify.proofs.Logging.{at-same, held_of, log-kept, state-then, sequent-here, no-sequent, made-sequent, supported, theorem-here, statement-here}
+use Rattle.ot_verify.proofs.Logging.{at-same, held_of, log-kept, state-then, sequent-here, no-sequent}
+use Rattle.ot_verify.proofs.Logging.{made-sequent, supported, theorem-here, statement-here}
 use Rattle.ot_verify.proofs.log.Log.abs_thm.Goals as goal
 
 pub returns-in_default : goal.returns-in_default
 returns-in_default c = λ w a h k.
     let l = c.self.inside in
     let (v, g) = variable-there l c.args.self.now c.self.view_is c.self.invariant c.args.v w h in
-    absurd (c.in_default.ensures v (subst (λ (is : List ℕ). IsFoundVariable l.nodes is c.args.v v) (sym c.deref.ensures.value) g))
+    absurd (c.in_default.ensures v
+    (subst (λ (is : List ℕ). IsFoundVariable l.nodes is c.args.v v) (sym c.deref.ensures.value) g))
 
 pub returns-in_err-a : goal.returns-in_err-a
 returns-in_err-a c =
@@ -54,7 +56,8 @@ pub returns : goal.returns
 returns c = λ w s h k.
     let l = c.self.inside in
     let us = c.abs_thm-made.new.nodes in
-    let g = subst (λ (is : List ℕ). IsFoundVariable l.nodes is c.args.v c.in-Some.v) c.deref.ensures.value c.in-Some.ensures in
+    let g = subst (λ (is : List ℕ). IsFoundVariable l.nodes is c.args.v c.in-Some.v) c.deref.ensures.value
+    c.in-Some.ensures in
     let v = variable_at l.nodes c.in-Some.v in
     let a = sequent_at l.nodes c.in_ok-a.a.now in
     let variable = variable-found l c.args.self.now c.self.view_is c.self.invariant c.args.v c.in-Some.v w g h in

@@ -15,18 +15,21 @@ pub are_statements_within-requires-clause-typed : goal.are_statements_within-req
 are_statements_within-requires-clause-typed c =
     let a : Accepted = record { definition = c.args.definition; theorems = c.args.theorems } in
     subst (All (λ q. AreWellTyped (sequent_at c.self.inside.nodes q))) (sym c.deref.ensures.value)
-    (accepted-typed c.self.inside c.self.invariant c.args.self.now c.self.view_is a c.requires.definition c.requires.theorems)
+    (accepted-typed c.self.inside c.self.invariant c.args.self.now c.self.view_is a c.requires.definition
+    c.requires.theorems)
 
 pub invariant_of-self : goal.invariant_of-self
 invariant_of-self c =
     with-typings c.self.inside c.are_statements_within.new.nodes c.are_statements_within.new.typings.known.entries
-    (log-kept c.self.inside c.are_statements_within.new.nodes c.are_statements_within.ensures.extends c.self.invariant)
+    (log-kept c.self.inside c.are_statements_within.new.nodes c.are_statements_within.ensures.extends
+    c.self.invariant)
     c.are_statements_within.ensures.known
 
 pub invariant_of-self-then-not-within : goal.invariant_of-self-then-not-within
 invariant_of-self-then-not-within c =
     with-typings c.self.inside c.are_statements_within.new.nodes c.are_statements_within.new.typings.known.entries
-    (log-kept c.self.inside c.are_statements_within.new.nodes c.are_statements_within.ensures.extends c.self.invariant)
+    (log-kept c.self.inside c.are_statements_within.new.nodes c.are_statements_within.ensures.extends
+    c.self.invariant)
     c.are_statements_within.ensures.known
 
 pub copies-requires : goal.copies-requires
@@ -40,7 +43,8 @@ copies-requires c =
 pub invariant_of-self-in_err-copies : goal.invariant_of-self-in_err-copies
 invariant_of-self-in_err-copies c =
     with-typings c.self.inside c.are_statements_within.new.nodes c.are_statements_within.new.typings.known.entries
-    (log-kept c.self.inside c.are_statements_within.new.nodes c.are_statements_within.ensures.extends c.self.invariant)
+    (log-kept c.self.inside c.are_statements_within.new.nodes c.are_statements_within.ensures.extends
+    c.self.invariant)
     c.are_statements_within.ensures.known
 
 pub invariant_of-self-in_err-reserve : goal.invariant_of-self-in_err-reserve
@@ -58,7 +62,8 @@ invariant_of-self-in_err-reserve-2 c =
     let l = c.self.inside in
     let us = c.are_statements_within.new.nodes in
     let k = log-kept l us c.are_statements_within.ensures.extends c.self.invariant in
-    whole-same l us (record (held_of l) { sequents = c.reserve.new.self.items; definitions = c.reserve-2.new.self.items })
+    whole-same l us
+    (record (held_of l) { sequents = c.reserve.new.self.items; definitions = c.reserve-2.new.self.items })
     c.are_statements_within.new.typings.known.entries l.signature l.assumptions l.results
     (λ i. record (held_of l) { sequents = c.reserve.ensures.items i; definitions = c.reserve-2.ensures.items i })
     k c.are_statements_within.ensures.known k.signature k.assumptions k.results
@@ -82,7 +87,8 @@ invariant_of-self-in_err-accept c =
     let l = c.self.inside in
     let us = c.are_statements_within.new.nodes in
     let k = log-kept l us c.are_statements_within.ensures.extends c.self.invariant in
-    whole-same l us (record (held_of l) { sequents = c.reserve.new.self.items; definitions = c.reserve-2.new.self.items })
+    whole-same l us
+    (record (held_of l) { sequents = c.reserve.new.self.items; definitions = c.reserve-2.new.self.items })
     c.are_statements_within.new.typings.known.entries c.accept.new.self l.assumptions l.results
     (λ i. record (held_of l) { sequents = c.reserve.ensures.items i; definitions = c.reserve-2.ensures.items i }) k
     c.are_statements_within.ensures.known (signature-same us (map (accepted_at us) l.definitions.items)

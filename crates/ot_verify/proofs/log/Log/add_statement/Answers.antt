@@ -31,7 +31,8 @@ invariant_of-self-in_err-push c =
 pub invariant_of-self-2 : goal.invariant_of-self-2
 invariant_of-self-2 c =
     statement-kept c.self.inside c.self.invariant c.args.self.now c.self.view_is c.args.statement c.requires
-    c.is_statement_within.new.nodes c.is_statement_within.ensures.extends c.is_statement_within.new.typings.known.entries
+    c.is_statement_within.new.nodes c.is_statement_within.ensures.extends
+    c.is_statement_within.new.typings.known.entries
     c.push.new.self.items c.is_statement_within.ensures.known c.in_ok-push.ensures.items
 
 pub returns : goal.returns

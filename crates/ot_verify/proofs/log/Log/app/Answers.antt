@@ -44,5 +44,6 @@ returns c = λ t u h k.
     let x = term-here c.self.inside c.args.self.now c.self.view_is c.args.x
     c.in_ok-x.field-0.now u (at-same _ _ _ _ c.deref-2.ensures.value c.in_ok-x.ensures) k in
     made-term (App t u) (term_at us c.in_ok-id.id) c.add_term.result c.args.self.now.state (state_of us (held_of l))
-    c.add_term.new.self.state (state-then l us c.args.self.now c.self.view_is c.in_ok-id.ensures.extends c.self.invariant)
+    c.add_term.new.self.state
+    (state-then l us c.args.self.now c.self.view_is c.in_ok-id.ensures.extends c.self.invariant)
     (term-is us c.in_ok-id.id _ c.in_ok-id.ensures.ok ∙ (λ i. App (f i) (x i))) c.add_term.ensures

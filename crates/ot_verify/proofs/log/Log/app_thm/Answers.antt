@@ -7,7 +7,8 @@ use Rattle.ot_records.proofs.StepSound.{app_thm-sound}
 use Rattle.ot_rules.specs.Statements.{sequent_at}
 use Rattle.ot_verify.specs.Held.{view_of}
 use Rattle.ot_verify.specs.Logged.{MadeBy}
-use Rattle.ot_verify.proofs.Logging.{at-same, held_of, log-kept, state-then, sequent-here, no-sequent, made-sequent, supported, theorem-here, statement-here}
+use Rattle.ot_verify.proofs.Logging.{at-same, held_of, log-kept, state-then, sequent-here, no-sequent}
+use Rattle.ot_verify.proofs.Logging.{made-sequent, supported, theorem-here, statement-here}
 use Rattle.ot_verify.proofs.log.Log.app_thm.Goals as goal
 
 pub returns-in_err-a : goal.returns-in_err-a
@@ -42,7 +43,8 @@ add_sequent-requires c =
     c.in_ok-a.a.now (at-same _ _ _ _ c.deref.ensures.value c.in_ok-a.ensures) in
     let second = theorem-here l us c.app_thm-made.ensures.extends c.self.invariant c.args.arguments
     c.in_ok-b.b.now (at-same _ _ _ _ c.deref-2.ensures.value c.in_ok-b.ensures) in
-    supported c.app_thm-made.result (app_thm_step names (sequent_at l.nodes c.in_ok-a.a.now) (sequent_at l.nodes c.in_ok-b.b.now))
+    supported c.app_thm-made.result
+    (app_thm_step names (sequent_at l.nodes c.in_ok-a.a.now) (sequent_at l.nodes c.in_ok-b.b.now))
     mid c.app_thm-made.ensures.gives
     (λ q h. app_thm-sound names tells_names mid.state.assumptions mid.state.definitions
     (sequent_at l.nodes c.in_ok-a.a.now) (sequent_at l.nodes c.in_ok-b.b.now) q first second h)
@@ -58,7 +60,8 @@ returns c = λ x y h k.
     subst (λ z. MadeBy c.add_sequent.result (makes_sequent names (app_thm_step names z y))
     c.args.self.now.state c.add_sequent.new.self.state)
     first
-    (subst (λ z. MadeBy c.add_sequent.result (makes_sequent names (app_thm_step names (sequent_at l.nodes c.in_ok-a.a.now) z))
+    (subst (λ z. MadeBy c.add_sequent.result
+    (makes_sequent names (app_thm_step names (sequent_at l.nodes c.in_ok-a.a.now) z))
     c.args.self.now.state c.add_sequent.new.self.state)
     second
     (made-sequent c.app_thm-made.result

@@ -7,7 +7,8 @@ use Rattle.ot_records.proofs.StepSound.{assume-sound}
 use Rattle.ot_nodes.specs.Items.{term_at}
 use Rattle.ot_verify.specs.Held.{view_of}
 use Rattle.ot_verify.specs.Logged.{MadeBy}
-use Rattle.ot_verify.proofs.Logging.{at-same, held_of, log-kept, with-typings, state-then, term-here, held-here, no-term, made-sequent, supported}
+use Rattle.ot_verify.proofs.Logging.{at-same, held_of, log-kept, with-typings, state-then}
+use Rattle.ot_verify.proofs.Logging.{term-here, held-here, no-term, made-sequent, supported}
 use Rattle.ot_verify.proofs.log.Log.assume.Goals as goal
 
 pub returns-in_err-term : goal.returns-in_err-term
@@ -26,15 +27,18 @@ assume-made-requires-clause-known c = c.self.invariant.typings
 pub invariant_of-self : goal.invariant_of-self
 invariant_of-self c =
     with-typings c.self.inside c.assume-made.new.nodes c.assume-made.new.typings.known.entries
-    (log-kept c.self.inside c.assume-made.new.nodes c.assume-made.ensures.extends c.self.invariant) c.assume-made.ensures.known
+    (log-kept c.self.inside c.assume-made.new.nodes c.assume-made.ensures.extends c.self.invariant)
+    c.assume-made.ensures.known
 
 pub add_sequent-requires : goal.add_sequent-requires
 add_sequent-requires c =
     let l = c.self.inside in
     let us = c.assume-made.new.nodes in
     let mid = view_of us (held_of l) in
-    supported c.assume-made.result (assume_step names (term_at l.nodes c.in_ok-term.field-0.now)) mid c.assume-made.ensures.gives
-    (assume-sound names tells_names mid.state.assumptions mid.state.definitions (term_at l.nodes c.in_ok-term.field-0.now))
+    supported c.assume-made.result (assume_step names (term_at l.nodes c.in_ok-term.field-0.now)) mid
+    c.assume-made.ensures.gives
+    (assume-sound names tells_names mid.state.assumptions mid.state.definitions
+    (term_at l.nodes c.in_ok-term.field-0.now))
 
 pub returns : goal.returns
 returns c = λ t h.

@@ -14,7 +14,8 @@ use Rattle.ot_verify.specs.Held.{state_of}
 use Rattle.ot_verify.specs.Logged.{MadeBy}
 use Rattle.ot_verify.proofs.Places.{missed}
 use Rattle.ot_verify.proofs.Found.{terms-found, terms-there, terms-held}
-use Rattle.ot_verify.proofs.Logging.{at-same, held_of, log-kept, with-typings, state-then, term-here, held-here, no-term}
+use Rattle.ot_verify.proofs.Logging.{at-same, held_of, log-kept, with-typings}
+use Rattle.ot_verify.proofs.Logging.{state-then, term-here, held-here, no-term}
 use Rattle.ot_verify.proofs.log.Log.assumption.Goals as goal
 
 pub returns-in_err-concl : goal.returns-in_err-concl
@@ -76,7 +77,8 @@ add_assumed-requires-clause-gives c =
     let us = c.assumption-made.new.nodes in
     let found = subst (λ (is : List ℕ). AreEach (IsAt is) c.args.hyps.now c.in-Ok.found.items)
     c.deref-2.ensures.value c.in-Ok.ensures in
-    let held = terms-held l c.args.self.now c.self.view_is c.self.invariant c.args.hyps.now c.in-Ok.found.items found in
+    let held = terms-held l c.args.self.now c.self.view_is c.self.invariant c.args.hyps.now c.in-Ok.found.items
+    found in
     let one = held-here l c.self.invariant c.args.concl c.in_ok-concl.field-0.now
     (at-same _ _ _ _ c.deref.ensures.value c.in_ok-concl.ensures) in
     let hyps = ap (terms_at l.nodes) c.deref-3.ensures.value
@@ -103,7 +105,9 @@ returns c = λ p hs h k.
     let concl = term-stays l.nodes us e c.in_ok-concl.field-0.now one
     ∙ term-here l now c.self.view_is c.args.concl c.in_ok-concl.field-0.now
     p (at-same _ _ _ _ c.deref.ensures.value c.in_ok-concl.ensures) h in
-    subst (λ z. MadeBy c.add_assumed.result (makes_assumption names (assumption_step names hs p)) z c.add_assumed.new.self.state)
+    subst (λ z. MadeBy c.add_assumed.result (makes_assumption names (assumption_step names hs p)) z
+    c.add_assumed.new.self.state)
     (state-then l us now c.self.view_is e c.self.invariant)
-    (subst (λ z. MadeBy c.add_assumed.result (makes_assumption names z) (state_of us (held_of l)) c.add_assumed.new.self.state)
+    (subst (λ z. MadeBy c.add_assumed.result (makes_assumption names z) (state_of us (held_of l))
+    c.add_assumed.new.self.state)
     (λ i. assumption_step names (hyps i) (concl i)) c.add_assumed.ensures)

@@ -7,7 +7,8 @@ use Rattle.ot_records.proofs.StepSound.{beta-sound}
 use Rattle.ot_nodes.specs.Items.{term_at}
 use Rattle.ot_verify.specs.Held.{view_of}
 use Rattle.ot_verify.specs.Logged.{MadeBy}
-use Rattle.ot_verify.proofs.Logging.{at-same, held_of, log-kept, with-typings, state-then, term-here, held-here, no-term, made-sequent, supported}
+use Rattle.ot_verify.proofs.Logging.{at-same, held_of, log-kept, with-typings, state-then}
+use Rattle.ot_verify.proofs.Logging.{term-here, held-here, no-term, made-sequent, supported}
 use Rattle.ot_verify.proofs.log.Log.beta_conv.Goals as goal
 
 pub returns-in_err-term : goal.returns-in_err-term

@@ -18,6 +18,8 @@ pub returns : goal.returns
 returns c =
     let l = c.self.inside in
     let us = c.bound.new.self in
-    made-term (Bound c.args.place) (term_at us c.in_ok-id.id) c.add_term.result c.args.self.now.state (state_of us (held_of l))
-    c.add_term.new.self.state (state-then l us c.args.self.now c.self.view_is c.in_ok-id.ensures.extends c.self.invariant)
+    made-term (Bound c.args.place) (term_at us c.in_ok-id.id) c.add_term.result c.args.self.now.state
+    (state_of us (held_of l))
+    c.add_term.new.self.state
+    (state-then l us c.args.self.now c.self.view_is c.in_ok-id.ensures.extends c.self.invariant)
     (term-is us c.in_ok-id.id _ c.in_ok-id.ensures.ok) c.add_term.ensures

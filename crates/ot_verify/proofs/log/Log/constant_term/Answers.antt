@@ -2,7 +2,8 @@ use Rattle.std.proofs.Common.{◌∙◌}
 use Rattle.std.proofs.Common.{true≢false, sym}
 use Rattle.ot_plain.specs.Trees.{Con}
 use Rattle.ot_nodes.proofs.ItemLemmas.{has-name, name-is, has-term, term-is}
-use Rattle.ot_verify.proofs.Logging.{at-same, held_of, log-kept, state-then, named-here, type-here, typed-here, no-type, made-term}
+use Rattle.ot_verify.proofs.Logging.{at-same, held_of, log-kept, state-then, named-here}
+use Rattle.ot_verify.proofs.Logging.{type-here, typed-here, no-type, made-term}
 use Rattle.ot_nodes.specs.Items.{term_at}
 use Rattle.ot_verify.specs.Held.{state_of}
 use Rattle.ot_verify.proofs.log.Log.constant_term.Goals as goal
@@ -44,5 +45,6 @@ returns c = λ n t h k.
     let ty = type-here c.self.inside c.args.self.now c.self.view_is c.args.ty
     c.in_ok-ty.field-0.now t (at-same _ _ _ _ c.deref.ensures.value c.in_ok-ty.ensures) k in
     made-term (Con n t) (term_at us c.in_ok-id.id) c.add_term.result c.args.self.now.state (state_of us (held_of l))
-    c.add_term.new.self.state (state-then l us c.args.self.now c.self.view_is c.in_ok-id.ensures.extends c.self.invariant)
+    c.add_term.new.self.state
+    (state-then l us c.args.self.now c.self.view_is c.in_ok-id.ensures.extends c.self.invariant)
     (term-is us c.in_ok-id.id _ c.in_ok-id.ensures.ok ∙ (λ i. Con (name i) (ty i))) c.add_term.ensures

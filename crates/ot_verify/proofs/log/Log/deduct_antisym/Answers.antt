@@ -7,7 +7,8 @@ use Rattle.ot_records.proofs.StepSound.{deduct_antisym-sound}
 use Rattle.ot_rules.specs.Statements.{sequent_at}
 use Rattle.ot_verify.specs.Held.{view_of}
 use Rattle.ot_verify.specs.Logged.{MadeBy}
-use Rattle.ot_verify.proofs.Logging.{at-same, held_of, log-kept, state-then, sequent-here, no-sequent, made-sequent, supported, theorem-here, statement-here}
+use Rattle.ot_verify.proofs.Logging.{at-same, held_of, log-kept, state-then, sequent-here, no-sequent}
+use Rattle.ot_verify.proofs.Logging.{made-sequent, supported, theorem-here, statement-here}
 use Rattle.ot_verify.proofs.log.Log.deduct_antisym.Goals as goal
 
 pub returns-in_err-a : goal.returns-in_err-a

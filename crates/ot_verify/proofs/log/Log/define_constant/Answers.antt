@@ -13,7 +13,8 @@ use Rattle.ot_rules.proofs.Staying.{still-definition}
 use Rattle.ot_verify.specs.Held.{state_of, view_of}
 use Rattle.ot_verify.specs.Logged.{MadeBy}
 use Rattle.ot_verify.proofs.Defining.{Steps, made-definition, establishes, defines-grown}
-use Rattle.ot_verify.proofs.Logging.{at-same, held_of, log-kept, with-typings, state-then, named-here, term-here, held-here, no-term}
+use Rattle.ot_verify.proofs.Logging.{at-same, held_of, log-kept, with-typings, state-then}
+use Rattle.ot_verify.proofs.Logging.{named-here, term-here, held-here, no-term}
 use Rattle.ot_verify.proofs.log.Log.define_constant.Goals as goal
 
 pub returns-then-not-has_name : goal.returns-then-not-has_name
@@ -64,7 +65,8 @@ add_definition-requires-clause-made c =
     let n = name_at l.nodes c.args.name in
     let t = term_at l.nodes c.in_ok-term.field-0.now in
     let case : Steps = λ dl. constant_step names dl n t in
-    let defines = c.constant-made.ensures.defines (state_of l.nodes (held_of l)).definitions c.self.invariant.signature in
+    let defines = c.constant-made.ensures.defines (state_of l.nodes (held_of l)).definitions
+    c.self.invariant.signature in
     let grown = defines-grown l us c.constant-made.ensures.extends c.self.invariant d
     (c.has_name.ensures.0 c.if-not-has_name.false, term) c.constant-made.result case defines in
     establishes c.constant-made.result (definition_at us d) case mid grown
@@ -79,13 +81,16 @@ returns c = λ n t h k.
     let d : code.Definition = kind.Constant c.args.name c.in_ok-term.field-0.now in
     let at = at-same _ _ _ _ c.deref.ensures.value c.in_ok-term.ensures in
     let term = held-here l c.self.invariant c.args.term c.in_ok-term.field-0.now at in
-    let case : Steps = λ dl. constant_step names dl (name_at l.nodes c.args.name) (term_at l.nodes c.in_ok-term.field-0.now) in
-    let defines = c.constant-made.ensures.defines (state_of l.nodes (held_of l)).definitions c.self.invariant.signature in
+    let case : Steps =
+    λ dl. constant_step names dl (name_at l.nodes c.args.name) (term_at l.nodes c.in_ok-term.field-0.now) in
+    let defines = c.constant-made.ensures.defines (state_of l.nodes (held_of l)).definitions
+    c.self.invariant.signature in
     let grown = defines-grown l us c.constant-made.ensures.extends c.self.invariant d
     (c.has_name.ensures.0 c.if-not-has_name.false, term) c.constant-made.result case defines in
     let name = name-is l.nodes c.args.name n (named-here l now c.self.view_is c.args.name n h) in
     let here = term-here l now c.self.view_is c.args.term c.in_ok-term.field-0.now t at k in
-    subst (λ (z : Steps). MadeBy c.add_definition.result (makes_definition names z) now.state c.add_definition.new.self.state)
+    subst (λ (z : Steps). MadeBy c.add_definition.result (makes_definition names z) now.state
+    c.add_definition.new.self.state)
     (λ i dl. constant_step names dl (name i) (here i))
     (made-definition c.constant-made.result (definition_at us d) case c.add_definition.result now.state mid
     c.add_definition.new.self (state-then l us now c.self.view_is c.constant-made.ensures.extends c.self.invariant)

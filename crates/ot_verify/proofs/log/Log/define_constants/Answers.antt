@@ -22,7 +22,8 @@ use Rattle.ot_verify.proofs.Adding.{sequent-typed}
 use Rattle.ot_verify.proofs.Defining.{Steps, copy-same, copy-held, made-definition, establishes, defines-grown}
 use Rattle.ot_verify.proofs.Places.{missed}
 use Rattle.ot_verify.proofs.Found.{constant_pairs-found, constant_pairs-there, constant_pairs-held}
-use Rattle.ot_verify.proofs.Logging.{at-same, held_of, log-kept, state-then, sequent-here, no-sequent, theorem-here, theorem-now, statement-here}
+use Rattle.ot_verify.proofs.Logging.{at-same, held_of, log-kept, state-then, sequent-here}
+use Rattle.ot_verify.proofs.Logging.{no-sequent, theorem-here, theorem-now, statement-here}
 use Rattle.ot_verify.proofs.log.Log.define_constants.Goals as goal
 
 pub returns-in-Err : goal.returns-in-Err
@@ -31,7 +32,8 @@ returns-in-Err c = λ ps a h k.
     missed (IsFoundConstantPair l.nodes l.types.items) c.in-Err.refusal c.args.pairs.now
     (makes_definition names (λ dl. constants_step names dl ps a)) c.args.self.now.state _
     (subst
-    (λ (is : List ℕ). FindsEach {Y = ℕ × VariableNode} (IsFoundConstantPair l.nodes is) (Err c.in-Err.refusal) c.args.pairs.now)
+    (λ (is : List ℕ). FindsEach {Y = ℕ × VariableNode} (IsFoundConstantPair l.nodes is) (Err c.in-Err.refusal)
+    c.args.pairs.now)
     c.deref.ensures.value c.in-Err.ensures)
     (constant_pairs-there l c.args.self.now c.self.view_is c.self.invariant c.args.pairs.now ps h)
 
@@ -51,7 +53,8 @@ constants-made-requires-clause-pairs c =
 pub constants-made-requires-clause-premise : goal.constants-made-requires-clause-premise
 constants-made-requires-clause-premise c =
     let l = c.self.inside in
-    copy-held l.nodes c.in_ok-from.from.now c.in_ok-premise.premise c.in_ok-premise.ensures.0 c.in_ok-premise.ensures.1
+    copy-held l.nodes c.in_ok-from.from.now c.in_ok-premise.premise c.in_ok-premise.ensures.0
+    c.in_ok-premise.ensures.1
     (statement-here l c.self.invariant c.args.premise c.in_ok-from.from.now
     (at-same _ _ _ _ c.deref-2.ensures.value c.in_ok-from.ensures))
 
@@ -65,7 +68,8 @@ constants-made-requires-clause-typed c =
     subst AreWellTyped (sym same) (sequent-typed (sequent_at l.nodes c.in_ok-from.from.now) follows.sequent)
 
 pub invariant_of-self : goal.invariant_of-self
-invariant_of-self c = log-kept c.self.inside c.constants-made.new.nodes c.constants-made.ensures.extends c.self.invariant
+invariant_of-self c = log-kept c.self.inside c.constants-made.new.nodes c.constants-made.ensures.extends
+    c.self.invariant
 
 pub add_definition-requires-clause-definition : goal.add_definition-requires-clause-definition
 add_definition-requires-clause-definition c =
@@ -100,13 +104,16 @@ add_definition-requires-clause-made c =
     let ps = pairs_at l.nodes c.deref-3.result.now in
     let q = sequent_at l.nodes c.in_ok-premise.premise in
     let case : Steps = λ dl. constants_step names dl ps q in
-    let defines = c.constants-made.ensures.defines (state_of l.nodes (held_of l)).definitions c.self.invariant.signature in
+    let defines = c.constants-made.ensures.defines (state_of l.nodes (held_of l)).definitions
+    c.self.invariant.signature in
     let given = subst
-    (λ xs. Defines c.constants-made.result (ListDef (pairs_at l.nodes xs) q) (case (state_of l.nodes (held_of l)).definitions) us)
+    (λ xs. Defines c.constants-made.result (ListDef (pairs_at l.nodes xs) q)
+    (case (state_of l.nodes (held_of l)).definitions) us)
     c.deref-3.ensures.value defines in
     let grown = defines-grown l us c.constants-made.ensures.extends
     c.self.invariant d (pairs, premise) c.constants-made.result case given in
-    let first = theorem-here l us c.constants-made.ensures.extends c.self.invariant c.args.premise c.in_ok-from.from.now at in
+    let first = theorem-here l us c.constants-made.ensures.extends c.self.invariant c.args.premise
+    c.in_ok-from.from.now at in
     let theorem = subst (IsTheorem names mid.state.assumptions mid.state.definitions) (sym same) first in
     establishes c.constants-made.result (definition_at us d) case mid grown
     (λ r h. constants-acceptable names tells_names mid.state.assumptions mid.state.definitions ps q r theorem h)
@@ -121,23 +128,27 @@ returns c = λ ps a h k.
     let at = at-same _ _ _ _ c.deref-2.ensures.value c.in_ok-from.ensures in
     let found = subst (λ (is : List ℕ). AreEach (IsFoundConstantPair l.nodes is) c.args.pairs.now c.in-Ok.found.items)
     c.deref.ensures.value c.in-Ok.ensures in
-    let pairs = constant_pairs-held l now c.self.view_is c.self.invariant c.args.pairs.now c.in-Ok.found.items found in
+    let pairs = constant_pairs-held l now c.self.view_is c.self.invariant c.args.pairs.now c.in-Ok.found.items
+    found in
     let premise = copy-held l.nodes c.in_ok-from.from.now c.in_ok-premise.premise c.in_ok-premise.ensures.0
     c.in_ok-premise.ensures.1 (statement-here l c.self.invariant c.args.premise c.in_ok-from.from.now at) in
     let same = copy-same l.nodes c.in_ok-from.from.now c.in_ok-premise.premise
     c.in_ok-premise.ensures.0 c.in_ok-premise.ensures.1 in
     let q = sequent_at l.nodes c.in_ok-premise.premise in
     let case : Steps = λ dl. constants_step names dl (pairs_at l.nodes c.deref-3.result.now) q in
-    let defines = c.constants-made.ensures.defines (state_of l.nodes (held_of l)).definitions c.self.invariant.signature in
+    let defines = c.constants-made.ensures.defines (state_of l.nodes (held_of l)).definitions
+    c.self.invariant.signature in
     let given = subst
-    (λ xs. Defines c.constants-made.result (ListDef (pairs_at l.nodes xs) q) (case (state_of l.nodes (held_of l)).definitions) us)
+    (λ xs. Defines c.constants-made.result (ListDef (pairs_at l.nodes xs) q)
+    (case (state_of l.nodes (held_of l)).definitions) us)
     c.deref-3.ensures.value defines in
     let grown = defines-grown l us c.constants-made.ensures.extends
     c.self.invariant d (pairs, premise) c.constants-made.result case given in
     let is_ps = ap (pairs_at l.nodes) c.deref-3.ensures.value
     ∙ constant_pairs-found l now c.self.view_is c.self.invariant c.args.pairs.now c.in-Ok.found.items ps found h in
     let is_a = same ∙ sequent-here l now c.self.view_is c.args.premise c.in_ok-from.from.now a at k in
-    subst (λ (z : Steps). MadeBy c.add_definition.result (makes_definition names z) now.state c.add_definition.new.self.state)
+    subst (λ (z : Steps). MadeBy c.add_definition.result (makes_definition names z) now.state
+    c.add_definition.new.self.state)
     (λ i dl. constants_step names dl (is_ps i) (is_a i))
     (made-definition c.constants-made.result (definition_at us d) case c.add_definition.result now.state mid
     c.add_definition.new.self (state-then l us now c.self.view_is c.constants-made.ensures.extends c.self.invariant)

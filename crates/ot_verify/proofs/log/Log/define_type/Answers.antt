@@ -20,7 +20,8 @@ use Rattle.ot_verify.specs.Logged.{MadeBy}
 use Rattle.ot_verify.proofs.Adding.{sequent-typed}
 use Rattle.ot_verify.proofs.Defining.{Steps, copy-same, copy-held, made-definition, establishes, defines-grown}
 use Rattle.ot_verify.proofs.Found.{names-found, names-held}
-use Rattle.ot_verify.proofs.Logging.{at-same, held_of, log-kept, with-typings, state-then, named-here, sequent-here, no-sequent, theorem-here, theorem-now, statement-here}
+use Rattle.ot_verify.proofs.Logging.{at-same, held_of, log-kept, with-typings, state-then, named-here}
+use Rattle.ot_verify.proofs.Logging.{sequent-here, no-sequent, theorem-here, theorem-now, statement-here}
 use Rattle.ot_verify.proofs.log.Log.define_type.Goals as goal
 
 pub returns-then-not-has_name : goal.returns-then-not-has_name
@@ -73,7 +74,8 @@ type_operator-made-requires-clause-vars c =
 pub type_operator-made-requires-clause-premise : goal.type_operator-made-requires-clause-premise
 type_operator-made-requires-clause-premise c =
     let l = c.self.inside in
-    copy-held l.nodes c.in_ok-from.from.now c.in_ok-premise.premise c.in_ok-premise.ensures.0 c.in_ok-premise.ensures.1
+    copy-held l.nodes c.in_ok-from.from.now c.in_ok-premise.premise c.in_ok-premise.ensures.0
+    c.in_ok-premise.ensures.1
     (statement-here l c.self.invariant c.args.premise c.in_ok-from.from.now
     (at-same _ _ _ _ c.deref.ensures.value c.in_ok-from.ensures))
 
@@ -103,8 +105,10 @@ add_definition-requires-clause-definition c =
     let at = at-same _ _ _ _ c.deref.ensures.value c.in_ok-from.ensures in
     let premise = copy-held l.nodes c.in_ok-from.from.now c.in_ok-premise.premise c.in_ok-premise.ensures.0
     c.in_ok-premise.ensures.1 (statement-here l c.self.invariant c.args.premise c.in_ok-from.from.now at) in
-    let vars = subst (All (HasName l.nodes)) (sym c.in_ok-vars.ensures.items) (c.are_names.ensures.0 c.if-not-are_names.false) in
-    let d : code.Definition = kind.TypeOperator c.args.name c.args.abs c.args.rep c.in_ok-vars.vars c.in_ok-premise.premise in
+    let vars = subst (All (HasName l.nodes)) (sym c.in_ok-vars.ensures.items)
+    (c.are_names.ensures.0 c.if-not-are_names.false) in
+    let d : code.Definition =
+    kind.TypeOperator c.args.name c.args.abs c.args.rep c.in_ok-vars.vars c.in_ok-premise.premise in
     let has : HasDefinition l.nodes d = (
       c.has_name.ensures.0 c.if-not-has_name.false,
       c.has_name-2.ensures.0 c.if-not-has_name-2.false,
@@ -122,8 +126,10 @@ add_definition-requires-clause-made c =
     let at = at-same _ _ _ _ c.deref.ensures.value c.in_ok-from.ensures in
     let premise = copy-held l.nodes c.in_ok-from.from.now c.in_ok-premise.premise c.in_ok-premise.ensures.0
     c.in_ok-premise.ensures.1 (statement-here l c.self.invariant c.args.premise c.in_ok-from.from.now at) in
-    let vars = subst (All (HasName l.nodes)) (sym c.in_ok-vars.ensures.items) (c.are_names.ensures.0 c.if-not-are_names.false) in
-    let d : code.Definition = kind.TypeOperator c.args.name c.args.abs c.args.rep c.in_ok-vars.vars c.in_ok-premise.premise in
+    let vars = subst (All (HasName l.nodes)) (sym c.in_ok-vars.ensures.items)
+    (c.are_names.ensures.0 c.if-not-are_names.false) in
+    let d : code.Definition =
+    kind.TypeOperator c.args.name c.args.abs c.args.rep c.in_ok-vars.vars c.in_ok-premise.premise in
     let has : HasDefinition l.nodes d = (
       c.has_name.ensures.0 c.if-not-has_name.false,
       c.has_name-2.ensures.0 c.if-not-has_name-2.false,
@@ -140,7 +146,8 @@ add_definition-requires-clause-made c =
     let vs0 = names_at l.nodes c.deref-2.result.now in
     let q = sequent_at l.nodes c.in_ok-premise.premise in
     let case : Steps = λ dl. type_operator_step names dl n0 b0 r0 vs0 q in
-    let defines = c.type_operator-made.ensures.defines (state_of l.nodes (held_of l)).definitions c.self.invariant.signature in
+    let defines = c.type_operator-made.ensures.defines (state_of l.nodes (held_of l)).definitions
+    c.self.invariant.signature in
     let given = subst (λ xs. Defines c.type_operator-made.result
     (TyDef n0 b0 r0 (names_at l.nodes xs) q) (case (state_of l.nodes (held_of l)).definitions) us)
     c.deref-2.ensures.value defines in
@@ -148,7 +155,8 @@ add_definition-requires-clause-made c =
     let first = theorem-here l us e c.self.invariant c.args.premise c.in_ok-from.from.now at in
     let theorem = subst (IsTheorem names mid.state.assumptions mid.state.definitions) (sym same) first in
     establishes c.type_operator-made.result (definition_at us d) case mid grown
-    (λ z h. type_operator-acceptable names tells_names mid.state.assumptions mid.state.definitions n0 b0 r0 vs0 q z theorem h)
+    (λ z h. type_operator-acceptable names tells_names mid.state.assumptions mid.state.definitions n0 b0 r0 vs0 q z
+    theorem h)
 
 pub returns : goal.returns
 returns c = λ n b r vs a h i j k m.
@@ -158,8 +166,10 @@ returns c = λ n b r vs a h i j k m.
     let at = at-same _ _ _ _ c.deref.ensures.value c.in_ok-from.ensures in
     let premise = copy-held l.nodes c.in_ok-from.from.now c.in_ok-premise.premise c.in_ok-premise.ensures.0
     c.in_ok-premise.ensures.1 (statement-here l c.self.invariant c.args.premise c.in_ok-from.from.now at) in
-    let vars = subst (All (HasName l.nodes)) (sym c.in_ok-vars.ensures.items) (c.are_names.ensures.0 c.if-not-are_names.false) in
-    let d : code.Definition = kind.TypeOperator c.args.name c.args.abs c.args.rep c.in_ok-vars.vars c.in_ok-premise.premise in
+    let vars = subst (All (HasName l.nodes)) (sym c.in_ok-vars.ensures.items)
+    (c.are_names.ensures.0 c.if-not-are_names.false) in
+    let d : code.Definition =
+    kind.TypeOperator c.args.name c.args.abs c.args.rep c.in_ok-vars.vars c.in_ok-premise.premise in
     let has : HasDefinition l.nodes d = (
       c.has_name.ensures.0 c.if-not-has_name.false,
       c.has_name-2.ensures.0 c.if-not-has_name-2.false,
@@ -176,7 +186,8 @@ returns c = λ n b r vs a h i j k m.
     let vs0 = names_at l.nodes c.deref-2.result.now in
     let q = sequent_at l.nodes c.in_ok-premise.premise in
     let case : Steps = λ dl. type_operator_step names dl n0 b0 r0 vs0 q in
-    let defines = c.type_operator-made.ensures.defines (state_of l.nodes (held_of l)).definitions c.self.invariant.signature in
+    let defines = c.type_operator-made.ensures.defines (state_of l.nodes (held_of l)).definitions
+    c.self.invariant.signature in
     let given = subst (λ xs. Defines c.type_operator-made.result
     (TyDef n0 b0 r0 (names_at l.nodes xs) q) (case (state_of l.nodes (held_of l)).definitions) us)
     c.deref-2.ensures.value defines in
@@ -188,7 +199,8 @@ returns c = λ n b r vs a h i j k m.
     let is_vs = ap (names_at l.nodes) (c.deref-2.ensures.value ∙ c.in_ok-vars.ensures.items)
     ∙ names-found l now c.self.view_is c.self.invariant c.args.vars.now vs k in
     let is_a = same ∙ sequent-here l now c.self.view_is c.args.premise c.in_ok-from.from.now a at m in
-    subst (λ (z : Steps). MadeBy c.add_definition.result (makes_definition names z) now.state c.add_definition.new.self.state)
+    subst (λ (z : Steps). MadeBy c.add_definition.result (makes_definition names z) now.state
+    c.add_definition.new.self.state)
     (λ i dl. type_operator_step names dl (is_n i) (is_b i) (is_r i) (is_vs i) (is_a i))
     (made-definition c.type_operator-made.result (definition_at us d) case c.add_definition.result now.state mid
     c.add_definition.new.self (state-then l us now c.self.view_is e c.self.invariant) grown c.add_definition.ensures)

@@ -1,7 +1,8 @@
 use Rattle.std.proofs.Common.{◌∙◌}
 use Rattle.ot_plain.specs.Trees.{Abs}
 use Rattle.ot_nodes.proofs.ItemLemmas.{has-term, term-is}
-use Rattle.ot_verify.proofs.Logging.{at-same, held_of, log-kept, state-then, type-here, typed-here, no-type, term-here, held-here, no-term, made-term}
+use Rattle.ot_verify.proofs.Logging.{at-same, held_of, log-kept, state-then, type-here, typed-here}
+use Rattle.ot_verify.proofs.Logging.{no-type, term-here, held-here, no-term, made-term}
 use Rattle.ot_nodes.specs.Items.{term_at}
 use Rattle.ot_verify.specs.Held.{state_of}
 use Rattle.ot_verify.proofs.log.Log.lam.Goals as goal
@@ -44,5 +45,6 @@ returns c = λ t b h k.
     let body = term-here c.self.inside c.args.self.now c.self.view_is c.args.body
     c.in_ok-body.field-0.now b (at-same _ _ _ _ c.deref-2.ensures.value c.in_ok-body.ensures) k in
     made-term (Abs t b) (term_at us c.in_ok-id.id) c.add_term.result c.args.self.now.state (state_of us (held_of l))
-    c.add_term.new.self.state (state-then l us c.args.self.now c.self.view_is c.in_ok-id.ensures.extends c.self.invariant)
+    c.add_term.new.self.state
+    (state-then l us c.args.self.now c.self.view_is c.in_ok-id.ensures.extends c.self.invariant)
     (term-is us c.in_ok-id.id _ c.in_ok-id.ensures.ok ∙ (λ i. Abs (ty i) (body i))) c.add_term.ensures

@@ -13,8 +13,10 @@ use Rattle.ot_verify.specs.Finding.{FindsEach, IsFoundTypePair, IsFoundTermPair}
 use Rattle.ot_verify.specs.Held.{view_of}
 use Rattle.ot_verify.specs.Logged.{MadeBy}
 use Rattle.ot_verify.proofs.Places.{missed}
-use Rattle.ot_verify.proofs.Found.{type_pairs-found, type_pairs-there, type_pairs-held, term_pairs-found, term_pairs-there, term_pairs-held}
-use Rattle.ot_verify.proofs.Logging.{at-same, held_of, log-kept, with-typings, state-then, sequent-here, no-sequent, made-sequent, supported, theorem-here, statement-here}
+use Rattle.ot_verify.proofs.Found.{type_pairs-found, type_pairs-there, type_pairs-held}
+use Rattle.ot_verify.proofs.Found.{term_pairs-found, term_pairs-there, term_pairs-held}
+use Rattle.ot_verify.proofs.Logging.{at-same, held_of, log-kept, with-typings, state-then, sequent-here}
+use Rattle.ot_verify.proofs.Logging.{no-sequent, made-sequent, supported, theorem-here, statement-here}
 use Rattle.ot_verify.proofs.log.Log.subst.Goals as goal
 
 pub returns-in_err-a : goal.returns-in_err-a
@@ -27,7 +29,8 @@ returns-in-Err c = λ a s m h j k.
     let l = c.self.inside in
     missed (IsFoundTypePair l.nodes l.types.items) c.in-Err.refusal c.args.types.now
     (makes_sequent names (subst_step names s m a)) c.args.self.now.state _
-    (subst (λ (is : List ℕ). FindsEach {Y = ℕ × ℕ} (IsFoundTypePair l.nodes is) (Err c.in-Err.refusal) c.args.types.now)
+    (subst (λ (is : List ℕ). FindsEach {Y = ℕ × ℕ} (IsFoundTypePair l.nodes is) (Err c.in-Err.refusal)
+    c.args.types.now)
     c.deref-2.ensures.value c.in-Err.ensures)
     (type_pairs-there l c.args.self.now c.self.view_is c.self.invariant c.args.types.now s j)
 
@@ -63,7 +66,8 @@ subst-made-requires-clause-terms c =
     c.deref-4.ensures.value c.in-Ok-term_pairs_at.ensures)
     in
     subst (HasTerms l.nodes) (sym c.deref-6.ensures.value)
-    (term_pairs-held l c.args.self.now c.self.view_is c.self.invariant c.args.terms.now c.in-Ok-term_pairs_at.pairs.items found)
+    (term_pairs-held l c.args.self.now c.self.view_is c.self.invariant c.args.terms.now
+    c.in-Ok-term_pairs_at.pairs.items found)
 
 pub subst-made-requires-clause-a : goal.subst-made-requires-clause-a
 subst-made-requires-clause-a c =
@@ -76,7 +80,8 @@ subst-made-requires-clause-known c = c.self.invariant.typings
 pub invariant_of-self : goal.invariant_of-self
 invariant_of-self c =
     with-typings c.self.inside c.subst-made.new.nodes c.subst-made.new.typings.known.entries
-    (log-kept c.self.inside c.subst-made.new.nodes c.subst-made.ensures.extends c.self.invariant) c.subst-made.ensures.known
+    (log-kept c.self.inside c.subst-made.new.nodes c.subst-made.ensures.extends c.self.invariant)
+    c.subst-made.ensures.known
 
 pub add_sequent-requires : goal.add_sequent-requires
 add_sequent-requires c =
@@ -108,7 +113,8 @@ returns c = λ a s m h j k.
     let is_s = ap (type_map l.nodes) c.deref-5.ensures.value
     ∙ type_pairs-found l now c.self.view_is c.self.invariant c.args.types.now c.in-Ok.pairs.items s types j in
     let is_m = ap (term_map l.nodes) c.deref-6.ensures.value
-    ∙ term_pairs-found l now c.self.view_is c.self.invariant c.args.terms.now c.in-Ok-term_pairs_at.pairs.items m terms k in
+    ∙ term_pairs-found l now c.self.view_is c.self.invariant c.args.terms.now c.in-Ok-term_pairs_at.pairs.items m
+    terms k in
     let is_a = sequent-here l now c.self.view_is c.args.sequent c.in_ok-a.a.now
     a (at-same _ _ _ _ c.deref.ensures.value c.in_ok-a.ensures) h in
     subst (λ z. MadeBy c.add_sequent.result (makes_sequent names z) now.state c.add_sequent.new.self.state)

@@ -66,6 +66,8 @@ returns c = λ n ts h k.
     ∙ types-as l.nodes c.in-Ok.found.items
     ∙ ap arguments (types-found l c.args.self.now c.self.view_is
     c.self.invariant c.args.args.now c.in-Ok.found.items ts found k) in
-    made-type (TyOp n (arguments ts)) (type_at us c.in_ok-id.id) c.add_type.result c.args.self.now.state (state_of us (held_of l))
-    c.add_type.new.self.state (state-then l us c.args.self.now c.self.view_is c.in_ok-id.ensures.extends c.self.invariant)
+    made-type (TyOp n (arguments ts)) (type_at us c.in_ok-id.id) c.add_type.result c.args.self.now.state
+    (state_of us (held_of l))
+    c.add_type.new.self.state
+    (state-then l us c.args.self.now c.self.view_is c.in_ok-id.ensures.extends c.self.invariant)
     (type-is us c.in_ok-id.id _ c.in_ok-id.ensures.ok ∙ (λ i. TyOp (name i) (all i))) c.add_type.ensures

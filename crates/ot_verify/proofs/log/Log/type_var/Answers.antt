@@ -31,7 +31,8 @@ returns c = λ n h.
     let l = c.self.inside in
     let us = c.type_var.new.self in
     made-type (TyVar n) (type_at us c.in_ok-id.id) c.add_type.result c.args.self.now.state (state_of us (held_of l))
-    c.add_type.new.self.state (state-then l us c.args.self.now c.self.view_is c.in_ok-id.ensures.extends c.self.invariant)
+    c.add_type.new.self.state
+    (state-then l us c.args.self.now c.self.view_is c.in_ok-id.ensures.extends c.self.invariant)
     (type-is us c.in_ok-id.id _ c.in_ok-id.ensures.ok ∙ ap TyVar
     (name-is l.nodes c.args.name n (named-here l c.args.self.now c.self.view_is c.args.name n h)))
     c.add_type.ensures

@@ -7,5 +7,8 @@ use Rattle.ot_write.proofs.writer.Writer.perform.Goals as goal
 pub returns-in-Close-clause-moves : goal.returns-in-Close-clause-moves
 returns-in-Close-clause-moves c =
     let g = given c.args.names.now c.args.trace.now c.args.counts.now in
-    subst (λ k. OnOk c.close.result (Replaces g c.args.self.now c.close.new.self c.args.work.now.items c.args.work.now.items (perform g k))) (sym c.in-Close.is)
-    (at-once c.close.result g _ c.close.new.self _ (close g (origin_at g.trees c.in-Close.id)) (close g (origin_at g.trees c.in-Close.id)) (λ t. refl) (c.close.ensures.moves c.args.names.now))
+    subst (λ k. OnOk c.close.result
+    (Replaces g c.args.self.now c.close.new.self c.args.work.now.items c.args.work.now.items (perform g k)))
+    (sym c.in-Close.is)
+    (at-once c.close.result g _ c.close.new.self _ (close g (origin_at g.trees c.in-Close.id))
+    (close g (origin_at g.trees c.in-Close.id)) (λ t. refl) (c.close.ensures.moves c.args.names.now))

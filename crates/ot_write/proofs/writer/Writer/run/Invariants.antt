@@ -7,7 +7,8 @@ abbrev pub invariant-tasks : goal.invariant-tasks
 invariant-tasks l = record {
   keys : HasKeys l.trace l.self.keys.items l.self.stored.items;
   inside : IsInside (length l.trace) l.work.items;
-  so_far : Leads (given l.names l.trace l.counts) l.fn.self l.self (rest (given l.names l.trace l.counts) l.work.items) (rest (given l.names l.trace l.counts) l.fn.work.items);
+  so_far : Leads (given l.names l.trace l.counts) l.fn.self l.self
+      (rest (given l.names l.trace l.counts) l.work.items) (rest (given l.names l.trace l.counts) l.fn.work.items);
 }
 
 abbrev pub decreases-tasks : goal.decreases-tasks

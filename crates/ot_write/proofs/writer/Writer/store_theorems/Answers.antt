@@ -13,10 +13,13 @@ loop-left-preserved c = record {
   so_far = λ ns.
       let g = given ns c.args.trace.now c.args.counts.now in
       let d = origin_at c.args.trace.now c.args.id in
-      leads-step g c.args.self.now c.loop-left.self c.store_theorem.new.self (w.outcomes same (keep g) (used g) d c.loop-left.left)
-      (λ t. w.put same (w.Order words.Pop) (cond (used g (o.Outcome c.loop-left.left d)) (w.store same (o.Outcome c.loop-left.left d) t) t))
+      leads-step g c.args.self.now c.loop-left.self c.store_theorem.new.self
+      (w.outcomes same (keep g) (used g) d c.loop-left.left)
+      (λ t. w.put same (w.Order words.Pop)
+      (cond (used g (o.Outcome c.loop-left.left d)) (w.store same (o.Outcome c.loop-left.left d) t) t))
       (w.outcomes same (keep g) (used g) d (c.loop-left.left - 1)) (w.outcomes same (keep g) (used g) d c.args.count)
-      (c.loop-left.invariant.so_far ns) (c.in_ok-store_theorem.ensures.moves ns) (λ u. outcomes-next g d c.loop-left.left u c.loop-left-test.true);
+      (c.loop-left.invariant.so_far ns) (c.in_ok-store_theorem.ensures.moves ns)
+      (λ u. outcomes-next g d c.loop-left.left u c.loop-left-test.true);
 }
 
 pub returns-clause-moves : goal.returns-clause-moves
@@ -25,4 +28,6 @@ returns-clause-moves c =
     λ ns.
     let g = given ns c.args.trace.now c.args.counts.now in
     let d = origin_at c.args.trace.now c.args.id in
-    leads-end g c.args.self.now c.loop-left.self (w.outcomes same (keep g) (used g) d c.loop-left.left) (w.outcomes same (keep g) (used g) d c.args.count) (c.loop-left.invariant.so_far ns) (λ u. ap (λ k. w.outcomes same (keep g) (used g) d k u) none)
+    leads-end g c.args.self.now c.loop-left.self (w.outcomes same (keep g) (used g) d c.loop-left.left)
+    (w.outcomes same (keep g) (used g) d c.args.count) (c.loop-left.invariant.so_far ns)
+    (λ u. ap (λ k. w.outcomes same (keep g) (used g) d k u) none)

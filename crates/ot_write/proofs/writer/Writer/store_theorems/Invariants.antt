@@ -10,8 +10,10 @@ abbrev pub invariant-loop-left : goal.invariant-loop-left
 invariant-loop-left l = record {
   keys : HasKeys l.trace l.self.keys.items l.self.stored.items;
   so_far : (ns : List Name) → Leads (given ns l.trace l.counts) l.fn.self l.self
-      (w.outcomes same (keep (given ns l.trace l.counts)) (used (given ns l.trace l.counts)) (origin_at l.trace l.id) l.left)
-      (w.outcomes same (keep (given ns l.trace l.counts)) (used (given ns l.trace l.counts)) (origin_at l.trace l.id) l.count);
+      (w.outcomes same (keep (given ns l.trace l.counts)) (used (given ns l.trace l.counts)) (origin_at l.trace l.id)
+      l.left)
+      (w.outcomes same (keep (given ns l.trace l.counts)) (used (given ns l.trace l.counts)) (origin_at l.trace l.id)
+      l.count);
 }
 
 abbrev pub decreases-loop-left : goal.decreases-loop-left
