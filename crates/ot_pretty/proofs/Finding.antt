@@ -45,7 +45,7 @@ moved a m r = same_set-then (same_set-append (same_set-self a) (same_set-swap r 
 
 module _ {X Y : Type 0} (f : X → List Y) where
   flat-part : (xs ys : List X) → IsPart xs ys → IsPart (flat_map f xs) (flat_map f ys)
-  flat-part xs ys p y m = let w = IsMember-flat_map_back y xs m in IsMember-flat_map y w.0 ys (p w.0 w.1) w.2
+  flat-part xs ys p y m = let w = IsMember-flat_map_back f y xs m in IsMember-flat_map f y w.0 ys (p w.0 w.1) w.2
 
   pub flat-same : (xs ys : List X) → IsSameSet xs ys → IsSameSet (flat_map f xs) (flat_map f ys)
   flat-same xs ys p = record { to = flat-part xs ys p.to; back = flat-part ys xs p.back }
