@@ -1,3 +1,4 @@
--- Lemmas on known bytes and on places of files.
+-- Lemmas on known bytes, on sources and on places of files.
+pub mod Keeping
 pub mod KnownBytes
 pub mod Places

@@ -1,6 +1,7 @@
--- What a reader of the contracts has to believe: causes of failures, sinks, files, the objects in memory.
+-- What a reader of the contracts has to believe: causes of failures, sinks, files, sources, the objects in memory.
 pub mod Causes
 pub mod Sinks
 pub mod Folder
+pub mod Keeping
 pub mod MemoryStates
 pub mod FileList
