@@ -3,6 +3,7 @@ ghost use Rattle.std.specs.Borrow.{sem};
 ghost use Rattle.std.specs.Io.BufRead.{Rests};
 ghost use Rattle.std.specs.Io.KnownBytes.{IsAtEnd};
 ghost use Rattle.ot_io.specs.Causes.{HasCause};
+ghost use Rattle.ot_io.specs.Keeping.{KeepsSource};
 ghost use Rattle.ot_scan.specs.Lines.{TakesFrom, Counts, HasReadCause, IsLineText};
 ghost use Rattle.ot_scan.specs.Reading.{Reads, IsFirst, KeepsLines, GoesOn, Finds, taken};
 ghost use Rattle.ot_scan.specs.contracts.lines.Lines.{the_row};
@@ -90,11 +91,7 @@ impl Lines {
 
         ensures cause { IfErr result (λ fault.
             HasReadCause fault (S.faults source.old) (S.faults source.new)) }
-        ensures later { S.faults source.old ≤ S.faults source.new }
-
-        ensures folder { S.folder source.new ≡ S.folder source.old }
-        ensures misses { S.misses source.new ≡ S.misses source.old }
-        ensures at { S.at source.new ≡ S.at source.old }
+        ensures kept { KeepsSource S.folder S.faults S.misses S.at source.old source.new }
     {
         let len = self.pass_skipped(source)?;
         if len == 0 {
@@ -109,17 +106,13 @@ impl Lines {
     /// newline counted, or 0 at the end.
     #[inline(always)]
     fn pass_skipped<S: Source>(&mut self, source: &mut S) -> Result<usize, ScanFault>
-        ensures kept { KeepsLines self.old self.new (S.left source.old) (S.left source.new) }
+        ensures same_lines { KeepsLines self.old self.new (S.left source.old) (S.left source.new) }
         ensures goes_on { GoesOn self.old self.new }
         ensures found { Finds result self.new (S.left source.new) }
 
         ensures cause { IfErr result (λ fault.
             HasReadCause fault (S.faults source.old) (S.faults source.new)) }
-        ensures later { S.faults source.old ≤ S.faults source.new }
-
-        ensures folder { S.folder source.new ≡ S.folder source.old }
-        ensures misses { S.misses source.new ≡ S.misses source.old }
-        ensures at { S.at source.new ≡ S.at source.old }
+        ensures kept { KeepsSource S.folder S.faults S.misses S.at source.old source.new }
     {
         'lines: loop {
             let len = self.first_piece(source)?;
@@ -143,9 +136,7 @@ impl Lines {
         ensures first { IfOk result (λ len. IsFirst len self.new.held (S.left source.new)) }
 
         ensures cause { HasCause (S.faults source.old) (S.faults source.new) result }
-        ensures folder { S.folder source.new ≡ S.folder source.old }
-        ensures misses { S.misses source.new ≡ S.misses source.old }
-        ensures at { S.at source.new ≡ S.at source.old }
+        ensures kept { KeepsSource S.folder S.faults S.misses S.at source.old source.new }
     {
         let mut searched = 0;
         'reads: loop {
@@ -169,9 +160,7 @@ impl Lines {
         ensures end { IfOk result (λ count. count ≡ 0 → IsAtEnd (S.left source.new)) }
 
         ensures cause { HasCause (S.faults source.old) (S.faults source.new) result }
-        ensures folder { S.folder source.new ≡ S.folder source.old }
-        ensures misses { S.misses source.new ≡ S.misses source.old }
-        ensures at { S.at source.new ≡ S.at source.old }
+        ensures kept { KeepsSource S.folder S.faults S.misses S.at source.old source.new }
     {
         let len = self.end - self.start;
         move_to_front(&mut self.buffer, self.start, self.end);

@@ -2,6 +2,7 @@ use Rattle.std.proofs.Common.{◌≡◌, ◌<◌, ◌≤◌, ◌+◌, false, len
 use Rattle.std.specs.Prelude.{None, Err}
 use Rattle.std.proofs.lemmas.List.{length-take-le}
 use Rattle.std.proofs.lemmas.Result.{err_from_is_err_and}
+use Rattle.ot_io.proofs.Keeping.{KeepsSource-then}
 use Rattle.ot_lines.specs.Pieces.{text_of, is_skipped}
 use Rattle.ot_scan.specs.Lines.{Scan, limit_fault}
 use Rattle.ot_scan.specs.Reading.{KeepsLines, ChecksLimits}
@@ -63,8 +64,8 @@ lines-preserved g c =
     let skipped = ap (λ bs. is_skipped (text_of (take len bs))) (sym c.held.ensures)
     ∙ sym c.if-not-is_passed_over.ensures in
     record {
-      kept = keeps-more c.args.self.now c.lines.self c.take_piece.follows.lender-at-none
-          (g.S.Source.left c.args.source.now) (g.S.Source.left c.lines.source) left c.lines.invariant.kept
+      same_lines = keeps-more c.args.self.now c.lines.self c.take_piece.follows.lender-at-none
+          (g.S.Source.left c.args.source.now) (g.S.Source.left c.lines.source) left c.lines.invariant.same_lines
           (keeps-more c.lines.self scan c.take_piece.follows.lender-at-none (g.S.Source.left c.lines.source) left left
           (keeps-reads c.lines.self scan (g.S.Source.left c.lines.source) left c.in_ok-len.ensures.read)
           (subst (λ (s : Scan). KeepsLines scan s left left) (sym c.take_piece.follows.holds-at-none)
@@ -80,8 +81,5 @@ lines-preserved g c =
           ap (λ (s : Scan). s.number) c.in_ok-len.ensures.read.held,
         );
       };
-      later = omega (arith, c.lines.invariant.later, c.in_ok-len.ensures.cause.later);
-      folder = c.in_ok-len.ensures.folder ∙ c.lines.invariant.folder;
-      misses = c.in_ok-len.ensures.misses ∙ c.lines.invariant.misses;
-      at = c.in_ok-len.ensures.at ∙ c.lines.invariant.at;
+      kept = KeepsSource-then c.lines.invariant.kept c.in_ok-len.ensures.kept;
     }
