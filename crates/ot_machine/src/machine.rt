@@ -1,5 +1,6 @@
 ghost use Rattle.std.specs.Prelude.{◌≡◌, ◌≢◌, ◌<◌, ◌≤◌, ◌^◌, ℕ, [], length, Err, IfSome, IfErr, OnOk};
 ghost use Rattle.ot_io.specs.Causes.{Rose};
+ghost use Rattle.ot_io.specs.Keeping.{KeepsSource};
 ghost use Rattle.ot_kernel.specs.State.{State};
 ghost use Rattle.ot_scan.specs.Lines.{lines_of};
 ghost use Rattle.ot_scan.specs.Words.{word_value};
@@ -131,10 +132,7 @@ impl Machine {
         ensures apart { (line : ℕ) → result ≢ Err (ArticleFault.At line Fault.Memory) }
         ensures spent { OnOk result (IfSome (S.left source.old) (λ _. IfSome (S.left source.new) (λ bytes. bytes ≡ []))) }
         ensures cause { result ≡ Err ArticleFault.ReadFault → Rose (S.faults source.old) (S.faults source.new) }
-        ensures later { S.faults source.old ≤ S.faults source.new }
-        ensures folder { S.folder source.new ≡ S.folder source.old }
-        ensures misses { S.misses source.new ≡ S.misses source.old }
-        ensures at { S.at source.new ≡ S.at source.old }
+        ensures kept { KeepsSource S.folder S.faults S.misses S.at source.old source.new }
     {
         let mut lines = Lines::new(max_bytes);
         'lines: loop {

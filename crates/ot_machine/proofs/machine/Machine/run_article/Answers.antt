@@ -1,5 +1,6 @@
 use Rattle.std.specs.Prelude.{Ok, IfOk, IfSome}
-use Rattle.std.proofs.Common.{◌≡◌, ◌∙◌, sym, ap, subst, arith}
+use Rattle.std.proofs.Common.{◌≡◌, ◌∙◌, sym, ap, subst}
+use Rattle.ot_io.proofs.Keeping.{KeepsSource-then}
 use Rattle.ot_scan.specs.Lines.{TakesFrom, IsLineText}
 use Rattle.ot_machine.specs.Meaning.{state_of}
 use Rattle.ot_machine.specs.Contexts.{context_of}
@@ -80,10 +81,7 @@ lines-preserved g c =
           ∙ c.in_default.ensures.moves);
       of = c.line.ensures.of;
       grown = grows-on c.lines.invariant.grown c.line.ensures.grown;
-      later = omega (arith, c.lines.invariant.later, c.next.ensures.later);
-      folder = c.next.ensures.folder ∙ c.lines.invariant.folder;
-      misses = c.next.ensures.misses ∙ c.lines.invariant.misses;
-      at = c.next.ensures.at ∙ c.lines.invariant.at;
+      kept = KeepsSource-then c.lines.invariant.kept c.next.ensures.kept;
     }
 
 pub returns-in-Err-clause-runs : goal.returns-in-Err-clause-runs

@@ -1,4 +1,5 @@
-use Rattle.std.proofs.Common.{◌≡◌, ◌≤◌, ◌-◌}
+use Rattle.std.proofs.Common.{◌-◌}
+use Rattle.ot_io.specs.Keeping.{KeepsSource}
 use Rattle.ot_machine.specs.Meaning.{state_of, IsOf, Grows}
 use Rattle.ot_machine.specs.Contexts.{context_of}
 use Rattle.ot_machine.specs.Commanded.{LeadsTo}
@@ -12,10 +13,7 @@ invariant-lines g l = record {
   led : LeadsTo (context_of l.fn.session l.ctx) (state_of l.fn.session l.fn.self) (state_of l.session l.self);
   of : IsOf l.session l.self;
   grown : Grows l.fn.session l.session;
-  later : g.S.Source.faults l.fn.source ≤ g.S.Source.faults l.source;
-  folder : g.S.Source.folder l.source ≡ g.S.Source.folder l.fn.source;
-  misses : g.S.Source.misses l.source ≡ g.S.Source.misses l.fn.source;
-  at : g.S.Source.at l.source ≡ g.S.Source.at l.fn.source;
+  kept : KeepsSource g.S.Source.folder g.S.Source.faults g.S.Source.misses g.S.Source.at l.fn.source l.source;
 }
 
 abbrev pub decreases-lines : goal.decreases-lines
