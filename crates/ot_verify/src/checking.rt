@@ -1,5 +1,6 @@
 ghost use Rattle.std.specs.Prelude.{◌≡◌, ◌≤◌, ◌<◌, ◌^◌, ◌++◌, [], length, Err, IfOk, OnOk, OnErr, IfSome};
 ghost use Rattle.ot_io.specs.Causes.{Rose};
+ghost use Rattle.ot_io.specs.Keeping.{KeepsSource};
 ghost use Rattle.ot_verify.specs.Reading.{log_check};
 ghost use Rattle.ot_text.specs.Pages.{Appended};
 ghost use Rattle.ot_verify.specs.Verifying.{Verifies, AreProved, proved_text};
@@ -58,17 +59,11 @@ pub fn verify<S: Source>(
     max_bytes: u64,
 ) -> Result<Verified, VerifyFault>
     requires { max_bytes ≤ 2 ^ 32 }
-    ensures checked { IfSome (S.left source.old) (λ bytes. Verifies result (log_check max_bytes
-        bytes)) }
+    ensures checked { IfSome (S.left source.old) (λ bytes. Verifies result (log_check max_bytes bytes)) }
     ensures proved { IfOk result AreProved }
-    ensures spent { OnOk result (IfSome (S.left source.old) (λ _. IfSome (S.left source.new) (λ
-        bytes. bytes ≡ []))) }
-    ensures cause { result ≡ Err VerifyFault.ReadFault → Rose (S.faults source.old) (S.faults
-        source.new) }
-    ensures later { S.faults source.old ≤ S.faults source.new }
-    ensures folder { S.folder source.new ≡ S.folder source.old }
-    ensures misses { S.misses source.new ≡ S.misses source.old }
-    ensures at { S.at source.new ≡ S.at source.old }
+    ensures spent { OnOk result (IfSome (S.left source.old) (λ _. IfSome (S.left source.new) (λ bytes. bytes ≡ []))) }
+    ensures cause { result ≡ Err VerifyFault.ReadFault → Rose (S.faults source.old) (S.faults source.new) }
+    ensures kept { KeepsSource S.folder S.faults S.misses S.at source.old source.new }
 {
     let mut log = Log::new(alloc)?;
     let mut reader = Reader::new(max_bytes);

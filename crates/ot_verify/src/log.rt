@@ -162,10 +162,12 @@ impl Log {
         max: usize,
         out: &mut Vec<u8>,
     ) -> Result<(), PrintFault>
-        ensures ok { OnOk result (Appended (summary_text self.now.state.assumptions
-            self.now.state.definitions self.now.state.results) max out.old.items out.new.items) }
-        ensures too_large { result ≡ Err PrintFault.TooLarge → max < length (summary_text
-            self.now.state.assumptions self.now.state.definitions self.now.state.results) }
+        ensures ok { OnOk result (Appended
+            (summary_text self.now.state.assumptions self.now.state.definitions self.now.state.results) max
+            out.old.items out.new.items) }
+        ensures too_large { result ≡ Err PrintFault.TooLarge
+            → max < length
+            (summary_text self.now.state.assumptions self.now.state.definitions self.now.state.results) }
         ensures err { OnErr result (out.new.items ≡ out.old.items) }
     {
         summary_text(
@@ -202,8 +204,8 @@ impl Log {
 
     /// A type variable.
     pub(crate) fn type_var(&mut self, name: NameId) -> Result<(), Refusal>
-        ensures { (n : NameValue) → IsNamed self.old name n → MadeBy result (makes_type names (TyVar
-            n)) self.old.state self.new.state }
+        ensures { (n : NameValue) → IsNamed self.old name n
+            → MadeBy result (makes_type names (TyVar n)) self.old.state self.new.state }
     {
         if !self.nodes.has_name(name) {
             return Err(Refusal::NoSuch);
@@ -214,9 +216,9 @@ impl Log {
 
     /// A type operator with these types as arguments.
     pub(crate) fn type_op(&mut self, name: NameId, args: &[usize]) -> Result<(), Refusal>
-        ensures { (n : NameValue) (ts : List (Ty NameValue)) → IsNamed self.old name n → AreEach
-            (IsAt self.old.state.types) args.now ts → MadeBy result (makes_type names (TyOp n
-            (arguments ts))) self.old.state self.new.state }
+        ensures { (n : NameValue) (ts : List (Ty NameValue)) → IsNamed self.old name n
+            → AreEach (IsAt self.old.state.types) args.now ts
+            → MadeBy result (makes_type names (TyOp n (arguments ts))) self.old.state self.new.state }
     {
         if !self.nodes.has_name(name) {
             return Err(Refusal::NoSuch);
@@ -231,8 +233,8 @@ impl Log {
 
     /// A free variable.
     pub(crate) fn free(&mut self, v: NamedType) -> Result<(), Refusal>
-        ensures { (w : Variable NameValue) → IsVariable self.old v w → MadeBy result (makes_term
-            names (Free w)) self.old.state self.new.state }
+        ensures { (w : Variable NameValue) → IsVariable self.old v w
+            → MadeBy result (makes_term names (Free w)) self.old.state self.new.state }
     {
         let Some(v) = variable_at(&self.nodes, &self.types, v) else {
             return Err(Refusal::NoSuch);
@@ -243,9 +245,8 @@ impl Log {
 
     /// A constant at a type.
     pub(crate) fn constant_term(&mut self, name: NameId, ty: usize) -> Result<(), Refusal>
-        ensures { (n : NameValue) (t : Ty NameValue) → IsNamed self.old name n → IsAt
-            self.old.state.types ty t → MadeBy result (makes_term names (Con n t)) self.old.state
-            self.new.state }
+        ensures { (n : NameValue) (t : Ty NameValue) → IsNamed self.old name n → IsAt self.old.state.types ty t
+            → MadeBy result (makes_term names (Con n t)) self.old.state self.new.state }
     {
         if !self.nodes.has_name(name) {
             return Err(Refusal::NoSuch);
@@ -265,9 +266,9 @@ impl Log {
 
     /// An application.
     pub(crate) fn app(&mut self, f: usize, x: usize) -> Result<(), Refusal>
-        ensures { (t : Tm NameValue) (u : Tm NameValue) → IsAt self.old.state.terms f t → IsAt
-            self.old.state.terms x u → MadeBy result (makes_term names (App t u)) self.old.state
-            self.new.state }
+        ensures { (t : Tm NameValue) (u : Tm NameValue) → IsAt self.old.state.terms f t
+            → IsAt self.old.state.terms x u
+            → MadeBy result (makes_term names (App t u)) self.old.state self.new.state }
     {
         let f = *at(&self.terms, f)?;
         let x = *at(&self.terms, x)?;
@@ -277,9 +278,9 @@ impl Log {
 
     /// An abstraction over a type.
     pub(crate) fn lam(&mut self, ty: usize, body: usize) -> Result<(), Refusal>
-        ensures { (t : Ty NameValue) (b : Tm NameValue) → IsAt self.old.state.types ty t → IsAt
-            self.old.state.terms body b → MadeBy result (makes_term names (Abs t b)) self.old.state
-            self.new.state }
+        ensures { (t : Ty NameValue) (b : Tm NameValue) → IsAt self.old.state.types ty t
+            → IsAt self.old.state.terms body b
+            → MadeBy result (makes_term names (Abs t b)) self.old.state self.new.state }
     {
         let ty = *at(&self.types, ty)?;
         let body = *at(&self.terms, body)?;
@@ -289,8 +290,8 @@ impl Log {
 
     /// The equation of a term with itself.
     pub(crate) fn refl(&mut self, term: usize) -> Result<(), Refusal>
-        ensures { (t : Tm NameValue) → IsAt self.old.state.terms term t → MadeBy result
-            (makes_sequent names (refl_step names t)) self.old.state self.new.state }
+        ensures { (t : Tm NameValue) → IsAt self.old.state.terms term t
+            → MadeBy result (makes_sequent names (refl_step names t)) self.old.state self.new.state }
     {
         let term = *at(&self.terms, term)?;
         let made = refl(&mut self.nodes, &mut self.typings, term);
@@ -299,8 +300,8 @@ impl Log {
 
     /// A proposition under itself.
     pub(crate) fn assume(&mut self, term: usize) -> Result<(), Refusal>
-        ensures { (p : Tm NameValue) → IsAt self.old.state.terms term p → MadeBy result
-            (makes_sequent names (assume_step names p)) self.old.state self.new.state }
+        ensures { (p : Tm NameValue) → IsAt self.old.state.terms term p
+            → MadeBy result (makes_sequent names (assume_step names p)) self.old.state self.new.state }
     {
         let term = *at(&self.terms, term)?;
         let made = assume(&mut self.nodes, &mut self.typings, term);
@@ -309,9 +310,9 @@ impl Log {
 
     /// From `G |- p = q` and `H |- p`.
     pub(crate) fn eq_mp(&mut self, equation: usize, other: usize) -> Result<(), Refusal>
-        ensures { (a : Sequent NameValue) (b : Sequent NameValue) → IsAt self.old.state.sequents
-            equation a → IsAt self.old.state.sequents other b → MadeBy result (makes_sequent names
-            (eq_mp_step names a b)) self.old.state self.new.state }
+        ensures { (a : Sequent NameValue) (b : Sequent NameValue) → IsAt self.old.state.sequents equation a
+            → IsAt self.old.state.sequents other b
+            → MadeBy result (makes_sequent names (eq_mp_step names a b)) self.old.state self.new.state }
     {
         let a = at(&self.sequents, equation)?;
         let b = at(&self.sequents, other)?;
@@ -321,9 +322,9 @@ impl Log {
 
     /// From `G |- t = u`, both sides abstracted.
     pub(crate) fn abs_thm(&mut self, v: NamedType, equation: usize) -> Result<(), Refusal>
-        ensures { (w : Variable NameValue) (a : Sequent NameValue) → IsVariable self.old v w → IsAt
-            self.old.state.sequents equation a → MadeBy result (makes_sequent names (abs_thm_step
-            names w a)) self.old.state self.new.state }
+        ensures { (w : Variable NameValue) (a : Sequent NameValue) → IsVariable self.old v w
+            → IsAt self.old.state.sequents equation a
+            → MadeBy result (makes_sequent names (abs_thm_step names w a)) self.old.state self.new.state }
     {
         let Some(v) = variable_at(&self.nodes, &self.types, v) else {
             return Err(Refusal::NoSuch);
@@ -335,9 +336,9 @@ impl Log {
 
     /// From `G |- f = g` and `H |- x = y`.
     pub(crate) fn app_thm(&mut self, functions: usize, arguments: usize) -> Result<(), Refusal>
-        ensures { (a : Sequent NameValue) (b : Sequent NameValue) → IsAt self.old.state.sequents
-            functions a → IsAt self.old.state.sequents arguments b → MadeBy result (makes_sequent
-            names (app_thm_step names a b)) self.old.state self.new.state }
+        ensures { (a : Sequent NameValue) (b : Sequent NameValue) → IsAt self.old.state.sequents functions a
+            → IsAt self.old.state.sequents arguments b
+            → MadeBy result (makes_sequent names (app_thm_step names a b)) self.old.state self.new.state }
     {
         let a = at(&self.sequents, functions)?;
         let b = at(&self.sequents, arguments)?;
@@ -347,9 +348,9 @@ impl Log {
 
     /// From `G |- p` and `H |- q`.
     pub(crate) fn deduct_antisym(&mut self, left: usize, right: usize) -> Result<(), Refusal>
-        ensures { (a : Sequent NameValue) (b : Sequent NameValue) → IsAt self.old.state.sequents
-            left a → IsAt self.old.state.sequents right b → MadeBy result (makes_sequent names
-            (deduct_antisym_step names a b)) self.old.state self.new.state }
+        ensures { (a : Sequent NameValue) (b : Sequent NameValue) → IsAt self.old.state.sequents left a
+            → IsAt self.old.state.sequents right b
+            → MadeBy result (makes_sequent names (deduct_antisym_step names a b)) self.old.state self.new.state }
     {
         let a = at(&self.sequents, left)?;
         let b = at(&self.sequents, right)?;
@@ -359,8 +360,8 @@ impl Log {
 
     /// An abstraction applied to a term.
     pub(crate) fn beta_conv(&mut self, term: usize) -> Result<(), Refusal>
-        ensures { (t : Tm NameValue) → IsAt self.old.state.terms term t → MadeBy result
-            (makes_sequent names (beta_step names t)) self.old.state self.new.state }
+        ensures { (t : Tm NameValue) → IsAt self.old.state.terms term t
+            → MadeBy result (makes_sequent names (beta_step names t)) self.old.state self.new.state }
     {
         let term = *at(&self.terms, term)?;
         let made = beta_conv(&mut self.nodes, &mut self.typings, term);
@@ -374,10 +375,11 @@ impl Log {
         types: &[NamedType],
         terms: &[TermPair],
     ) -> Result<(), Refusal>
-        ensures { (a : Sequent NameValue) (s : List (NameValue × Ty NameValue)) (m : List (Variable
-            NameValue × Tm NameValue)) → IsAt self.old.state.sequents sequent a → AreEach
-            (IsTypePair self.old) types.now s → AreEach (IsTermPair self.old) terms.now m → MadeBy
-            result (makes_sequent names (subst_step names s m a)) self.old.state self.new.state }
+        ensures { (a : Sequent NameValue) (s : List (NameValue × Ty NameValue))
+            (m : List (Variable NameValue × Tm NameValue))
+            → IsAt self.old.state.sequents sequent a → AreEach (IsTypePair self.old) types.now s
+            → AreEach (IsTermPair self.old) terms.now m
+            → MadeBy result (makes_sequent names (subst_step names s m a)) self.old.state self.new.state }
     {
         let a = at(&self.sequents, sequent)?;
         let alloc = self.nodes.allocator();
@@ -396,8 +398,8 @@ impl Log {
     /// An assumption.
     pub(crate) fn assumption(&mut self, concl: usize, hyps: &[usize]) -> Result<(), Refusal>
         ensures { (p : Tm NameValue) (hs : List (Tm NameValue)) → IsAt self.old.state.terms concl p
-            → AreEach (IsAt self.old.state.terms) hyps.now hs → MadeBy result (makes_assumption
-            names (assumption_step names hs p)) self.old.state self.new.state }
+            → AreEach (IsAt self.old.state.terms) hyps.now hs
+            → MadeBy result (makes_assumption names (assumption_step names hs p)) self.old.state self.new.state }
     {
         let concl = *at(&self.terms, concl)?;
         let hyps = match each_at(self.nodes.allocator(), &self.terms, hyps) {
@@ -410,9 +412,9 @@ impl Log {
 
     /// The definition of a constant.
     pub(crate) fn define_constant(&mut self, name: NameId, term: usize) -> Result<(), Refusal>
-        ensures { (n : NameValue) (t : Tm NameValue) → IsNamed self.old name n → IsAt
-            self.old.state.terms term t → MadeBy result (makes_definition names (λ dl. constant_step
-            names dl n t)) self.old.state self.new.state }
+        ensures { (n : NameValue) (t : Tm NameValue) → IsNamed self.old name n → IsAt self.old.state.terms term t
+            → MadeBy result (makes_definition names (λ dl. constant_step names dl n t))
+            self.old.state self.new.state }
     {
         if !self.nodes.has_name(name) {
             return Err(Refusal::NoSuch);
@@ -434,10 +436,10 @@ impl Log {
         pairs: &[ConstantPair],
         premise: usize,
     ) -> Result<(), Refusal>
-        ensures { (ps : List (NameValue × Variable NameValue)) (a : Sequent NameValue) → AreEach
-            (IsConstantPair self.old) pairs.now ps → IsAt self.old.state.sequents premise a → MadeBy
-            result (makes_definition names (λ dl. constants_step names dl ps a)) self.old.state
-            self.new.state }
+        ensures { (ps : List (NameValue × Variable NameValue)) (a : Sequent NameValue)
+            → AreEach (IsConstantPair self.old) pairs.now ps → IsAt self.old.state.sequents premise a
+            → MadeBy result (makes_definition names (λ dl. constants_step names dl ps a))
+            self.old.state self.new.state }
     {
         let alloc = self.nodes.allocator();
         let pairs = match constant_pairs_at(alloc, &self.nodes, &self.types, pairs) {
@@ -459,10 +461,10 @@ impl Log {
         vars: &[NameId],
         premise: usize,
     ) -> Result<(), Refusal>
-        ensures { (n : NameValue) (b : NameValue) (r : NameValue) (vs : List NameValue) (a : Sequent
-            NameValue) → IsNamed self.old name n → IsNamed self.old abs b → IsNamed self.old rep r →
-            AreEach (IsNamed self.old) vars.now vs → IsAt self.old.state.sequents premise a → MadeBy
-            result (makes_definition names (λ dl. type_operator_step names dl n b r vs a))
+        ensures { (n : NameValue) (b : NameValue) (r : NameValue) (vs : List NameValue) (a : Sequent NameValue)
+            → IsNamed self.old name n → IsNamed self.old abs b → IsNamed self.old rep r
+            → AreEach (IsNamed self.old) vars.now vs → IsAt self.old.state.sequents premise a
+            → MadeBy result (makes_definition names (λ dl. type_operator_step names dl n b r vs a))
             self.old.state self.new.state }
     {
         let alloc = self.nodes.allocator();
@@ -503,8 +505,8 @@ impl Log {
 
     /// A result.
     pub(crate) fn add_result(&mut self, sequent: usize) -> Result<(), Refusal>
-        ensures { (a : Sequent NameValue) → IsAt self.old.state.sequents sequent a → MadeBy result
-            (makes_result names a) self.old.state self.new.state }
+        ensures { (a : Sequent NameValue) → IsAt self.old.state.sequents sequent a
+            → MadeBy result (makes_result names a) self.old.state self.new.state }
     {
         let q = at(&self.sequents, sequent)?;
         self.results.keep(&self.nodes, q)?;

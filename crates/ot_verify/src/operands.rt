@@ -1,7 +1,8 @@
 //! What records ask for: names, the numbers of earlier types, terms and sequents, and lists of
 //! these.
-ghost use Rattle.std.specs.Prelude.{◌≡◌, ◌≤◌, Err, IfOk};
+ghost use Rattle.std.specs.Prelude.{◌≡◌, Err, IfOk};
 ghost use Rattle.ot_io.specs.Causes.{Rose};
+ghost use Rattle.ot_io.specs.Keeping.{KeepsSource};
 ghost use Rattle.ot_records.specs.Records.{AskName, AskType, AskTerm, AskSequent, ask_list, ask_variable};
 ghost use Rattle.ot_records.specs.Records.{ask_type_pair, ask_term_pair, ask_constant_pair};
 ghost use Rattle.ot_verify.specs.Asking.{AnsweredFrom, IsAt, AreEach};
@@ -23,17 +24,12 @@ pub(crate) fn name_number<S: Source>(
     reader: &mut Reader,
     source: &mut S,
 ) -> Result<NameId, VerifyFault>
-    ensures answered { AnsweredFrom log.old.state AskName (IsNamed log.new) result reader.old
-        reader.new
-        (S.left source.old) (S.left source.new) }
+    ensures answered { AnsweredFrom log.old.state AskName (IsNamed log.new) result
+        reader.old reader.new (S.left source.old) (S.left source.new) }
     ensures meets { MeetsNames log.old log.new }
     ensures advances { IfOk result (λ _. Advances reader.old reader.new) }
-    ensures cause { result ≡ Err VerifyFault.ReadFault → Rose (S.faults source.old) (S.faults
-        source.new) }
-    ensures later { S.faults source.old ≤ S.faults source.new }
-    ensures folder { S.folder source.new ≡ S.folder source.old }
-    ensures misses { S.misses source.new ≡ S.misses source.old }
-    ensures at { S.at source.new ≡ S.at source.old }
+    ensures cause { result ≡ Err VerifyFault.ReadFault → Rose (S.faults source.old) (S.faults source.new) }
+    ensures kept { KeepsSource S.folder S.faults S.misses S.at source.old source.new }
 {
     match reader.name(alloc, source) {
         Ok(name) => match log.intern(name) {
@@ -52,15 +48,10 @@ pub(crate) fn type_number<S: Source>(
     source: &mut S,
 ) -> Result<usize, VerifyFault>
     ensures answered { AnsweredFrom log.now.state AskType (IsAt log.now.state.types) result
-        reader.old reader.new
-        (S.left source.old) (S.left source.new) }
+        reader.old reader.new (S.left source.old) (S.left source.new) }
     ensures advances { IfOk result (λ _. Advances reader.old reader.new) }
-    ensures cause { result ≡ Err VerifyFault.ReadFault → Rose (S.faults source.old) (S.faults
-        source.new) }
-    ensures later { S.faults source.old ≤ S.faults source.new }
-    ensures folder { S.folder source.new ≡ S.folder source.old }
-    ensures misses { S.misses source.new ≡ S.misses source.old }
-    ensures at { S.at source.new ≡ S.at source.old }
+    ensures cause { result ≡ Err VerifyFault.ReadFault → Rose (S.faults source.old) (S.faults source.new) }
+    ensures kept { KeepsSource S.folder S.faults S.misses S.at source.old source.new }
 {
     reader.earlier(alloc, source, log.type_count())
 }
@@ -73,15 +64,10 @@ pub(crate) fn term_number<S: Source>(
     source: &mut S,
 ) -> Result<usize, VerifyFault>
     ensures answered { AnsweredFrom log.now.state AskTerm (IsAt log.now.state.terms) result
-        reader.old reader.new
-        (S.left source.old) (S.left source.new) }
+        reader.old reader.new (S.left source.old) (S.left source.new) }
     ensures advances { IfOk result (λ _. Advances reader.old reader.new) }
-    ensures cause { result ≡ Err VerifyFault.ReadFault → Rose (S.faults source.old) (S.faults
-        source.new) }
-    ensures later { S.faults source.old ≤ S.faults source.new }
-    ensures folder { S.folder source.new ≡ S.folder source.old }
-    ensures misses { S.misses source.new ≡ S.misses source.old }
-    ensures at { S.at source.new ≡ S.at source.old }
+    ensures cause { result ≡ Err VerifyFault.ReadFault → Rose (S.faults source.old) (S.faults source.new) }
+    ensures kept { KeepsSource S.folder S.faults S.misses S.at source.old source.new }
 {
     reader.earlier(alloc, source, log.term_count())
 }
@@ -94,15 +80,10 @@ pub(crate) fn sequent_number<S: Source>(
     source: &mut S,
 ) -> Result<usize, VerifyFault>
     ensures answered { AnsweredFrom log.now.state AskSequent (IsAt log.now.state.sequents) result
-        reader.old reader.new
-        (S.left source.old) (S.left source.new) }
+        reader.old reader.new (S.left source.old) (S.left source.new) }
     ensures advances { IfOk result (λ _. Advances reader.old reader.new) }
-    ensures cause { result ≡ Err VerifyFault.ReadFault → Rose (S.faults source.old) (S.faults
-        source.new) }
-    ensures later { S.faults source.old ≤ S.faults source.new }
-    ensures folder { S.folder source.new ≡ S.folder source.old }
-    ensures misses { S.misses source.new ≡ S.misses source.old }
-    ensures at { S.at source.new ≡ S.at source.old }
+    ensures cause { result ≡ Err VerifyFault.ReadFault → Rose (S.faults source.old) (S.faults source.new) }
+    ensures kept { KeepsSource S.folder S.faults S.misses S.at source.old source.new }
 {
     reader.earlier(alloc, source, log.sequent_count())
 }
@@ -114,20 +95,14 @@ pub(crate) fn named_type<S: Source>(
     reader: &mut Reader,
     source: &mut S,
 ) -> Result<NamedType, VerifyFault>
-    ensures pair { AnsweredFrom log.old.state ask_type_pair (IsTypePair log.new) result reader.old
-        reader.new
-        (S.left source.old) (S.left source.new) }
+    ensures pair { AnsweredFrom log.old.state ask_type_pair (IsTypePair log.new) result
+        reader.old reader.new (S.left source.old) (S.left source.new) }
     ensures variable { AnsweredFrom log.old.state ask_variable (IsVariable log.new) result
-        reader.old reader.new
-        (S.left source.old) (S.left source.new) }
+        reader.old reader.new (S.left source.old) (S.left source.new) }
     ensures meets { MeetsNames log.old log.new }
     ensures advances { IfOk result (λ _. Advances reader.old reader.new) }
-    ensures cause { result ≡ Err VerifyFault.ReadFault → Rose (S.faults source.old) (S.faults
-        source.new) }
-    ensures later { S.faults source.old ≤ S.faults source.new }
-    ensures folder { S.folder source.new ≡ S.folder source.old }
-    ensures misses { S.misses source.new ≡ S.misses source.old }
-    ensures at { S.at source.new ≡ S.at source.old }
+    ensures cause { result ≡ Err VerifyFault.ReadFault → Rose (S.faults source.old) (S.faults source.new) }
+    ensures kept { KeepsSource S.folder S.faults S.misses S.at source.old source.new }
 {
     let name = name_number(alloc, log, reader, source)?;
     let ty = match type_number(alloc, log, reader, source) {
@@ -145,16 +120,11 @@ pub(crate) fn term_pair<S: Source>(
     source: &mut S,
 ) -> Result<TermPair, VerifyFault>
     ensures answered { AnsweredFrom log.old.state ask_term_pair (IsTermPair log.new) result
-        reader.old reader.new
-        (S.left source.old) (S.left source.new) }
+        reader.old reader.new (S.left source.old) (S.left source.new) }
     ensures meets { MeetsNames log.old log.new }
     ensures advances { IfOk result (λ _. Advances reader.old reader.new) }
-    ensures cause { result ≡ Err VerifyFault.ReadFault → Rose (S.faults source.old) (S.faults
-        source.new) }
-    ensures later { S.faults source.old ≤ S.faults source.new }
-    ensures folder { S.folder source.new ≡ S.folder source.old }
-    ensures misses { S.misses source.new ≡ S.misses source.old }
-    ensures at { S.at source.new ≡ S.at source.old }
+    ensures cause { result ≡ Err VerifyFault.ReadFault → Rose (S.faults source.old) (S.faults source.new) }
+    ensures kept { KeepsSource S.folder S.faults S.misses S.at source.old source.new }
 {
     let variable = named_type(alloc, log, reader, source)?;
     let term = match term_number(alloc, log, reader, source) {
@@ -172,16 +142,11 @@ pub(crate) fn constant_pair<S: Source>(
     source: &mut S,
 ) -> Result<ConstantPair, VerifyFault>
     ensures answered { AnsweredFrom log.old.state ask_constant_pair (IsConstantPair log.new) result
-        reader.old reader.new
-        (S.left source.old) (S.left source.new) }
+        reader.old reader.new (S.left source.old) (S.left source.new) }
     ensures meets { MeetsNames log.old log.new }
     ensures advances { IfOk result (λ _. Advances reader.old reader.new) }
-    ensures cause { result ≡ Err VerifyFault.ReadFault → Rose (S.faults source.old) (S.faults
-        source.new) }
-    ensures later { S.faults source.old ≤ S.faults source.new }
-    ensures folder { S.folder source.new ≡ S.folder source.old }
-    ensures misses { S.misses source.new ≡ S.misses source.old }
-    ensures at { S.at source.new ≡ S.at source.old }
+    ensures cause { result ≡ Err VerifyFault.ReadFault → Rose (S.faults source.old) (S.faults source.new) }
+    ensures kept { KeepsSource S.folder S.faults S.misses S.at source.old source.new }
 {
     let constant = name_number(alloc, log, reader, source)?;
     let variable = match named_type(alloc, log, reader, source) {
@@ -198,16 +163,12 @@ pub(crate) fn types<S: Source>(
     reader: &mut Reader,
     source: &mut S,
 ) -> Result<Vec<usize>, VerifyFault>
-    ensures answered { AnsweredFrom log.now.state (λ next. ask_list AskType next) (λ v. AreEach
-        (IsAt log.now.state.types) v.items) result reader.old reader.new
-        (S.left source.old) (S.left source.new) }
+    ensures answered { AnsweredFrom log.now.state (λ next. ask_list AskType next)
+        (λ v. AreEach (IsAt log.now.state.types) v.items) result
+        reader.old reader.new (S.left source.old) (S.left source.new) }
     ensures advances { IfOk result (λ _. Advances reader.old reader.new) }
-    ensures cause { result ≡ Err VerifyFault.ReadFault → Rose (S.faults source.old) (S.faults
-        source.new) }
-    ensures later { S.faults source.old ≤ S.faults source.new }
-    ensures folder { S.folder source.new ≡ S.folder source.old }
-    ensures misses { S.misses source.new ≡ S.misses source.old }
-    ensures at { S.at source.new ≡ S.at source.old }
+    ensures cause { result ≡ Err VerifyFault.ReadFault → Rose (S.faults source.old) (S.faults source.new) }
+    ensures kept { KeepsSource S.folder S.faults S.misses S.at source.old source.new }
 {
     let count = match reader.count(alloc, source) {
         Ok(count) => count,
@@ -230,16 +191,12 @@ pub(crate) fn terms<S: Source>(
     reader: &mut Reader,
     source: &mut S,
 ) -> Result<Vec<usize>, VerifyFault>
-    ensures answered { AnsweredFrom log.now.state (λ next. ask_list AskTerm next) (λ v. AreEach
-        (IsAt log.now.state.terms) v.items) result reader.old reader.new
-        (S.left source.old) (S.left source.new) }
+    ensures answered { AnsweredFrom log.now.state (λ next. ask_list AskTerm next)
+        (λ v. AreEach (IsAt log.now.state.terms) v.items) result
+        reader.old reader.new (S.left source.old) (S.left source.new) }
     ensures advances { IfOk result (λ _. Advances reader.old reader.new) }
-    ensures cause { result ≡ Err VerifyFault.ReadFault → Rose (S.faults source.old) (S.faults
-        source.new) }
-    ensures later { S.faults source.old ≤ S.faults source.new }
-    ensures folder { S.folder source.new ≡ S.folder source.old }
-    ensures misses { S.misses source.new ≡ S.misses source.old }
-    ensures at { S.at source.new ≡ S.at source.old }
+    ensures cause { result ≡ Err VerifyFault.ReadFault → Rose (S.faults source.old) (S.faults source.new) }
+    ensures kept { KeepsSource S.folder S.faults S.misses S.at source.old source.new }
 {
     let count = match reader.count(alloc, source) {
         Ok(count) => count,
@@ -262,17 +219,13 @@ pub(crate) fn names_list<S: Source>(
     reader: &mut Reader,
     source: &mut S,
 ) -> Result<Vec<NameId>, VerifyFault>
-    ensures answered { AnsweredFrom log.old.state (λ next. ask_list AskName next) (λ v. AreEach
-        (IsNamed log.new) v.items) result reader.old reader.new
-        (S.left source.old) (S.left source.new) }
+    ensures answered { AnsweredFrom log.old.state (λ next. ask_list AskName next)
+        (λ v. AreEach (IsNamed log.new) v.items) result
+        reader.old reader.new (S.left source.old) (S.left source.new) }
     ensures meets { MeetsNames log.old log.new }
     ensures advances { IfOk result (λ _. Advances reader.old reader.new) }
-    ensures cause { result ≡ Err VerifyFault.ReadFault → Rose (S.faults source.old) (S.faults
-        source.new) }
-    ensures later { S.faults source.old ≤ S.faults source.new }
-    ensures folder { S.folder source.new ≡ S.folder source.old }
-    ensures misses { S.misses source.new ≡ S.misses source.old }
-    ensures at { S.at source.new ≡ S.at source.old }
+    ensures cause { result ≡ Err VerifyFault.ReadFault → Rose (S.faults source.old) (S.faults source.new) }
+    ensures kept { KeepsSource S.folder S.faults S.misses S.at source.old source.new }
 {
     let count = match reader.count(alloc, source) {
         Ok(count) => count,
@@ -295,17 +248,13 @@ pub(crate) fn type_pairs<S: Source>(
     reader: &mut Reader,
     source: &mut S,
 ) -> Result<Vec<NamedType>, VerifyFault>
-    ensures answered { AnsweredFrom log.old.state (λ next. ask_list ask_type_pair next) (λ v.
-        AreEach (IsTypePair log.new) v.items) result reader.old reader.new
-        (S.left source.old) (S.left source.new) }
+    ensures answered { AnsweredFrom log.old.state (λ next. ask_list ask_type_pair next)
+        (λ v. AreEach (IsTypePair log.new) v.items) result
+        reader.old reader.new (S.left source.old) (S.left source.new) }
     ensures meets { MeetsNames log.old log.new }
     ensures advances { IfOk result (λ _. Advances reader.old reader.new) }
-    ensures cause { result ≡ Err VerifyFault.ReadFault → Rose (S.faults source.old) (S.faults
-        source.new) }
-    ensures later { S.faults source.old ≤ S.faults source.new }
-    ensures folder { S.folder source.new ≡ S.folder source.old }
-    ensures misses { S.misses source.new ≡ S.misses source.old }
-    ensures at { S.at source.new ≡ S.at source.old }
+    ensures cause { result ≡ Err VerifyFault.ReadFault → Rose (S.faults source.old) (S.faults source.new) }
+    ensures kept { KeepsSource S.folder S.faults S.misses S.at source.old source.new }
 {
     let count = match reader.count(alloc, source) {
         Ok(count) => count,
@@ -328,17 +277,13 @@ pub(crate) fn term_pairs<S: Source>(
     reader: &mut Reader,
     source: &mut S,
 ) -> Result<Vec<TermPair>, VerifyFault>
-    ensures answered { AnsweredFrom log.old.state (λ next. ask_list ask_term_pair next) (λ v.
-        AreEach (IsTermPair log.new) v.items) result reader.old reader.new
-        (S.left source.old) (S.left source.new) }
+    ensures answered { AnsweredFrom log.old.state (λ next. ask_list ask_term_pair next)
+        (λ v. AreEach (IsTermPair log.new) v.items) result
+        reader.old reader.new (S.left source.old) (S.left source.new) }
     ensures meets { MeetsNames log.old log.new }
     ensures advances { IfOk result (λ _. Advances reader.old reader.new) }
-    ensures cause { result ≡ Err VerifyFault.ReadFault → Rose (S.faults source.old) (S.faults
-        source.new) }
-    ensures later { S.faults source.old ≤ S.faults source.new }
-    ensures folder { S.folder source.new ≡ S.folder source.old }
-    ensures misses { S.misses source.new ≡ S.misses source.old }
-    ensures at { S.at source.new ≡ S.at source.old }
+    ensures cause { result ≡ Err VerifyFault.ReadFault → Rose (S.faults source.old) (S.faults source.new) }
+    ensures kept { KeepsSource S.folder S.faults S.misses S.at source.old source.new }
 {
     let count = match reader.count(alloc, source) {
         Ok(count) => count,
@@ -361,17 +306,13 @@ pub(crate) fn constant_pairs<S: Source>(
     reader: &mut Reader,
     source: &mut S,
 ) -> Result<Vec<ConstantPair>, VerifyFault>
-    ensures answered { AnsweredFrom log.old.state (λ next. ask_list ask_constant_pair next) (λ v.
-        AreEach (IsConstantPair log.new) v.items) result reader.old reader.new
-        (S.left source.old) (S.left source.new) }
+    ensures answered { AnsweredFrom log.old.state (λ next. ask_list ask_constant_pair next)
+        (λ v. AreEach (IsConstantPair log.new) v.items) result
+        reader.old reader.new (S.left source.old) (S.left source.new) }
     ensures meets { MeetsNames log.old log.new }
     ensures advances { IfOk result (λ _. Advances reader.old reader.new) }
-    ensures cause { result ≡ Err VerifyFault.ReadFault → Rose (S.faults source.old) (S.faults
-        source.new) }
-    ensures later { S.faults source.old ≤ S.faults source.new }
-    ensures folder { S.folder source.new ≡ S.folder source.old }
-    ensures misses { S.misses source.new ≡ S.misses source.old }
-    ensures at { S.at source.new ≡ S.at source.old }
+    ensures cause { result ≡ Err VerifyFault.ReadFault → Rose (S.faults source.old) (S.faults source.new) }
+    ensures kept { KeepsSource S.folder S.faults S.misses S.at source.old source.new }
 {
     let count = match reader.count(alloc, source) {
         Ok(count) => count,

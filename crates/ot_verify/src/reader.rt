@@ -1,5 +1,6 @@
 ghost use Rattle.std.specs.Prelude.{◌≡◌, ◌<◌, ◌≤◌, ◌^◌, ℕ, length, slice_index, [], Err, IfOk, IfSome, OnOk};
 ghost use Rattle.ot_io.specs.Causes.{Rose};
+ghost use Rattle.ot_io.specs.Keeping.{KeepsSource};
 ghost use Rattle.ot_records.specs.State.{LogState};
 ghost use Rattle.ot_records.specs.Records.{AskName, AskCount, AskType, AskTerm, AskSequent};
 ghost use Rattle.ot_plain.specs.Names.{Name as NameValue};
@@ -40,13 +41,7 @@ impl Reader {
     pub(crate) fn new(max_bytes: u64) -> Reader
         requires { max_bytes ≤ 2 ^ 32 }
         ensures { result ≡ record {
-          lines = record {
-            max = max_bytes;
-            held = [];
-            before = 0;
-            number
-                = 0;
-          };
+          lines = record { max = max_bytes; held = []; before = 0; number = 0 };
           last = 0;
         } }
     {
@@ -65,12 +60,8 @@ impl Reader {
         ensures taken { TakesFrom result self.old self.new (S.left source.old) (S.left source.new) }
         ensures spent { SpendsAt result (S.left source.old) (S.left source.new) }
         ensures advances { IfOk result (λ o. IfSome o (λ _. Advances self.old self.new)) }
-        ensures cause { result ≡ Err VerifyFault.ReadFault → Rose (S.faults source.old) (S.faults
-            source.new) }
-        ensures later { S.faults source.old ≤ S.faults source.new }
-        ensures folder { S.folder source.new ≡ S.folder source.old }
-        ensures misses { S.misses source.new ≡ S.misses source.old }
-        ensures at { S.at source.new ≡ S.at source.old }
+        ensures cause { result ≡ Err VerifyFault.ReadFault → Rose (S.faults source.old) (S.faults source.new) }
+        ensures kept { KeepsSource S.folder S.faults S.misses S.at source.old source.new }
     {
         match self.lines.next(source) {
             Ok(None) => Ok(None),
@@ -89,15 +80,11 @@ impl Reader {
         alloc: Global,
         source: &mut S,
     ) -> Result<Name, VerifyFault>
-        ensures answered { (st : LogState NameValue) → AnsweredFrom st AskName IsValue result
-            self.old self.new (S.left source.old) (S.left source.new) }
+        ensures answered { (st : LogState NameValue)
+            → AnsweredFrom st AskName IsValue result self.old self.new (S.left source.old) (S.left source.new) }
         ensures advances { IfOk result (λ _. Advances self.old self.new) }
-        ensures cause { result ≡ Err VerifyFault.ReadFault → Rose (S.faults source.old) (S.faults
-            source.new) }
-        ensures later { S.faults source.old ≤ S.faults source.new }
-        ensures folder { S.folder source.new ≡ S.folder source.old }
-        ensures misses { S.misses source.new ≡ S.misses source.old }
-        ensures at { S.at source.new ≡ S.at source.old }
+        ensures cause { result ≡ Err VerifyFault.ReadFault → Rose (S.faults source.old) (S.faults source.new) }
+        ensures kept { KeepsSource S.folder S.faults S.misses S.at source.old source.new }
     {
         match self.take(alloc, source)? {
             Some(Taken::Name(name)) => Ok(name),
@@ -112,15 +99,11 @@ impl Reader {
         alloc: Global,
         source: &mut S,
     ) -> Result<u64, VerifyFault>
-        ensures answered { (st : LogState NameValue) → AnsweredFrom st AskCount IsValue result
-            self.old self.new (S.left source.old) (S.left source.new) }
+        ensures answered { (st : LogState NameValue)
+            → AnsweredFrom st AskCount IsValue result self.old self.new (S.left source.old) (S.left source.new) }
         ensures advances { IfOk result (λ _. Advances self.old self.new) }
-        ensures cause { result ≡ Err VerifyFault.ReadFault → Rose (S.faults source.old) (S.faults
-            source.new) }
-        ensures later { S.faults source.old ≤ S.faults source.new }
-        ensures folder { S.folder source.new ≡ S.folder source.old }
-        ensures misses { S.misses source.new ≡ S.misses source.old }
-        ensures at { S.at source.new ≡ S.at source.old }
+        ensures cause { result ≡ Err VerifyFault.ReadFault → Rose (S.faults source.old) (S.faults source.new) }
+        ensures kept { KeepsSource S.folder S.faults S.misses S.at source.old source.new }
     {
         match self.take(alloc, source)? {
             Some(Taken::Number(number)) => Ok(number),
@@ -136,20 +119,18 @@ impl Reader {
         source: &mut S,
         count: usize,
     ) -> Result<usize, VerifyFault>
-        ensures types { (st : LogState NameValue) → count ≡ length st.types → AnsweredFrom st
-            AskType (IsAt st.types) result self.old self.new (S.left source.old) (S.left source.new) }
-        ensures terms { (st : LogState NameValue) → count ≡ length st.terms → AnsweredFrom st
-            AskTerm (IsAt st.terms) result self.old self.new (S.left source.old) (S.left source.new) }
+        ensures types { (st : LogState NameValue) → count ≡ length st.types
+            → AnsweredFrom st AskType (IsAt st.types) result
+            self.old self.new (S.left source.old) (S.left source.new) }
+        ensures terms { (st : LogState NameValue) → count ≡ length st.terms
+            → AnsweredFrom st AskTerm (IsAt st.terms) result
+            self.old self.new (S.left source.old) (S.left source.new) }
         ensures advances { IfOk result (λ _. Advances self.old self.new) }
-        ensures sequents { (st : LogState NameValue) → count ≡ length st.sequents → AnsweredFrom st
-            AskSequent (IsAt st.sequents) result self.old self.new (S.left source.old) (S.left
-            source.new) }
-        ensures cause { result ≡ Err VerifyFault.ReadFault → Rose (S.faults source.old) (S.faults
-            source.new) }
-        ensures later { S.faults source.old ≤ S.faults source.new }
-        ensures folder { S.folder source.new ≡ S.folder source.old }
-        ensures misses { S.misses source.new ≡ S.misses source.old }
-        ensures at { S.at source.new ≡ S.at source.old }
+        ensures sequents { (st : LogState NameValue) → count ≡ length st.sequents
+            → AnsweredFrom st AskSequent (IsAt st.sequents) result
+            self.old self.new (S.left source.old) (S.left source.new) }
+        ensures cause { result ≡ Err VerifyFault.ReadFault → Rose (S.faults source.old) (S.faults source.new) }
+        ensures kept { KeepsSource S.folder S.faults S.misses S.at source.old source.new }
     {
         match self.take(alloc, source)? {
             Some(Taken::Number(number)) => {
@@ -172,12 +153,8 @@ impl Reader {
     ) -> Result<(), VerifyFault>
         ensures heads { HeadsFrom result self.old self.new (S.left source.old) (S.left source.new) }
         ensures advances { OnOk result (Advances self.old self.new) }
-        ensures cause { result ≡ Err VerifyFault.ReadFault → Rose (S.faults source.old) (S.faults
-            source.new) }
-        ensures later { S.faults source.old ≤ S.faults source.new }
-        ensures folder { S.folder source.new ≡ S.folder source.old }
-        ensures misses { S.misses source.new ≡ S.misses source.old }
-        ensures at { S.at source.new ≡ S.at source.old }
+        ensures cause { result ≡ Err VerifyFault.ReadFault → Rose (S.faults source.old) (S.faults source.new) }
+        ensures kept { KeepsSource S.folder S.faults S.misses S.at source.old source.new }
     {
         match self.take(alloc, source)? {
             Some(
@@ -205,12 +182,8 @@ impl Reader {
         ensures begins { BeginsFrom result self.old self.new (S.left source.old) (S.left source.new) }
         ensures spent { Spends result (S.left source.old) (S.left source.new) }
         ensures advances { IfOk result (λ o. IfSome o (λ _. Advances self.old self.new)) }
-        ensures cause { result ≡ Err VerifyFault.ReadFault → Rose (S.faults source.old) (S.faults
-            source.new) }
-        ensures later { S.faults source.old ≤ S.faults source.new }
-        ensures folder { S.folder source.new ≡ S.folder source.old }
-        ensures misses { S.misses source.new ≡ S.misses source.old }
-        ensures at { S.at source.new ≡ S.at source.old }
+        ensures cause { result ≡ Err VerifyFault.ReadFault → Rose (S.faults source.old) (S.faults source.new) }
+        ensures kept { KeepsSource S.folder S.faults S.misses S.at source.old source.new }
     {
         match self.take(alloc, source)? {
             Some(

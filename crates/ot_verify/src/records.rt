@@ -1,6 +1,7 @@
 //! The records of a log: what each asks for is read, and then it makes what it makes.
-ghost use Rattle.std.specs.Prelude.{◌≡◌, ◌≤◌, Err, OnOk};
+ghost use Rattle.std.specs.Prelude.{◌≡◌, Err, OnOk};
 ghost use Rattle.ot_io.specs.Causes.{Rose};
+ghost use Rattle.ot_io.specs.Keeping.{KeepsSource};
 ghost use Rattle.ot_plain.specs.Naming.{names};
 ghost use Rattle.ot_records.specs.Records.{form};
 ghost use Rattle.ot_verify.specs.Logged.{RecordedFrom, refused, settled_at};
@@ -27,15 +28,10 @@ pub(crate) fn take_record<S: Source>(
     first: u64,
 ) -> Result<(), VerifyFault>
     ensures recorded { RecordedFrom result (form names word) first log.old.state log.new.state
-        reader.old reader.new
-        (S.left source.old) (S.left source.new) }
+        reader.old reader.new (S.left source.old) (S.left source.new) }
     ensures advances { OnOk result (Advances reader.old reader.new) }
-    ensures cause { result ≡ Err VerifyFault.ReadFault → Rose (S.faults source.old) (S.faults
-        source.new) }
-    ensures later { S.faults source.old ≤ S.faults source.new }
-    ensures folder { S.folder source.new ≡ S.folder source.old }
-    ensures misses { S.misses source.new ≡ S.misses source.old }
-    ensures at { S.at source.new ≡ S.at source.old }
+    ensures cause { result ≡ Err VerifyFault.ReadFault → Rose (S.faults source.old) (S.faults source.new) }
+    ensures kept { KeepsSource S.folder S.faults S.misses S.at source.old source.new }
 {
     match word {
         RecordWord::TyVar => type_var(alloc, log, reader, source, first),
@@ -69,16 +65,11 @@ fn bound<S: Source>(
     source: &mut S,
     first: u64,
 ) -> Result<(), VerifyFault>
-    ensures recorded { RecordedFrom result (form names RecordWord.Bound) first log.old.state
-        log.new.state reader.old reader.new
-        (S.left source.old) (S.left source.new) }
+    ensures recorded { RecordedFrom result (form names RecordWord.Bound) first log.old.state log.new.state
+        reader.old reader.new (S.left source.old) (S.left source.new) }
     ensures advances { OnOk result (Advances reader.old reader.new) }
-    ensures cause { result ≡ Err VerifyFault.ReadFault → Rose (S.faults source.old) (S.faults
-        source.new) }
-    ensures later { S.faults source.old ≤ S.faults source.new }
-    ensures folder { S.folder source.new ≡ S.folder source.old }
-    ensures misses { S.misses source.new ≡ S.misses source.old }
-    ensures at { S.at source.new ≡ S.at source.old }
+    ensures cause { result ≡ Err VerifyFault.ReadFault → Rose (S.faults source.old) (S.faults source.new) }
+    ensures kept { KeepsSource S.folder S.faults S.misses S.at source.old source.new }
 {
     let place = match reader.count(alloc, source) {
         Ok(place) => place,
@@ -96,16 +87,11 @@ fn type_var<S: Source>(
     source: &mut S,
     first: u64,
 ) -> Result<(), VerifyFault>
-    ensures recorded { RecordedFrom result (form names RecordWord.TyVar) first log.old.state
-        log.new.state reader.old reader.new
-        (S.left source.old) (S.left source.new) }
+    ensures recorded { RecordedFrom result (form names RecordWord.TyVar) first log.old.state log.new.state
+        reader.old reader.new (S.left source.old) (S.left source.new) }
     ensures advances { OnOk result (Advances reader.old reader.new) }
-    ensures cause { result ≡ Err VerifyFault.ReadFault → Rose (S.faults source.old) (S.faults
-        source.new) }
-    ensures later { S.faults source.old ≤ S.faults source.new }
-    ensures folder { S.folder source.new ≡ S.folder source.old }
-    ensures misses { S.misses source.new ≡ S.misses source.old }
-    ensures at { S.at source.new ≡ S.at source.old }
+    ensures cause { result ≡ Err VerifyFault.ReadFault → Rose (S.faults source.old) (S.faults source.new) }
+    ensures kept { KeepsSource S.folder S.faults S.misses S.at source.old source.new }
 {
     let name = name_number(alloc, log, reader, source)?;
     let made = log.type_var(name);
@@ -120,16 +106,11 @@ fn type_op<S: Source>(
     source: &mut S,
     first: u64,
 ) -> Result<(), VerifyFault>
-    ensures recorded { RecordedFrom result (form names RecordWord.TyOp) first log.old.state
-        log.new.state reader.old reader.new
-        (S.left source.old) (S.left source.new) }
+    ensures recorded { RecordedFrom result (form names RecordWord.TyOp) first log.old.state log.new.state
+        reader.old reader.new (S.left source.old) (S.left source.new) }
     ensures advances { OnOk result (Advances reader.old reader.new) }
-    ensures cause { result ≡ Err VerifyFault.ReadFault → Rose (S.faults source.old) (S.faults
-        source.new) }
-    ensures later { S.faults source.old ≤ S.faults source.new }
-    ensures folder { S.folder source.new ≡ S.folder source.old }
-    ensures misses { S.misses source.new ≡ S.misses source.old }
-    ensures at { S.at source.new ≡ S.at source.old }
+    ensures cause { result ≡ Err VerifyFault.ReadFault → Rose (S.faults source.old) (S.faults source.new) }
+    ensures kept { KeepsSource S.folder S.faults S.misses S.at source.old source.new }
 {
     let name = name_number(alloc, log, reader, source)?;
     let args = types(alloc, log, reader, source)?;
@@ -145,16 +126,11 @@ fn free<S: Source>(
     source: &mut S,
     first: u64,
 ) -> Result<(), VerifyFault>
-    ensures recorded { RecordedFrom result (form names RecordWord.Free) first log.old.state
-        log.new.state reader.old reader.new
-        (S.left source.old) (S.left source.new) }
+    ensures recorded { RecordedFrom result (form names RecordWord.Free) first log.old.state log.new.state
+        reader.old reader.new (S.left source.old) (S.left source.new) }
     ensures advances { OnOk result (Advances reader.old reader.new) }
-    ensures cause { result ≡ Err VerifyFault.ReadFault → Rose (S.faults source.old) (S.faults
-        source.new) }
-    ensures later { S.faults source.old ≤ S.faults source.new }
-    ensures folder { S.folder source.new ≡ S.folder source.old }
-    ensures misses { S.misses source.new ≡ S.misses source.old }
-    ensures at { S.at source.new ≡ S.at source.old }
+    ensures cause { result ≡ Err VerifyFault.ReadFault → Rose (S.faults source.old) (S.faults source.new) }
+    ensures kept { KeepsSource S.folder S.faults S.misses S.at source.old source.new }
 {
     let variable = named_type(alloc, log, reader, source)?;
     let made = log.free(variable);
@@ -169,16 +145,11 @@ fn constant_term<S: Source>(
     source: &mut S,
     first: u64,
 ) -> Result<(), VerifyFault>
-    ensures recorded { RecordedFrom result (form names RecordWord.Con) first log.old.state
-        log.new.state reader.old reader.new
-        (S.left source.old) (S.left source.new) }
+    ensures recorded { RecordedFrom result (form names RecordWord.Con) first log.old.state log.new.state
+        reader.old reader.new (S.left source.old) (S.left source.new) }
     ensures advances { OnOk result (Advances reader.old reader.new) }
-    ensures cause { result ≡ Err VerifyFault.ReadFault → Rose (S.faults source.old) (S.faults
-        source.new) }
-    ensures later { S.faults source.old ≤ S.faults source.new }
-    ensures folder { S.folder source.new ≡ S.folder source.old }
-    ensures misses { S.misses source.new ≡ S.misses source.old }
-    ensures at { S.at source.new ≡ S.at source.old }
+    ensures cause { result ≡ Err VerifyFault.ReadFault → Rose (S.faults source.old) (S.faults source.new) }
+    ensures kept { KeepsSource S.folder S.faults S.misses S.at source.old source.new }
 {
     let name = name_number(alloc, log, reader, source)?;
     let ty = type_number(alloc, log, reader, source)?;
@@ -194,16 +165,11 @@ fn app<S: Source>(
     source: &mut S,
     first: u64,
 ) -> Result<(), VerifyFault>
-    ensures recorded { RecordedFrom result (form names RecordWord.App) first log.old.state
-        log.new.state reader.old reader.new
-        (S.left source.old) (S.left source.new) }
+    ensures recorded { RecordedFrom result (form names RecordWord.App) first log.old.state log.new.state
+        reader.old reader.new (S.left source.old) (S.left source.new) }
     ensures advances { OnOk result (Advances reader.old reader.new) }
-    ensures cause { result ≡ Err VerifyFault.ReadFault → Rose (S.faults source.old) (S.faults
-        source.new) }
-    ensures later { S.faults source.old ≤ S.faults source.new }
-    ensures folder { S.folder source.new ≡ S.folder source.old }
-    ensures misses { S.misses source.new ≡ S.misses source.old }
-    ensures at { S.at source.new ≡ S.at source.old }
+    ensures cause { result ≡ Err VerifyFault.ReadFault → Rose (S.faults source.old) (S.faults source.new) }
+    ensures kept { KeepsSource S.folder S.faults S.misses S.at source.old source.new }
 {
     let f = term_number(alloc, log, reader, source)?;
     let x = term_number(alloc, log, reader, source)?;
@@ -219,16 +185,11 @@ fn lam<S: Source>(
     source: &mut S,
     first: u64,
 ) -> Result<(), VerifyFault>
-    ensures recorded { RecordedFrom result (form names RecordWord.Lam) first log.old.state
-        log.new.state reader.old reader.new
-        (S.left source.old) (S.left source.new) }
+    ensures recorded { RecordedFrom result (form names RecordWord.Lam) first log.old.state log.new.state
+        reader.old reader.new (S.left source.old) (S.left source.new) }
     ensures advances { OnOk result (Advances reader.old reader.new) }
-    ensures cause { result ≡ Err VerifyFault.ReadFault → Rose (S.faults source.old) (S.faults
-        source.new) }
-    ensures later { S.faults source.old ≤ S.faults source.new }
-    ensures folder { S.folder source.new ≡ S.folder source.old }
-    ensures misses { S.misses source.new ≡ S.misses source.old }
-    ensures at { S.at source.new ≡ S.at source.old }
+    ensures cause { result ≡ Err VerifyFault.ReadFault → Rose (S.faults source.old) (S.faults source.new) }
+    ensures kept { KeepsSource S.folder S.faults S.misses S.at source.old source.new }
 {
     let ty = type_number(alloc, log, reader, source)?;
     let body = term_number(alloc, log, reader, source)?;
@@ -244,16 +205,11 @@ fn refl<S: Source>(
     source: &mut S,
     first: u64,
 ) -> Result<(), VerifyFault>
-    ensures recorded { RecordedFrom result (form names RecordWord.Refl) first log.old.state
-        log.new.state reader.old reader.new
-        (S.left source.old) (S.left source.new) }
+    ensures recorded { RecordedFrom result (form names RecordWord.Refl) first log.old.state log.new.state
+        reader.old reader.new (S.left source.old) (S.left source.new) }
     ensures advances { OnOk result (Advances reader.old reader.new) }
-    ensures cause { result ≡ Err VerifyFault.ReadFault → Rose (S.faults source.old) (S.faults
-        source.new) }
-    ensures later { S.faults source.old ≤ S.faults source.new }
-    ensures folder { S.folder source.new ≡ S.folder source.old }
-    ensures misses { S.misses source.new ≡ S.misses source.old }
-    ensures at { S.at source.new ≡ S.at source.old }
+    ensures cause { result ≡ Err VerifyFault.ReadFault → Rose (S.faults source.old) (S.faults source.new) }
+    ensures kept { KeepsSource S.folder S.faults S.misses S.at source.old source.new }
 {
     let term = term_number(alloc, log, reader, source)?;
     let made = log.refl(term);
@@ -268,16 +224,11 @@ fn assume<S: Source>(
     source: &mut S,
     first: u64,
 ) -> Result<(), VerifyFault>
-    ensures recorded { RecordedFrom result (form names RecordWord.Assume) first log.old.state
-        log.new.state reader.old reader.new
-        (S.left source.old) (S.left source.new) }
+    ensures recorded { RecordedFrom result (form names RecordWord.Assume) first log.old.state log.new.state
+        reader.old reader.new (S.left source.old) (S.left source.new) }
     ensures advances { OnOk result (Advances reader.old reader.new) }
-    ensures cause { result ≡ Err VerifyFault.ReadFault → Rose (S.faults source.old) (S.faults
-        source.new) }
-    ensures later { S.faults source.old ≤ S.faults source.new }
-    ensures folder { S.folder source.new ≡ S.folder source.old }
-    ensures misses { S.misses source.new ≡ S.misses source.old }
-    ensures at { S.at source.new ≡ S.at source.old }
+    ensures cause { result ≡ Err VerifyFault.ReadFault → Rose (S.faults source.old) (S.faults source.new) }
+    ensures kept { KeepsSource S.folder S.faults S.misses S.at source.old source.new }
 {
     let term = term_number(alloc, log, reader, source)?;
     let made = log.assume(term);
@@ -292,16 +243,11 @@ fn eq_mp<S: Source>(
     source: &mut S,
     first: u64,
 ) -> Result<(), VerifyFault>
-    ensures recorded { RecordedFrom result (form names RecordWord.EqMp) first log.old.state
-        log.new.state reader.old reader.new
-        (S.left source.old) (S.left source.new) }
+    ensures recorded { RecordedFrom result (form names RecordWord.EqMp) first log.old.state log.new.state
+        reader.old reader.new (S.left source.old) (S.left source.new) }
     ensures advances { OnOk result (Advances reader.old reader.new) }
-    ensures cause { result ≡ Err VerifyFault.ReadFault → Rose (S.faults source.old) (S.faults
-        source.new) }
-    ensures later { S.faults source.old ≤ S.faults source.new }
-    ensures folder { S.folder source.new ≡ S.folder source.old }
-    ensures misses { S.misses source.new ≡ S.misses source.old }
-    ensures at { S.at source.new ≡ S.at source.old }
+    ensures cause { result ≡ Err VerifyFault.ReadFault → Rose (S.faults source.old) (S.faults source.new) }
+    ensures kept { KeepsSource S.folder S.faults S.misses S.at source.old source.new }
 {
     let equation = sequent_number(alloc, log, reader, source)?;
     let other = sequent_number(alloc, log, reader, source)?;
@@ -317,16 +263,11 @@ fn abs_thm<S: Source>(
     source: &mut S,
     first: u64,
 ) -> Result<(), VerifyFault>
-    ensures recorded { RecordedFrom result (form names RecordWord.AbsThm) first log.old.state
-        log.new.state reader.old reader.new
-        (S.left source.old) (S.left source.new) }
+    ensures recorded { RecordedFrom result (form names RecordWord.AbsThm) first log.old.state log.new.state
+        reader.old reader.new (S.left source.old) (S.left source.new) }
     ensures advances { OnOk result (Advances reader.old reader.new) }
-    ensures cause { result ≡ Err VerifyFault.ReadFault → Rose (S.faults source.old) (S.faults
-        source.new) }
-    ensures later { S.faults source.old ≤ S.faults source.new }
-    ensures folder { S.folder source.new ≡ S.folder source.old }
-    ensures misses { S.misses source.new ≡ S.misses source.old }
-    ensures at { S.at source.new ≡ S.at source.old }
+    ensures cause { result ≡ Err VerifyFault.ReadFault → Rose (S.faults source.old) (S.faults source.new) }
+    ensures kept { KeepsSource S.folder S.faults S.misses S.at source.old source.new }
 {
     let variable = named_type(alloc, log, reader, source)?;
     let equation = sequent_number(alloc, log, reader, source)?;
@@ -342,16 +283,11 @@ fn app_thm<S: Source>(
     source: &mut S,
     first: u64,
 ) -> Result<(), VerifyFault>
-    ensures recorded { RecordedFrom result (form names RecordWord.AppThm) first log.old.state
-        log.new.state reader.old reader.new
-        (S.left source.old) (S.left source.new) }
+    ensures recorded { RecordedFrom result (form names RecordWord.AppThm) first log.old.state log.new.state
+        reader.old reader.new (S.left source.old) (S.left source.new) }
     ensures advances { OnOk result (Advances reader.old reader.new) }
-    ensures cause { result ≡ Err VerifyFault.ReadFault → Rose (S.faults source.old) (S.faults
-        source.new) }
-    ensures later { S.faults source.old ≤ S.faults source.new }
-    ensures folder { S.folder source.new ≡ S.folder source.old }
-    ensures misses { S.misses source.new ≡ S.misses source.old }
-    ensures at { S.at source.new ≡ S.at source.old }
+    ensures cause { result ≡ Err VerifyFault.ReadFault → Rose (S.faults source.old) (S.faults source.new) }
+    ensures kept { KeepsSource S.folder S.faults S.misses S.at source.old source.new }
 {
     let functions = sequent_number(alloc, log, reader, source)?;
     let arguments = sequent_number(alloc, log, reader, source)?;
@@ -367,16 +303,11 @@ fn deduct_antisym<S: Source>(
     source: &mut S,
     first: u64,
 ) -> Result<(), VerifyFault>
-    ensures recorded { RecordedFrom result (form names RecordWord.DeductAntisym) first log.old.state
-        log.new.state reader.old reader.new
-        (S.left source.old) (S.left source.new) }
+    ensures recorded { RecordedFrom result (form names RecordWord.DeductAntisym) first log.old.state log.new.state
+        reader.old reader.new (S.left source.old) (S.left source.new) }
     ensures advances { OnOk result (Advances reader.old reader.new) }
-    ensures cause { result ≡ Err VerifyFault.ReadFault → Rose (S.faults source.old) (S.faults
-        source.new) }
-    ensures later { S.faults source.old ≤ S.faults source.new }
-    ensures folder { S.folder source.new ≡ S.folder source.old }
-    ensures misses { S.misses source.new ≡ S.misses source.old }
-    ensures at { S.at source.new ≡ S.at source.old }
+    ensures cause { result ≡ Err VerifyFault.ReadFault → Rose (S.faults source.old) (S.faults source.new) }
+    ensures kept { KeepsSource S.folder S.faults S.misses S.at source.old source.new }
 {
     let left = sequent_number(alloc, log, reader, source)?;
     let right = sequent_number(alloc, log, reader, source)?;
@@ -392,16 +323,11 @@ fn beta_conv<S: Source>(
     source: &mut S,
     first: u64,
 ) -> Result<(), VerifyFault>
-    ensures recorded { RecordedFrom result (form names RecordWord.BetaConv) first log.old.state
-        log.new.state reader.old reader.new
-        (S.left source.old) (S.left source.new) }
+    ensures recorded { RecordedFrom result (form names RecordWord.BetaConv) first log.old.state log.new.state
+        reader.old reader.new (S.left source.old) (S.left source.new) }
     ensures advances { OnOk result (Advances reader.old reader.new) }
-    ensures cause { result ≡ Err VerifyFault.ReadFault → Rose (S.faults source.old) (S.faults
-        source.new) }
-    ensures later { S.faults source.old ≤ S.faults source.new }
-    ensures folder { S.folder source.new ≡ S.folder source.old }
-    ensures misses { S.misses source.new ≡ S.misses source.old }
-    ensures at { S.at source.new ≡ S.at source.old }
+    ensures cause { result ≡ Err VerifyFault.ReadFault → Rose (S.faults source.old) (S.faults source.new) }
+    ensures kept { KeepsSource S.folder S.faults S.misses S.at source.old source.new }
 {
     let term = term_number(alloc, log, reader, source)?;
     let made = log.beta_conv(term);
@@ -416,16 +342,11 @@ fn subst<S: Source>(
     source: &mut S,
     first: u64,
 ) -> Result<(), VerifyFault>
-    ensures recorded { RecordedFrom result (form names RecordWord.Subst) first log.old.state
-        log.new.state reader.old reader.new
-        (S.left source.old) (S.left source.new) }
+    ensures recorded { RecordedFrom result (form names RecordWord.Subst) first log.old.state log.new.state
+        reader.old reader.new (S.left source.old) (S.left source.new) }
     ensures advances { OnOk result (Advances reader.old reader.new) }
-    ensures cause { result ≡ Err VerifyFault.ReadFault → Rose (S.faults source.old) (S.faults
-        source.new) }
-    ensures later { S.faults source.old ≤ S.faults source.new }
-    ensures folder { S.folder source.new ≡ S.folder source.old }
-    ensures misses { S.misses source.new ≡ S.misses source.old }
-    ensures at { S.at source.new ≡ S.at source.old }
+    ensures cause { result ≡ Err VerifyFault.ReadFault → Rose (S.faults source.old) (S.faults source.new) }
+    ensures kept { KeepsSource S.folder S.faults S.misses S.at source.old source.new }
 {
     let sequent = sequent_number(alloc, log, reader, source)?;
     let types = type_pairs(alloc, log, reader, source)?;
@@ -442,16 +363,11 @@ fn assumption<S: Source>(
     source: &mut S,
     first: u64,
 ) -> Result<(), VerifyFault>
-    ensures recorded { RecordedFrom result (form names RecordWord.Assumption) first log.old.state
-        log.new.state reader.old reader.new
-        (S.left source.old) (S.left source.new) }
+    ensures recorded { RecordedFrom result (form names RecordWord.Assumption) first log.old.state log.new.state
+        reader.old reader.new (S.left source.old) (S.left source.new) }
     ensures advances { OnOk result (Advances reader.old reader.new) }
-    ensures cause { result ≡ Err VerifyFault.ReadFault → Rose (S.faults source.old) (S.faults
-        source.new) }
-    ensures later { S.faults source.old ≤ S.faults source.new }
-    ensures folder { S.folder source.new ≡ S.folder source.old }
-    ensures misses { S.misses source.new ≡ S.misses source.old }
-    ensures at { S.at source.new ≡ S.at source.old }
+    ensures cause { result ≡ Err VerifyFault.ReadFault → Rose (S.faults source.old) (S.faults source.new) }
+    ensures kept { KeepsSource S.folder S.faults S.misses S.at source.old source.new }
 {
     let concl = term_number(alloc, log, reader, source)?;
     let hyps = terms(alloc, log, reader, source)?;
@@ -467,16 +383,11 @@ fn constant<S: Source>(
     source: &mut S,
     first: u64,
 ) -> Result<(), VerifyFault>
-    ensures recorded { RecordedFrom result (form names RecordWord.Constant) first log.old.state
-        log.new.state reader.old reader.new
-        (S.left source.old) (S.left source.new) }
+    ensures recorded { RecordedFrom result (form names RecordWord.Constant) first log.old.state log.new.state
+        reader.old reader.new (S.left source.old) (S.left source.new) }
     ensures advances { OnOk result (Advances reader.old reader.new) }
-    ensures cause { result ≡ Err VerifyFault.ReadFault → Rose (S.faults source.old) (S.faults
-        source.new) }
-    ensures later { S.faults source.old ≤ S.faults source.new }
-    ensures folder { S.folder source.new ≡ S.folder source.old }
-    ensures misses { S.misses source.new ≡ S.misses source.old }
-    ensures at { S.at source.new ≡ S.at source.old }
+    ensures cause { result ≡ Err VerifyFault.ReadFault → Rose (S.faults source.old) (S.faults source.new) }
+    ensures kept { KeepsSource S.folder S.faults S.misses S.at source.old source.new }
 {
     let name = name_number(alloc, log, reader, source)?;
     let term = term_number(alloc, log, reader, source)?;
@@ -492,16 +403,11 @@ fn constants<S: Source>(
     source: &mut S,
     first: u64,
 ) -> Result<(), VerifyFault>
-    ensures recorded { RecordedFrom result (form names RecordWord.Constants) first log.old.state
-        log.new.state reader.old reader.new
-        (S.left source.old) (S.left source.new) }
+    ensures recorded { RecordedFrom result (form names RecordWord.Constants) first log.old.state log.new.state
+        reader.old reader.new (S.left source.old) (S.left source.new) }
     ensures advances { OnOk result (Advances reader.old reader.new) }
-    ensures cause { result ≡ Err VerifyFault.ReadFault → Rose (S.faults source.old) (S.faults
-        source.new) }
-    ensures later { S.faults source.old ≤ S.faults source.new }
-    ensures folder { S.folder source.new ≡ S.folder source.old }
-    ensures misses { S.misses source.new ≡ S.misses source.old }
-    ensures at { S.at source.new ≡ S.at source.old }
+    ensures cause { result ≡ Err VerifyFault.ReadFault → Rose (S.faults source.old) (S.faults source.new) }
+    ensures kept { KeepsSource S.folder S.faults S.misses S.at source.old source.new }
 {
     let pairs = constant_pairs(alloc, log, reader, source)?;
     let premise = sequent_number(alloc, log, reader, source)?;
@@ -517,16 +423,11 @@ fn type_operator<S: Source>(
     source: &mut S,
     first: u64,
 ) -> Result<(), VerifyFault>
-    ensures recorded { RecordedFrom result (form names RecordWord.TypeOperator) first log.old.state
-        log.new.state reader.old reader.new
-        (S.left source.old) (S.left source.new) }
+    ensures recorded { RecordedFrom result (form names RecordWord.TypeOperator) first log.old.state log.new.state
+        reader.old reader.new (S.left source.old) (S.left source.new) }
     ensures advances { OnOk result (Advances reader.old reader.new) }
-    ensures cause { result ≡ Err VerifyFault.ReadFault → Rose (S.faults source.old) (S.faults
-        source.new) }
-    ensures later { S.faults source.old ≤ S.faults source.new }
-    ensures folder { S.folder source.new ≡ S.folder source.old }
-    ensures misses { S.misses source.new ≡ S.misses source.old }
-    ensures at { S.at source.new ≡ S.at source.old }
+    ensures cause { result ≡ Err VerifyFault.ReadFault → Rose (S.faults source.old) (S.faults source.new) }
+    ensures kept { KeepsSource S.folder S.faults S.misses S.at source.old source.new }
 {
     let name = name_number(alloc, log, reader, source)?;
     let abs = name_number(alloc, log, reader, source)?;
@@ -545,16 +446,11 @@ fn result_record<S: Source>(
     source: &mut S,
     first: u64,
 ) -> Result<(), VerifyFault>
-    ensures recorded { RecordedFrom result (form names RecordWord.Result) first log.old.state
-        log.new.state reader.old reader.new
-        (S.left source.old) (S.left source.new) }
+    ensures recorded { RecordedFrom result (form names RecordWord.Result) first log.old.state log.new.state
+        reader.old reader.new (S.left source.old) (S.left source.new) }
     ensures advances { OnOk result (Advances reader.old reader.new) }
-    ensures cause { result ≡ Err VerifyFault.ReadFault → Rose (S.faults source.old) (S.faults
-        source.new) }
-    ensures later { S.faults source.old ≤ S.faults source.new }
-    ensures folder { S.folder source.new ≡ S.folder source.old }
-    ensures misses { S.misses source.new ≡ S.misses source.old }
-    ensures at { S.at source.new ≡ S.at source.old }
+    ensures cause { result ≡ Err VerifyFault.ReadFault → Rose (S.faults source.old) (S.faults source.new) }
+    ensures kept { KeepsSource S.folder S.faults S.misses S.at source.old source.new }
 {
     let sequent = sequent_number(alloc, log, reader, source)?;
     let made = log.add_result(sequent);

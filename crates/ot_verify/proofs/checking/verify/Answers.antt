@@ -1,6 +1,7 @@
 use Rattle.std.specs.Prelude.{Ok, Err}
-use Rattle.std.proofs.Common.{◌∙◌, ap, subst, arith}
+use Rattle.std.proofs.Common.{ap, subst}
 use Rattle.std.proofs.lemmas.Result.{err_from_is_err_and}
+use Rattle.ot_io.proofs.Keeping.{KeepsSource-then}
 use Rattle.ot_plain.specs.Naming.{names}
 use Rattle.ot_records.specs.Records.{form}
 use Rattle.ot_verify.specs.Logged.{RecordedFrom}
@@ -22,10 +23,7 @@ records-init g c = record {
       follows-header c.args.max_bytes c.new-reader.result c.header.new.self c.new-reader.ensures
       c.in_ok-log.log.state c.in_ok-header.field-0 (g.S.Source.left c.args.source.now)
       (g.S.Source.left c.header.new.source) c.in_ok-log.ensures c.in_ok-header.ensures.heads;
-  later = c.header.ensures.later;
-  folder = c.header.ensures.folder;
-  misses = c.header.ensures.misses;
-  at = c.header.ensures.at;
+  kept = c.header.ensures.kept;
 }
 
 pub returns-in_err-word-clause-checked : goal.returns-in_err-word-clause-checked
@@ -52,10 +50,8 @@ records-preserved g c =
           follows-record c.args.max_bytes c.records.log.state c.take_record.new.log.state c.in-Some.word
           c.records.reader
           c.begin.new.self c.take_record.new.reader all l m n c.records.invariant.so_far begins recorded;
-      later = omega (arith, c.records.invariant.later, c.begin.ensures.later, c.take_record.ensures.later);
-      folder = c.take_record.ensures.folder ∙ c.begin.ensures.folder ∙ c.records.invariant.folder;
-      misses = c.take_record.ensures.misses ∙ c.begin.ensures.misses ∙ c.records.invariant.misses;
-      at = c.take_record.ensures.at ∙ c.begin.ensures.at ∙ c.records.invariant.at;
+      kept = KeepsSource-then c.records.invariant.kept
+          (KeepsSource-then c.begin.ensures.kept c.take_record.ensures.kept);
     }
 
 pub returns-in-Err-clause-checked : goal.returns-in-Err-clause-checked

@@ -1,4 +1,5 @@
-use Rattle.std.proofs.Common.{◌≡◌, ◌≤◌, ◌-◌}
+use Rattle.std.proofs.Common.{◌-◌}
+use Rattle.ot_io.specs.Keeping.{KeepsSource}
 use Rattle.ot_records.specs.Records.{ask_constant_pair}
 use Rattle.ot_verify.specs.Asking.{CollectsFrom}
 use Rattle.ot_verify.specs.Logged.{IsConstantPair, MeetsNames}
@@ -11,8 +12,5 @@ invariant-each g l = record {
       (l.count - l.done) l.fn.reader l.reader (g.S.Source.left l.fn.source) (g.S.Source.left l.source);
   meets : MeetsNames l.fn.log l.log;
   advances : Advances l.fn.reader l.reader;
-  later : g.S.Source.faults l.fn.source ≤ g.S.Source.faults l.source;
-  folder : g.S.Source.folder l.source ≡ g.S.Source.folder l.fn.source;
-  misses : g.S.Source.misses l.source ≡ g.S.Source.misses l.fn.source;
-  at : g.S.Source.at l.source ≡ g.S.Source.at l.fn.source;
+  kept : KeepsSource g.S.Source.folder g.S.Source.faults g.S.Source.misses g.S.Source.at l.fn.source l.source;
 }

@@ -1,5 +1,6 @@
 use Rattle.std.specs.Prelude.{Ok, Err, Vec}
-use Rattle.std.proofs.Common.{◌≡◌, ◌∙◌, ℕ, suc, ◌+◌, ◌-◌, List, [], sym, subst, arith, Global}
+use Rattle.std.proofs.Common.{◌≡◌, ℕ, suc, ◌+◌, ◌-◌, List, [], sym, subst, arith, Global}
+use Rattle.ot_io.proofs.Keeping.{KeepsSource-then}
 use Rattle.ot_plain.specs.Names.{Name}
 use Rattle.ot_records.specs.State.{LogState}
 use Rattle.ot_records.specs.Records.{AskName}
@@ -27,10 +28,7 @@ each-init g c =
           k none);
       meets = meets-nothing c.args.log.now;
       advances = c.in-Ok.ensures.advances;
-      later = c.count.ensures.later;
-      folder = c.count.ensures.folder;
-      misses = c.count.ensures.misses;
-      at = c.count.ensures.at;
+      kept = c.count.ensures.kept;
     }
 
 pub each-preserved : goal.each-preserved
@@ -62,10 +60,7 @@ each-preserved g c =
       advances =
           advances-then c.args.reader.now c.each.reader c.name_number.new.reader
           c.each.invariant.advances c.in-Ok-name_number.ensures.advances;
-      later = omega (arith, c.each.invariant.later, c.name_number.ensures.later);
-      folder = c.name_number.ensures.folder ∙ c.each.invariant.folder;
-      misses = c.name_number.ensures.misses ∙ c.each.invariant.misses;
-      at = c.name_number.ensures.at ∙ c.each.invariant.at;
+      kept = KeepsSource-then c.each.invariant.kept c.name_number.ensures.kept;
     }
 
 pub returns-in-Err-clause-answered : goal.returns-in-Err-clause-answered

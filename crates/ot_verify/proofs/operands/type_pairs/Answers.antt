@@ -1,5 +1,6 @@
 use Rattle.std.specs.Prelude.{Ok, Err, Vec}
-use Rattle.std.proofs.Common.{◌≡◌, ◌∙◌, suc, ◌+◌, ◌-◌, List, [], sym, subst, arith, Global}
+use Rattle.std.proofs.Common.{◌≡◌, suc, ◌+◌, ◌-◌, List, [], sym, subst, arith, Global}
+use Rattle.ot_io.proofs.Keeping.{KeepsSource-then}
 use Rattle.ot_plain.specs.Names.{Name}
 use Rattle.ot_records.specs.State.{LogState}
 use Rattle.ot_records.specs.Records.{ask_type_pair}
@@ -28,10 +29,7 @@ each-init g c =
           k none);
       meets = meets-nothing c.args.log.now;
       advances = c.in-Ok.ensures.advances;
-      later = c.count.ensures.later;
-      folder = c.count.ensures.folder;
-      misses = c.count.ensures.misses;
-      at = c.count.ensures.at;
+      kept = c.count.ensures.kept;
     }
 
 pub each-preserved : goal.each-preserved
@@ -62,10 +60,7 @@ each-preserved g c =
       advances =
           advances-then c.args.reader.now c.each.reader c.named_type.new.reader
           c.each.invariant.advances c.in-Ok-named_type.ensures.advances;
-      later = omega (arith, c.each.invariant.later, c.named_type.ensures.later);
-      folder = c.named_type.ensures.folder ∙ c.each.invariant.folder;
-      misses = c.named_type.ensures.misses ∙ c.each.invariant.misses;
-      at = c.named_type.ensures.at ∙ c.each.invariant.at;
+      kept = KeepsSource-then c.each.invariant.kept c.named_type.ensures.kept;
     }
 
 pub returns-in-Err-clause-answered : goal.returns-in-Err-clause-answered

@@ -1,5 +1,6 @@
 use Rattle.std.specs.Prelude.{Vec}
-use Rattle.std.proofs.Common.{◌≡◌, ◌∙◌, ℕ, suc, ◌+◌, ◌-◌, List, [], sym, subst, arith, Global}
+use Rattle.std.proofs.Common.{◌≡◌, ℕ, suc, ◌+◌, ◌-◌, List, [], sym, subst, arith, Global}
+use Rattle.ot_io.proofs.Keeping.{KeepsSource-then}
 use Rattle.ot_records.specs.Records.{AskType}
 use Rattle.ot_verify.specs.Asking.{IsAt, AreEach, CollectsFrom}
 use Rattle.ot_verify.proofs.Collecting.{collects-start, collects-next, collects-end}
@@ -23,10 +24,7 @@ each-init g c =
           c.count.new.self l m) k
           none);
       advances = c.in-Ok.ensures.advances;
-      later = c.count.ensures.later;
-      folder = c.count.ensures.folder;
-      misses = c.count.ensures.misses;
-      at = c.count.ensures.at;
+      kept = c.count.ensures.kept;
     }
 
 pub each-preserved : goal.each-preserved
@@ -50,10 +48,7 @@ each-preserved g c =
       advances =
           advances-then c.args.reader.now c.each.reader c.type_number.new.reader
           c.each.invariant.advances c.in-Ok-type_number.ensures.advances;
-      later = omega (arith, c.each.invariant.later, c.type_number.ensures.later);
-      folder = c.type_number.ensures.folder ∙ c.each.invariant.folder;
-      misses = c.type_number.ensures.misses ∙ c.each.invariant.misses;
-      at = c.type_number.ensures.at ∙ c.each.invariant.at;
+      kept = KeepsSource-then c.each.invariant.kept c.type_number.ensures.kept;
     }
 
 pub returns-in-Err-clause-answered : goal.returns-in-Err-clause-answered
