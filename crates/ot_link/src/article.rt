@@ -2,6 +2,7 @@
 ghost use Rattle.std.specs.Prelude.{◌≡◌, ◌≢◌, ◌≤◌, ◌^◌, ℕ, List, Some, Err, IfOk, IfErr, IfSome, string_bytes};
 ghost use Rattle.ot_io.specs.Causes.{Rose};
 ghost use Rattle.ot_io.specs.Folder.{Folder};
+ghost use Rattle.ot_io.specs.Keeping.{KeepsSource};
 ghost use Rattle.ot_scan.specs.Lines.{lines_of};
 ghost use Rattle.ot_machine.specs.States.{fresh_article, fresh_run, no_context};
 ghost use Rattle.ot_machine.specs.Meaning.{run_of, IsRun, Grows};
@@ -90,10 +91,7 @@ pub fn run_alone<S: Source>(
     ensures exports { IfOk result (AreExportsIn session.new) }
     ensures symbols { IfErr result (NamesSymbolIn session.new.kernel) }
     ensures cause { IfErr result (λ e. HasFailed e (S.faults source.old) (S.faults source.new)) }
-    ensures later { S.faults source.old ≤ S.faults source.new }
-    ensures folder { S.folder source.new ≡ S.folder source.old }
-    ensures misses { S.misses source.new ≡ S.misses source.old }
-    ensures at { S.at source.new ≡ S.at source.old }
+    ensures kept { KeepsSource S.folder S.faults S.misses S.at source.old source.new }
 {
     fresh_law();
     let interp = Interp::new(alloc);
@@ -138,10 +136,7 @@ fn run_named<S: Source>(
     ensures lawful { StaysLawful session.old session.new }
     ensures lawful_exports { IfOk result (λ exports. AreLawfulOnce session.new exports.items) }
     ensures cause { IfErr result (λ e. HasFailed e (S.faults source.old) (S.faults source.new)) }
-    ensures later { S.faults source.old ≤ S.faults source.new }
-    ensures folder { S.folder source.new ≡ S.folder source.old }
-    ensures misses { S.misses source.new ≡ S.misses source.old }
-    ensures at { S.at source.new ≡ S.at source.old }
+    ensures kept { KeepsSource S.folder S.faults S.misses S.at source.old source.new }
 {
     match run_source(setting, session, source, context) {
         Ok(exports) => Ok(exports),
@@ -174,10 +169,7 @@ fn run_source<S: Source>(
     ensures lawful { StaysLawful session.old session.new }
     ensures lawful_exports { IfOk result (λ exports. AreLawfulOnce session.new exports.items) }
     ensures cause { result ≡ Err ArticleFault.ReadFault → Rose (S.faults source.old) (S.faults source.new) }
-    ensures later { S.faults source.old ≤ S.faults source.new }
-    ensures folder { S.folder source.new ≡ S.folder source.old }
-    ensures misses { S.misses source.new ≡ S.misses source.old }
-    ensures at { S.at source.new ≡ S.at source.old }
+    ensures kept { KeepsSource S.folder S.faults S.misses S.at source.old source.new }
 {
     fresh_law();
     lines_law();
