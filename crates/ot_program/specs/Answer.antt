@@ -343,14 +343,6 @@ pub record KeepsFiles {F : Type 0} (folder : F → Option Folder) (faults misses
   pub later_misses : misses old ≤ misses new
   pub closed : (new ≡ old) ⊎ (left new ≡ Some [])
 
--- a source that isn't files stays so, and its count of failures never falls
-pub record KeepsSource {S : Type 0} (folder : S → Option Folder)
-    (faults misses : S → ℕ) (at : S → Option (List ℕ)) (old new : S) : Type 0 where
-  pub same_folder : folder new ≡ folder old
-  pub same_misses : misses new ≡ misses old
-  pub same_at : at new ≡ at old
-  pub later : faults old ≤ faults new
-
 -- the exit status
 abbrev pub code_of : Status → ℕ
 code_of Accepted = 0

@@ -4,6 +4,7 @@ ghost use Rattle.std.specs.Prelude.{map, string_bytes, IfOk, IfErr, IfSome, OnOk
 ghost use Rattle.std.specs.List.{All};
 ghost use Rattle.ot_plain.specs.PlainTrees.{term_of_tree};
 ghost use Rattle.ot_io.specs.Causes.{Rose};
+ghost use Rattle.ot_io.specs.Keeping.{KeepsSource};
 ghost use Rattle.ot_args.specs.Grammar.{is_theory};
 ghost use Rattle.ot_blocks.specs.Paths.{is_package};
 ghost use Rattle.ot_machine.specs.Meaning.{run_of, IsRun, IsExportIn};
@@ -14,7 +15,7 @@ ghost use Rattle.ot_text.specs.Laws.{OneSequent, OneSequentInFront};
 ghost use Rattle.ot_program.specs.Reply.{FindPattern, exports_of, noted_at, run_lists, pattern_path};
 ghost use Rattle.ot_program.specs.Texts.{column_line};
 ghost use Rattle.ot_program.specs.Answer.{FailedAt, FailedIn, IsProved, LeavesOther};
-ghost use Rattle.ot_program.specs.Answer.{LastInput, KeepsFiles, KeepsSource};
+ghost use Rattle.ot_program.specs.Answer.{LastInput, KeepsFiles};
 ghost use Rattle.ot_program.specs.Verdicts.{noted_of, ran_from, ending_of, IfEnded, AreRequired, AreSearched};
 ghost use Rattle.ot_program.specs.Verdicts.{FoundEndsAs, HasMatches, HasSearched, IsPattern, IsSaid};
 ghost use Rattle.ot_program.specs.Verdicts.{IsWalkVerdict, HasEndedWalk, HasEndedInput, HasEndedPattern};

@@ -2,9 +2,10 @@
 ghost use Rattle.std.specs.Prelude.{◌≡◌, ℕ, List, IfOk, IfSome};
 ghost use Rattle.ot_io.specs.Causes.{Rose};
 ghost use Rattle.ot_io.specs.Folder.{path_asked};
+ghost use Rattle.ot_io.specs.Keeping.{KeepsSource};
 ghost use Rattle.ot_verify.specs.Verifying.{AreProved};
 ghost use Rattle.ot_program.specs.Reply.{CheckLog, check_bytes, check_file, log_status};
-ghost use Rattle.ot_program.specs.Answer.{FailedAt, LeavesOther, LastPath, KeepsFiles, KeepsSource};
+ghost use Rattle.ot_program.specs.Answer.{FailedAt, LeavesOther, LastPath, KeepsFiles};
 ghost use Rattle.ot_program.specs.Verdicts.{log_end_of, IsAnswer, IsEnd, IsPlace, HasCause};
 
 use crate::input::STANDARD;

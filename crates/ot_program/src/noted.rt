@@ -2,13 +2,14 @@
 ghost use Rattle.std.specs.Prelude.{◌≡◌, ◌⊎◌, true, IfOk, IfErr, IfSome};
 ghost use Rattle.std.specs.List.{All};
 ghost use Rattle.ot_io.specs.Causes.{Rose};
+ghost use Rattle.ot_io.specs.Keeping.{KeepsSource};
 ghost use Rattle.ot_kernel.specs.State.{State};
 ghost use Rattle.ot_link.specs.Answers.{NamesSymbolIn, Comes, HasCause as HasLinkCause};
 ghost use Rattle.ot_machine.specs.Meaning.{run_of, IsRun, IsExportIn};
 ghost use Rattle.ot_machine.specs.States.{fresh_run};
 ghost use Rattle.ot_args.specs.Grammar.{is_theory};
 ghost use Rattle.ot_program.specs.Reply.{ShowReadable, shown_at, stop_status};
-ghost use Rattle.ot_program.specs.Answer.{FailedAt, LeavesOther, LastInput, KeepsFiles, KeepsSource};
+ghost use Rattle.ot_program.specs.Answer.{FailedAt, LeavesOther, LastInput, KeepsFiles};
 ghost use Rattle.ot_program.specs.Verdicts.{noted_end_of, IsEnd, IsPlace, HasCause, IsLawfulEnds};
 
 use crate::input::run_input;

@@ -1,11 +1,12 @@
 ghost use Rattle.std.specs.Prelude.{◌≡◌, ◌≢◌, ◌↔◌, ◌⊎◌, ◌≤◌, None, Err, IfOk, IfSome, IsSomeAnd, OnOk, OnErr};
 ghost use Rattle.std.specs.Io.KnownBytes.{Appends};
 ghost use Rattle.ot_io.specs.Causes.{Rose, HasCause};
+ghost use Rattle.ot_io.specs.Keeping.{KeepsSource};
 ghost use Rattle.ot_io.specs.Sinks.{FlushesAll, AppendsFront};
 ghost use Rattle.ot_args.specs.Grammar.{texts_of, command_of};
 ghost use Rattle.ot_program.specs.Reply.{task_of, result_of, answer};
 ghost use Rattle.ot_program.specs.Answer.{MatchesReply, IsSilent, IsVerdict, IsLine, Prints, Writes, WritesLine};
-ghost use Rattle.ot_program.specs.Answer.{WritesSome, FailedIn, LeavesAlone, LastPath, KeepsFiles, KeepsSource};
+ghost use Rattle.ot_program.specs.Answer.{WritesSome, FailedIn, LeavesAlone, LastPath, KeepsFiles};
 ghost use Rattle.ot_program.specs.Verdicts.{task_value, IsSized, IsTaskVerdict, Ends, error_line};
 
 use crate::finding::{Query, run_finding};
