@@ -2,6 +2,7 @@
 pub mod Origins
 pub mod OriginCodes
 pub mod Trace
+pub mod StepHash
 pub mod Reach
 pub mod Walk
 pub mod Uses

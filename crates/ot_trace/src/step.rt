@@ -1,12 +1,14 @@
-ghost use Rattle.std.specs.Prelude.{◌≡◌};
+ghost use Rattle.std.specs.Prelude.{◌≡◌, fold};
+ghost use Rattle.ot_trace.specs.StepHash.{step_writes, operand_writes, step_writes-alike};
 
 use crate::trace::StepId;
 use ot_plain::{Cmd, NameId};
 use smallvec::SmallVec;
+use std::hash::{Hash, Hasher};
 
 /// How an object was made, with the parts by number.
 // A trace has many steps: the lists hold inside what most of them need.
-#[derive(PartialEq, Eq, Hash, Drop)]
+#[derive(PartialEq, Eq, Drop)]
 pub enum Step {
     /// A number.
     Number(i64),
@@ -34,5 +36,51 @@ impl Step {
             Step::Name(_) => &[],
             Step::Outcome(_, _) => &[],
         }
+    }
+}
+
+// One or two operands, as most words have, are one write: a trace hashes a step at each call. A definition's symbols
+// come with its operands.
+impl Hash for Step {
+    ghost hash_input = { step_writes };
+
+    ghost respects_eq = { step_writes-alike };
+
+    fn hash<H: Hasher>(&self, state: &mut H) {
+        match self {
+            Step::Number(number) => {
+                state.write_u8(0);
+                number.hash(state);
+            }
+            Step::Name(name) => {
+                state.write_u8(1);
+                name.hash(state);
+            }
+            Step::Make(word, operands) => {
+                word.hash(state);
+                hash_operands(operands.as_slice(), state);
+            }
+            Step::Define(word, operands, _) => {
+                state.write_u8(2);
+                word.hash(state);
+                hash_operands(operands.as_slice(), state);
+            }
+            Step::Outcome(place, definition) => {
+                state.write_u8(3);
+                state.write_u8(*place);
+                definition.hash(state);
+            }
+        }
+    }
+}
+
+// The operands of a word.
+fn hash_operands<H: Hasher>(operands: &[StepId], state: &mut H)
+    ensures { state.new ≡ fold H.write state.old (operand_writes operands.now) }
+{
+    match operands {
+        [one] => one.hash(state),
+        [lower, upper] => state.write_u64(lower.0 as u64 + upper.0 as u64 * (1 << 32)),
+        _ => operands.hash(state),
     }
 }
