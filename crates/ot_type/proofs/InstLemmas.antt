@@ -1,10 +1,11 @@
 -- Lemmas on substitution in the table of types.
-use Rattle.std.proofs.Common.{◌≡◌, ℕ, ◌<◌, ◌≤◌, Bool, true, false, ◌&&◌, cond, nat_eq, eq-eqb}
-use Rattle.std.proofs.Common.{eqb-true, ◌⊎◌, inl, inr, IsSome, List, [], ◌∷◌, ◌++◌, length, slice_get}
-use Rattle.std.proofs.Common.{Some, is_some, unwrap_or, true≢false, refl, sym, ap, subst, ◌∙◌, arith}
-use Rattle.std.specs.List.{All}
+use Rattle.std.proofs.Common.{◌≡◌, ℕ, ◌<◌, ◌≤◌, Bool, true, false, ◌&&◌, cond, nat_eq}
+use Rattle.std.proofs.Common.{eqb-true, inl, inr, List, [], ◌∷◌, ◌++◌, length, slice_get}
+use Rattle.std.proofs.Common.{Some, is_some, unwrap_or, true≢false, get_or, take, refl, sym, ap, subst, ◌∙◌, arith}
+use Rattle.std.proofs.Common.{◌+◌}
+use Rattle.std.specs.List.{All, AllZip}
 use Rattle.std.specs.Map.{lookup}
-use Rattle.std.proofs.lemmas.List.Elements.{All-head, All-tail, All-cons, All-nil}
+use Rattle.std.proofs.lemmas.List.Elements.{All-head, All-tail, All-cons, All-nil, all_zip_more}
 use Rattle.std.proofs.lemmas.Option.{get_or_from_slice_get, slice_get-get_or, slice_get_within, same_Some}
 use Rattle.smallvec.specs.SmallVec.{SmallVec}
 use Rattle.indexmap.specs.IndexMap.{IndexMap, insert_entry}
@@ -14,18 +15,15 @@ use Rattle.ot_plain.specs.Lists.{IsMember}
 use Rattle.ot_plain.specs.Hol.{depth_ty, depth_all, depth_limit, inst, inst_by, inst_all, type_at as image_of}
 use Rattle.ot_plain.specs.Naming.{numbers}
 use Rattle.ot_plain.specs.Bounds.{bound_ty, names_in}
-use Rattle.ot_plain.specs.Table.{Extends, IsInjective}
-use Rattle.ot_plain.proofs.TableLemmas.{Extends-trans, get_or-IsInjective}
+use Rattle.ot_plain.specs.Table.{Extends}
+use Rattle.ot_plain.proofs.TableLemmas.{Extends-trans}
 use Rattle.ot_type.specs.TypeTable.{type_at, types_at, tree_of, images, is_ground, are_ground, IsTypeTable}
-use Rattle.ot_type.specs.Instance.{IsMemo, AreResults, KnowsArgs}
-use Rattle.ot_type.specs.Subtypes.{IsSubtype, IsInside, IsFalling}
-use Rattle.ot_type.proofs.SubtypeLemmas.{member_push, All-member, All-from_member}
-use Rattle.ot_type.proofs.SubtypeLemmas.{inside_at, IsSubtype-refl, IsSubtype-trans}
+use Rattle.ot_type.specs.Instance.{IsMemo, IsInstance}
+use Rattle.ot_type.proofs.SubtypeLemmas.{member_at, above, above-member}
 use Rattle.ot_type.specs.declared.node.TypeNode.{TypeNode}
 use Rattle.ot_type.specs.declared.node.TypeNode.TheVariants.{Var, Op}
-use Rattle.ot_type.proofs.TypeTableLemmas.{type_at-Extends}
+use Rattle.ot_type.proofs.TypeTableLemmas.{type_at-Extends, node_op}
 use Rattle.ot_type.proofs.NamesIn.{bound_ty-type_at}
-use Rattle.ot_plain.proofs.Members.{IsMember-last, IsMember-left}
 use Rattle.ot_plain.proofs.Results.{none_from}
 
 -- ---- a pair that is added to a substitution
@@ -95,22 +93,7 @@ IsMemo-Extends ts us e s es memo = record {
       );
 }
 
--- ---- one more result: it is there, and those that were there are
-now_known : (old new : List (ℕ × ℕ)) (k v : ℕ)
-    → ((q : ℕ) → lookup (nat_eq q) new ≡ cond (nat_eq k q) (Some v) (lookup (nat_eq q) old))
-    → IsSome (lookup (nat_eq k) new)
-now_known old new k v after =
-    subst IsSome (sym (after k ∙ ap (λ b. cond b (Some v) (lookup (nat_eq k) old)) (eq-eqb k k refl))) refl
-
-still_known : (old new : List (ℕ × ℕ)) (k v q : ℕ)
-    → ((q : ℕ) → lookup (nat_eq q) new ≡ cond (nat_eq k q) (Some v) (lookup (nat_eq q) old))
-    → IsSome (lookup (nat_eq q) old) → IsSome (lookup (nat_eq q) new)
-still_known old new k v q after known = subst IsSome (sym (after q)) (by (nat_eq k q))
-  where
-    by : (b : Bool) → IsSome (cond b (Some v) (lookup (nat_eq q) old))
-    by true = refl
-    by false = known
-
+-- ---- one more result
 pub IsMemo-insert : (ts : List (Ty ℕ)) (s : List (ℕ × Ty ℕ)) (old new : List (ℕ × ℕ)) (k v : ℕ) → IsMemo ts s old
     → k < length ts → slice_get ts v ≡ Some (inst numbers s (type_at ts k))
     → ((q : ℕ) → lookup (nat_eq q) new ≡ cond (nat_eq k q) (Some v) (lookup (nat_eq q) old)) → IsMemo ts s new
@@ -128,176 +111,111 @@ IsMemo-insert ts s old new k v memo within tree after =
         )
     by q w false e p = memo.known q w (sym (ap (λ b. cond b (Some v) (lookup (nat_eq q) old)) e) ∙ p)
 
--- ---- the walk over the subtypes of a type, those inside first
--- the tree u has a result
-pub record IsDone (ts : List (Ty ℕ)) (u : Ty ℕ) (es : List (ℕ × ℕ)) : Type 0 where
-  pub id : ℕ
-  pub within : id < length ts
-  pub tree : type_at ts id ≡ u
-  pub known : IsSome (lookup (nat_eq id) es)
+-- ---- a walk over types, one by one
+-- a list of instances is as deep as that of each, at least
+member_deep : (ts : List (Ty ℕ)) (g : ℕ → Ty ℕ) (ids : List ℕ) (k : ℕ) → IsMember k ids
+    → depth_ty numbers (inst_by numbers g (type_at ts k)) ≤ depth_all numbers (inst_all numbers g (types_at ts ids))
+member_deep ts g [] k m = absurd m
+member_deep ts g (i ∷ is) k (inl e) =
+    omega (arith, ap (λ i. depth_ty numbers (inst_by numbers g (type_at ts i))) e)
+member_deep ts g (i ∷ is) k (inr m) = omega (arith, member_deep ts g is k m)
 
--- what it keeps: ts is the table at first, us the table now, and left the subtypes of t that have no result yet
-pub record IsWalk (s : List (ℕ × ℕ)) (ts us : List (Ty ℕ)) (t : Ty ℕ) (left : List ℕ) (es : List (ℕ × ℕ)) : Type
+-- ts is the table at first, us the table now, and found the instances so far
+pub record IsGoingOn (s : List (ℕ × ℕ)) (ts us : List (Ty ℕ)) (es : List (ℕ × ℕ)) (ids found : List ℕ) : Type
     0 where
   pub extends : Extends ts us
   pub table : IsTypeTable us
   pub names : names_in us ≤ names_in ts
-  pub memo : IsMemo us (images ts s) es
-  pub each : (x : ℕ) → IsMember x left → (x < length ts) × IsSubtype (type_at ts x) t
-  pub falling : IsFalling left
-  pub all : (u : Ty ℕ) → IsSubtype u t → IsDone ts u es ⊎ ((x : ℕ) × IsMember x left × (type_at ts x ≡ u))
+  pub memo : IsMemo us (images us s) es
+  pub each : AllZip (IsInstance ts us s) ids found
 
--- lists
-no_member : (xs : List ℕ) (x : ℕ) → length xs ≡ 0 → IsMember x xs → ⊥
-no_member [] x empty m = m
-no_member (y ∷ xs) x empty m = omega arith
+-- instances stay where the table grows
+each_stays : (s : List (ℕ × ℕ)) (ts us vs : List (Ty ℕ)) → Extends us vs → (ids found : List ℕ)
+    → AllZip (IsInstance ts us s) ids found → AllZip (IsInstance ts vs s) ids found
+each_stays s ts us vs e [] [] h = h
+each_stays s ts us vs e [] (y ∷ ys) h = h
+each_stays s ts us vs e (x ∷ xs) [] h = h
+each_stays s ts us vs e (x ∷ xs) (y ∷ ys) h = (e.keeps y _ h.0, each_stays s ts us vs e xs ys h.1)
 
-falling_last : (xs : List ℕ) (k : ℕ) → IsFalling (xs ++ k ∷ []) → IsFalling xs × ((x : ℕ) → IsMember x xs → k < x)
-falling_last [] k f = (tt, λ x never. absurd never)
-falling_last (y ∷ xs) k f =
-    let rest = falling_last xs k f.1 in (
-      (λ z m. f.0 z (IsMember-left z xs (k ∷ []) m), rest.0),
-      λ x m.
-          elim m [ inl e ↦ subst (λ x. k < x) e (f.0 k (IsMember-last k xs)) | inr h ↦ rest.1 x h ],
-    )
+-- all pairs of a substitution stay in a table that grows
+pub pairs_stay : (ts us : List (Ty ℕ)) → Extends ts us → (s : List (ℕ × ℕ)) → All (λ p. p.1 < length ts) s
+    → All (λ p. p.1 < length us) s
+pairs_stay ts us e s h = λ i d within. let below = h i d within in omega (arith, e.longer)
 
-mutual
-  -- an instance is as deep as that of each subtype, at least
-  deeper : (s : List (ℕ × Ty ℕ)) (u t : Ty ℕ) → IsSubtype u t → depth_ty numbers (inst numbers s u)
-      ≤ depth_ty numbers (inst numbers s t)
-  deeper s u (TyVar n) e = omega (arith, ap (λ t. depth_ty numbers (inst numbers s t)) e)
-  deeper s u (TyOp n ts) (inl e) = omega (arith, ap (λ t. depth_ty numbers (inst numbers s t)) e)
-  deeper s u (TyOp n ts) (inr i) = omega (arith, deeper_all s u ts i)
+-- the instance of a type, in the table at first and in one that grew
+module _ (s : List (ℕ × ℕ)) (ts us : List (Ty ℕ)) (e : Extends ts us) (pairs : All (λ p. p.1 < length ts) s) (k : ℕ)
+    (within : k < length ts) where
+  pub same_instance : inst numbers (images us s) (type_at us k) ≡ inst numbers (images ts s) (type_at ts k)
+  same_instance = λ j. inst numbers (images-Extends ts us e s pairs j) (type_at-Extends ts us e k within j)
 
-  deeper_all : (s : List (ℕ × Ty ℕ)) (u : Ty ℕ) (ts : Tys ℕ) → IsInside u ts → depth_ty numbers (inst numbers s u)
-      ≤ depth_all numbers (inst_all numbers (image_of numbers s) ts)
-  deeper_all s u NoTys i = absurd i
-  deeper_all s u (MoreTys t ts) (inl h) = omega (arith, deeper s u t h)
-  deeper_all s u (MoreTys t ts) (inr i) = omega (arith, deeper_all s u ts i)
+module _ (s : List (ℕ × ℕ)) (ts us : List (Ty ℕ)) (es : List (ℕ × ℕ)) (ids found : List ℕ) (i k : ℕ)
+    (pairs : All (λ p. p.1 < length ts) s) (all : All (λ i. i < length ts) ids) (there : i < length ids)
+    (item : k ≡ get_or ids i k) (before : IsGoingOn s ts us es (take i ids) found) where
+  -- the next type
+  pub item_within : k < length ts
+  item_within = subst (λ j. j < length ts) (sym item) (all i k there)
 
-module _ (s : List (ℕ × ℕ)) (ts us : List (Ty ℕ)) (t : Ty ℕ) (left xs : List ℕ) (k : ℕ) (es : List (ℕ × ℕ))
-    (pairs : All (λ p. p.1 < length ts) s) (one : IsInjective ts) (popped : left ≡ xs ++ k ∷ [])
-    (before : IsWalk s ts us t left es) where
-  walk : IsWalk s ts us t (xs ++ k ∷ []) es
-  walk = subst (λ xs. IsWalk s ts us t xs es) popped before
+  item_member : IsMember k ids
+  item_member = subst (λ j. IsMember j ids) (sym item) (member_at ids i k there)
 
-  pub same_images : images us s ≡ images ts s
-  same_images = images-Extends ts us walk.extends s pairs
+  pub item_low : k < above ids
+  item_low = above-member ids k item_member
 
-  pub walk_memo : IsMemo us (images us s) es
-  walk_memo = subst (λ i. IsMemo us i es) (sym same_images) walk.memo
-
-  -- the type that comes next
-  next : (k < length ts) × IsSubtype (type_at ts k) t
-  next = walk.each k (IsMember-last k xs)
-
-  pub next_within : k < length us
-  next_within = omega (arith, next.0, walk.extends.longer)
-
-  same_type : type_at us k ≡ type_at ts k
-  same_type = type_at-Extends ts us walk.extends k next.0
-
-  -- its instance, as the table had it at first
-  next_tree : inst numbers (images us s) (type_at us k) ≡ inst numbers (images ts s) (type_at ts k)
-  next_tree = λ j. inst numbers (same_images j) (same_type j)
-
-  -- an argument of it has a result: what is left has higher numbers
-  arg_known : (y : ℕ) → y < k → IsSubtype (type_at ts y) (type_at ts k) → IsSome (lookup (nat_eq y) es)
-  arg_known y low inside =
-      elim (walk.all (type_at ts y) (IsSubtype-trans (type_at ts y) (type_at ts k) t inside next.1)) [
-        | inl d ↦ subst (λ i. IsSome (lookup (nat_eq i) es))
-            (get_or-IsInjective ts one d.id y (TyVar 0) d.within (omega (arith, low, next.0)) d.tree) d.known
-        | inr b ↦
-            let same : b.0 ≡ y =
-            get_or-IsInjective ts one b.0 y (TyVar 0) (walk.each b.0 b.1).0 (omega (arith, low, next.0)) b.2 in
-            elim (member_push k b.0 xs b.1) [
-              | inl m ↦ let high = (falling_last xs k walk.falling).1 b.0 m in absurd (omega (arith, high, same, low))
-              | inr e ↦ absurd (omega (arith, e, same, low))
-            ]
-      ]
-
-  pub next_args : KnowsArgs us k es
-  next_args n args below root = All-from_member (λ i. IsSome (lookup (nat_eq i) es)) args (λ y m.
-      let low : y < k = All-member (λ i. i < k) args below y m in
-      let stays : type_at us y ≡ type_at ts y = type_at-Extends ts us walk.extends y (omega (arith, low, next.0)) in
-      let inside : IsSubtype (type_at us y) (type_at us k) =
-      subst (IsSubtype (type_at us y)) (sym root) (inr (inside_at us y args m)) in
-      arg_known y low
-      (subst (λ v. IsSubtype v (type_at ts k)) stays (subst (IsSubtype (type_at us y)) same_type inside)))
+  pub item_now : k < length us
+  item_now = omega (arith, item_within, before.extends.longer)
 
   -- its refusal is the whole's
-  pub next_nesting : depth_limit < depth_ty numbers (inst numbers (images us s) (type_at us k))
-      → depth_limit < depth_ty numbers (inst numbers (images ts s) t)
-  next_nesting h =
+  pub item_nesting : depth_limit < depth_ty numbers (inst numbers (images us s) (type_at us k))
+      → depth_limit < depth_all numbers (inst_all numbers (image_of numbers (images ts s)) (types_at ts ids))
+  item_nesting h =
       omega (
         arith,
-        deeper (images ts s) (type_at ts k) t next.1,
         subst (λ u. depth_limit < depth_ty numbers u)
-            next_tree h,
+            (same_instance s ts us before.extends pairs k item_within) h,
+        member_deep ts (image_of numbers (images ts s)) ids k item_member,
       )
 
-  pub walk_step : (vs : List (Ty ℕ)) (fs : List (ℕ × ℕ)) (v : ℕ) → Extends us vs → IsTypeTable vs
+  -- with its instance the walk goes on
+  pub goes_on : (vs : List (Ty ℕ)) (fs : List (ℕ × ℕ)) (v : ℕ) → Extends us vs → IsTypeTable vs
       → names_in vs ≤ names_in us → slice_get vs v ≡ Some (inst numbers (images us s) (type_at us k))
-      → ((q : ℕ) → lookup (nat_eq q) fs ≡ cond (nat_eq k q) (Some v) (lookup (nat_eq q) es)) → IsWalk s ts vs t xs fs
-  walk_step vs fs v e table names tree after = record {
-    extends = Extends-trans walk.extends e;
+      → IsMemo vs (images vs s) fs → IsGoingOn s ts vs fs (take (i + 1) ids) (found ++ v ∷ [])
+  goes_on vs fs v e table names tree memo = record {
+    extends = Extends-trans before.extends e;
     table = table;
-    names = omega (arith, names, walk.names);
-    memo = IsMemo-insert vs (images ts s) es fs k v (IsMemo-Extends us vs e (images ts s) es walk.memo)
-        (omega (arith, next_within, e.longer))
-        (tree ∙ ap Some next_tree ∙ ap (λ u. Some (inst numbers (images ts s) u))
-        (sym (type_at-Extends us vs e k next_within ∙ same_type))) after;
-    each = λ x m. walk.each x (IsMember-left x xs (k ∷ []) m);
-    falling = (falling_last xs k walk.falling).0;
-    all = λ u h. elim (walk.all u h) [
-      | inl d ↦ inl
-          (record { id = d.id; within = d.within; tree = d.tree; known = still_known es fs k v d.id after d.known })
-      | inr b ↦ elim (member_push k b.0 xs b.1) [
-        | inl m ↦ inr (b.0, m, b.2)
-        | inr e ↦ inl
-            (record { id = k; within = next.0; tree = ap (type_at ts) e ∙ b.2; known = now_known es fs k v after })
-      ]
-    ];
+    names = omega (arith, names, before.names);
+    memo = memo;
+    each = all_zip_more (IsInstance ts vs s) ids found i k v there item
+        (each_stays s ts us vs e (take i ids) found before.each)
+        (tree ∙ ap Some (same_instance s ts us before.extends pairs k item_within));
   }
 
--- all are done
-module _ (s : List (ℕ × ℕ)) (ts us : List (Ty ℕ)) (id : ℕ) (left : List ℕ) (es : List (ℕ × ℕ))
-    (within : id < length ts) (walk : IsWalk s ts us (type_at ts id) left es) where
-  pub walk_end : IsInjective ts → length left ≡ 0 → IsSome (lookup (nat_eq id) es)
-  walk_end one empty = elim (walk.all (type_at ts id) (IsSubtype-refl (type_at ts id))) [
-    | inl d ↦ subst (λ i. IsSome (lookup (nat_eq i) es))
-        (get_or-IsInjective ts one d.id id (TyVar 0) d.within within d.tree) d.known
-    | inr b ↦ absurd (no_member left b.0 empty b.1)
-  ]
-
-  pub walk_result : (r : ℕ) → lookup (nat_eq id) es ≡ Some r
-      → slice_get us r ≡ Some (inst numbers (images ts s) (type_at ts id))
-  walk_result r p = (walk.memo.known id r p).1
-      ∙ ap (λ u. Some (inst numbers (images ts s) u)) (type_at-Extends ts us walk.extends id within)
-
 -- ---- the arguments are done
-module _ (ts : List (Ty ℕ)) (s : List (ℕ × Ty ℕ)) (es : List (ℕ × ℕ)) (memo : IsMemo ts s es) where
-  pub results_below : (ids found : List ℕ) → AreResults es ids found → All (λ i. i < length ts) found
-  results_below [] [] h = All-nil (λ i. i < length ts)
+module _ (ts us : List (Ty ℕ)) (s : List (ℕ × ℕ)) where
+  pub results_below : (ids found : List ℕ) → AllZip (IsInstance ts us s) ids found → All (λ i. i < length us) found
+  results_below [] [] h = All-nil (λ i. i < length us)
   results_below [] (y ∷ ys) h = absurd h
   results_below (x ∷ xs) [] h = absurd h
   results_below (x ∷ xs) (y ∷ ys) h =
-      All-cons (λ i. i < length ts) y ys (slice_get_within ts y _ (memo.known x y h.0).1) (results_below xs ys h.1)
+      All-cons (λ i. i < length us) y ys (slice_get_within us y _ h.0) (results_below xs ys h.1)
 
-  results_trees : (ids found : List ℕ) → AreResults es ids found
-      → types_at ts found ≡ inst_all numbers (image_of numbers s) (types_at ts ids)
+  results_trees : (ids found : List ℕ) → AllZip (IsInstance ts us s) ids found
+      → types_at us found ≡ inst_all numbers (image_of numbers (images ts s)) (types_at ts ids)
   results_trees [] [] h = refl
   results_trees [] (y ∷ ys) h = absurd h
   results_trees (x ∷ xs) [] h = absurd h
   results_trees (x ∷ xs) (y ∷ ys) h =
-      let head = get_or_from_slice_get ts y _ (TyVar 0) (memo.known x y h.0).1 in
+      let head = get_or_from_slice_get us y _ (TyVar 0) h.0 in
       let tail = results_trees xs ys h.1 in
       λ j. MoreTys (head j) (tail j)
 
   -- with the name they make the instance
-  pub instance_op : (id n : ℕ) (ids found : List ℕ) → type_at ts id ≡ TyOp n (types_at ts ids)
-      → AreResults es ids found → TyOp n (types_at ts found) ≡ inst numbers s (type_at ts id)
-  instance_op id n ids found root h = ap (TyOp n) (results_trees ids found h) ∙ ap (inst numbers s) (sym root)
+  pub instance_op : (id : ℕ) (node : TypeNode) (n : ℕ) (a : SmallVec ℕ) (ids found out : List ℕ)
+      → slice_get ts id ≡ Some (tree_of ts node) → node ≡ Op n a → ids ≡ a.items
+      → AllZip (IsInstance ts us s) ids found → out ≡ found
+      → TyOp n (types_at us out) ≡ inst numbers (images ts s) (type_at ts id)
+  instance_op id node n a ids found out tree is items each same =
+      ap (λ is. TyOp n (types_at us is)) same ∙ ap (TyOp n) (results_trees ids found each)
+      ∙ ap (inst numbers (images ts s)) (sym (node_op ts id node n a ids tree is items))
 
 -- ---- the cases of a node
 -- the name of an operator is one of the table's

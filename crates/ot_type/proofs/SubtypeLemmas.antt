@@ -21,7 +21,7 @@ module _ {X : Type 0} where
   member_push x y xs h = elim (IsMember-cases y xs (x ∷ []) h)
       [ inl a ↦ inl a | inr b ↦ elim b [ inl e ↦ inr e | inr never ↦ absurd never ] ]
 
-  member_at : (xs : List X) (i : ℕ) (d : X) → i < length xs → IsMember (get_or xs i d) xs
+  pub member_at : (xs : List X) (i : ℕ) (d : X) → i < length xs → IsMember (get_or xs i d) xs
   member_at [] i d h = absurd (omega arith)
   member_at (x ∷ xs) zero d h = inl refl
   member_at (x ∷ xs) (suc i) d h = inr (member_at xs i d (omega arith))
@@ -233,6 +233,11 @@ above (x ∷ xs) = max (suc x) (above xs)
 pub above-le : (xs : List ℕ) (k : ℕ) → ((x : ℕ) → IsMember x xs → x < k) → above xs ≤ k
 above-le [] k h = omega arith
 above-le (x ∷ xs) k h = omega (arith, h x (inl refl), above-le xs k (λ y m. h y (inr m)))
+
+pub above-member : (xs : List ℕ) (k : ℕ) → IsMember k xs → k < above xs
+above-member [] k m = absurd m
+above-member (x ∷ xs) k (inl e) = omega (arith, e)
+above-member (x ∷ xs) k (inr m) = omega (arith, above-member xs k m)
 
 pub above-last : (xs : List ℕ) (k : ℕ) → k < above (xs ++ k ∷ [])
 above-last [] k = omega arith

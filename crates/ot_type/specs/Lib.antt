@@ -2,3 +2,4 @@
 pub mod TypeTable
 pub mod Instance
 pub mod Subtypes
+pub mod NodeHash

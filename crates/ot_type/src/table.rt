@@ -1,5 +1,5 @@
 ghost use Rattle.std.specs.Prelude.{◌≡◌, ℕ, ◌<◌, ◌≤◌, ◌+◌, max, ◌∷◌, [], Some, Err};
-ghost use Rattle.std.specs.Prelude.{slice_get, length, IfOk, OnErr, MatchOption, ◌≢◌};
+ghost use Rattle.std.specs.Prelude.{slice_get, length, IfOk, IfSome, OnErr, MatchOption, ◌≢◌, ◌*◌};
 ghost use Rattle.std.specs.List.{All};
 ghost use Rattle.ot_plain.specs.Table.{Extends};
 ghost use Rattle.ot_plain.specs.Trees.{Ty, TyOp, TyVar};
@@ -30,6 +30,15 @@ impl Model for TypeId {
     ghost view = { λ n. n.0 };
 
     ghost inverse = { λ n. record { 0 = n } };
+}
+
+impl TypeId {
+    // This number and another one in one number of 64 bits.
+    pub(crate) fn pair_with(self, other: TypeId) -> u64
+        ensures { result ≡ self + other * 4294967296 }
+    {
+        self.0 as u64 + other.0 as u64 * (1 << 32)
+    }
 }
 
 /// What stands beside a node: how deep its type is, and whether no type variable stands in it.
@@ -108,6 +117,10 @@ impl Types {
         ensures err { OnErr result (self.new ≡ self.old) }
         ensures table { IsTypeTable self.new }
     {
+        let node = TypeNode::Op(name, SmallVec::from_slice(*self.nodes.allocator(), args)?);
+        if let Some(id) = self.find(&node) {
+            return Ok(id);
+        }
         let deepest = self.deepest(args);
         if deepest >= DEPTH_LIMIT {
             return Err(TableFault::Nesting);
@@ -116,8 +129,7 @@ impl Types {
             depth: deepest + 1,
             ground: self.are_ground(args),
         };
-        let args = SmallVec::from_slice(*self.nodes.allocator(), args)?;
-        Ok(self.intern(TypeNode::Op(name, args), beside)?)
+        Ok(self.intern(node, beside)?)
     }
 
     /// The type of functions from `a` to `b`, which is the operator `->` with these two arguments.
@@ -148,11 +160,15 @@ impl Types {
         ensures table { IsTypeTable self.new }
     {
         let no_args = SmallVec::new(*self.nodes.allocator());
+        let node = TypeNode::Op(NameId::BOOL, no_args);
+        if let Some(id) = self.find(&node) {
+            return Ok(id);
+        }
         let beside = Beside {
             depth: 1,
             ground: true,
         };
-        self.intern(TypeNode::Op(NameId::BOOL, no_args), beside)
+        self.intern(node, beside)
     }
 
     /// The node of a type. Its arguments have lower numbers than the type.
@@ -178,6 +194,17 @@ impl Types {
         match self.node(id) {
             TypeNode::Var(_) => None,
             TypeNode::Op(name, args) => two_of_arrow(*name, args.as_slice()),
+        }
+    }
+
+    // The number of a node that the table has. Nearly all calls ask for one that is there.
+    fn find(&self, node: &TypeNode) -> Option<TypeId>
+        ensures found { IfSome result (λ id. slice_get self.now id ≡ Some (tree_of self.now node.now)) }
+        ensures table { IsTypeTable self.now }
+    {
+        match self.nodes.get_index_of(node) {
+            Some(index) if index <= u32::MAX as usize => Some(TypeId(index as u32)),
+            _ => None,
         }
     }
 

@@ -8,5 +8,5 @@ pub returns-clause-names : goal.returns-clause-names
 returns-clause-names c =
     let h = bound_tys-types_at c.args.self.now c.args.args.now c.requires in
     let g = subst (λ is. bound_tys (types_at c.args.self.now is) ≤ names_in c.args.self.now)
-    (sym c.in_ok-args.ensures.ok) h in
+    (sym c.in_ok-from_slice.ensures.ok) h in
     omega (arith, g, c.intern.ensures.names)
