@@ -20,6 +20,7 @@ use Rattle.ot_class.specs.declared.node.ClassNode.{ClassNode}
 use Rattle.ot_class.specs.declared.node.Key.{Key}
 use Rattle.ot_class.specs.declared.node.ClassNode.TheVariants as node
 use Rattle.ot_class.specs.declared.table.Beside.{Beside}
+use Rattle.ot_class.specs.NodeHash.{same_node}
 use Rattle.ot_class.specs.contracts.node.ClassNodePartialEq.TheImpl as derived
 
 pub less_than : (x y : ℕ) → is_lt (nat_cmp x y) ≡ true → x < y
@@ -57,47 +58,7 @@ tree_stays cs ds e (node.App f x) h =
 tree_stays cs ds e (node.Abs t b) h = ap (Abs (numbered t)) (get_or-Extends cs ds e b (Bound 0) h)
 
 tree_same : (cs : List (Tm ℕ)) (m n : ClassNode) → node_eq m n ≡ true → tree_of cs m ≡ tree_of cs n
-tree_same cs (node.Free v) (node.Free w) p =
-    let parts = both (nat_eq v.name w.name) (nat_eq v.ty w.ty) p in
-    let name = eqb-true v.name w.name parts.0 in
-    let ty = eqb-true v.ty w.ty parts.1 in
-    λ j. Free (variable_by (name j) (ty j))
-tree_same cs (node.Const n t) (node.Const m u) p =
-    let parts = both (nat_eq n m) (nat_eq t u) p in
-    let name = eqb-true n m parts.0 in
-    let ty = eqb-true t u parts.1 in
-    λ j. Con (name j) (numbered (ty j))
-tree_same cs (node.Bound i) (node.Bound k) p = ap Bound (eqb-true i k p)
-tree_same cs (node.App f x) (node.App g y) p =
-    let parts = both (nat_eq f g) (nat_eq x y) p in
-    let left = eqb-true f g parts.0 in
-    let right = eqb-true x y parts.1 in
-    λ j. App (class_at cs (left j)) (class_at cs (right j))
-tree_same cs (node.Abs t b) (node.Abs u c) p =
-    let parts = both (nat_eq t u) (nat_eq b c) p in
-    let ty = eqb-true t u parts.0 in
-    let body = eqb-true b c parts.1 in
-    λ j. Abs (numbered (ty j)) (class_at cs (body j))
-tree_same cs (node.Free v) (node.Const m u) p = absurd (true≢false (sym p))
-tree_same cs (node.Free v) (node.Bound k) p = absurd (true≢false (sym p))
-tree_same cs (node.Free v) (node.App g y) p = absurd (true≢false (sym p))
-tree_same cs (node.Free v) (node.Abs u c) p = absurd (true≢false (sym p))
-tree_same cs (node.Const n t) (node.Free w) p = absurd (true≢false (sym p))
-tree_same cs (node.Const n t) (node.Bound k) p = absurd (true≢false (sym p))
-tree_same cs (node.Const n t) (node.App g y) p = absurd (true≢false (sym p))
-tree_same cs (node.Const n t) (node.Abs u c) p = absurd (true≢false (sym p))
-tree_same cs (node.Bound i) (node.Free w) p = absurd (true≢false (sym p))
-tree_same cs (node.Bound i) (node.Const m u) p = absurd (true≢false (sym p))
-tree_same cs (node.Bound i) (node.App g y) p = absurd (true≢false (sym p))
-tree_same cs (node.Bound i) (node.Abs u c) p = absurd (true≢false (sym p))
-tree_same cs (node.App f x) (node.Free w) p = absurd (true≢false (sym p))
-tree_same cs (node.App f x) (node.Const m u) p = absurd (true≢false (sym p))
-tree_same cs (node.App f x) (node.Bound k) p = absurd (true≢false (sym p))
-tree_same cs (node.App f x) (node.Abs u c) p = absurd (true≢false (sym p))
-tree_same cs (node.Abs t b) (node.Free w) p = absurd (true≢false (sym p))
-tree_same cs (node.Abs t b) (node.Const m u) p = absurd (true≢false (sym p))
-tree_same cs (node.Abs t b) (node.Bound k) p = absurd (true≢false (sym p))
-tree_same cs (node.Abs t b) (node.App g y) p = absurd (true≢false (sym p))
+tree_same cs m n p = ap (tree_of cs) (same_node m n p)
 
 same_tree : (cs : List (Tm ℕ)) → IsInjective cs → (m n : ClassNode) → AreBelow (length cs) m → AreBelow (length cs) n
     → tree_of cs m ≡ tree_of cs n → node_eq m n ≡ true

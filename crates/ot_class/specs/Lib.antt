@@ -2,5 +2,6 @@
 pub mod Class
 pub mod Spelled
 pub mod Table
+pub mod NodeHash
 pub mod Closing
 pub mod Gathering

@@ -15,7 +15,7 @@ pub(super) const SMALL: u32 = 32;
 // A number under some abstractions.
 #[derive(Clone, Copy, PartialEq, Eq, Hash)]
 pub(super) struct Place {
-    depth: usize,
+    depth: u32,
     id: ClassId,
 }
 
@@ -28,12 +28,12 @@ impl Classes {
     pub(super) fn close_at(
         &mut self,
         v: Key,
-        depth: usize,
+        depth: u32,
         id: ClassId,
         done: &mut IndexMap<Place, ClassId>,
     ) -> Result<ClassId, Memory>
         requires id { id < length self.old }
-        requires room { depth + id < 2 ^ 64 }
+        requires room { depth + id < 2 ^ 32 }
         requires done { IsClosing self.old v done.old.entries }
         ensures ok { IfOk result
             (λ r. slice_get self.new r ≡ Some (close_at numbers depth (variable_of v) (class_at self.old id))) }
@@ -62,12 +62,12 @@ impl Classes {
     fn close_node(
         &mut self,
         v: Key,
-        depth: usize,
+        depth: u32,
         id: ClassId,
         done: &mut IndexMap<Place, ClassId>,
     ) -> Result<ClassId, Memory>
         requires id { id < length self.old }
-        requires room { depth + id < 2 ^ 64 }
+        requires room { depth + id < 2 ^ 32 }
         requires done { IsClosing self.old v done.old.entries }
         ensures ok { IfOk result
             (λ r. slice_get self.new r ≡ Some (close_at numbers depth (variable_of v) (class_at self.old id))) }
