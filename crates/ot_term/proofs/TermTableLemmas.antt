@@ -25,15 +25,11 @@ use Rattle.ot_term.specs.declared.table.Beside.{Beside}
 use Rattle.ot_term.specs.declared.term.VarKey.{VarKey}
 use Rattle.ot_term.specs.declared.term.TermNode.{TermNode}
 use Rattle.ot_term.specs.declared.term.TermNode.TheVariants.{Var, Const, App, Abs}
+use Rattle.ot_term.specs.NodeHash.{same_node}
 use Rattle.ot_term.specs.contracts.term.TermNodePartialEq.TheImpl as derived
 
 abbrev pub node_eq : TermNode → TermNode → Bool
 node_eq = derived.ghosts.eq
-
-both : (a b : Bool) → (a && b) ≡ true → (a ≡ true) × (b ≡ true)
-both true true p = (refl, refl)
-both true false p = absurd (true≢false (sym p))
-both false b p = absurd (true≢false (sym p))
 
 -- ---- the laws, over one table of types
 module _ (tys : List (Ty ℕ)) where
@@ -55,42 +51,8 @@ module _ (tys : List (Ty ℕ)) where
       let body = get_or-Extends ts us e b (NConst 0 (TyVar 0)) h.1 in
       λ j. NAbs (variable_of tys v) (body j)
 
-  variable_same : (v w : VarKey) → (nat_eq v.name w.name && nat_eq v.ty w.ty) ≡ true
-      → variable_of tys v ≡ variable_of tys w
-  variable_same v w p =
-      let parts = both (nat_eq v.name w.name) (nat_eq v.ty w.ty) p in
-      let name = eqb-true v.name w.name parts.0 in
-      let ty = eqb-true v.ty w.ty parts.1 in
-      λ j. record { name = name j; ty = type_at tys (ty j) }
-
   tree_same : (ts : List (Named ℕ)) (m n : TermNode) → node_eq m n ≡ true → term_of tys ts m ≡ term_of tys ts n
-  tree_same ts (Var v) (Var w) p = ap NVar (variable_same v w p)
-  tree_same ts (Const n t) (Const m u) p =
-      let parts = both (nat_eq n m) (nat_eq t u) p in
-      let name = eqb-true n m parts.0 in
-      let ty = eqb-true t u parts.1 in
-      λ j. NConst (name j) (type_at tys (ty j))
-  tree_same ts (App f x) (App g y) p =
-      let parts = both (nat_eq f g) (nat_eq x y) p in
-      let left = eqb-true f g parts.0 in
-      let right = eqb-true x y parts.1 in
-      λ j. NApp (term_at ts (left j)) (term_at ts (right j))
-  tree_same ts (Abs v b) (Abs w c) p =
-      let parts = both (nat_eq v.name w.name && nat_eq v.ty w.ty) (nat_eq b c) p in
-      let body = eqb-true b c parts.1 in
-      λ j. NAbs (variable_same v w parts.0 j) (term_at ts (body j))
-  tree_same ts (Var v) (Const m u) p = absurd (true≢false (sym p))
-  tree_same ts (Var v) (App g y) p = absurd (true≢false (sym p))
-  tree_same ts (Var v) (Abs w c) p = absurd (true≢false (sym p))
-  tree_same ts (Const n t) (Var w) p = absurd (true≢false (sym p))
-  tree_same ts (Const n t) (App g y) p = absurd (true≢false (sym p))
-  tree_same ts (Const n t) (Abs w c) p = absurd (true≢false (sym p))
-  tree_same ts (App f x) (Var w) p = absurd (true≢false (sym p))
-  tree_same ts (App f x) (Const m u) p = absurd (true≢false (sym p))
-  tree_same ts (App f x) (Abs w c) p = absurd (true≢false (sym p))
-  tree_same ts (Abs v b) (Var w) p = absurd (true≢false (sym p))
-  tree_same ts (Abs v b) (Const m u) p = absurd (true≢false (sym p))
-  tree_same ts (Abs v b) (App g y) p = absurd (true≢false (sym p))
+  tree_same ts m n p = ap (term_of tys ts) (same_node m n p)
 
   same_variable : IsInjective tys → (v w : VarKey) → v.ty < length tys → w.ty < length tys
       → variable_of tys v ≡ variable_of tys w → (nat_eq v.name w.name && nat_eq v.ty w.ty) ≡ true

@@ -1,6 +1,7 @@
 -- What a reader of the contracts has to believe of the table of terms.
 pub mod Term
 pub mod TermTable
+pub mod NodeHash
 pub mod Classing
 pub mod Equality
 pub mod Fault

@@ -1,8 +1,10 @@
 //! Terms by number, the symbols in them, and why a table has no number for a term.
 ghost use Rattle.std.specs.Prelude.{◌≡◌};
+ghost use Rattle.ot_term.specs.NodeHash.{node_writes, node_writes-alike};
 
 use ot_plain::{Memory, NameId};
 use ot_type::{TableFault, TypeId};
+use std::hash::{Hash, Hasher};
 use std::marker::Model;
 
 /// The number of a term in its table.
@@ -36,7 +38,7 @@ pub struct VarKey {
 }
 
 /// A term, its parts by number.
-#[derive(Clone, Copy, PartialEq, Eq, Hash)]
+#[derive(Clone, Copy, PartialEq, Eq)]
 pub enum TermNode {
     /// A variable.
     Var(VarKey),
@@ -46,6 +48,32 @@ pub enum TermNode {
     App(TermId, TermId),
     /// The abstraction of a variable from a body.
     Abs(VarKey, TermId),
+}
+
+// The two numbers of an application are one write: a table hashes a node at each call.
+impl Hash for TermNode {
+    ghost hash_input = { node_writes };
+
+    ghost respects_eq = { node_writes-alike };
+
+    fn hash<H: Hasher>(&self, state: &mut H) {
+        match *self {
+            TermNode::Var(v) => {
+                state.write_u8(0);
+                v.hash(state);
+            }
+            TermNode::Const(name, ty) => {
+                state.write_u8(1);
+                name.hash(state);
+                ty.hash(state);
+            }
+            TermNode::App(f, x) => state.write_u64(f.0 as u64 + x.0 as u64 * (1 << 32)),
+            TermNode::Abs(v, body) => {
+                v.hash(state);
+                body.hash(state);
+            }
+        }
+    }
 }
 
 /// What a symbol names.
