@@ -46,12 +46,15 @@ impl Session {
             return Err(Fault::Nesting);
         }
         let place = machine.cells.len();
+        if place > u32::MAX as usize {
+            return Err(Fault::Memory);
+        }
         machine.cells.push(Cell {
             head,
             tail,
             nesting,
         })?;
-        Ok(List::Cell(place))
+        Ok(List::Cell(place as u32))
     }
 
     /// The list of these constants.
@@ -100,7 +103,7 @@ impl Session {
     {
         match list {
             List::Nil => 1,
-            List::Cell(cell) => machine.cells[*cell].nesting,
+            List::Cell(cell) => machine.cells[*cell as usize].nesting,
         }
     }
 
@@ -131,7 +134,7 @@ impl Session {
         let mut types = Vec::new(alloc);
         let mut rest = list;
         'cells: while let List::Cell(place) = rest {
-            let cell = &machine.cells[place];
+            let cell = &machine.cells[place as usize];
             let Object::Type(ty) = cell.head else {
                 return Err(Fault::WrongKind(Kind::Ty, cell.head.kind()));
             };
@@ -175,7 +178,7 @@ impl Session {
         let mut terms = Vec::new(alloc);
         let mut rest = list;
         'cells: while let List::Cell(place) = rest {
-            let cell = &machine.cells[place];
+            let cell = &machine.cells[place as usize];
             let Object::Term(term) = cell.head else {
                 return Err(Fault::WrongKind(Kind::Tm, cell.head.kind()));
             };
@@ -214,7 +217,7 @@ impl Session {
         let mut names = Vec::new(alloc);
         let mut rest = list;
         'cells: while let List::Cell(place) = rest {
-            let cell = &machine.cells[place];
+            let cell = &machine.cells[place as usize];
             let Object::Name(name) = cell.head else {
                 return Err(Fault::WrongKind(Kind::Name, cell.head.kind()));
             };

@@ -6,11 +6,11 @@ use ot_term::{TermId, VarKey};
 use ot_trace::StepId;
 use ot_type::TypeId;
 
-/// A list of objects: the empty one, or a cell of the machine.
+/// A list of objects: the empty one, or a cell of the machine, by a number of 32 bits that keeps an object small.
 #[derive(Clone, Copy)]
 pub enum List {
     Nil,
-    Cell(usize),
+    Cell(u32),
 }
 
 /// What stands on the stack: a small value, whatever it stands for.

@@ -76,7 +76,7 @@ impl Session {
         match list {
             List::Nil => None,
             List::Cell(place) => {
-                let cell = &machine.cells[place];
+                let cell = &machine.cells[place as usize];
                 Some((cell.head, cell.tail))
             }
         }
