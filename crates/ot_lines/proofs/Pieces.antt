@@ -1,9 +1,11 @@
 -- Laws of cutting at newlines.
-use Rattle.std.proofs.Common.{◌≡◌, ◌≢◌, ◌<◌, ◌-◌, inl, inr, ℕ, zero, suc, List, [], ◌∷◌, ◌++◌, length}
+use Rattle.std.proofs.Common.{◌≡◌, ◌≢◌, ◌<◌, ◌≤◌, ◌+◌, ◌-◌, ◌==◌, not, inl, inr, ℕ, zero, suc, List, [], ◌∷◌, ◌++◌, length}
 use Rattle.std.proofs.Common.{take, drop, get_or, append_assoc, append-nil, sym, ap, ◌∙◌, refl, arith}
-use Rattle.std.specs.List.{concat}
+use Rattle.std.specs.List.{concat, prefix_len}
+use Rattle.std.proofs.lemmas.Bool.{false≢true, eq-eqb, eqb-true, cases_lt}
 use Rattle.std.proofs.lemmas.Bool.Decides.{eqb_tells}
 use Rattle.std.proofs.lemmas.List.{take_all, take-append-le, drop-append-le, length-append}
+use Rattle.std.proofs.lemmas.Simd.{run_in_chunk_fails, run_in_chunk_stops}
 use Rattle.std.proofs.Math.ListN.{drop_of_length-le, get_or-append}
 use Rattle.ot_plain.specs.Lists.{IsMember}
 use Rattle.ot_lines.specs.Pieces.{onto_first, pieces, IsWhole, IsOpen, AreWhole, IsCut, IsOpenTo, EndsAt}
@@ -142,3 +144,31 @@ first-all len held some all none =
     ∙ pieces_none held (omega (arith, some, all)) (λ k l. none k (omega (arith, l, all)))
     ∙ ap (λ z. z ∷ []) (sym (take_all len held (omega (arith, all))))
     ∙ ap (λ z. take len held ∷ pieces (z ++ [])) (sym (drop_of_length-le held (omega (arith, all))))
+
+-- ---- the first newline among the bytes of a run, behind bytes without one
+
+module _ (bytes : List ℕ) (at n run : ℕ) (room : at + n ≤ length bytes)
+    (counted : run ≡ prefix_len (λ b. not (b == 10)) (take n (drop at bytes))) (before : IsOpenTo at bytes) where
+  open_so_far : IsOpenTo (at + run) bytes
+  open_so_far k l newline = elim (cases_lt k at) [
+    | inl early ↦ before k early newline
+    | inr late ↦
+        false≢true (sym (run_in_chunk_fails (λ b. b == 10) bytes at n run 0 room counted k late l)
+        ∙ eq-eqb (get_or bytes k 0) 10 newline)
+  ]
+
+  pub open_run : n ≤ run → IsOpenTo (at + n) bytes
+  open_run all k l = open_so_far k (omega (arith, all, l))
+
+  pub ends_in_run : run < n → EndsAt (at + run + 1) bytes
+  ends_in_run short =
+      let place : at + run ≡ at + run + 1 - 1 = omega arith in
+      record {
+        some = omega arith;
+        within = omega (arith, room, short);
+        open_before = λ k l. open_so_far k (omega (arith, l));
+        newline =
+            ap (λ i. get_or bytes i 0) (sym place)
+            ∙ eqb-true (get_or bytes (at + run) 0) 10
+            (run_in_chunk_stops (λ b. b == 10) bytes at n run 0 room counted short);
+      }

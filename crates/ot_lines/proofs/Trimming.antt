@@ -3,8 +3,8 @@ use Rattle.std.proofs.Common.{◌≡◌, ◌≢◌, ◌<◌, ◌≤◌, ◌+◌,
 use Rattle.std.proofs.Common.{[], ◌∷◌, ◌++◌, length, take, get_or, reverse, Bool, true}
 use Rattle.std.proofs.Common.{false, ◌==◌, ◌||◌, if◌then◌else◌, sym, ap, ◌∙◌, refl, arith}
 use Rattle.std.proofs.lemmas.Bool.Decides.{eqb_tells}
-use Rattle.std.proofs.lemmas.List.{take_more, reverse-append, reverse-reverse}
-use Rattle.ot_lines.specs.Pieces.{without_last, is_blank, is_skipped, text_of, trim_front, trim_back}
+use Rattle.std.proofs.lemmas.List.{take_all, take_more, reverse-append, reverse-reverse}
+use Rattle.ot_lines.specs.Pieces.{without_last, is_blank, is_skipped, text_of, trim_front, trim_back, IsBare}
 
 -- ---- the last byte is this one, or another one
 last_is : (x : ℕ) (xs : List ℕ) (n : ℕ) → length xs ≡ suc n → get_or xs n 0 ≡ x → without_last x xs ≡ take n xs
@@ -103,6 +103,34 @@ first-text b bs newline return plain =
 
 not_equal : (b x : ℕ) → x < b → (b == x) ≡ false
 not_equal b x above = elim (eqb_tells b x) [ inl q ↦ absurd (omega (arith, q.1, above)) | inr q ↦ q.0 ]
+
+-- ---- a line that begins and ends with bytes above a space
+
+above_blank : (b : ℕ) → 32 < b → is_blank b ≡ false
+above_blank b above = ap (λ z. z || (b == 9)) (not_equal b 32 above) ∙ not_equal b 9 (omega (arith, above))
+
+front_bare : (line : List ℕ) → IsBare line → trim_front line ≡ line
+front_bare [] bare = refl
+front_bare (b ∷ bs) bare = rw (above_blank b bare.first) refl
+
+back_bare : (line : List ℕ) → IsBare line → trim_back line ≡ line
+back_bare line bare =
+    let whole = take_all (length line) line (omega arith) in
+    ap trim_back (sym whole)
+    ∙ sym (back_end line (length line) (omega arith) (λ some. sym (above_blank (get_or line (length line - 1) 0) bare.last)))
+    ∙ whole
+
+pub bare_text : (piece : List ℕ) → 0 < length piece → get_or piece (length piece - 1) 0 ≡ 10
+    → IsBare (take (length piece - 1) piece) → take (length piece - 1) piece ≡ text_of piece
+bare_text piece some newline bare =
+    let line = take (length piece - 1) piece in
+    let cut : line ≡ without_last 10 piece = cut_last 10 piece some newline in
+    let kept : line ≡ without_last 13 line = kept_last 13 line (λ _ e. omega (arith, e, bare.last)) in
+    sym (
+    ap (λ z. trim_back (trim_front (without_last 13 z))) (sym cut)
+    ∙ ap (λ z. trim_back (trim_front z)) (sym kept)
+    ∙ ap trim_back (front_bare line bare)
+    ∙ back_bare line bare)
 
 pub above_passes : (piece : List ℕ) → 1 ≤ length piece → 35 < get_or piece 0 0 → false ≡ is_skipped (text_of piece)
 above_passes [] some above = absurd (omega (arith, some))

@@ -1,10 +1,53 @@
-ghost use Rattle.std.specs.Prelude.{◌≡◌, ◌≤◌, length, MatchOption};
+ghost use Rattle.std.specs.Prelude.{◌≡◌, ◌≤◌, ◌+◌, ◌==◌, not, length, take, drop, MatchOption, IsTrue};
+ghost use Rattle.std.specs.List.{prefix_len};
 ghost use Rattle.ot_lines.specs.Pieces.{IsOpenTo, EndsAt, OneCut, text_of, is_skipped};
-ghost use Rattle.ot_lines.specs.Pieces.{is_blank, without_last, trim_front, trim_back};
+ghost use Rattle.ot_lines.specs.Pieces.{is_blank, without_last, trim_front, trim_back, IsBare};
+
+use std::simd::prelude::*;
+
+/// How many bytes are searched for a newline at once.
+const LANES: usize = 16;
 
 /// How long the first piece is, its newline counted, where the newline is among the bytes. None of
 /// the first `searched` is a newline.
+// Once a line: each reader of lines is to have it inline.
+#[inline(always)]
 pub fn piece_len(bytes: &[u8], searched: usize) -> Option<usize>
+    requires within { searched ≤ length bytes.now }
+    requires open { IsOpenTo searched bytes.now }
+    ensures { MatchOption result
+        (IsOpenTo (length bytes.now) bytes.now)
+        (λ len. EndsAt len bytes.now) }
+{
+    let mut at = searched;
+    'runs: while bytes.len() - at >= LANES {
+        let open = open_lanes(bytes, at);
+        if open < LANES {
+            return Some(at + open + 1);
+        }
+        at += LANES;
+    }
+    piece_len_by_one(bytes, at)
+}
+
+/// How many of 16 bytes stand before the first newline among them.
+#[inline(always)]
+fn open_lanes(bytes: &[u8], at: usize) -> usize
+    requires { at + LANES ≤ length bytes.now }
+    ensures { result ≡ prefix_len (λ b. not (b == 10)) (take LANES (drop at bytes.now)) }
+{
+    let newlines = u8x16::from_slice(&bytes[at..])
+        .simd_eq(u8x16::splat(b'\n'))
+        .to_bitmask();
+    if newlines == 0 {
+        LANES
+    } else {
+        newlines.trailing_zeros() as usize
+    }
+}
+
+/// How long the first piece is, searched byte by byte.
+fn piece_len_by_one(bytes: &[u8], searched: usize) -> Option<usize>
     requires within { searched ≤ length bytes.now }
     requires open { IsOpenTo searched bytes.now }
     ensures { MatchOption result
@@ -36,7 +79,27 @@ pub fn without_last(piece: &[u8], byte: u8) -> &[u8]
 
 /// The text of a piece, by the article format: without its newline, then without one CR at its end,
 /// then without blanks at both ends.
+// Most lines have nothing to trim but their newline.
+#[inline(always)]
 pub fn trimmed(piece: &[u8]) -> &[u8]
+    ensures { result.now ≡ text_of piece.now }
+{
+    match piece {
+        [line @ .., b'\n'] if is_bare(line) => line,
+        _ => trimmed_at_ends(piece),
+    }
+}
+
+/// Whether both ends of a line are bytes above a space, so that nothing of it is trimmed.
+#[inline(always)]
+fn is_bare(line: &[u8]) -> bool
+    ensures { IsTrue result → IsBare line.now }
+{
+    matches!(line, [first, ..] if *first > b' ') && matches!(line, [.., last] if *last > b' ')
+}
+
+/// The text of a piece, whatever stands at its ends.
+fn trimmed_at_ends(piece: &[u8]) -> &[u8]
     ensures { result.now ≡ text_of piece.now }
 {
     let line = without_last(piece, b'\n');
