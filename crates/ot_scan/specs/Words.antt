@@ -1,5 +1,5 @@
 -- What a line that holds a command says.
-use Rattle.std.specs.Prelude.{◌≡◌, ℕ, ℤ, min, pos, neg_ℤ, List, [], ◌∷◌, Bool, codes, Result, Ok, Err, Option}
+use Rattle.std.specs.Prelude.{◌≡◌, ℕ, ℤ, min, pos, neg_ℤ, List, [], ◌∷◌, Bool, true, false, codes, Result, Ok, Err, Option}
 use Rattle.std.specs.Prelude.{Some, None, is_some, nat_lt, int_le, ◌==◌, ◌&&◌, ◌||◌, ◌^◌, ◌-◌, if◌then◌else◌}
 use Rattle.std.specs.Option.{option_map}
 use Rattle.std.specs.Char.{is_ascii_digit}
@@ -83,3 +83,8 @@ answer (Err e) = Err (word_fault e)
 -- a u64 that stands for a number, the last one for each that is greater
 abbrev pub IsCapped : ℕ → ℕ → Type 0
 IsCapped n value = value ≡ min n (2 ^ 64 - 1)
+
+-- the value of these bytes, where they are digits
+abbrev pub ReadsDigits : Option ℕ → List ℕ → Type 0
+ReadsDigits None bytes = list_all is_ascii_digit bytes ≡ false
+ReadsDigits (Some value) bytes = (list_all is_ascii_digit bytes ≡ true) × IsCapped (digits_value 10 bytes) value

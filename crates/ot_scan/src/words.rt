@@ -1,8 +1,5 @@
-ghost use Rattle.std.specs.Prelude.{◌≡◌, ◌<◌, ℕ, pos, neg_ℤ, length, IsTrue, MatchOption, IsSomeAnd, Some, None};
-ghost use Rattle.std.specs.Str.Parse.{digits_value};
-ghost use Rattle.std.specs.List.{list_all};
-ghost use Rattle.std.specs.Char.{is_ascii_digit};
-ghost use Rattle.ot_scan.specs.Words.{word, answer, number, number_word, positive, IsCapped};
+ghost use Rattle.std.specs.Prelude.{◌≡◌, ◌<◌, ◌≤◌, ℕ, pos, neg_ℤ, length, MatchOption, IsSomeAnd, Some, None};
+ghost use Rattle.ot_scan.specs.Words.{word, answer, number, number_word, positive, IsCapped, ReadsDigits};
 
 use ot_plain::{Cmd, Name};
 
@@ -38,6 +35,12 @@ pub fn command(text: &[u8]) -> Result<Word<'_>, WordFault>
     ensures { answer result ≡ word text.now }
 {
     match text {
+        // Most words are commands, and each begins with a letter.
+        [first, ..] if *first > b'9' => match Cmd::find(text) {
+            Some(found) => Ok(Word::Command(found)),
+            None => Err(WordFault::UnknownCommand),
+        },
+        [b'-' | b'0'..=b'9', ..] => number(text),
         [b'"', ..] => {
             if Name::is_name(text) {
                 Ok(Word::Name(text))
@@ -45,11 +48,7 @@ pub fn command(text: &[u8]) -> Result<Word<'_>, WordFault>
                 Err(WordFault::BadName)
             }
         }
-        [b'-' | b'0'..=b'9', ..] => number(text),
-        _ => match Cmd::find(text) {
-            Some(found) => Ok(Word::Command(found)),
-            None => Err(WordFault::UnknownCommand),
-        },
+        _ => Err(WordFault::UnknownCommand),
     }
 }
 
@@ -102,27 +101,43 @@ fn positive(digits: &[u8]) -> Option<u64>
         (λ value. IsSomeAnd (positive digits.now) (λ n. IsCapped n value)) }
 {
     match digits {
-        [b'1'..=b'9', ..] if are_digits(digits) => Some(magnitude(digits)),
+        [b'1'..=b'9', ..] if digits.len() <= EXACT => exact_value(digits),
+        [b'1'..=b'9', ..] => capped_value(digits),
         _ => None,
     }
 }
 
-fn are_digits(text: &[u8]) -> bool
-    ensures { result ≡ list_all is_ascii_digit text.now }
-{
-    text.iter().all(|byte| byte.is_ascii_digit())
-}
+/// How many digits a `u64` holds, whatever they are.
+const EXACT: usize = 19;
 
-/// The value of the digits, or the last `u64` where it is greater.
-fn magnitude(digits: &[u8]) -> u64
-    requires { IsTrue (list_all is_ascii_digit digits.now) }
-    ensures { IsCapped (digits_value 10 digits.now) result }
+/// The value of the digits, where there is nothing else.
+#[inline(always)]
+fn exact_value(digits: &[u8]) -> Option<u64>
+    requires { length digits.now ≤ EXACT }
+    ensures { ReadsDigits result digits.now }
 {
     let mut value: u64 = 0;
-    for digit in digits {
+    for byte in digits {
+        if !byte.is_ascii_digit() {
+            return None;
+        }
+        value = value * 10 + u64::from(*byte - b'0');
+    }
+    Some(value)
+}
+
+/// The same, or the last `u64` where the value is greater.
+fn capped_value(digits: &[u8]) -> Option<u64>
+    ensures { ReadsDigits result digits.now }
+{
+    let mut value: u64 = 0;
+    for byte in digits {
+        if !byte.is_ascii_digit() {
+            return None;
+        }
         value = value
             .saturating_mul(10)
-            .saturating_add(u64::from(*digit - b'0'));
+            .saturating_add(u64::from(*byte - b'0'));
     }
-    value
+    Some(value)
 }

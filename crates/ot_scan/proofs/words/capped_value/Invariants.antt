@@ -1,7 +1,12 @@
-use Rattle.std.proofs.Common.{take}
+use Rattle.std.proofs.Common.{◌≡◌, take, true}
+use Rattle.std.specs.Char.{is_ascii_digit}
+use Rattle.std.specs.List.{list_all}
 use Rattle.std.specs.Str.Parse.{digits_value}
 use Rattle.ot_scan.specs.Words.{IsCapped}
-use Rattle.ot_scan.proofs.words.magnitude.Given as goal
+use Rattle.ot_scan.proofs.words.capped_value.Given as goal
 
-abbrev pub invariant-loop-digit : goal.invariant-loop-digit
-invariant-loop-digit l = IsCapped (digits_value 10 (take l.digit-index l.digits)) l.value
+abbrev pub invariant-loop-byte : goal.invariant-loop-byte
+invariant-loop-byte l = record {
+  all : list_all is_ascii_digit (take l.byte-index l.digits) ≡ true;
+  capped : IsCapped (digits_value 10 (take l.byte-index l.digits)) l.value;
+}
