@@ -27,6 +27,17 @@ names_limit max before piece =
       ]
     ]
 
+-- a piece that is short enough for both limits
+pub limit-kept : (max before : ℕ) (piece : List ℕ) → length piece ≤ 65535 → before + length piece ≤ max
+    → limit_fault max before piece ≡ None
+limit-kept max before piece short within = elim (names_limit max before piece) [
+  | inl h ↦ h.0
+  | inr h ↦ elim h [
+    | inl long ↦ absurd (omega (arith, long.1, short, length-without_last_le 10 piece))
+    | inr past ↦ absurd (omega (arith, past.1, within))
+  ]
+]
+
 -- past the article's limit, the fault does not depend on where the piece ends
 limit-past : (max before : ℕ) (piece : List ℕ) → max < before + length piece → limit_fault max before piece
     ≡ cond (ltb (before + 65536) (max + 1)) (Some LineTooLong) (Some ArticleTooLong)
