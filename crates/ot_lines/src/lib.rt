@@ -5,6 +5,6 @@
 mod piece;
 
 pub use piece::{
-    is_blank, is_passed_over, is_skipped, one_cut, piece_len, trimmed, trimmed_back, trimmed_front,
-    without_last,
+    is_blank, is_passed_over, is_skipped, near_len, one_cut, piece_len, trimmed, trimmed_back,
+    trimmed_front, without_last,
 };

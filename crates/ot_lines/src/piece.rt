@@ -1,4 +1,4 @@
-ghost use Rattle.std.specs.Prelude.{◌≡◌, ◌≤◌, ◌+◌, ◌==◌, not, length, take, drop, MatchOption, IsTrue};
+ghost use Rattle.std.specs.Prelude.{◌≡◌, ◌≤◌, ◌<◌, ◌+◌, ◌⊎◌, ◌==◌, not, length, take, drop, MatchOption, IsTrue};
 ghost use Rattle.std.specs.List.{prefix_len};
 ghost use Rattle.ot_lines.specs.Pieces.{IsOpenTo, EndsAt, OneCut, text_of, is_skipped};
 ghost use Rattle.ot_lines.specs.Pieces.{is_blank, without_last, trim_front, trim_back, IsBare};
@@ -10,8 +10,6 @@ const LANES: usize = 16;
 
 /// How long the first piece is, its newline counted, where the newline is among the bytes. None of
 /// the first `searched` is a newline.
-// Once a line: each reader of lines is to have it inline.
-#[inline(always)]
 pub fn piece_len(bytes: &[u8], searched: usize) -> Option<usize>
     requires within { searched ≤ length bytes.now }
     requires open { IsOpenTo searched bytes.now }
@@ -28,6 +26,22 @@ pub fn piece_len(bytes: &[u8], searched: usize) -> Option<usize>
         at += LANES;
     }
     piece_len_by_one(bytes, at)
+}
+
+/// How long the first piece is, its newline counted, where the newline is among the first 16 bytes.
+/// Fewer bytes than 16 aren't searched.
+// Once a line: each reader of lines is to have it inline.
+#[inline(always)]
+pub fn near_len(bytes: &[u8]) -> Option<usize>
+    ensures { MatchOption result
+        ((length bytes.now < 16) ⊎ IsOpenTo 16 bytes.now)
+        (λ len. EndsAt len bytes.now) }
+{
+    if bytes.len() < LANES {
+        return None;
+    }
+    let open = open_lanes(bytes, 0);
+    if open < LANES { Some(open + 1) } else { None }
 }
 
 /// How many of 16 bytes stand before the first newline among them.
