@@ -11,7 +11,7 @@ ghost use Rattle.ot_scan.specs.contracts.lines.Lines.{the_row};
 use crate::fault::ScanFault;
 use crate::piece::check_limits;
 use ot_io::{Failed, Source};
-use ot_lines::{is_passed_over, piece_len, trimmed};
+use ot_lines::{is_passed_over, near_len, piece_len, trimmed};
 use std::marker::Model;
 
 /// How many bytes are held at most: those of the longest line and its newline.
@@ -132,6 +132,21 @@ impl Lines {
     /// how many bytes that is: 0 exactly at the end. At a failure what was read before it is held.
     #[inline(always)]
     fn first_piece<S: Source>(&mut self, source: &mut S) -> Result<usize, Failed>
+        ensures read { Reads self.old self.new (S.left source.old) (S.left source.new) }
+        ensures first { IfOk result (λ len. IsFirst len self.new.held (S.left source.new)) }
+
+        ensures cause { HasCause (S.faults source.old) (S.faults source.new) result }
+        ensures kept { KeepsSource S.folder S.faults S.misses S.at source.old source.new }
+    {
+        match near_len(self.held()) {
+            Some(len) => Ok(len),
+            None => self.read_piece(source),
+        }
+    }
+
+    /// The same, where the first piece may be a long one, or isn't held yet.
+    #[inline(never)]
+    fn read_piece<S: Source>(&mut self, source: &mut S) -> Result<usize, Failed>
         ensures read { Reads self.old self.new (S.left source.old) (S.left source.new) }
         ensures first { IfOk result (λ len. IsFirst len self.new.held (S.left source.new)) }
 

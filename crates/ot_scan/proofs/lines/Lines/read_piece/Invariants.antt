@@ -2,7 +2,7 @@ use Rattle.std.proofs.Common.{◌≤◌, ◌-◌, length}
 use Rattle.ot_io.specs.Keeping.{KeepsSource}
 use Rattle.ot_lines.specs.Pieces.{IsOpenTo}
 use Rattle.ot_scan.specs.Reading.{Reads}
-use Rattle.ot_scan.proofs.lines.Lines.first_piece.Given as goal
+use Rattle.ot_scan.proofs.lines.Lines.read_piece.Given as goal
 
 abbrev pub invariant-reads : goal.invariant-reads
 invariant-reads g l = record {
