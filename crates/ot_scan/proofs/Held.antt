@@ -6,7 +6,7 @@ use Rattle.std.proofs.Math.Seq.{take-append-add}
 use Rattle.std.proofs.lemmas.List.{take-take, take-append-le, drop-take, drop-drop, length-take, length-take-le}
 use Rattle.std.proofs.lemmas.List.Edits.{take-paste}
 use Rattle.ot_scan.specs.Lines.{Scan}
-use Rattle.ot_scan.specs.Reading.{taken}
+use Rattle.ot_scan.specs.Reading.{IsScanner, taken}
 use borrow.Rule.Slice.PartMut.{put_mid, post_of}
 
 -- the part from start to end
@@ -39,17 +39,26 @@ length-part_is buffer start end le inside =
     length-take-le (end - start) (drop start buffer) (omega (arith, le, inside, length-drop start buffer))
 
 -- what is lent where the first len bytes are taken, and what is known then
-pub part-taken : (scan : Scan) (buffer : List ℕ) (max start end before number len : ℕ)
-    → record { max = max; held = part start end buffer; before = before; number = number } ≡ scan → start ≤ end
-    → len ≤ length scan.held
+pub part-taken : (scan : Scan) (buffer : List ℕ) (max start end limit number len : ℕ)
+    → record { max = max; held = part start end buffer; before = max - (limit - start); number = number } ≡ scan
+    → IsScanner start end limit number max → len ≤ length scan.held → scan.before + len ≤ scan.max
     → (part start (start + len) buffer ≡ take len scan.held)
-    × (record { max = max; held = part (start + len) end buffer; before = before + len; number = number + 1 }
-    ≡ taken len scan)
-part-taken scan buffer max start end before number len is ordered le =
+    × (record {
+      max = max;
+      held = part (start + len) end buffer;
+      before = max - (limit - (start + len));
+      number = number + 1;
+    } ≡ taken len scan)
+part-taken scan buffer max start end limit number len is fields le few =
     let fits : start + len ≤ end =
-    omega (arith, ordered, le, length-part buffer start end, ap (λ (s : Scan). length s.held) is) in (
+    omega (arith, fields.ordered, le, length-part buffer start end, ap (λ (s : Scan). length s.held) is) in
+    let room : max - (limit - start) + len ≤ max =
+    omega (arith, few, ap (λ (s : Scan). s.before) is, ap (λ (s : Scan). s.max) is) in
+    let moved : max - (limit - (start + len)) ≡ max - (limit - start) + len =
+    omega (arith, room, fields.placed, fields.limited) in (
       part-front buffer start end len fits ∙ ap (λ (s : Scan). take len s.held) is,
-      ap (λ (h : List ℕ). record { max = max; held = h; before = before + len; number = number + 1 })
+      ap (λ (b : ℕ). record { max = max; held = part (start + len) end buffer; before = b; number = number + 1 }) moved
+          ∙ ap (λ (h : List ℕ). record { max = max; held = h; before = max - (limit - start) + len; number = number + 1 })
           (part-rest buffer start end len fits) ∙ ap (taken len) is,
     )
 

@@ -1,9 +1,8 @@
 -- Laws of what was read of a source.
-use Rattle.std.proofs.Common.{◌≡◌, ℕ, List, [], ◌++◌, take, append_assoc, append-nil, sym, ap, subst, ◌∙◌, refl}
+use Rattle.std.proofs.Common.{ℕ, List, [], ◌++◌, append_assoc, sym, ap, ◌∙◌, refl}
 use Rattle.std.specs.Prelude.{Option, Some, None}
 use Rattle.std.specs.Io.KnownBytes.{Consumes, Keeps}
-use Rattle.ot_scan.specs.Lines.{Scan, limit_fault}
-use Rattle.ot_scan.specs.Reading.{Reads}
+use Rattle.ot_scan.specs.Lines.{Scan}
 
 Consumes-nothing : (left : Option (List ℕ)) → Consumes left left []
 Consumes-nothing None = tt
@@ -24,14 +23,3 @@ Consumes-trans (Some o) (Some m) (Some n) xs ys p q = p ∙ ap (λ z. xs ++ z) q
 -- the same with other bytes held
 abbrev pub with_held : Scan → List ℕ → Scan
 with_held scan held = record { max = scan.max; held = held; before = scan.before; number = scan.number }
-
--- what was seen of its parts is the scan
-pub seen : (scan view : Scan) (held : List ℕ) → view ≡ scan → held ≡ scan.held → with_held view held ≡ scan
-seen scan view held e h = ap (λ (s : Scan). with_held s held) e ∙ ap (with_held scan) h
-
--- so the limits that were checked are kept
-pub limits-kept : (scan view : Scan) (held : List ℕ) (len : ℕ) → view ≡ scan → held ≡ scan.held
-    → limit_fault view.max view.before (take len held) ≡ None → limit_fault scan.max scan.before (take len scan.held)
-    ≡ None
-limits-kept scan view held len e h kept = subst (λ (s : Scan). limit_fault s.max s.before (take len s.held) ≡ None)
-    (seen scan view held e h) kept

@@ -1,5 +1,5 @@
 -- How lines are read: the bytes that are held, and the first piece among them.
-use Rattle.std.specs.Prelude.{◌≡◌, ◌<◌, ◌≤◌, ◌+◌, ◌^◌, ◌⊎◌, ℕ, List, [], ◌++◌, length, take}
+use Rattle.std.specs.Prelude.{◌≡◌, ◌<◌, ◌≤◌, ◌+◌, ◌-◌, ◌^◌, ◌⊎◌, ℕ, List, [], ◌++◌, length, take}
 use Rattle.std.specs.Prelude.{drop, false, Option, Some, None, Result, Ok, Err, IfSome}
 use Rattle.std.specs.Io.KnownBytes.{Consumes, IsAtEnd}
 use Rattle.ot_lines.specs.Pieces.{IsOpenTo, EndsAt, text_of, is_skipped}
@@ -9,12 +9,14 @@ use Rattle.ot_scan.specs.Lines.{Scan, Lines, Broken, Next, IsLineText, lines_to_
 use Rattle.ot_scan.specs.declared.fault.ScanFault.{ScanFault}
 use Rattle.ot_scan.specs.declared.fault.ScanFault.TheVariants as code
 
--- what holds of the fields: a part of an array of 65,536 bytes, and counts that a limit bounds
-pub record IsScanner (start end before number max : ℕ) : Type 0 where
+-- what holds of the fields: a part of an array of 65,536 bytes, the place where the article's limit stands, no more
+-- than its bytes behind the part's start, and a count of lines
+pub record IsScanner (start end limit number max : ℕ) : Type 0 where
   pub ordered : start ≤ end
   pub inside : end ≤ 65536
-  pub numbered : number ≤ before
-  pub limited : before ≤ max
+  pub numbered : number ≤ max - (limit - start)
+  pub placed : start ≤ limit
+  pub limited : limit - start ≤ max
   pub small : max ≤ 2 ^ 32
 
 -- ---- reading more

@@ -1,15 +1,15 @@
-ghost use Rattle.std.specs.Prelude.{◌≡◌, ◌<◌, ◌≤◌, ◌+◌, ◌-◌, ◌^◌, [], take, drop, length, IfOk, IfErr, IfSome};
+ghost use Rattle.std.specs.Prelude.{◌≡◌, ◌<◌, ◌≤◌, ◌+◌, ◌-◌, ◌^◌, [], take, drop, length, OnOk, IfOk, IfErr, IfSome};
 ghost use Rattle.std.specs.Borrow.{sem};
 ghost use Rattle.std.specs.Io.BufRead.{Rests};
 ghost use Rattle.std.specs.Io.KnownBytes.{IsAtEnd};
 ghost use Rattle.ot_io.specs.Causes.{HasCause};
 ghost use Rattle.ot_io.specs.Keeping.{KeepsSource};
-ghost use Rattle.ot_scan.specs.Lines.{TakesFrom, Counts, HasReadCause, IsLineText};
-ghost use Rattle.ot_scan.specs.Reading.{Reads, IsFirst, KeepsLines, GoesOn, Finds, taken};
+ghost use Rattle.ot_scan.specs.Lines.{TakesFrom, Counts, HasReadCause, IsLineText, limit_fault};
+ghost use Rattle.ot_scan.specs.Reading.{Reads, IsFirst, KeepsLines, GoesOn, Finds, ChecksLimits, taken};
 ghost use Rattle.ot_scan.specs.contracts.lines.Lines.{the_row};
 
 use crate::fault::ScanFault;
-use crate::piece::check_limits;
+use crate::piece::{LINE_BYTES, check_limits};
 use ot_io::{Failed, Source};
 use ot_lines::{is_passed_over, near_len, piece_len, trimmed};
 use std::marker::Model;
@@ -35,7 +35,8 @@ pub struct Lines {
     start: usize,
     end: usize,
     max_bytes: u64,
-    before: u64,
+    /// Where in the array, or behind it, the last byte ends that the article may have.
+    limit: u64,
     number: u64,
 }
 
@@ -49,11 +50,11 @@ impl Model for Lines {
     ghost view = { λ l. record {
       max = l.max_bytes;
       held = take (l.end - l.start) (drop l.start l.buffer);
-      before = l.before;
+      before = l.max_bytes - (l.limit - l.start);
       number = l.number;
     } };
 
-    ghost invariant = { λ l. IsScanner l.start l.end l.before l.number l.max_bytes };
+    ghost invariant = { λ l. IsScanner l.start l.end l.limit l.number l.max_bytes };
 }
 
 impl Lines {
@@ -67,7 +68,7 @@ impl Lines {
             start: 0,
             end: 0,
             max_bytes,
-            before: 0,
+            limit: max_bytes,
             number: 0,
         }
     }
@@ -120,12 +121,27 @@ impl Lines {
                 return Ok(0);
             }
             let piece = &self.held()[..len];
-            check_limits(self.max_bytes, self.before, self.number + 1, piece)?;
+            self.check_limits(piece)?;
             if !is_passed_over(piece) {
                 return Ok(len);
             }
             self.take_piece(len);
         }
+    }
+
+    /// Whether a piece of a line, as the first that is held, keeps the limits.
+    #[inline(always)]
+    fn check_limits(&self, piece: &[u8]) -> Result<(), ScanFault>
+        ensures limits { ChecksLimits result (self.now.number + 1)
+            (limit_fault self.now.max self.now.before piece.now) }
+        ensures within { OnOk result (self.now.before + length piece.now ≤ self.now.max) }
+    {
+        let end = (self.start + piece.len()) as u64;
+        if piece.len() <= LINE_BYTES && end <= self.limit {
+            return Ok(());
+        }
+        let before = self.max_bytes - (self.limit - self.start as u64);
+        check_limits(self.max_bytes, before, self.number + 1, piece)
     }
 
     /// Reads until the first piece is held, or its first 65,536 bytes where it is longer, and answers
@@ -179,6 +195,7 @@ impl Lines {
     {
         let len = self.end - self.start;
         move_to_front(&mut self.buffer, self.start, self.end);
+        self.limit -= self.start as u64;
         self.start = 0;
         self.end = len;
         let count = source.read(&mut self.buffer[len..])?;
@@ -203,7 +220,6 @@ impl Lines {
     {
         let start = self.start;
         self.start += len;
-        self.before += len as u64;
         self.number += 1;
         let buffer = &self.buffer;
         &buffer[start..start + len]

@@ -14,12 +14,8 @@ pub fn check_limits(max_bytes: u64, before: u64, number: u64, piece: &[u8]) -> R
     ensures limits { ChecksLimits result number (limit_fault max_bytes before piece.now) }
     ensures within { OnOk result (before + length piece.now ≤ max_bytes) }
 {
-    let end = before + piece.len() as u64;
-    if piece.len() <= LINE_BYTES && end <= max_bytes {
-        return Ok(());
-    }
     let is_long = without_last(piece, b'\n').len() > LINE_BYTES;
-    let is_past = end > max_bytes;
+    let is_past = before + piece.len() as u64 > max_bytes;
     if is_long && !(is_past && max_bytes <= before + LINE_BYTES as u64) {
         return Err(ScanFault::LineTooLong(number));
     }

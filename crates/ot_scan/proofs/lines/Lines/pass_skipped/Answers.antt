@@ -6,7 +6,6 @@ use Rattle.ot_io.proofs.Keeping.{KeepsSource-then}
 use Rattle.ot_lines.specs.Pieces.{text_of, is_skipped}
 use Rattle.ot_scan.specs.Lines.{Scan, limit_fault}
 use Rattle.ot_scan.specs.Reading.{KeepsLines, ChecksLimits}
-use Rattle.ot_scan.proofs.Taking.{seen, limits-kept}
 use Rattle.ot_scan.proofs.Coming.{keeps-more, keeps-reads, keeps-skipped, next-found, stop-found}
 use Rattle.ot_scan.proofs.Fitting.{line-fits}
 use Rattle.ot_scan.proofs.lines.Lines.pass_skipped.Goals as goal
@@ -24,15 +23,16 @@ returns-in_err-check_limits-clause-found g c =
     let len = c.in_ok-len.len in
     let fault = c.in_err-check_limits.field-0.0 in
     rw (p.1, p.2) (stop-found scan len _ fault c.in_ok-len.ensures.first (omega arith)
-    (subst (λ (s : Scan). ChecksLimits (Err fault) (s.number + 1) (limit_fault s.max s.before (take len s.held)))
-    (seen scan _ _ c.self.view_is c.held.ensures) c.in_err-check_limits.ensures.limits))
+    (subst (λ bs. ChecksLimits (Err fault) (scan.number + 1) (limit_fault scan.max scan.before (take len bs)))
+    c.held.ensures c.in_err-check_limits.ensures.limits))
 
 pub returns-then-not-is_passed_over-clause-found : goal.returns-then-not-is_passed_over-clause-found
 returns-then-not-is_passed_over-clause-found g c =
     let scan = c.first_piece.new.self in
     let len = c.in_ok-len.len in
     let limits : limit_fault scan.max scan.before (take len scan.held) ≡ None =
-    limits-kept scan _ _ len c.self.view_is c.held.ensures c.in_ok-check_limits.ensures.limits in
+    subst (λ bs. limit_fault scan.max scan.before (take len bs) ≡ None) c.held.ensures
+    c.in_ok-check_limits.ensures.limits in
     let holds : is_skipped (text_of (take len scan.held)) ≡ false =
     ap (λ bs. is_skipped (text_of (take len bs))) (sym c.held.ensures) ∙ sym c.if-not-is_passed_over.ensures in
     let some : 0 < len = omega arith in
@@ -42,8 +42,8 @@ returns-then-not-is_passed_over-clause-found g c =
         limited =
             omega (
               arith,
-              subst (λ (s : Scan). s.before + length (take len s.held) ≤ s.max)
-                  (seen scan _ _ c.self.view_is c.held.ensures) c.in_ok-check_limits.ensures.within,
+              subst (λ bs. scan.before + length (take len bs) ≤ scan.max) c.held.ensures
+                  c.in_ok-check_limits.ensures.within,
               length-take-le len
                   scan.held c.in_ok-len.ensures.first.within,
             );
@@ -60,7 +60,8 @@ lines-preserved g c =
     let len = c.in_ok-len.len in
     let left = g.S.Source.left c.first_piece.new.source in
     let limits : limit_fault scan.max scan.before (take len scan.held) ≡ None =
-    limits-kept scan _ _ len c.self.view_is c.held.ensures c.in_ok-check_limits.ensures.limits in
+    subst (λ bs. limit_fault scan.max scan.before (take len bs) ≡ None) c.held.ensures
+    c.in_ok-check_limits.ensures.limits in
     let skipped = ap (λ bs. is_skipped (text_of (take len bs))) (sym c.held.ensures)
     ∙ sym c.if-not-is_passed_over.ensures in
     record {
