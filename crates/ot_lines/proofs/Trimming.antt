@@ -116,9 +116,8 @@ front_bare (b ∷ bs) bare = rw (above_blank b bare.first) refl
 back_bare : (line : List ℕ) → IsBare line → trim_back line ≡ line
 back_bare line bare =
     let whole = take_all (length line) line (omega arith) in
-    ap trim_back (sym whole)
-    ∙ sym (back_end line (length line) (omega arith) (λ some. sym (above_blank (get_or line (length line - 1) 0) bare.last)))
-    ∙ whole
+    let kept = sym (above_blank (get_or line (length line - 1) 0) bare.last) in
+    ap trim_back (sym whole) ∙ sym (back_end line (length line) (omega arith) (λ some. kept)) ∙ whole
 
 pub bare_text : (piece : List ℕ) → 0 < length piece → get_or piece (length piece - 1) 0 ≡ 10
     → IsBare (take (length piece - 1) piece) → take (length piece - 1) piece ≡ text_of piece
