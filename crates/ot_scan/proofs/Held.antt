@@ -57,8 +57,8 @@ part-taken scan buffer max start end limit number len is fields le few =
     let moved : max - (limit - (start + len)) ≡ max - (limit - start) + len =
     omega (arith, room, fields.placed, fields.limited) in (
       part-front buffer start end len fits ∙ ap (λ (s : Scan). take len s.held) is,
-      ap (λ (b : ℕ). record { max = max; held = part (start + len) end buffer; before = b; number = number + 1 }) moved
-          ∙ ap (λ (h : List ℕ). record { max = max; held = h; before = max - (limit - start) + len; number = number + 1 })
+      ap (λ b. record { max = max; held = part (start + len) end buffer; before = b; number = number + 1 }) moved
+          ∙ ap (λ h. record { max = max; held = h; before = max - (limit - start) + len; number = number + 1 })
           (part-rest buffer start end len fits) ∙ ap (taken len) is,
     )
 

@@ -1,6 +1,6 @@
 -- What a line that holds a command says.
-use Rattle.std.specs.Prelude.{◌≡◌, ℕ, ℤ, min, pos, neg_ℤ, List, [], ◌∷◌, Bool, true, false, codes, Result, Ok, Err, Option}
-use Rattle.std.specs.Prelude.{Some, None, is_some, nat_lt, int_le, ◌==◌, ◌&&◌, ◌||◌, ◌^◌, ◌-◌, if◌then◌else◌}
+use Rattle.std.specs.Prelude.{◌≡◌, ℕ, ℤ, min, pos, neg_ℤ, List, [], ◌∷◌, Bool, true, false, codes, Result, Ok, Err}
+use Rattle.std.specs.Prelude.{Option, Some, None, is_some, nat_lt, int_le, ◌==◌, ◌&&◌, ◌||◌, ◌^◌, ◌-◌, if◌then◌else◌}
 use Rattle.std.specs.Option.{option_map}
 use Rattle.std.specs.Char.{is_ascii_digit}
 use Rattle.std.specs.Str.{bytes_eq}

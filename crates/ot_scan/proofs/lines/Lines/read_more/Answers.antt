@@ -18,7 +18,7 @@ returns-clause-read g c =
       held =
           ap (λ (b : ℕ). with_held (record { max = old.max_bytes; held = []; before = b; number = old.number })
           (part 0 (len + c.in_ok-count.count) filled)) same
-          ∙ ap (with_held (record { max = old.max_bytes; held = []; before = old.max_bytes - room; number = old.number }))
+          ∙ ap (λ h. record { max = old.max_bytes; held = h; before = old.max_bytes - room; number = old.number })
           (part-filled old.buffer c.move_to_front.new.buffer c.read.new.buf old.start old.end (65536 - len)
           c.in_ok-count.count c.self.invariant.ordered (omega arith) c.in_ok-count.ensures.bound.0
           c.move_to_front.ensures)
@@ -38,7 +38,7 @@ returns-in_err-count-clause-read g c =
       held =
           ap (λ (b : ℕ). with_held (record { max = old.max_bytes; held = []; before = b; number = old.number })
           (part 0 len filled)) same
-          ∙ ap (with_held (record { max = old.max_bytes; held = []; before = old.max_bytes - room; number = old.number }))
+          ∙ ap (λ h. record { max = old.max_bytes; held = h; before = old.max_bytes - room; number = old.number })
           (part-unfilled old.buffer c.move_to_front.new.buffer c.read.new.buf old.start old.end (65536 - len)
           c.self.invariant.ordered (omega arith) c.move_to_front.ensures)
           ∙ ap (λ (s : Scan). with_held s (s.held ++ [])) c.self.view_is;
