@@ -50,6 +50,8 @@ pub struct Terms {
     // Nameless forms over the numbers of the types; there may be more than the terms have.
     classes: Classes,
     nodes: IndexMap<TermNode, Beside>,
+    // By types, where the constant `=` at a type may stand: what is found is looked at before it is used.
+    equalities: IndexMap<TypeId, TermId>,
 }
 
 impl Model for Terms {
@@ -77,6 +79,7 @@ impl Terms {
             types: Types::new(alloc),
             classes: Classes::new(alloc),
             nodes: IndexMap::new(alloc),
+            equalities: IndexMap::new(alloc),
         }
     }
 

@@ -20,7 +20,8 @@ struct Equality {
 }
 
 impl Terms {
-    ghost use Rattle.ot_term.specs.TermTable.{term_at, is_within_limit, Grows, NamesUpTo, IsTermTable};
+    ghost use Rattle.ot_term.specs.TermTable.{term_at, term_of, AreBelow, is_within_limit};
+    ghost use Rattle.ot_term.specs.TermTable.{Grows, NamesUpTo, IsTermTable};
     ghost use Rattle.ot_term.specs.Equality.{named_equation, equality_ty, IsEquality};
 
     /// The equation of two terms of one type.
@@ -135,6 +136,70 @@ impl Terms {
 
     // The constant `=` between terms of this type, with the types of its application to one term and to two.
     fn equality(&mut self, ty: TypeId) -> Result<Equality, TableFault>
+        requires { ty < length self.old.types }
+        ensures ok { IfOk result (IsEquality self.new (type_at self.old.types ty)) }
+        ensures nesting { result ≡ Err TableFault.Nesting → depth_limit
+            < depth_ty numbers (equality_ty (type_at self.old.types ty)) }
+        ensures grows { Grows self.old self.new }
+        ensures names { NamesUpTo 3 self.old self.new }
+        ensures table { IsTermTable self.new }
+    {
+        // What holds of each table.
+        let _types = self.types();
+        if let Some(known) = self.known_equality(ty) {
+            return Ok(known);
+        }
+        let made = self.made_equality(ty)?;
+        self.equalities.insert(ty, made.constant)?;
+        Ok(made)
+    }
+
+    // The same, where an earlier call has noted the constant. What was noted is looked at, so that no more than its
+    // number has to be kept.
+    fn known_equality(&self, ty: TypeId) -> Option<Equality>
+        requires { ty < length self.now.types }
+        ensures { IfSome result (IsEquality self.now (type_at self.now.types ty)) }
+    {
+        let constant = *self.equalities.get(&ty)?;
+        let relation = self.type_of_equals(constant)?;
+        let outer = self.types.as_fun(relation)?;
+        let inner = self.types.as_fun(outer.1)?;
+        if outer.0 == ty && inner.0 == ty && self.is_bool(inner.1) {
+            Some(Equality {
+                constant,
+                test: outer.1,
+                truth: inner.1,
+            })
+        } else {
+            None
+        }
+    }
+
+    // The type of a constant `=`; None where the number is that of no such constant.
+    fn type_of_equals(&self, id: TermId) -> Option<TypeId>
+        ensures { IfSome result (λ ty. (ty < length self.now.types)
+            × (slice_get self.now.terms id ≡ Some (NConst numbers.equals (type_at self.now.types ty)))) }
+    {
+        match *self.node_of(id)? {
+            TermNode::Const(name, ty) if name == NameId::EQUALS => Some(ty),
+            _ => None,
+        }
+    }
+
+    // The node of a number, where the table has one.
+    fn node_of(&self, id: TermId) -> Option<&TermNode>
+        ensures tree { IfSome result
+            (λ node. slice_get self.now.terms id ≡ Some (term_of self.now.types self.now.terms node.now)) }
+        ensures below { IfSome result (λ node. AreBelow (length self.now.types) id node.now) }
+    {
+        match self.nodes.get_index(id.0 as usize) {
+            Some((node, _)) => Some(node),
+            None => None,
+        }
+    }
+
+    // The constant `=` at a type, made or found among the terms.
+    fn made_equality(&mut self, ty: TypeId) -> Result<Equality, TableFault>
         requires { ty < length self.old.types }
         ensures ok { IfOk result (IsEquality self.new (type_at self.old.types ty)) }
         ensures nesting { result ≡ Err TableFault.Nesting → depth_limit

@@ -1,5 +1,5 @@
 use Rattle.ot_term.proofs.Equations.{made-equality}
-use Rattle.ot_term.proofs.table.Terms.equality.Goals as goal
+use Rattle.ot_term.proofs.table.Terms.made_equality.Goals as goal
 
 pub returns-clause-ok : goal.returns-clause-ok
 returns-clause-ok c =
