@@ -24,7 +24,7 @@ use Rattle.ot_kernel.specs.State as kernel
 use Rattle.ot_plain.specs.declared.command.Cmd.TheVariants as words
 use Rattle.ot_trace.specs.Origins.{Origin, Make, NoOrigins, make_two}
 use Rattle.ot_term.specs.declared.term.VarKey.{VarKey}
-use Rattle.ot_machine.specs.Nodes.{IsKey}
+use Rattle.ot_view.specs.Nodes.{IsKey}
 use Rattle.ot_machine.specs.Version5.{canon_ty, canon_tys, canon_under, canon, numbered, var_term, app, lam}
 use Rattle.ot_machine.specs.Canonical.{Binders, variable_in, canon_in, binders_at, IsBinderIn, Adds}
 use Rattle.ot_machine.specs.Canonical.{AreTypes, same_binder, same_part, IsStepOf, AreTerms, AreKnown}

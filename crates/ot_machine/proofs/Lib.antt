@@ -42,7 +42,6 @@ pub mod CanonValue
 pub mod EquationRules
 pub mod OpenValue
 pub mod OpenRow
-pub mod Spelled
 pub mod Occurrences
 pub mod OpenAccepted
 pub mod Canonical

@@ -9,7 +9,7 @@ use Rattle.ot_plain.specs.Trees.{Variable, Named, NVar, NConst, NApp, NAbs}
 use Rattle.ot_plain.specs.Hol.{same_var}
 use Rattle.ot_kernel.specs.State.{type_at, variable_at, named_at}
 use Rattle.ot_trace.specs.Origins.{Origin}
-use Rattle.ot_machine.specs.Nodes.{IsKey}
+use Rattle.ot_view.specs.Nodes.{IsKey}
 use Rattle.ot_machine.specs.Occurrences.{AreOccurrences}
 use Rattle.ot_machine.specs.Version5.{canon_ty, var_origin, var_term, const_term, app, lam, numbered}
 use Rattle.ot_machine.specs.declared.makers.canonical.Binder.{Binder}

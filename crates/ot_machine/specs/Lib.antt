@@ -10,7 +10,6 @@ pub mod Rows
 pub mod Discharge
 pub mod Values
 pub mod Version5
-pub mod Nodes
 pub mod Occurrences
 pub mod Canonical
 pub mod OpenTypes

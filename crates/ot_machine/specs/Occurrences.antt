@@ -5,7 +5,7 @@ use Rattle.std.specs.Map.{lookup}
 use Rattle.ot_plain.specs.Naming.{names}
 use Rattle.ot_plain.specs.Hol.{IsFreeIn}
 use Rattle.ot_kernel.specs.State.{State, variable_at, named_at}
-use Rattle.ot_machine.specs.Nodes.{IsKey}
+use Rattle.ot_view.specs.Nodes.{IsKey}
 use Rattle.ot_machine.specs.declared.makers.occurrences.Occurrence.{Occurrence}
 
 abbrev pub same_occurrence : Occurrence → Occurrence → Bool

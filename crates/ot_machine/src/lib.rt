@@ -9,7 +9,6 @@ mod laws;
 mod lists;
 mod machine;
 mod makers;
-mod nodes;
 mod object;
 mod parts;
 mod places;

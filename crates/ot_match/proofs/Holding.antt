@@ -18,7 +18,7 @@ use Rattle.ot_plain.specs.Hol.{IsFreeIn, place, at_place, nameless, nameless_in,
 use Rattle.ot_laws.proofs.Typing.{type-nameless}
 use Rattle.ot_laws.proofs.Tests.{tells_names}
 use Rattle.ot_match.specs.Walk.{◌>>=◌, put, put_term, walk_type, walk_types, walk_var, walk_in_type, walk_term, Maps}
-use Rattle.ot_match.specs.Nodes.{IsNoApplication, IsNoAbstraction}
+use Rattle.ot_view.specs.Nodes.{IsNoApplication, IsNoAbstraction}
 use Rattle.ot_kernel.specs.State.{State, type_at, types_at}
 use Rattle.ot_plain.specs.PlainTrees.{tys_of}
 use Rattle.ot_match.specs.Steps.{answered, any_bound, Meets}

@@ -8,8 +8,5 @@ pub mod Walking
 pub mod Leading
 -- Names, copied.
 pub mod Components
--- Plain trees.
--- The numbers of a kernel.
-pub mod Spelled
 -- Maps, and the steps of the matcher.
 pub mod Holding

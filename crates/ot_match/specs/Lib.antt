@@ -4,5 +4,5 @@ pub mod Laws
 pub mod Walk
 pub mod Found
 -- What the parts of the code answer.
-pub mod Nodes
+pub mod Binders
 pub mod Steps

@@ -4,7 +4,6 @@
 mod find;
 mod laws;
 mod names;
-mod nodes;
 mod terms;
 mod types;
 

@@ -1,8 +1,10 @@
 // Names, copied and compared.
-ghost use Rattle.std.specs.Prelude.{◌≡◌, IfOk};
+ghost use Rattle.std.specs.Prelude.{◌≡◌, ◌<◌, length, IfOk};
 ghost use Rattle.ot_plain.specs.Names.{same_name};
+ghost use Rattle.ot_kernel.specs.State.{name_at};
 
-use ot_plain::Name;
+use ot_kernel::Kernel;
+use ot_plain::{Name, NameId};
 use std::alloc::{AllocError, Global};
 
 /// A name equal to this one.
@@ -22,4 +24,12 @@ pub(crate) fn is_same_name(left: &Name, right: &Name) -> bool
     ensures { result ≡ same_name left.now right.now }
 {
     *left == *right
+}
+
+/// Whether a number of a name stands for this name.
+pub(crate) fn is_name(kernel: &Kernel, name: &Name, id: NameId) -> bool
+    requires { id < length kernel.now.names }
+    ensures { result ≡ same_name name.now (name_at kernel.now id) }
+{
+    is_same_name(name, kernel.names().get(id))
 }

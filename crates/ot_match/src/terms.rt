@@ -10,20 +10,20 @@ ghost use Rattle.ot_kernel.specs.State.{variable_at, named_at, term_at, type_at}
 ghost use Rattle.ot_match.specs.Walk.{Maps, put_term, walk_term};
 ghost use Rattle.ot_plain.specs.PlainTrees.{type_of_tree, term_of_tree};
 ghost use Rattle.ot_match.specs.Found.{terms_of, maps_of, AreTermsIn, IsMatchIn};
-ghost use Rattle.ot_match.specs.Nodes.{IsKey, AreKeysIn, binders_at, AreKeys};
+ghost use Rattle.ot_view.specs.Nodes.{IsKey, AreKeysIn};
+ghost use Rattle.ot_match.specs.Binders.{binders_at, AreKeys};
 ghost use Rattle.ot_match.specs.Steps.{answered, any_bound, Meets};
 
 use crate::find::Match;
-use crate::names::{copy_name, is_same_name};
-use crate::nodes::{
-    abstraction, application, free_vars, is_name, same_term, same_type, same_variable, term_node,
-    type_of,
-};
+use crate::names::{copy_name, is_name, is_same_name};
 use crate::types::match_type;
 use ot_kernel::Kernel;
 use ot_plain::{Memory, Name, Tm, Ty};
 use ot_term::{TermId, TermNode, VarKey};
 use ot_type::TypeId;
+use ot_view::{
+    abstraction, application, free_vars, same_term, same_type, same_variable, term_node, type_of,
+};
 use std::alloc::Global;
 
 /// The binders around a term.

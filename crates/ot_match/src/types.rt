@@ -10,11 +10,11 @@ ghost use Rattle.ot_plain.specs.PlainTrees.{type_of_tree, tys_of};
 ghost use Rattle.ot_match.specs.Found.{types_of, AreTypesIn};
 ghost use Rattle.ot_match.specs.Steps.{answered};
 
-use crate::names::{copy_name, is_same_name};
-use crate::nodes::{is_name, same_type, type_node};
+use crate::names::{copy_name, is_name, is_same_name};
 use ot_kernel::Kernel;
 use ot_plain::{Memory, Name, Ty};
 use ot_type::{TypeId, TypeNode};
+use ot_view::{same_type, type_node};
 use std::alloc::Global;
 
 /// The type that a name has.

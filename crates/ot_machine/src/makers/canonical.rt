@@ -9,7 +9,7 @@ ghost use Rattle.ot_plain.specs.Trees.{Variable};
 ghost use Rattle.ot_plain.specs.declared.command.Cmd.TheVariants as words;
 ghost use Rattle.ot_kernel.specs.State.{name_at, type_at, types_at, variable_at, named_at};
 ghost use Rattle.ot_trace.specs.Origins.{Named, make_two, constant_origin};
-ghost use Rattle.ot_machine.specs.Nodes.{IsKey};
+ghost use Rattle.ot_view.specs.Nodes.{IsKey};
 ghost use Rattle.ot_machine.specs.Occurrences.{AreOccurrences};
 ghost use Rattle.ot_machine.specs.Version5.{canon_ty, canon_tys, var_origin};
 ghost use Rattle.ot_machine.specs.Canonical.{variable_in, canon_in, binders_at, IsBinderIn, Adds, AreTypes, AreKnown};
@@ -17,13 +17,13 @@ ghost use Rattle.ot_machine.specs.Meaning.{origin_of, IsOf, Leaves, Traces};
 
 use crate::machine::Machine;
 use crate::makers::occurrences::{Occurrence, is_free};
-use crate::nodes::{same_variable, term_node, type_node};
 use crate::session::Session;
 use indexmap::IndexMap;
 use ot_plain::{Cmd, Memory, Name, NameId};
 use ot_term::{TermId, TermNode, VarKey};
 use ot_trace::StepId;
 use ot_type::{TypeId, TypeNode};
+use ot_view::{same_variable, term_node, type_node};
 use std::alloc::Global;
 
 /// A binder around a part of a term, with the step of the variable that stands for it.

@@ -4,14 +4,14 @@ ghost use Rattle.std.specs.Bool.{Decides};
 ghost use Rattle.ot_plain.specs.Naming.{names};
 ghost use Rattle.ot_plain.specs.Hol.{IsFreeIn};
 ghost use Rattle.ot_kernel.specs.State.{variable_at, named_at};
-ghost use Rattle.ot_machine.specs.Nodes.{IsKey};
+ghost use Rattle.ot_view.specs.Nodes.{IsKey};
 ghost use Rattle.ot_machine.specs.Occurrences.{AreOccurrences};
 
-use crate::nodes::{same_variable, term_node};
 use indexmap::IndexMap;
 use ot_kernel::Kernel;
 use ot_plain::Memory;
 use ot_term::{TermId, TermNode, VarKey};
+use ot_view::{same_variable, term_node};
 
 /// A variable that is looked for in a term.
 #[derive(PartialEq, Eq, Hash, Drop)]

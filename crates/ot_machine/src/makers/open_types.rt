@@ -21,12 +21,12 @@ use crate::fault::Fault;
 use crate::machine::Machine;
 use crate::makers::canonical::Known;
 use crate::makers::definitions::DefinedOperator;
-use crate::nodes::{term_node, type_of};
 use crate::session::Session;
 use ot_kernel::ThmId;
 use ot_plain::{Cmd, Memory, NameId};
 use ot_term::TermNode;
 use ot_trace::StepId;
+use ot_view::{term_node, type_of};
 
 /// The steps of the two constants of a type operator, and of the equality of its old type, as terms.
 #[derive(Clone, Copy)]

@@ -1,7 +1,7 @@
 use Rattle.std.specs.Prelude.{◌&&◌}
 use Rattle.std.proofs.Common.{ap, sym, ◌∙◌, nat_eq}
-use Rattle.ot_machine.proofs.Spelled.{same_keys}
-use Rattle.ot_machine.proofs.nodes.same_variable.Goals as goal
+use Rattle.ot_view.proofs.Spelled.{same_keys}
+use Rattle.ot_view.proofs.same_variable.Goals as goal
 
 pub returns-then-eq : goal.returns-then-eq
 returns-then-eq c =

@@ -1,16 +1,14 @@
 -- What the nodes of a kernel's types and terms stand for.
-use Rattle.std.specs.Prelude.{◌≡◌, ◌<◌, ℕ, length, List, [], ◌∷◌}
+use Rattle.std.specs.Prelude.{◌≡◌, ◌<◌, ℕ, length, List}
 use Rattle.std.specs.List.{All}
 use Rattle.ot_plain.specs.Names.{Name}
-use Rattle.ot_plain.specs.Trees.{Ty, TyVar, TyOp, Variable, Named, NVar, NConst, NApp, NAbs}
+use Rattle.ot_plain.specs.Trees.{Ty, TyVar, TyOp, Named, NVar, NConst, NApp, NAbs}
 use Rattle.ot_type.specs.declared.node.TypeNode.{TypeNode}
 use Rattle.ot_type.specs.declared.node.TypeNode.TheVariants as types
 use Rattle.ot_term.specs.declared.term.VarKey.{VarKey}
 use Rattle.ot_term.specs.declared.term.TermNode.{TermNode}
 use Rattle.ot_term.specs.declared.term.TermNode.TheVariants as terms
 use Rattle.ot_kernel.specs.State.{State, name_at, type_at, types_at, variable_at, named_at}
-use Rattle.ot_match.specs.declared.terms.Binders.{Binders}
-use Rattle.ot_match.specs.declared.terms.Binders.TheVariants.{Outermost, Inside'}
 
 -- the type of a node
 abbrev pub type_tree : State → TypeNode → Ty Name
@@ -26,6 +24,7 @@ IsTypeNode s id (types.Op n args) = (n < length s.names) × All (λ i. i < id) a
 abbrev pub IsKey : State → VarKey → Type 0
 IsKey s v = (v.name < length s.names) × (v.ty < length s.types)
 
+-- that holds of each
 abbrev pub AreKeysIn : State → List VarKey → Type 0
 AreKeysIn s vs = All (IsKey s) vs
 
@@ -43,20 +42,12 @@ IsTermNode s id (terms.Const n t) = (n < length s.names) × (t < length s.types)
 IsTermNode s id (terms.App f x) = (f < id) × (x < id)
 IsTermNode s id (terms.Abs v b) = IsKey s v × (b < id)
 
+-- the term is no application
 abbrev pub IsNoApplication : Named Name → Type 0
 IsNoApplication (NApp f x) = ⊥
 IsNoApplication t = Unit {0}
 
+-- the term is no abstraction
 abbrev pub IsNoAbstraction : Named Name → Type 0
 IsNoAbstraction (NAbs v b) = ⊥
 IsNoAbstraction t = Unit {0}
-
--- the variables of the binders around a term, the innermost first
-abbrev pub binders_at : State → Binders → List (Variable Name)
-binders_at s Outermost = []
-binders_at s (Inside' v p around) = variable_at s v.now ∷ binders_at s around
-
--- each of them is of the state
-abbrev pub AreKeys : State → Binders → Type 0
-AreKeys s Outermost = Unit {0}
-AreKeys s (Inside' v p around) = IsKey s v.now × AreKeys s around

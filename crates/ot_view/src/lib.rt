@@ -1,24 +1,26 @@
-// What a kernel's numbers stand for, one node at a time.
+//! What a kernel's numbers stand for, one node at a time.
+#![tactic(auto)]
+
 ghost use Rattle.std.specs.Prelude.{◌≡◌, ◌<◌, ◌↔◌, length, map, Some, IfOk, MatchOption};
 ghost use Rattle.ot_plain.specs.Lists.{IsMember};
-ghost use Rattle.ot_plain.specs.Names.{Name as NameValue, same_name};
+ghost use Rattle.ot_plain.specs.Names.{Name as NameValue};
 ghost use Rattle.ot_plain.specs.Naming.{names};
 ghost use Rattle.ot_plain.specs.Trees.{Variable, NApp, NAbs};
 ghost use Rattle.ot_plain.specs.Hol.{same_ty, same_tm, same_var, named_type, IsFreeIn};
-ghost use Rattle.ot_kernel.specs.State.{name_at, type_at, variable_at, named_at, term_at};
-ghost use Rattle.ot_match.specs.Nodes.{type_tree, IsTypeNode, term_tree, IsTermNode};
-ghost use Rattle.ot_match.specs.Nodes.{IsKey, AreKeysIn, IsNoApplication, IsNoAbstraction};
+ghost use Rattle.ot_kernel.specs.State.{type_at, variable_at, named_at, term_at};
+ghost use Rattle.ot_view.specs.Nodes.{type_tree, IsTypeNode, term_tree, IsTermNode};
+ghost use Rattle.ot_view.specs.Nodes.{IsKey, AreKeysIn, IsNoApplication, IsNoAbstraction};
 
-use crate::names::is_same_name;
 use ot_alpha::alpha_eq;
 use ot_kernel::Kernel;
-use ot_plain::{Memory, Name, NameId};
+use ot_plain::Memory;
 use ot_term::{TermId, TermNode, VarKey};
 use ot_type::{TypeId, TypeNode};
 use std::alloc::Global;
 
-/// The node of a type.
-pub(crate) fn type_node(kernel: &Kernel, id: TypeId) -> &TypeNode
+/// The node of a type of the kernel: what it shows of the type is what the number stands for. Its name is of the
+/// kernel, and its arguments have lower numbers than the type.
+pub fn type_node(kernel: &Kernel, id: TypeId) -> &TypeNode
     requires { id < length kernel.now.types }
     ensures tree { type_at kernel.now id ≡ type_tree kernel.now result.now }
     ensures inside { IsTypeNode kernel.now id result.now }
@@ -27,8 +29,9 @@ pub(crate) fn type_node(kernel: &Kernel, id: TypeId) -> &TypeNode
     kernel.terms().types().node(id)
 }
 
-/// The node of a term.
-pub(crate) fn term_node(kernel: &Kernel, id: TermId) -> &TermNode
+/// The node of a term of the kernel: what it shows of the term is what the number stands for. Its names and types are
+/// of the kernel, and its parts have lower numbers than the term.
+pub fn term_node(kernel: &Kernel, id: TermId) -> &TermNode
     requires { id < length kernel.now.terms }
     ensures tree { named_at kernel.now.terms id ≡ term_tree kernel.now result.now }
     ensures inside { IsTermNode kernel.now id result.now }
@@ -37,8 +40,9 @@ pub(crate) fn term_node(kernel: &Kernel, id: TermId) -> &TermNode
     kernel.terms().node(id)
 }
 
-/// The function and the argument of an application.
-pub(crate) fn application(kernel: &Kernel, id: TermId) -> Option<(TermId, TermId)>
+/// The function and the argument of a term of the kernel, both of the kernel; none exactly where the term is no
+/// application.
+pub fn application(kernel: &Kernel, id: TermId) -> Option<(TermId, TermId)>
     requires { id < length kernel.now.terms }
     ensures { MatchOption result (IsNoApplication (named_at kernel.now.terms id)) (λ p.
         (named_at kernel.now.terms id ≡ NApp (named_at kernel.now.terms p.0) (named_at kernel.now.terms p.1))
@@ -50,8 +54,9 @@ pub(crate) fn application(kernel: &Kernel, id: TermId) -> Option<(TermId, TermId
     }
 }
 
-/// The variable and the body of an abstraction.
-pub(crate) fn abstraction(kernel: &Kernel, id: TermId) -> Option<(VarKey, TermId)>
+/// The variable and the body of a term of the kernel, both of the kernel; none exactly where the term is no
+/// abstraction.
+pub fn abstraction(kernel: &Kernel, id: TermId) -> Option<(VarKey, TermId)>
     requires { id < length kernel.now.terms }
     ensures { MatchOption result (IsNoAbstraction (named_at kernel.now.terms id)) (λ p.
         (named_at kernel.now.terms id ≡ NAbs (variable_at kernel.now p.0) (named_at kernel.now.terms p.1))
@@ -63,16 +68,8 @@ pub(crate) fn abstraction(kernel: &Kernel, id: TermId) -> Option<(VarKey, TermId
     }
 }
 
-/// Whether a number of a name stands for this name.
-pub(crate) fn is_name(kernel: &Kernel, name: &Name, id: NameId) -> bool
-    requires { id < length kernel.now.names }
-    ensures { result ≡ same_name name.now (name_at kernel.now id) }
-{
-    is_same_name(name, kernel.names().get(id))
-}
-
-/// Whether two types are one.
-pub(crate) fn same_type(kernel: &Kernel, a: TypeId, b: TypeId) -> bool
+/// Whether two numbers of types of the kernel stand for one type.
+pub fn same_type(kernel: &Kernel, a: TypeId, b: TypeId) -> bool
     requires left { a < length kernel.now.types }
     requires right { b < length kernel.now.types }
     ensures { result ≡ same_ty names (type_at kernel.now a) (type_at kernel.now b) }
@@ -82,8 +79,8 @@ pub(crate) fn same_type(kernel: &Kernel, a: TypeId, b: TypeId) -> bool
     a == b
 }
 
-/// Whether two terms are one, up to the names of their binders.
-pub(crate) fn same_term(kernel: &Kernel, a: TermId, b: TermId) -> bool
+/// Whether two numbers of terms of the kernel stand for one term, up to the names of binders.
+pub fn same_term(kernel: &Kernel, a: TermId, b: TermId) -> bool
     requires left { a < length kernel.now.terms }
     requires right { b < length kernel.now.terms }
     ensures { result ≡ same_tm names (term_at kernel.now a) (term_at kernel.now b) }
@@ -92,8 +89,8 @@ pub(crate) fn same_term(kernel: &Kernel, a: TermId, b: TermId) -> bool
     alpha_eq(kernel.terms(), a, b)
 }
 
-/// Whether two variables are one.
-pub(crate) fn same_variable(kernel: &Kernel, v: &VarKey, w: &VarKey) -> bool
+/// Whether two keys, whose names and types are of the kernel, stand for one variable.
+pub fn same_variable(kernel: &Kernel, v: &VarKey, w: &VarKey) -> bool
     requires left { IsKey kernel.now v.now }
     requires right { IsKey kernel.now w.now }
     ensures { result ≡ same_var names (variable_at kernel.now v.now) (variable_at kernel.now w.now) }
@@ -103,8 +100,8 @@ pub(crate) fn same_variable(kernel: &Kernel, v: &VarKey, w: &VarKey) -> bool
     v.name == w.name && v.ty == w.ty
 }
 
-/// The type of a term.
-pub(crate) fn type_of(kernel: &Kernel, id: TermId) -> TypeId
+/// The type of a term of the kernel, which is of the kernel.
+pub fn type_of(kernel: &Kernel, id: TermId) -> TypeId
     requires { id < length kernel.now.terms }
     ensures typed { named_type names (named_at kernel.now.terms id) ≡ Some (type_at kernel.now result) }
     ensures below { result < length kernel.now.types }
@@ -113,8 +110,8 @@ pub(crate) fn type_of(kernel: &Kernel, id: TermId) -> TypeId
     kernel.terms().type_of(id)
 }
 
-/// The free variables of a term.
-pub(crate) fn free_vars(alloc: Global, kernel: &Kernel, id: TermId) -> Result<Vec<VarKey>, Memory>
+/// The free variables of a term of the kernel, in no order that is told. Their names and types are of the kernel.
+pub fn free_vars(alloc: Global, kernel: &Kernel, id: TermId) -> Result<Vec<VarKey>, Memory>
     requires { id < length kernel.now.terms }
     ensures inside { IfOk result (λ vars. AreKeysIn kernel.now vars.items) }
     ensures free { IfOk result (λ vars. (v : Variable NameValue)

@@ -1,5 +1,5 @@
-use Rattle.ot_machine.proofs.Spelled.{typed_as, type_outside}
-use Rattle.ot_machine.proofs.nodes.type_of.Goals as goal
+use Rattle.ot_view.proofs.Spelled.{typed_as, type_outside}
+use Rattle.ot_view.proofs.type_of.Goals as goal
 
 pub returns-clause-typed : goal.returns-clause-typed
 returns-clause-typed c = typed_as c.args.kernel.now c.terms.result.now c.terms.ensures c.sound.ensures.names c.args.id

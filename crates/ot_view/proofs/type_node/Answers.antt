@@ -1,7 +1,7 @@
 use Rattle.std.proofs.Common.{◌≡◌, Some, slice_get}
 use Rattle.ot_type.specs.TypeTable.{tree_of}
-use Rattle.ot_match.proofs.Spelled.{type_node-tree, type_node-inside}
-use Rattle.ot_match.proofs.nodes.type_node.Goals as goal
+use Rattle.ot_view.proofs.Spelled.{type_node-tree, type_node-inside}
+use Rattle.ot_view.proofs.type_node.Goals as goal
 
 tree : (c : goal.After-node) → slice_get c.terms.result.now.types c.args.id
     ≡ Some (tree_of c.terms.result.now.types c.node.result.now)

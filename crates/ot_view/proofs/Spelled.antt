@@ -33,7 +33,7 @@ use Rattle.ot_kernel.specs.State.{State, name_at, type_at, types_at, variable_at
 use Rattle.ot_kernel.specs.Spelled.{IsSpelled}
 use Rattle.ot_kernel.proofs.Comparing.{tested}
 use Rattle.ot_kernel.proofs.Namings.{length-map, index-map, name_of-index, table_names, bound_ty-get, bound_named-get}
-use Rattle.ot_match.specs.Nodes.{type_tree, IsTypeNode, IsKey, AreKeysIn, term_tree, IsTermNode}
+use Rattle.ot_view.specs.Nodes.{type_tree, IsTypeNode, IsKey, AreKeysIn, term_tree, IsTermNode}
 use Rattle.ot_plain.proofs.Members.{IsMember-get_or, IsMember-map, IsMember-map_back}
 
 -- ---- members and free variables under maps

@@ -1,5 +1,5 @@
-use Rattle.ot_machine.proofs.Spelled.{term_node-tree, term_node-inside}
-use Rattle.ot_machine.proofs.nodes.term_node.Goals as goal
+use Rattle.ot_view.proofs.Spelled.{term_node-tree, term_node-inside}
+use Rattle.ot_view.proofs.term_node.Goals as goal
 
 pub returns-clause-tree : goal.returns-clause-tree
 returns-clause-tree c = term_node-tree c.args.kernel.now c.terms.result.now c.terms.ensures c.sound.ensures.names

@@ -11,9 +11,9 @@ use Rattle.ot_term.specs.TermTable.{term_at, variable_of}
 use Rattle.ot_term.specs.declared.term.VarKey.{VarKey}
 use Rattle.ot_kernel.specs.State as state
 use Rattle.ot_kernel.specs.Spelled.{IsSpelled}
-use Rattle.ot_match.specs.Nodes.{AreKeysIn}
-use Rattle.ot_match.proofs.Spelled.{keys_inside, frees_are}
-use Rattle.ot_match.proofs.nodes.free_vars.Goals as goal
+use Rattle.ot_view.specs.Nodes.{AreKeysIn}
+use Rattle.ot_view.proofs.Spelled.{keys_inside, frees_are}
+use Rattle.ot_view.proofs.free_vars.Goals as goal
 
 module _ {V E : Type 0} (items : V → List VarKey) (s : state.State) (t : TermTable) (k : IsSpelled s t)
     (table : IsNameTable s.names) (id : ℕ) (h : id < length s.terms) where

@@ -1,5 +1,5 @@
-use Rattle.ot_match.proofs.Spelled.{same_terms}
-use Rattle.ot_match.proofs.nodes.same_term.Goals as goal
+use Rattle.ot_view.proofs.Spelled.{same_terms}
+use Rattle.ot_view.proofs.same_term.Goals as goal
 
 pub returns : goal.returns
 returns c = same_terms c.args.kernel.now c.terms.result.now c.terms.ensures c.sound.ensures.names c.args.a c.args.b

@@ -1,0 +1,2 @@
+-- What nodes of a kernel's types and terms stand for.
+pub mod Nodes
