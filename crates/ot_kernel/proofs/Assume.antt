@@ -27,7 +27,7 @@ pub assumed_follows : (al : List (Sequent Name)) (dl : List (Definition Name)) (
 assumed_follows al dl p h = assume_rule-sound names tells_names al dl p (by_itself p) (assumed p h)
 
 pub assumed_sequent : (now mid : State) → Keeps now mid → (t : ℕ) → t < length now.terms → (th : Theorem)
-    → th.hyps.items ≡ t ∷ [] → th.concl ≡ t → sequent_of mid.terms th ≡ by_itself (term_at now t)
+    → th.hyps ≡ t ∷ [] → th.concl ≡ t → sequent_of mid.terms th ≡ by_itself (term_at now t)
 assumed_sequent now mid keeps t within th e f =
     let same = named_at-Extends now.terms mid.terms keeps.terms t within in
     (λ j. record {

@@ -160,7 +160,7 @@ module _ (t : TermTable) (key : VarKey) (p : ℕ) (below : key.ty < length t.typ
               → RefusesRule e (equation_rule numbers (tm_at q.terms r) (tm_at q.terms h)) → RefusesRule e stated
           beta_refused e k = within-refused numbers e [] whole (same_refusal e _ _ whole_rule k)
 
-          pub beta_derived : (u : TermTable) → IsTermTable q → Grows q u → (th : Theorem) → th.hyps.items ≡ []
+          pub beta_derived : (u : TermTable) → IsTermTable q → Grows q u → (th : Theorem) → th.hyps ≡ []
               → Makes (Ok th.concl) (equation_rule numbers (tm_at q.terms r) (tm_at q.terms h)) u.terms
               → Derives (Ok th) stated u.terms
           beta_derived u table grows th none made =

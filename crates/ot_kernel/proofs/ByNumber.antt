@@ -20,7 +20,7 @@ module _ (t : TermTable) (table : IsTermTable t) where
   pub sequent-shallow : (th : Theorem) → IsInside (length t.terms) th
       → is_shallow_sequent numbers (numbered_sequent t.terms th) ≡ true
   sequent-shallow th h =
-      let a = limits_at t table th.hyps.items h.hyps in
+      let a = limits_at t table th.hyps h.hyps in
       let b = limit_at t table th.concl h.concl in
       λ j. a j && b j
 

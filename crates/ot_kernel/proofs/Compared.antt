@@ -29,7 +29,7 @@ module _ (ns : List Name) (t : TermTable) (held : Held) (now : State) (view : st
 
   pub within-real : (hyps : List ℕ) (concl : ℕ) (b : Bool) → All (λ i. i < length now.terms) hyps
       → concl < length now.terms
-      → b ≡ (all_in numbers (tms_at t.terms th.hyps.items) (tms_at t.terms hyps)
+      → b ≡ (all_in numbers (tms_at t.terms th.hyps) (tms_at t.terms hyps)
       && same_tm numbers (tm_at t.terms th.concl) (tm_at t.terms concl))
       → b ≡ (all_in names (theorem_at now i).hyps (terms_at now hyps) && same_tm names (theorem_at now i).concl
       (term_at now concl))
@@ -37,9 +37,9 @@ module _ (ns : List Name) (t : TermTable) (held : Held) (now : State) (view : st
       let d = ap (λ (s : State). length s.terms) view in
       let n = length-map (map_named (name_of ns)) t.terms in
       let inside = inside-real in
-      let within : All (λ i. i < length now.terms) th.hyps.items = λ j x m. let w = inside.hyps j x m in
+      let within : All (λ i. i < length now.terms) th.hyps = λ j x m. let w = inside.hyps j x m in
       omega (arith, d, n) in
-      let left = real_sequent ns t held now view k th.hyps.items th.concl within (omega (arith, d, n, inside.concl))
+      let left = real_sequent ns t held now view k th.hyps th.concl within (omega (arith, d, n, inside.concl))
       ∙ real_theorem ns t held now view i th h p in
       let right = real_sequent ns t held now view k hyps concl g l in
       carry-sequents (naming ns) numbers names (lettering ns (table_names ns k.names))
@@ -48,14 +48,14 @@ module _ (ns : List Name) (t : TermTable) (held : Held) (now : State) (view : st
       ∙ (λ j. all_in names (left j).hyps (right j).hyps && same_tm names (left j).concl (right j).concl)
 
   pub hyp-real : (u : ℕ) (b : Bool) → u < length now.terms → b ≡ is_in numbers (tm_at t.terms u)
-      (tms_at t.terms th.hyps.items) → b ≡ is_in names (term_at now u) (theorem_at now i).hyps
+      (tms_at t.terms th.hyps) → b ≡ is_in names (term_at now u) (theorem_at now i).hyps
   hyp-real u b l q =
       let d = ap (λ (s : State). length s.terms) view in
       let n = length-map (map_named (name_of ns)) t.terms in
       let inside = inside-real in
-      let within : All (λ i. i < length now.terms) th.hyps.items = λ j x m. let w = inside.hyps j x m in
+      let within : All (λ i. i < length now.terms) th.hyps = λ j x m. let w = inside.hyps j x m in
       omega (arith, d, n) in
-      let left = real_sequent ns t held now view k th.hyps.items th.concl within (omega (arith, d, n, inside.concl))
+      let left = real_sequent ns t held now view k th.hyps th.concl within (omega (arith, d, n, inside.concl))
       ∙ real_theorem ns t held now view i th h p in
       let right = real_sequent ns t held now view k [] u (All-nil (λ i. i < length now.terms)) l in
       carry-sequents (naming ns) numbers names (lettering ns (table_names ns k.names))

@@ -123,7 +123,7 @@ module _ (t u : TermTable) (g : Grows t u) (table : IsTermTable u) (i : ℕ) (h 
   one_type = let (ty, typed) = typed_redex in
       typed ∙ sym (same_type (tm_at u.terms i) (tm_at u.terms id) ty (ap contracted same_redex ∙ reduced) typed)
 
-  pub redex_equated : (v : TermTable) → Grows u v → (new : Theorem) → new.hyps.items ≡ []
+  pub redex_equated : (v : TermTable) → Grows u v → (new : Theorem) → new.hyps ≡ []
       → Makes (Ok new.concl) (equation_rule numbers (tm_at u.terms i) (tm_at u.terms id)) v.terms
       → Derives (Ok new) (beta_conv_rule numbers (tm_at t.terms i)) v.terms
   redex_equated v grows new none made =

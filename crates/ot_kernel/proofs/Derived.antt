@@ -91,7 +91,7 @@ module _ {ns ms : List Name} {t u : TermTable} {held : Held} {now mid : State}
       ≡ Ok (over_sequent (naming ms) (numbered_sequent u.terms th) i)) h.1 in (
         inside,
         named
-            ∙ ap Ok (real_sequent ms u held mid l.after l.kernel th.hyps.items th.concl inside.hyps inside.concl),
+            ∙ ap Ok (real_sequent ms u held mid l.after l.kernel th.hyps th.concl inside.hyps inside.concl),
       )
   made D rule x y p (Err e) h = coe 0 1 (i. RefusesRule e (rule (Between l i) (alphabet_at l i) (p i))) h
 

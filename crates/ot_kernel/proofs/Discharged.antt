@@ -19,14 +19,14 @@ module _ (t : TermTable) (lower top : Theorem)
     (lower_sequent : IsSequent numbers (numbered_sequent t.terms lower)) where
   -- what is left of the hypotheses
   abbrev left_over : List (Tm ℕ)
-  left_over = union numbers (minus numbers (tm_at t.terms top.concl) (tms_at t.terms lower.hyps.items))
-      (minus numbers (tm_at t.terms lower.concl) (tms_at t.terms top.hyps.items))
+  left_over = union numbers (minus numbers (tm_at t.terms top.concl) (tms_at t.terms lower.hyps))
+      (minus numbers (tm_at t.terms lower.concl) (tms_at t.terms top.hyps))
 
   pub deduced : (u : TermTable) → IsTermTable t → Grows t u → (ls rs : List ℕ) (th : Theorem)
-      → tms_at t.terms ls ≡ minus numbers (tm_at t.terms top.concl) (tms_at t.terms lower.hyps.items)
-      → tms_at t.terms rs ≡ minus numbers (tm_at t.terms lower.concl) (tms_at t.terms top.hyps.items)
-      → tms_at t.terms th.hyps.items ≡ union numbers (tms_at t.terms ls) (tms_at t.terms rs)
-      → All (λ i. i < length t.terms) th.hyps.items
+      → tms_at t.terms ls ≡ minus numbers (tm_at t.terms top.concl) (tms_at t.terms lower.hyps)
+      → tms_at t.terms rs ≡ minus numbers (tm_at t.terms lower.concl) (tms_at t.terms top.hyps)
+      → tms_at t.terms th.hyps ≡ union numbers (tms_at t.terms ls) (tms_at t.terms rs)
+      → All (λ i. i < length t.terms) th.hyps
       → Makes (Ok th.concl) (equation_rule numbers (tm_at t.terms lower.concl) (tm_at t.terms top.concl)) u.terms
       → Derives (Ok th) (deduct_antisym_rule numbers (numbered_sequent t.terms lower) (numbered_sequent t.terms top))
       u.terms

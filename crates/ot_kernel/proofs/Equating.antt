@@ -119,16 +119,16 @@ grown_then n s t u g h = record {
 
 -- ---- a theorem whose conclusion is made over the table, under hypotheses that were there
 pub derives_within : (t u : TermTable) → IsTermTable t → Grows t u
-    → (th : Theorem) (p : Tm ℕ) (stated : Result (Sequent ℕ) (Fault ℕ)) → All (λ i. i < length t.terms) th.hyps.items
+    → (th : Theorem) (p : Tm ℕ) (stated : Result (Sequent ℕ) (Fault ℕ)) → All (λ i. i < length t.terms) th.hyps
     → Makes (Ok th.concl) (limited numbers p) u.terms
-    → stated ≡ within_limit numbers (record { hyps = tms_at t.terms th.hyps.items; concl = p })
+    → stated ≡ within_limit numbers (record { hyps = tms_at t.terms th.hyps; concl = p })
     → Derives (Ok th) stated u.terms
 derives_within t u table g th p stated inside made rule =
-    let hyps = tms_at-Grows t u g th.hyps.items inside in (
+    let hyps = tms_at-Grows t u g th.hyps inside in (
       record { hyps = λ i n q. let h = inside i n q in omega (arith, h, g.terms.longer); concl = made.0 },
       rule
-          ∙ within-made numbers (tms_at t.terms th.hyps.items) p (tm_at u.terms th.concl)
-          (limits_at t table th.hyps.items inside) made.1
+          ∙ within-made numbers (tms_at t.terms th.hyps) p (tm_at u.terms th.concl)
+          (limits_at t table th.hyps inside) made.1
           ∙ (λ i. Ok (record { hyps = sym hyps i; concl = tm_at u.terms th.concl })),
     )
 
@@ -146,7 +146,7 @@ at_type a b ty h P p = subst P (equation_rule-at numbers a b ty h) p
 -- the theorem's hypotheses were there
 pub equated_derives : (t u : TermTable) → IsTermTable t → Grows t u
     → (th : Theorem) (g : List (Tm ℕ)) (a b : Tm ℕ) (ty : Ty ℕ) (stated : Result (Sequent ℕ) (Fault ℕ))
-    → All (λ i. i < length t.terms) th.hyps.items → tms_at t.terms th.hyps.items ≡ g → HasType numbers a ty
+    → All (λ i. i < length t.terms) th.hyps → tms_at t.terms th.hyps ≡ g → HasType numbers a ty
     → Makes (Ok th.concl) (equation_rule numbers a b) u.terms → stated
     ≡ within_limit numbers (record { hyps = g; concl = equation numbers ty a b }) → Derives (Ok th) stated u.terms
 equated_derives t u table g th hs a b ty stated inside same typed made rule =
@@ -215,21 +215,21 @@ module _ (t : TermTable) (lower top : Sequent ℕ) (ty : Ty ℕ) (a b : ℕ) (o 
       o.limit (at_type (tm_at t.terms a) (tm_at t.terms b) ty o.typed.left (λ z. RefusesRule e z) r)
 
   pub outer_derives : (u : TermTable) → IsTermTable t → Grows t u → (th : Theorem)
-      → All (λ i. i < length t.terms) th.hyps.items → tms_at t.terms th.hyps.items ≡ union numbers lower.hyps top.hyps
+      → All (λ i. i < length t.terms) th.hyps → tms_at t.terms th.hyps ≡ union numbers lower.hyps top.hyps
       → Makes (Ok th.concl) (equation_rule numbers (tm_at t.terms a) (tm_at t.terms b)) u.terms
       → Derives (Ok th) (trans_rule numbers lower top) u.terms
   outer_derives u table g th inside same made =
       let p = equation numbers ty (tm_at t.terms a) (tm_at t.terms b) in
-      let hyps = tms_at t.terms th.hyps.items in
+      let hyps = tms_at t.terms th.hyps in
       let shallow : limited numbers p ≡ Ok p = rw o.limit refl in
       let stated : trans_rule numbers lower top ≡ within_limit numbers (record { hyps = hyps; concl = p }) =
       o.follows ∙ (λ i. Ok (record { hyps = sym same i; concl = p }))
-      ∙ sym (within-made numbers hyps p p (limits_at t table th.hyps.items inside) shallow) in
+      ∙ sym (within-made numbers hyps p p (limits_at t table th.hyps inside) shallow) in
       equated_derives t u table g th hyps (tm_at t.terms a) (tm_at t.terms b) ty (trans_rule numbers lower top) inside
       refl o.typed.left made stated
 
 -- ---- the hypotheses of two theorems
 pub union_of : (ts : List (Named ℕ)) (lower top : Theorem) (is g h : List ℕ)
-    → tms_at ts is ≡ union numbers (tms_at ts g) (tms_at ts h) → g ≡ lower.hyps.items → h ≡ top.hyps.items
+    → tms_at ts is ≡ union numbers (tms_at ts g) (tms_at ts h) → g ≡ lower.hyps → h ≡ top.hyps
     → tms_at ts is ≡ union numbers (numbered_sequent ts lower).hyps (numbered_sequent ts top).hyps
 union_of ts lower top is g h e p q = e ∙ (λ i. union numbers (tms_at ts (p i)) (tms_at ts (q i)))

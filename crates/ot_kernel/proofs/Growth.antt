@@ -41,7 +41,7 @@ module _ (ts us : List (Named Name)) (e : Extends ts us) where
   sequents-Extends [] h = refl
   sequents-Extends (th ∷ ths) h =
       let first = All-head (IsInside (length ts)) th ths h in
-      let a = hyps-Extends th.hyps.items first.hyps in
+      let a = hyps-Extends th.hyps first.hyps in
       let b = named_at-Extends th.concl first.concl in
       let c = sequents-Extends ths (All-tail (IsInside (length ts)) th ths h) in
       λ j. record { hyps = a j; concl = nameless names (b j) } ∷ c j

@@ -193,10 +193,10 @@ module _ {ns ms : List Name} {t u : TermTable} {held : Held} {now mid : State}
       ≡ theorem_at now i
   spelled_sequent i th h =
       let inside = inside_held i th h in
-      let a = spelled_tms th.hyps.items (λ j x m. now_within _ (inside.hyps j x m)) in
+      let a = spelled_tms th.hyps (λ j x m. now_within _ (inside.hyps j x m)) in
       let b = spelled_tm th.concl (now_within th.concl inside.concl) in
       let c : ◌≡◌ {A = Sequent Name} (map_sequent (name_of ms) (numbered_sequent t.terms th))
-      (record { hyps = terms_at now th.hyps.items; concl = term_at now th.concl }) =
+      (record { hyps = terms_at now th.hyps; concl = term_at now th.concl }) =
       λ j. record { hyps = a j; concl = b j } in
       c ∙ real_theorem ns t held now l.before i th h.within h.at
 

@@ -101,7 +101,7 @@ module _ {ns ms : List Name} {t u : TermTable} {held : Held} {now mid : State}
 module _ {ns : List Name} {t : TermTable} {held : Held} {now : State} (l : Later ns ns t t held now now) (is : List ℕ)
     (vs : List VarKey) (i : ℕ) (th : Theorem) (names_in : All (λ n. n < length now.names) is)
     (vars_in : All (λ v. (v.name < length now.names) × (v.ty < length now.types)) vs)
-    (pairs : length is ≡ length vs) (premise : IsHeld l i th) (hs : List ℕ) (hyps : hs ≡ th.hyps.items) where
+    (pairs : length is ≡ length vs) (premise : IsHeld l i th) (hs : List ℕ) (hyps : hs ≡ th.hyps) where
   abbrev over_numbers : Result (Unit {0}) (Fault ℕ)
   over_numbers = checked_list numbers held.signature.defined held.signature.used is (map (variable_of t.types) vs)
       (sequent_at t.terms hs th.concl)

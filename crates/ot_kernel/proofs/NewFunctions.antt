@@ -88,7 +88,7 @@ app_rule-is alphabet tells f x a b p q =
 
 -- ---- a theorem without hypotheses
 pub bare_derives : (t u : TermTable) → IsTermTable t → Grows t u → (th : Theorem) (a b : Tm ℕ) (ty : Ty ℕ)
-    (stated : Result (Sequent ℕ) (Fault ℕ)) → th.hyps.items ≡ [] → HasType numbers a ty
+    (stated : Result (Sequent ℕ) (Fault ℕ)) → th.hyps ≡ [] → HasType numbers a ty
     → Makes (Ok th.concl) (equation_rule numbers a b) u.terms → stated
     ≡ within_limit numbers (sequent_of numbers (equation numbers ty a b)) → Derives (Ok th) stated u.terms
 bare_derives t u table g th a b ty stated none typed made rule =
@@ -191,7 +191,7 @@ module _ (t : TermTable) (table : IsTermTable t) (key : VarKey) (a b : ℕ) (bel
       functions_refused e r = equated_refused e [] (tm_at w.terms left) (tm_at w.terms right)
           (fun_ty numbers var.ty ty) stated functions.left r (sym is_rule ∙ functions.rule)
 
-      pub functions_derived : (x : TermTable) → IsTermTable w → Grows w x → (th : Theorem) → th.hyps.items ≡ []
+      pub functions_derived : (x : TermTable) → IsTermTable w → Grows w x → (th : Theorem) → th.hyps ≡ []
           → Makes (Ok th.concl) (equation_rule numbers (tm_at w.terms left) (tm_at w.terms right)) x.terms
           → Derives (Ok th) stated x.terms
       functions_derived x within third th none made_last =

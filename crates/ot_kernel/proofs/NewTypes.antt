@@ -201,7 +201,7 @@ pub two_derived : (q r : Sequent ℕ) (m n : TermTable) → Grows m n → (th ts
     → IsInside (length n.terms) th × IsInside (length n.terms) ts
     × (q ∷ r ∷ [] ≡ numbered_sequent n.terms th ∷ numbered_sequent n.terms ts ∷ [])
 two_derived q r m n g th ts h k =
-    let hyps = tms_at-Grows m n g th.hyps.items h.0.hyps in
+    let hyps = tms_at-Grows m n g th.hyps h.0.hyps in
     let concl = tm_at-Grows m n g th.concl h.0.concl in
     let kept : numbered_sequent n.terms th ≡ numbered_sequent m.terms th =
     λ i. record { hyps = hyps i; concl = concl i } in

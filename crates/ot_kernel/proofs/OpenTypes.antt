@@ -166,7 +166,7 @@ module _ (t m : TermTable) (first : Grows t m) (table : IsTermTable m) (n abs re
     stays : (th : Theorem) → IsInside (length m.terms) th → IsInside (length u.terms) th
         × (numbered_sequent u.terms th ≡ numbered_sequent m.terms th)
     stays th h =
-        let hyps = tms_at-Grows m u second th.hyps.items h.hyps in
+        let hyps = tms_at-Grows m u second th.hyps h.hyps in
         let conclusion = tm_at-Grows m u second th.concl h.concl in (
           record {
             hyps = λ i x q. let below = h.hyps i x q in omega (arith, below, second.terms.longer);

@@ -76,7 +76,7 @@ operator_at s n abs rep vars i = TyDef (name_at s n) (name_at s abs) (name_at s 
 -- ---- the checks
 module _ {ns : List Name} {t : TermTable} {held : Held} {now : State} (l : Later ns ns t t held now now)
     (n abs rep : ℕ) (vars : List ℕ) (i : ℕ) (th : Theorem) (names_in : AreNames (length now.names) n abs rep vars)
-    (premise : IsHeld l i th) (hs : List ℕ) (hyps : hs ≡ th.hyps.items) where
+    (premise : IsHeld l i th) (hs : List ℕ) (hyps : hs ≡ th.hyps) where
   -- what is checked, over numbers and over names
   abbrev Operands : (L : Type 0) → Alphabet L → Type 0
   Operands L c = L × L × L × List L × Sequent L
@@ -315,7 +315,7 @@ module _ {ns ms : List Name} {t u : TermTable} {held : Held} {now mid : State} (
   real th h =
       let inside = inside_after l th h in
       subst (PathP (λ j. Sequent (Between l j)) (numbered_sequent u.terms th))
-      (real_sequent ms u held mid l.after l.kernel th.hyps.items th.concl inside.hyps inside.concl)
+      (real_sequent ms u held mid l.after l.kernel th.hyps th.concl inside.hyps inside.concl)
       (over_sequent (naming ms) (numbered_sequent u.terms th))
 
   -- what was derived, over names

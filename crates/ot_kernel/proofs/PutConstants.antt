@@ -192,7 +192,7 @@ module _ (t u : TermTable) (cs : List ℕ) (vars : List VarKey) (g : IsGrownTo (
   only_memory faults.NotRedex deep never = absurd (never refl)
   only_memory faults.Memory deep never = refl
 
-  pub new_sequent : (v : TermTable) (th : Theorem) → th.hyps.items ≡ []
+  pub new_sequent : (v : TermTable) (th : Theorem) → th.hyps ≡ []
       → HasForm v th.concl (substituted u s (tm_at u.terms concl)) → IsInside (length v.terms) th
       × (numbered_sequent v.terms th ≡ sequent_of numbers image)
   new_sequent v th none form =

@@ -43,7 +43,7 @@ trip_typed f g v h = app-typed numbers tells_numbers [] g (App f (Free v)) h.oth
     (app-typed numbers tells_numbers [] f (Free v) v.ty h.other h.there refl)
 
 -- a theorem without hypotheses whose conclusion was made
-pub no_hyps_derive : (t u : TermTable) → IsTermTable t → Grows t u → (th : Theorem) (p : Tm ℕ) → th.hyps.items ≡ []
+pub no_hyps_derive : (t u : TermTable) → IsTermTable t → Grows t u → (th : Theorem) (p : Tm ℕ) → th.hyps ≡ []
     → Makes (Ok th.concl) (limited numbers p) u.terms
     → Derives (Ok th) (within_limit numbers (sequent_of numbers p)) u.terms
 no_hyps_derive t u table grows th p none made =
@@ -151,7 +151,7 @@ module _ (t : TermTable) (key : VarKey) (f g : ℕ) (hf : f < length t.terms) (h
         → RefusesRule e (within_limit numbers (sequent_of numbers test))
     open_test_refused e r = within-refused numbers e [] test (same_refusal e _ _ test_rule r)
 
-    pub open_test_derived : (u : TermTable) → IsTermTable m → Grows m u → (th : Theorem) → th.hyps.items ≡ []
+    pub open_test_derived : (u : TermTable) → IsTermTable m → Grows m u → (th : Theorem) → th.hyps ≡ []
         → Makes (Ok th.concl) (equation_rule numbers (tm_at m.terms image) (tm_at m.terms x)) u.terms
         → Derives (Ok th) (within_limit numbers (sequent_of numbers test)) u.terms
     open_test_derived u table grows th none made_concl =
@@ -238,7 +238,7 @@ module _ (t : TermTable) (key : VarKey) (f g : ℕ) (hf : f < length t.terms) (h
               → RefusesRule e (within_limit numbers (sequent_of numbers open_concl))
           open_concl_refused e r = within-refused numbers e [] open_concl (same_refusal e _ _ open_rule r)
 
-          pub open_concl_derived : (u : TermTable) → IsTermTable o → Grows o u → (th : Theorem) → th.hyps.items ≡ []
+          pub open_concl_derived : (u : TermTable) → IsTermTable o → Grows o u → (th : Theorem) → th.hyps ≡ []
               → Makes (Ok th.concl) (equation_rule numbers (tm_at o.terms holds) (tm_at o.terms same)) u.terms
               → Derives (Ok th) (within_limit numbers (sequent_of numbers open_concl)) u.terms
           open_concl_derived u table grows th none made_concl =

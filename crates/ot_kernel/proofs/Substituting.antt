@@ -116,17 +116,17 @@ module _ (t u : TermTable) (g : Grows t u) (s : Substitution) (subst_of : IsSubs
 
   -- its images, each once, and that of its conclusion, which the table has by then
   pub theorem_substituted : (v : TermTable) → Grows u v → IsTermTable v → (is : List ℕ) (new : Theorem)
-      → tms_at u.terms is ≡ map (substituted t s) (tms_at t.terms th.hyps.items)
-      → tms_at u.terms new.hyps.items ≡ once_each numbers (tms_at u.terms is) → All (λ i. i < length u.terms)
-      new.hyps.items → HasForm v new.concl (substituted u s (nameless numbers (term_at u.terms th.concl)))
+      → tms_at u.terms is ≡ map (substituted t s) (tms_at t.terms th.hyps)
+      → tms_at u.terms new.hyps ≡ once_each numbers (tms_at u.terms is) → All (λ i. i < length u.terms)
+      new.hyps → HasForm v new.concl (substituted u s (nameless numbers (term_at u.terms th.concl)))
       → Derives (Ok new) (subst_rule numbers (type_part t s) (variable_part t s) (numbered_sequent t.terms th))
       v.terms
   theorem_substituted v more table is new images once within form =
-      let hyps = tms_at-Grows u v more new.hyps.items within ∙ once ∙ ap (once_each numbers) images in
+      let hyps = tms_at-Grows u v more new.hyps within ∙ once ∙ ap (once_each numbers) images in
       let concl = form.form ∙ same_conclusion in
       within-derives v table new
       (record {
-        hyps = once_each numbers (map (substituted t s) (tms_at t.terms th.hyps.items));
+        hyps = once_each numbers (map (substituted t s) (tms_at t.terms th.hyps));
         concl = substituted t s (tm_at t.terms th.concl);
       })
       (record { hyps = λ i d h. omega (arith, within i d h, more.terms.longer); concl = form.within })
@@ -142,7 +142,7 @@ module _ (t u : TermTable) (g : Grows t u) (s : Substitution) (subst_of : IsSubs
       (subst_rule numbers (type_part t s) (variable_part t s) (numbered_sequent t.terms th)) (λ _. refl)
       (deep_conclusion
       (record {
-        hyps = once_each numbers (map (substituted t s) (tms_at t.terms th.hyps.items));
+        hyps = once_each numbers (map (substituted t s) (tms_at t.terms th.hyps));
         concl = substituted t s (tm_at t.terms th.concl);
       }) (ap (is_shallow numbers) (sym same_conclusion)
       ∙ deep refl))

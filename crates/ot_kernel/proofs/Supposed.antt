@@ -301,16 +301,16 @@ propositions (h ∷ hs) e =
 module _ {ns : List Name} {t : TermTable} {held : Held} {mid : State} (l : Later ns ns t t held mid mid) where
   -- the theorem whose hypotheses are a list's members, each once
   module _ (hs : List ℕ) (th : Theorem) (within : All (λ i. i < length mid.terms) hs)
-      (concl : th.concl < length mid.terms) (inside : All (λ i. i < length t.terms) th.hyps.items)
-      (once : tms_at t.terms th.hyps.items ≡ once_each numbers (tms_at t.terms hs))
+      (concl : th.concl < length mid.terms) (inside : All (λ i. i < length t.terms) th.hyps)
+      (once : tms_at t.terms th.hyps ≡ once_each numbers (tms_at t.terms hs))
       (p : has_type names (term_at mid th.concl) (bool_ty names) ≡ true)
       (each : list_all (λ h. has_type names h (bool_ty names)) (terms_at mid hs) ≡ true) where
-    inside_now : All (λ i. i < length mid.terms) th.hyps.items
+    inside_now : All (λ i. i < length mid.terms) th.hyps
     inside_now j d m = now_within l _ (inside j d m)
 
-    once_now : terms_at mid th.hyps.items ≡ once_each names (terms_at mid hs)
+    once_now : terms_at mid th.hyps ≡ once_each names (terms_at mid hs)
     once_now =
-        coe 0 1 (j. over-terms l th.hyps.items inside_now j ≡ once_each (alphabet_at l j) (over-terms l hs within j))
+        coe 0 1 (j. over-terms l th.hyps inside_now j ≡ once_each (alphabet_at l j) (over-terms l hs within j))
         once
 
     pub axiom-sequent : axiom_rule (terms_at mid hs) (term_at mid th.concl) ≡ Ok (sequent_of mid.terms th)

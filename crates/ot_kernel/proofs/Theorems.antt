@@ -36,12 +36,12 @@ use Rattle.ot_kernel.proofs.Namings.{index-map, length-map, map-push, table_name
 -- ---- a number of a theorem
 pub real_theorem : (ns : List Name) (t : TermTable) (held : Held) (now : State) → state_of ns t held ≡ now
     → (i : ℕ) (th : Theorem) → i < length now.theorems → th ≡ slice_index_or held.theorems i th
-    → ◌≡◌ {A = Sequent Name} (record { hyps = terms_at now th.hyps.items; concl = term_at now th.concl })
+    → ◌≡◌ {A = Sequent Name} (record { hyps = terms_at now th.hyps; concl = term_at now th.concl })
     (theorem_at now i)
 real_theorem ns t held now view i th h p =
     let e = ap (λ (s : State). length s.theorems) view in
     let f = sequent_of (state_of ns t held).terms in
-    ap (λ (s : State). record { hyps = terms_at s th.hyps.items; concl = term_at s th.concl }) (sym view)
+    ap (λ (s : State). record { hyps = terms_at s th.hyps; concl = term_at s th.concl }) (sym view)
     ∙ ap f p
     ∙ sym (index-map f held.theorems i th (record { hyps = []; concl = Bound 0 })
     (omega (arith, e, length-map f held.theorems)))
@@ -81,9 +81,9 @@ module _ (ns : List Name) (t : TermTable) (held : Held) (now : State) (view : st
       let n = length-map (map_named (name_of ns)) t.terms in
       let inside : IsInside (length t.terms) th =
       subst (IsInside (length t.terms)) (sym p) (k.inside i th (omega (arith, e, f))) in
-      let within : All (λ i. i < length now.terms) th.hyps.items = λ j x m. let w = inside.hyps j x m in
+      let within : All (λ i. i < length now.terms) th.hyps = λ j x m. let w = inside.hyps j x m in
       omega (arith, d, n) in
-      let left = real_sequent th.hyps.items th.concl within (omega (arith, d, n, inside.concl))
+      let left = real_sequent th.hyps th.concl within (omega (arith, d, n, inside.concl))
       ∙ real_theorem ns t held now view i th h p in
       let right = real_sequent hyps concl g l in
       carry-sequents (naming ns) numbers names (lettering ns (table_names ns k.names))

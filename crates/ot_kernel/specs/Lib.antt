@@ -8,6 +8,7 @@ pub mod Axioms
 pub mod Defining
 pub mod Answers
 pub mod Numbered
+pub mod Kept
 pub mod Pairs
 pub mod Refusals
 pub mod Derived

@@ -20,7 +20,7 @@ tms_at ts = map (tm_at ts)
 
 -- the sequent of a theorem
 abbrev pub numbered_sequent : List (Named ℕ) → Theorem → Sequent ℕ
-numbered_sequent ts th = record { hyps = tms_at ts th.hyps.items; concl = tm_at ts th.concl }
+numbered_sequent ts th = record { hyps = tms_at ts th.hyps; concl = tm_at ts th.concl }
 
 -- what a rule answers over the table: a theorem of the stated sequent, or the stated refusal
 abbrev pub Derives : Result Theorem RuleFault → Result (Sequent ℕ) (Fault ℕ) → List (Named ℕ) → Type 0

@@ -29,7 +29,7 @@ pub record Held : Type 0 where
 abbrev pub sequent_of : List (Named Name) → Theorem → Sequent Name
 sequent_of ts th =
     record {
-      hyps = map (λ i. nameless names (named_at ts i)) th.hyps.items;
+      hyps = map (λ i. nameless names (named_at ts i)) th.hyps;
       concl = nameless names (named_at ts th.concl);
     }
 
@@ -67,7 +67,7 @@ pub record IsSpelled (s : State) (t : TermTable) : Type 0 where
 
 -- a theorem's numbers are of the table
 pub record IsInside (terms : ℕ) (th : Theorem) : Type 0 where
-  pub hyps : All (λ i. i < terms) th.hyps.items
+  pub hyps : All (λ i. i < terms) th.hyps
   pub concl : th.concl < terms
 
 -- what holds of a kernel's tables at all times

@@ -23,7 +23,7 @@ ghost use Rattle.ot_kernel.specs.Proved.{trip, TurnsBack, MakesTrip, DerivesBoth
 use crate::equations::{abstract_from, apply, equate};
 use crate::fault::RuleFault;
 use crate::instances::Ledger;
-use crate::theorem::Theorem;
+use crate::theorem::{Hypotheses, Theorem};
 use ot_plain::{Memory, NameId, Names};
 use ot_subst::{Results, Subst};
 use ot_term::{Steps, TermId, Terms, VarKey};
@@ -32,7 +32,6 @@ use std::alloc::Global;
 
 // The theorem of a constant: it equals its term.
 pub(crate) fn const_theorem(
-    alloc: Global,
     terms: &mut Terms,
     name: NameId,
     t: TermId,
@@ -47,7 +46,7 @@ pub(crate) fn const_theorem(
     let constant = terms.constant(name, ty)?;
     let concl = equate(terms, constant, t)?;
     Ok(Theorem {
-        hyps: Vec::new(alloc),
+        hyps: Hypotheses::none(),
         concl,
     })
 }
@@ -75,7 +74,6 @@ pub(crate) fn type_theorems(
     let abs = constant_between(terms, abs, u, ty)?;
     let rep = constant_between(terms, rep, ty, u)?;
     let first = abs_theorem(
-        alloc,
         terms,
         &VarKey {
             name: NameId::A,
@@ -85,7 +83,6 @@ pub(crate) fn type_theorems(
         rep,
     )?;
     let second = rep_theorem(
-        alloc,
         terms,
         &VarKey {
             name: NameId::R,
@@ -146,7 +143,6 @@ pub(crate) fn constant_between(
 
 // |- (\v. abs (rep v)) = (\v. v).
 fn abs_theorem(
-    alloc: Global,
     terms: &mut Terms,
     v: &VarKey,
     abs: TermId,
@@ -163,12 +159,11 @@ fn abs_theorem(
     ensures grown { IsGrownBy v.now.name terms.old terms.new }
 {
     let (x, image) = round_trip(terms, v, rep, abs)?;
-    equal_functions(alloc, terms, v, image, x)
+    equal_functions(terms, v, image, x)
 }
 
 // |- (\v. rep (abs v) = v) = (\v. p v).
 fn rep_theorem(
-    alloc: Global,
     terms: &mut Terms,
     v: &VarKey,
     abs: TermId,
@@ -192,7 +187,7 @@ fn rep_theorem(
     let (x, image) = round_trip(terms, v, abs, rep)?;
     let same = equate(terms, image, x)?;
     let holds = apply(terms, p, x)?;
-    equal_functions(alloc, terms, v, same, holds)
+    equal_functions(terms, v, same, holds)
 }
 
 // A variable, and g (f v).
@@ -218,7 +213,6 @@ pub(crate) fn round_trip(
 
 // |- (\v. a) = (\v. b), where a and b are of one type.
 fn equal_functions(
-    alloc: Global,
     terms: &mut Terms,
     v: &VarKey,
     a: TermId,
@@ -238,7 +232,7 @@ fn equal_functions(
     let right = abstract_from(terms, v, b)?;
     let concl = equate(terms, left, right)?;
     Ok(Theorem {
-        hyps: Vec::new(alloc),
+        hyps: Hypotheses::none(),
         concl,
     })
 }
@@ -273,7 +267,7 @@ pub(crate) fn list_theorem(
     let mut results = Results::hashed(alloc);
     let concl = ot_subst::apply(alloc, terms, names, &mut results, &s, th.concl, &mut steps)?;
     Ok(Theorem {
-        hyps: Vec::new(alloc),
+        hyps: Hypotheses::none(),
         concl,
     })
 }
@@ -304,12 +298,7 @@ fn constants(
 }
 
 // |- (\v. p v) v = p v.
-pub(crate) fn beta_theorem(
-    alloc: Global,
-    terms: &mut Terms,
-    v: &VarKey,
-    p: TermId,
-) -> Result<Theorem, RuleFault>
+pub(crate) fn beta_theorem(terms: &mut Terms, v: &VarKey, p: TermId) -> Result<Theorem, RuleFault>
     requires ty { v.now.ty < length terms.old.types }
     requires p { p < length terms.old.terms }
     requires predicate { HasType numbers (tm_at terms.old.terms p)
@@ -326,7 +315,7 @@ pub(crate) fn beta_theorem(
     let redex = apply(terms, function, x)?;
     let concl = equate(terms, redex, holds)?;
     Ok(Theorem {
-        hyps: Vec::new(alloc),
+        hyps: Hypotheses::none(),
         concl,
     })
 }

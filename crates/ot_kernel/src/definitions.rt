@@ -42,7 +42,7 @@ impl Kernel {
         ensures keeps { Keeps self.old self.new }
     {
         self.check_constant(name, t)?;
-        let theorem = const_theorem(self.alloc, &mut self.terms, name, t)?;
+        let theorem = const_theorem(&mut self.terms, name, t)?;
         self.accept_constant(name, t, theorem)
     }
 

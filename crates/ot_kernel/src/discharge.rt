@@ -62,8 +62,8 @@ fn is_lemma(terms: &Terms, lower: &Theorem, top: &Theorem) -> bool
     requires lower { IsInside (length terms.now.terms) lower.now }
     requires top { IsInside (length terms.now.terms) top.now }
     ensures { result
-        ≡ (not (is_in numbers (tm_at terms.now.terms top.now.concl) (tms_at terms.now.terms lower.now.hyps.items))
-        && is_in numbers (tm_at terms.now.terms lower.now.concl) (tms_at terms.now.terms top.now.hyps.items)) }
+        ≡ (not (is_in numbers (tm_at terms.now.terms top.now.concl) (tms_at terms.now.terms lower.now.hyps))
+        && is_in numbers (tm_at terms.now.terms lower.now.concl) (tms_at terms.now.terms top.now.hyps)) }
 {
     if has_term(terms, &lower.hyps, top.concl) {
         return false;

@@ -13,7 +13,7 @@ ghost use Rattle.ot_kernel.specs.Spelled.{IsInside};
 
 use crate::fault::RuleFault;
 use crate::hypotheses::{is_free_in_some, union};
-use crate::theorem::Theorem;
+use crate::theorem::{Hypotheses, Theorem};
 use ot_alpha::alpha_eq;
 use ot_term::{TermId, Terms, VarKey};
 use std::alloc::Global;
@@ -66,14 +66,14 @@ pub(crate) fn abstract_from(terms: &mut Terms, v: &VarKey, t: TermId) -> Result<
 }
 
 // t = t.
-pub(crate) fn refl(alloc: Global, terms: &mut Terms, t: TermId) -> Result<Theorem, RuleFault>
+pub(crate) fn refl(terms: &mut Terms, t: TermId) -> Result<Theorem, RuleFault>
     requires { t < length terms.old.terms }
     ensures derives { Derives result (refl_rule numbers (tm_at terms.old.terms t)) terms.new.terms }
     ensures grown { IsGrown terms.old terms.new }
 {
     let concl = equate(terms, t, t)?;
     Ok(Theorem {
-        hyps: Vec::new(alloc),
+        hyps: Hypotheses::none(),
         concl,
     })
 }
@@ -87,7 +87,7 @@ pub(crate) fn sym(alloc: Global, terms: &mut Terms, th: &Theorem) -> Result<Theo
     let _types = terms.types();
     let (t, u) = sides(terms, th.concl)?;
     let concl = equate(terms, u, t)?;
-    let hyps = Vec::from_slice(alloc, &th.hyps)?;
+    let hyps = th.hyps.copied(alloc)?;
     Ok(Theorem { hyps, concl })
 }
 
@@ -132,7 +132,7 @@ pub(crate) fn abs_thm(
     let left = abstract_from(terms, &v, t)?;
     let right = abstract_from(terms, &v, u)?;
     let concl = equate(terms, left, right)?;
-    let hyps = Vec::from_slice(alloc, &th.hyps)?;
+    let hyps = th.hyps.copied(alloc)?;
     Ok(Theorem { hyps, concl })
 }
 

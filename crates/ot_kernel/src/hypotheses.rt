@@ -8,6 +8,7 @@ ghost use Rattle.ot_kernel.specs.Numbered.{tm_at, tms_at};
 ghost use Rattle.ot_kernel.specs.Classes.{AreClassesOf};
 
 use crate::membership::{add_term, classes_at_hand, classes_of_many, classes_of_none, is_among};
+use crate::theorem::Hypotheses;
 use indexmap::IndexSet;
 use ot_alpha::alpha_eq;
 use ot_class::ClassId;
@@ -37,19 +38,19 @@ pub(crate) fn union(
     terms: &Terms,
     g: &[TermId],
     h: &[TermId],
-) -> Result<Vec<TermId>, Memory>
+) -> Result<Hypotheses, Memory>
     requires g { All (λ i. i < length terms.now.terms) g.now }
     requires h { All (λ i. i < length terms.now.terms) h.now }
-    ensures union { IfOk result (λ v. tms_at terms.now.terms v.items ≡ union numbers (tms_at terms.now.terms g.now)
+    ensures union { IfOk result (λ v. tms_at terms.now.terms v ≡ union numbers (tms_at terms.now.terms g.now)
         (tms_at terms.now.terms h.now)) }
-    ensures inside { IfOk result (λ v. All (λ i. i < length terms.now.terms) v.items) }
+    ensures inside { IfOk result (λ v. All (λ i. i < length terms.now.terms) v) }
 {
     let classes = classes_of_many(alloc, terms, g, h.len())?;
     let mut all = Vec::from_slice(alloc, g)?;
     for t in h {
         push_lacking(terms, g, &classes, *t, &mut all)?;
     }
-    Ok(all)
+    Hypotheses::of(alloc, all)
 }
 
 // The list without a term.
@@ -75,11 +76,11 @@ pub(crate) fn minus(
 }
 
 // The members of a list, each once, at its last place.
-pub(crate) fn once_each(alloc: Global, terms: &Terms, g: &[TermId]) -> Result<Vec<TermId>, Memory>
+pub(crate) fn once_each(alloc: Global, terms: &Terms, g: &[TermId]) -> Result<Hypotheses, Memory>
     requires { All (λ i. i < length terms.now.terms) g.now }
     ensures once { IfOk result
-        (λ v. tms_at terms.now.terms v.items ≡ once_each numbers (tms_at terms.now.terms g.now)) }
-    ensures inside { IfOk result (λ v. All (λ i. i < length terms.now.terms) v.items) }
+        (λ v. tms_at terms.now.terms v ≡ once_each numbers (tms_at terms.now.terms g.now)) }
+    ensures inside { IfOk result (λ v. All (λ i. i < length terms.now.terms) v) }
 {
     let mut later = classes_of_none(alloc, g.len());
     let mut once = Vec::new(alloc);
@@ -89,7 +90,7 @@ pub(crate) fn once_each(alloc: Global, terms: &Terms, g: &[TermId]) -> Result<Ve
         add_term(terms, &mut later, t)?;
     }
     once.reverse();
-    Ok(once)
+    Hypotheses::of(alloc, once)
 }
 
 // Puts a term at the end of a list, where it isn't among these.

@@ -13,7 +13,7 @@ ghost use Rattle.ot_kernel.specs.Spelled.{IsInside};
 use crate::equations::equate;
 use crate::fault::RuleFault;
 use crate::hypotheses::once_each;
-use crate::theorem::Theorem;
+use crate::theorem::{Hypotheses, Theorem};
 use ot_plain::Names;
 use ot_subst::{Results, Subst, apply, beta};
 use ot_term::{Steps, TermId, Terms};
@@ -41,7 +41,7 @@ pub(crate) fn beta_conv(
     let contracted = beta(alloc, terms, names, results, t, &mut steps)?;
     let concl = equate(terms, t, contracted)?;
     Ok(Theorem {
-        hyps: Vec::new(alloc),
+        hyps: Hypotheses::none(),
         concl,
     })
 }

@@ -15,7 +15,7 @@ ghost use Rattle.ot_kernel.specs.Derived.{Follows, Adds};
 use crate::definition::Definition;
 use crate::fault::RuleFault;
 use crate::places::Places;
-use crate::theorem::{Theorem, ThmId};
+use crate::theorem::{Hypotheses, Theorem, ThmId};
 use ot_define::Signature;
 use ot_plain::{Memory, Name, NameId, Names};
 use ot_subst::Results;
@@ -205,9 +205,10 @@ impl Kernel {
         if !self.is_proposition(t)? {
             return Err(RuleFault::NotBool);
         }
-        let mut hyps = Vec::new(self.alloc);
-        hyps.push(t)?;
-        self.conclude(Theorem { hyps, concl: t })
+        self.conclude(Theorem {
+            hyps: Hypotheses::one(t),
+            concl: t,
+        })
     }
 
     /// Whether a term is of the type of propositions. Every number stands for what it stood for.

@@ -20,7 +20,7 @@ use crate::defining::{beta_theorem, constant_between, new_type, round_trip};
 use crate::equations::{apply, equate};
 use crate::fault::RuleFault;
 use crate::kernel::Kernel;
-use crate::theorem::{Theorem, ThmId};
+use crate::theorem::{Hypotheses, Theorem, ThmId};
 use crate::type_operators::{listed, operator_theorems, parts};
 use ot_plain::NameId;
 use ot_term::{TermId, Terms, VarKey};
@@ -142,15 +142,14 @@ fn open_theorems(
         ty: u,
     };
     // Of all terms on the way to the two, its conclusion is the deepest.
-    let _deepest = beta_theorem(alloc, terms, &r, p)?;
-    let first = open_abs_theorem(alloc, terms, &a, abs, rep)?;
-    let second = open_rep_theorem(alloc, terms, &r, abs, rep, p)?;
+    let _deepest = beta_theorem(terms, &r, p)?;
+    let first = open_abs_theorem(terms, &a, abs, rep)?;
+    let second = open_rep_theorem(terms, &r, abs, rep, p)?;
     Ok((first, second))
 }
 
 // |- abs (rep v) = v.
 fn open_abs_theorem(
-    alloc: Global,
     terms: &mut Terms,
     v: &VarKey,
     abs: TermId,
@@ -168,14 +167,13 @@ fn open_abs_theorem(
     let (x, image) = round_trip(terms, v, rep, abs)?;
     let concl = equate(terms, image, x)?;
     Ok(Theorem {
-        hyps: Vec::new(alloc),
+        hyps: Hypotheses::none(),
         concl,
     })
 }
 
 // |- p v = (rep (abs v) = v).
 fn open_rep_theorem(
-    alloc: Global,
     terms: &mut Terms,
     v: &VarKey,
     abs: TermId,
@@ -202,7 +200,7 @@ fn open_rep_theorem(
     let holds = apply(terms, p, x)?;
     let concl = equate(terms, holds, same)?;
     Ok(Theorem {
-        hyps: Vec::new(alloc),
+        hyps: Hypotheses::none(),
         concl,
     })
 }

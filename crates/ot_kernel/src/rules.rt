@@ -22,7 +22,7 @@ impl Kernel {
         ensures keeps { Keeps self.old self.new }
         ensures same { SameBasis self.old self.new }
     {
-        let theorem = equations::refl(self.alloc, &mut self.terms, t);
+        let theorem = equations::refl(&mut self.terms, t);
         self.derived(theorem)
     }
 

@@ -56,7 +56,7 @@ fn is_within(alloc: Global, terms: &Terms, th: &Theorem, hyps: &[TermId], concl:
     requires inside { IsInside (length terms.now.terms) th.now }
     requires hyps { All (λ i. i < length terms.now.terms) hyps.now }
     requires concl { concl < length terms.now.terms }
-    ensures { result ≡ (all_in numbers (tms_at terms.now.terms th.now.hyps.items) (tms_at terms.now.terms hyps.now)
+    ensures { result ≡ (all_in numbers (tms_at terms.now.terms th.now.hyps) (tms_at terms.now.terms hyps.now)
         && same_tm numbers (tm_at terms.now.terms th.now.concl) (tm_at terms.now.terms concl)) }
 {
     if !alpha_eq(terms, th.concl, concl) {
@@ -69,7 +69,7 @@ fn is_within(alloc: Global, terms: &Terms, th: &Theorem, hyps: &[TermId], concl:
 fn has_hyp(terms: &Terms, th: &Theorem, t: TermId) -> bool
     requires inside { IsInside (length terms.now.terms) th.now }
     requires t { t < length terms.now.terms }
-    ensures { result ≡ is_in numbers (tm_at terms.now.terms t) (tms_at terms.now.terms th.now.hyps.items) }
+    ensures { result ≡ is_in numbers (tm_at terms.now.terms t) (tms_at terms.now.terms th.now.hyps) }
 {
     has_term(terms, &th.hyps, t)
 }

@@ -89,7 +89,7 @@ returns-clause-derives c =
     c.abstract_from.ensures.grown.grows c.in_ok-function.function c.in_ok-function.ensures.makes
     c.apply-2.new.terms c.apply-2.ensures.grown.grows c.in_ok-redex.redex c.in_ok-redex.ensures.makes
     c.equate.new.terms c.apply-2.ensures.grown.table c.equate.ensures.grown.grows
-    (record { hyps = c.new.result; concl = c.in_ok-concl.concl }) c.new.ensures.items c.in_ok-concl.ensures.makes
+    (record { hyps = c.none.result; concl = c.in_ok-concl.concl }) c.none.ensures.items c.in_ok-concl.ensures.makes
 
 pub returns-clause-grown : goal.returns-clause-grown
 returns-clause-grown c =

@@ -40,9 +40,9 @@ returns-clause-derives c =
     let ty = c.type_of-ty.result in
     let typed = type-nameless numbers tells_numbers (term_at t.terms c.args.t) ∙ c.type_of-ty.ensures.typed in
     bare_derives m c.equate.new.terms c.constant.ensures.table c.equate.ensures.grown.grows
-    (record { hyps = c.new.result; concl = c.in_ok-concl.concl }) (tm_at m.terms k) (tm_at m.terms c.args.t)
+    (record { hyps = c.none.result; concl = c.in_ok-concl.concl }) (tm_at m.terms k) (tm_at m.terms c.args.t)
     (type_at t.types ty) _
-    c.new.ensures.items
+    c.none.ensures.items
     (constant_typed t m c.constant.ensures.grows c.args.t c.args.name k ty c.requires.inside
     c.in_ok-constant.ensures.ok)
     c.in_ok-concl.ensures.makes

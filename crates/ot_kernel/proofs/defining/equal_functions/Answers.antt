@@ -52,7 +52,7 @@ returns-clause-derives c =
     c.abstract_from-2.new.terms c.abstract_from-2.ensures.grown.grows c.in_ok-left.left c.in_ok-right.right
     c.in_ok-left.ensures.makes c.in_ok-right.ensures.makes
     c.equate.new.terms c.abstract_from-2.ensures.grown.table c.equate.ensures.grown.grows
-    (record { hyps = c.new.result; concl = c.in_ok-concl.concl }) c.new.ensures.items c.in_ok-concl.ensures.makes
+    (record { hyps = c.none.result; concl = c.in_ok-concl.concl }) c.none.ensures.items c.in_ok-concl.ensures.makes
 
 pub returns-clause-grown : goal.returns-clause-grown
 returns-clause-grown c = all_grown c.args.v.now.name _ _ _ _ c.abstract_from.ensures.grown

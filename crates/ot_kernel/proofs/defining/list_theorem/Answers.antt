@@ -28,5 +28,5 @@ pub returns-clause-ok : goal.returns-clause-ok
 returns-clause-ok c =
     new_sequent c.args.terms.now c.constants.new.terms c.args.cs.now c.args.vars.now c.constants.ensures.grown
     c.in_ok-s.s c.in_ok-s.ensures.types c.in_ok-s.ensures.terms c.args.th.now.concl c.requires.inside.concl
-    c.apply.new.terms (record { hyps = c.new.result; concl = c.in_ok-concl.concl }) c.new.ensures.items
+    c.apply.new.terms (record { hyps = c.none.result; concl = c.in_ok-concl.concl }) c.none.ensures.items
     c.in_ok-concl.ensures.ok

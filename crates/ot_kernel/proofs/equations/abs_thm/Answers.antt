@@ -16,7 +16,7 @@ use Rattle.ot_kernel.proofs.equations.abs_thm.Goals as goal
 
 -- the test was on the theorem's hypotheses
 not_free : (t : TermTable) (v : VarKey) (th : Theorem) (is : List ℕ) (b : Bool)
-    → b ≡ is_free_in_some numbers (variable_of t.types v) (tms_at t.terms is) → b ≡ false → is ≡ th.hyps.items
+    → b ≡ is_free_in_some numbers (variable_of t.types v) (tms_at t.terms is) → b ≡ false → is ≡ th.hyps
     → is_free_in_some numbers (variable_of t.types v) (numbered_sequent t.terms th).hyps ≡ false
 not_free t v th is b tested off same =
     ap (λ (js : List ℕ). is_free_in_some numbers (variable_of t.types v) (tms_at t.terms js)) (sym same) ∙ sym tested
@@ -102,7 +102,7 @@ returns-clause-derives c =
     (not_free t c.args.v th _ _ c.in_ok-is_free_in_some.ensures c.if-branch.false c.deref.ensures.value)
     c.abstract_from.ensures.grown.grows c.in_ok-left.ensures.makes w c.in_ok-right.right
     c.abstract_from-2.ensures.grown.grows c.in_ok-right.ensures.makes in
-    let same = c.in_ok-hyps.ensures.items ∙ c.deref-2.ensures.value in
+    let same = c.in_ok-hyps.ensures.items in
     let inside = subst (All (λ i. i < length t.terms)) (sym same) c.requires.inside.hyps in
     let grown = all_grown c.args.v.name _ _ _ _ c.abstract_from.ensures.grown c.abstract_from-2.ensures.grown
     c.equate.ensures.grown in

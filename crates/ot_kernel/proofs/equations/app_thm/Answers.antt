@@ -79,7 +79,7 @@ returns-clause-derives c =
     c.in_ok-left.left s r c.apply.ensures.grown.grows c.in_ok-left.ensures.makes w c.in_ok-right.right
     c.apply-2.ensures.grown.grows c.in_ok-right.ensures.makes in
     let g = union numbers (numbered_sequent t.terms lower).hyps (numbered_sequent t.terms top).hyps in
-    let hyps = union_of t.terms lower top c.in_ok-hyps.hyps.items c.deref.result.now c.deref-2.result.now
+    let hyps = union_of t.terms lower top c.in_ok-hyps.hyps c.deref.result.now c.deref-2.result.now
     c.in_ok-hyps.ensures.union c.deref.ensures.value c.deref-2.ensures.value in
     let grown = grown_then 2 _ _ _ (grown_then 2 _ _ _ c.apply.ensures.grown c.apply-2.ensures.grown)
     c.equate.ensures.grown in

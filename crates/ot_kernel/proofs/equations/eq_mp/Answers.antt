@@ -28,7 +28,7 @@ returns c =
     let (ty, s) = c.in_ok-p.ensures.ok in
     let same = sym (tested _ (tm_at ts c.in_ok-p.p) (tm_at ts top.concl) c.alpha_eq.ensures)
     ∙ c.if-not-alpha_eq.false in
-    let hyps = union_of ts lower top c.in_ok-hyps.hyps.items c.deref.result.now c.deref-2.result.now
+    let hyps = union_of ts lower top c.in_ok-hyps.hyps c.deref.result.now c.deref-2.result.now
     c.in_ok-hyps.ensures.union c.deref.ensures.value c.deref-2.ensures.value in
     let made = eq_mp-made numbers (numbered_sequent ts lower) ty (tm_at ts c.in_ok-p.p) (tm_at ts c.in_ok-p.q) s.sides
     (numbered_sequent ts top) same in

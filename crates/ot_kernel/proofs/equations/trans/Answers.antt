@@ -23,7 +23,7 @@ returns-clause-derives c =
     let lower = c.args.lower.now in
     let top = c.args.top.now in
     let (ty, o) = c.in_ok-left.ensures in
-    let hyps = union_of t.terms lower top c.in_ok-hyps.hyps.items c.deref.result.now c.deref-2.result.now
+    let hyps = union_of t.terms lower top c.in_ok-hyps.hyps c.deref.result.now c.deref-2.result.now
     c.in_ok-hyps.ensures.union c.deref.ensures.value c.deref-2.ensures.value in
     outer_derives t (numbered_sequent t.terms lower) (numbered_sequent t.terms top) ty c.in_ok-left.left
     c.in_ok-left.right o c.equate.new.terms c.types-types.ensures.table c.equate.ensures.grown.grows

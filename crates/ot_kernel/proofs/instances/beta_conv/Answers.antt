@@ -35,7 +35,7 @@ returns-clause-derives c =
     let was = c.in_ok-contracted.ensures in
     redex_equated c.args.terms.now c.beta.new.terms was.grows was.table c.args.t c.requires.inside
     c.in_ok-contracted.contracted was.ok c.equate.new.terms c.in_ok-concl.ensures.grown.grows
-    (record { hyps = c.new.result; concl = c.in_ok-concl.concl }) c.new.ensures.items c.in_ok-concl.ensures.makes
+    (record { hyps = c.none.result; concl = c.in_ok-concl.concl }) c.none.ensures.items c.in_ok-concl.ensures.makes
 
 pub returns-clause-later : goal.returns-clause-later
 returns-clause-later c =

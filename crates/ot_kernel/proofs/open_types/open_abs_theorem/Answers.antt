@@ -28,7 +28,7 @@ returns-clause-derives c =
     open_test_derived c.args.terms.now c.args.v.now c.args.rep c.args.abs c.requires.rep c.requires.abs
     c.requires.typed c.round_trip.new.terms c.round_trip.ensures.grown.grows c.requires.ty c.in_ok-x.x
     c.in_ok-x.image c.in_ok-x.ensures.makes c.equate.new.terms c.round_trip.ensures.grown.table
-    c.equate.ensures.grown.grows (record { hyps = c.new.result; concl = c.in_ok-concl.concl }) c.new.ensures.items
+    c.equate.ensures.grown.grows (record { hyps = c.none.result; concl = c.in_ok-concl.concl }) c.none.ensures.items
     c.in_ok-concl.ensures.makes
 
 pub returns-clause-grown : goal.returns-clause-grown

@@ -80,7 +80,7 @@ returns-clause-derives c =
     c.equate.ensures.grown.grows c.in_ok-same.same c.in_ok-same.ensures.makes c.apply.new.terms
     c.apply.ensures.grown.grows c.in_ok-holds.holds c.in_ok-holds.ensures.makes c.equate-2.new.terms
     c.apply.ensures.grown.table c.equate-2.ensures.grown.grows
-    (record { hyps = c.new.result; concl = c.in_ok-concl.concl }) c.new.ensures.items c.in_ok-concl.ensures.makes
+    (record { hyps = c.none.result; concl = c.in_ok-concl.concl }) c.none.ensures.items c.in_ok-concl.ensures.makes
 
 pub returns-clause-grown : goal.returns-clause-grown
 returns-clause-grown c =

@@ -8,7 +8,7 @@ use Rattle.ot_kernel.proofs.within.is_within.Goals as goal
 pub returns-then-not-alpha_eq : goal.returns-then-not-alpha_eq
 returns-then-not-alpha_eq c =
     let ts = c.args.terms.now.terms in
-    let left = tms_at ts c.args.th.now.hyps.items in
+    let left = tms_at ts c.args.th.now.hyps in
     let right = tms_at ts c.args.hyps.now in
     other_conclusion (all_in numbers left right) _
     (sym (tested _ (tm_at ts c.args.th.now.concl) (tm_at ts c.args.concl) c.alpha_eq.ensures)
@@ -17,7 +17,7 @@ returns-then-not-alpha_eq c =
 pub returns : goal.returns
 returns c =
     let ts = c.args.terms.now.terms in
-    let left = tms_at ts c.args.th.now.hyps.items in
+    let left = tms_at ts c.args.th.now.hyps in
     let right = tms_at ts c.args.hyps.now in
     let concl : same_tm numbers (tm_at ts c.args.th.now.concl) (tm_at ts c.args.concl) ≡ _ =
     sym (tested _ (tm_at ts c.args.th.now.concl) (tm_at ts c.args.concl) c.alpha_eq.ensures)

@@ -9,7 +9,7 @@ use Rattle.ot_kernel.proofs.theorem.Theorem.states.Goals as goal
 pub returns-then-not-alpha_eq : goal.returns-then-not-alpha_eq
 returns-then-not-alpha_eq c =
     let ts = c.args.terms.now.terms in
-    let left = tms_at ts c.args.self.now.hyps.items in
+    let left = tms_at ts c.args.self.now.hyps in
     let right = tms_at ts c.args.hyps.now in
     other_conclusion (all_in numbers left right && all_in numbers right left) _
     (sym (tested _ (tm_at ts c.args.self.now.concl) (tm_at ts c.args.concl) c.alpha_eq.ensures)
@@ -18,7 +18,7 @@ returns-then-not-alpha_eq c =
 pub returns : goal.returns
 returns c =
     let ts = c.args.terms.now.terms in
-    let left = tms_at ts c.args.self.now.hyps.items in
+    let left = tms_at ts c.args.self.now.hyps in
     let right = tms_at ts c.args.hyps.now in
     let concl : same_tm numbers (tm_at ts c.args.self.now.concl) (tm_at ts c.args.concl) ≡ true =
     sym (tested _ (tm_at ts c.args.self.now.concl) (tm_at ts c.args.concl) c.alpha_eq.ensures)
