@@ -65,11 +65,11 @@ made-origin s id ts r w ops is t at e l =
 
 pub defined-origin : (s : Session) (id : ℕ) (ts : List (Origin ℕ)) (r : Step) (w : Cmd) (ops : _) (syms : _)
     (is : List ℕ)
-    → ts ≡ s.trace → slice_get ts id ≡ Some (step_origin ts r) → r ≡ step.Define w ops syms → is ≡ ops.items
+    → ts ≡ s.trace → slice_get ts id ≡ Some (step_origin ts r) → r ≡ step.Define w ops syms → is ≡ ops.value.items
     → origin_of s id ≡ Define w (origins_of s is)
 defined-origin s id ts r w ops syms is t at e l =
     step-origin s id r (step.Define w ops syms) (subst (λ ts. slice_get ts id ≡ Some (step_origin ts r)) t at) e
-    ∙ ap (Define w) (origins-are s ops.items ∙ ap (origins_of s) (sym l))
+    ∙ ap (Define w) (origins-are s ops.value.items ∙ ap (origins_of s) (sym l))
 
 pub made-numbered : (s : Session) (id : ℕ) (ts : List (Origin ℕ)) (r : Step) (w : Cmd) (ops : _) (is : List ℕ)
     → ts ≡ s.trace
@@ -88,9 +88,9 @@ made-inside n id r w ops is below e l low = subst (All (λ i. i < n)) (sym l)
     (each-lower ops.items n id (subst (IsBelow id) e below) low)
 
 pub defined-inside : (n id : ℕ) (r : Step) (w : Cmd) (ops : _) (syms : _) (is : List ℕ) → IsBelow id r
-    → r ≡ step.Define w ops syms → is ≡ ops.items → id < n → All (λ i. i < n) is
+    → r ≡ step.Define w ops syms → is ≡ ops.value.items → id < n → All (λ i. i < n) is
 defined-inside n id r w ops syms is below e l low =
-    subst (All (λ i. i < n)) (sym l) (each-lower ops.items n id (subst (IsBelow id) e below).0 low)
+    subst (All (λ i. i < n)) (sym l) (each-lower ops.value.items n id (subst (IsBelow id) e below).0 low)
 
 -- ---- the numbers of operands
 

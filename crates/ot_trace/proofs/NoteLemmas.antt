@@ -133,7 +133,7 @@ symbols-below : (n : ℕ) (s : Step) (k : ℕ) → IsBelow n s → IsMember k (s
 symbols-below n (steps.Number j) k h m = absurd m
 symbols-below n (steps.Name j) k h m = absurd m
 symbols-below n (steps.Make w ops) k h m = absurd m
-symbols-below n (steps.Define w ops syms) k h m = all-member n syms.items h.1 k m
+symbols-below n (steps.Define w ops syms) k h m = all-member n syms.value.items h.1 k m
 symbols-below n (steps.Outcome i d) k h m = absurd m
 
 pub definers-none : (ts : List (Origin ℕ)) → AreDefiners ts [] [] []

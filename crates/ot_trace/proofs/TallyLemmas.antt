@@ -169,7 +169,7 @@ operands-are : (ts : List (Origin ℕ)) (s : Step) → operands (origin_of ts s)
 operands-are ts (steps.Number k) = refl
 operands-are ts (steps.Name n) = refl
 operands-are ts (steps.Make w ops) = listed-are ts ops.items
-operands-are ts (steps.Define w ops syms) = listed-are ts ops.items
+operands-are ts (steps.Define w ops syms) = listed-are ts ops.value.items
 operands-are ts (steps.Outcome j d) = refl
 
 pub operands-below : (n : ℕ) (s : Step) → IsBelow n s → All (λ i. i < n) (operand_numbers s)

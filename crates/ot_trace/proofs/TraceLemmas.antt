@@ -48,7 +48,7 @@ pub origin_of-Extends : (ts us : List (Origin ℕ)) → Extends ts us → (s : S
 origin_of-Extends ts us e (steps.Number k) h = refl
 origin_of-Extends ts us e (steps.Name n) h = refl
 origin_of-Extends ts us e (steps.Make w ops) h = ap (Make w) (origins_at-Extends ts us e ops.items h)
-origin_of-Extends ts us e (steps.Define w ops syms) h = ap (Define w) (origins_at-Extends ts us e ops.items h.0)
+origin_of-Extends ts us e (steps.Define w ops syms) h = ap (Define w) (origins_at-Extends ts us e ops.value.items h.0)
 origin_of-Extends ts us e (steps.Outcome j d) h = ap (Outcome j) (origin_at-Extends ts us e d h)
 
 pub HasSymbols-Extends : (ts us : List (Origin ℕ)) → Extends ts us → (s : Step) → IsBelow (length ts) s
@@ -57,8 +57,8 @@ HasSymbols-Extends ts us e (steps.Number k) h p = tt
 HasSymbols-Extends ts us e (steps.Name n) h p = tt
 HasSymbols-Extends ts us e (steps.Make w ops) h p = tt
 HasSymbols-Extends ts us e (steps.Define w ops syms) h p =
-    map-Extends ts us e syms.items h.1 ∙ p
-    ∙ ap (λ os. symbols (Define w os)) (sym (origins_at-Extends ts us e ops.items h.0))
+    map-Extends ts us e syms.value.items h.1 ∙ p
+    ∙ ap (λ os. symbols (Define w os)) (sym (origins_at-Extends ts us e ops.value.items h.0))
 HasSymbols-Extends ts us e (steps.Outcome j d) h p = tt
 
 pub IsBelow-mono : (j k : ℕ) → j ≤ k → (s : Step) → IsBelow j s → IsBelow k s
@@ -169,15 +169,15 @@ same_step ts one (steps.Make v xs) (steps.Make w ys) g h a b p =
     ((bytes_eq-Decides xs.items ys.items).1 (origins_at-injective ts one xs.items ys.items g h ops))
 same_step ts one (steps.Define v xs ss) (steps.Define w ys rs) g h a b p =
     let word : v ≡ w = cc in
-    let ops : origins_at ts xs.items ≡ origins_at ts ys.items = cc in
-    let same : symbols (Define v (origins_at ts xs.items)) ≡ symbols (Define w (origins_at ts ys.items)) =
+    let ops : origins_at ts xs.value.items ≡ origins_at ts ys.value.items = cc in
+    let same : symbols (Define v (origins_at ts xs.value.items)) ≡ symbols (Define w (origins_at ts ys.value.items)) =
     ap symbols p in
-    let syms : ss.items ≡ rs.items = map-injective ts one ss.items rs.items g.1 h.1 (a ∙ same ∙ sym b) in
-    both (words_test.ghosts.eq v w) (pointwise nat_eq xs.items ys.items && pointwise nat_eq ss.items rs.items)
+    let syms : ss.value.items ≡ rs.value.items = map-injective ts one ss.value.items rs.value.items g.1 h.1 (a ∙ same ∙ sym b) in
+    both (words_test.ghosts.eq v w) (pointwise nat_eq xs.value.items ys.value.items && pointwise nat_eq ss.value.items rs.value.items)
     (subst (λ w. words_test.ghosts.eq v w ≡ true) word (word-self v))
-    (both (pointwise nat_eq xs.items ys.items) (pointwise nat_eq ss.items rs.items)
-    ((bytes_eq-Decides xs.items ys.items).1 (origins_at-injective ts one xs.items ys.items g.0 h.0 ops))
-    ((bytes_eq-Decides ss.items rs.items).1 syms))
+    (both (pointwise nat_eq xs.value.items ys.value.items) (pointwise nat_eq ss.value.items rs.value.items)
+    ((bytes_eq-Decides xs.value.items ys.value.items).1 (origins_at-injective ts one xs.value.items ys.value.items g.0 h.0 ops))
+    ((bytes_eq-Decides ss.value.items rs.value.items).1 syms))
 same_step ts one (steps.Outcome i d) (steps.Outcome j e) g h a b p =
     let place : i ≡ j = cc in
     let of : origin_at ts d ≡ origin_at ts e = cc in
@@ -212,9 +212,9 @@ same_origin ts (steps.Make v xs) (steps.Make w ys) p =
     λ j. Make (word-from v w q.0 j) (origins_at ts ((bytes_eq-Decides xs.items ys.items).0 q.1 j))
 same_origin ts (steps.Define v xs ss) (steps.Define w ys rs) p =
     let q = parts (words_test.ghosts.eq v w)
-    (pointwise nat_eq xs.items ys.items && pointwise nat_eq ss.items rs.items) p in
-    let r = parts (pointwise nat_eq xs.items ys.items) (pointwise nat_eq ss.items rs.items) q.1 in
-    λ j. Define (word-from v w q.0 j) (origins_at ts ((bytes_eq-Decides xs.items ys.items).0 r.0 j))
+    (pointwise nat_eq xs.value.items ys.value.items && pointwise nat_eq ss.value.items rs.value.items) p in
+    let r = parts (pointwise nat_eq xs.value.items ys.value.items) (pointwise nat_eq ss.value.items rs.value.items) q.1 in
+    λ j. Define (word-from v w q.0 j) (origins_at ts ((bytes_eq-Decides xs.value.items ys.value.items).0 r.0 j))
 same_origin ts (steps.Outcome i d) (steps.Outcome j e) p =
     let q = parts (nat_eq i j) (nat_eq d e) p in
     λ k. Outcome (eqb-true i j q.0 k) (origin_at ts (eqb-true d e q.1 k))

@@ -25,7 +25,7 @@ abbrev pub step_writes : Step → HashWrites
 step_writes (Number k) = fed.u8 0 ++ fed.i64 k
 step_writes (Name n) = fed.u8 1 ++ fed.u32 n
 step_writes (Make w ops) = words_hash.ghosts.hash_input w ++ operand_writes ops.items
-step_writes (Define w ops syms) = fed.u8 2 ++ (words_hash.ghosts.hash_input w ++ operand_writes ops.items)
+step_writes (Define w ops syms) = fed.u8 2 ++ (words_hash.ghosts.hash_input w ++ operand_writes ops.value.items)
 step_writes (Outcome j d) = fed.u8 3 ++ (fed.u8 j ++ fed.u32 d)
 
 parts : (a b : Bool) → (a && b) ≡ true → (a ≡ true) × (b ≡ true)
@@ -44,10 +44,10 @@ step_writes-alike (Make v xs) (Make w ys) p =
     λ i. word i ++ operand_writes (ops i)
 step_writes-alike (Define v xs ss) (Define w ys rs) p =
     let q = parts (words_test.ghosts.eq v w)
-    (pointwise nat_eq xs.items ys.items && pointwise nat_eq ss.items rs.items) p in
-    let r = parts (pointwise nat_eq xs.items ys.items) (pointwise nat_eq ss.items rs.items) q.1 in
+    (pointwise nat_eq xs.value.items ys.value.items && pointwise nat_eq ss.value.items rs.value.items) p in
+    let r = parts (pointwise nat_eq xs.value.items ys.value.items) (pointwise nat_eq ss.value.items rs.value.items) q.1 in
     let word = respects_eq-law v w q.0 in
-    let ops = (bytes_eq-Decides xs.items ys.items).0 r.0 in
+    let ops = (bytes_eq-Decides xs.value.items ys.value.items).0 r.0 in
     λ i. fed.u8 2 ++ (word i ++ operand_writes (ops i))
 step_writes-alike (Outcome i d) (Outcome j e) p =
     let q = parts (nat_eq i j) (nat_eq d e) p in

@@ -23,7 +23,7 @@ abbrev pub origin_of : List (Origin ℕ) → Step → Origin ℕ
 origin_of ts (steps.Number k) = Number k
 origin_of ts (steps.Name n) = Named n
 origin_of ts (steps.Make w ops) = Make w (origins_at ts ops.items)
-origin_of ts (steps.Define w ops syms) = Define w (origins_at ts ops.items)
+origin_of ts (steps.Define w ops syms) = Define w (origins_at ts ops.value.items)
 origin_of ts (steps.Outcome j d) = Outcome j (origin_at ts d)
 
 -- the numbers of a step's operands
@@ -31,7 +31,7 @@ abbrev pub operand_numbers : Step → List ℕ
 operand_numbers (steps.Number k) = []
 operand_numbers (steps.Name n) = []
 operand_numbers (steps.Make w ops) = ops.items
-operand_numbers (steps.Define w ops syms) = ops.items
+operand_numbers (steps.Define w ops syms) = ops.value.items
 operand_numbers (steps.Outcome j d) = []
 
 -- the step's numbers are below
@@ -39,12 +39,12 @@ abbrev pub IsBelow : ℕ → Step → Type 0
 IsBelow k (steps.Number n) = Unit {0}
 IsBelow k (steps.Name n) = Unit {0}
 IsBelow k (steps.Make w ops) = All (λ i. i < k) ops.items
-IsBelow k (steps.Define w ops syms) = All (λ i. i < k) ops.items × All (λ i. i < k) syms.items
+IsBelow k (steps.Define w ops syms) = All (λ i. i < k) ops.value.items × All (λ i. i < k) syms.value.items
 IsBelow k (steps.Outcome j d) = d < k
 
 -- a definition has the steps of its symbols, in their order
 abbrev pub HasSymbols : List (Origin ℕ) → Step → Type 0
-HasSymbols ts (steps.Define w ops syms) = map (origin_at ts) syms.items ≡ symbols (Define w (origins_at ts ops.items))
+HasSymbols ts (steps.Define w ops syms) = map (origin_at ts) syms.value.items ≡ symbols (Define w (origins_at ts ops.value.items))
 HasSymbols ts (steps.Number k) = Unit {0}
 HasSymbols ts (steps.Name n) = Unit {0}
 HasSymbols ts (steps.Make w ops) = Unit {0}

@@ -55,7 +55,7 @@ abbrev pub IsPartNumber : Step → ℕ → Type 0
 IsPartNumber (steps.Number k) j = ⊥
 IsPartNumber (steps.Name n) j = ⊥
 IsPartNumber (steps.Make w ops) j = IsMember j ops.items
-IsPartNumber (steps.Define w ops syms) j = IsMember j ops.items
+IsPartNumber (steps.Define w ops syms) j = IsMember j ops.value.items
 IsPartNumber (steps.Outcome i d) j = j ≡ d
 
 -- the numbers of the symbols of a step
@@ -63,5 +63,5 @@ abbrev pub symbol_numbers : Step → List ℕ
 symbol_numbers (steps.Number k) = []
 symbol_numbers (steps.Name n) = []
 symbol_numbers (steps.Make w ops) = []
-symbol_numbers (steps.Define w ops syms) = syms.items
+symbol_numbers (steps.Define w ops syms) = syms.value.items
 symbol_numbers (steps.Outcome i d) = []

@@ -7,7 +7,8 @@ use smallvec::SmallVec;
 use std::hash::{Hash, Hasher};
 
 /// How an object was made, with the parts by number.
-// A trace has many steps: the lists hold inside what most of them need.
+// A trace has many steps: a list holds inside what most of them need, and those of a definition, of which an article has
+// few, stand apart.
 #[derive(PartialEq, Eq, Drop)]
 pub enum Step {
     /// A number.
@@ -17,7 +18,7 @@ pub enum Step {
     /// What a word makes of its operands, from the bottom of the stack up.
     Make(Cmd, SmallVec<StepId, 2>),
     /// A definition by a word and its operands; the steps of its symbols stand last.
-    Define(Cmd, SmallVec<StepId, 2>, SmallVec<StepId, 1>),
+    Define(Cmd, Box<Vec<StepId>>, Box<Vec<StepId>>),
     /// The theorem of a definition, by its place from 1 on.
     Outcome(u8, StepId),
 }

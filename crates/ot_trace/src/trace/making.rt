@@ -48,8 +48,9 @@ impl Trace {
         ensures err { OnErr result (self.new ≡ self.old) }
         ensures once { IsInjective self.new }
     {
-        let operands = SmallVec::from_slice(*self.steps.allocator(), operands)?;
-        let defined = SmallVec::from_slice(*self.steps.allocator(), defined)?;
+        let alloc = *self.steps.allocator();
+        let operands = Box::new(alloc, Vec::from_slice(alloc, operands)?)?;
+        let defined = Box::new(alloc, Vec::from_slice(alloc, defined)?)?;
         self.add(Step::Define(word, operands, defined))
     }
 

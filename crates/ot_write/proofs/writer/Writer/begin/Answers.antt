@@ -75,7 +75,7 @@ returns-in-Define-clause-moves c =
     let g = given c.args.names.now c.args.trace.now c.args.counts.now in
     let x = origin_at g.trees c.args.id in
     nothing g _ _ (begin g x)
-    (begin-define g x c.in-Define.field-0 (origins_at g.trees c.in-Define.field-1.items)
+    (begin-define g x c.in-Define.field-0 (origins_at g.trees c.in-Define.field-1.value.items)
     (tree-is _ c.args.id _ (step.Define c.in-Define.field-0 c.in-Define.field-1 c.in-Define.field-2)
     c.step.ensures.origin c.in-Define.is))
 

@@ -24,7 +24,7 @@ returns-in_ok-store_theorems-in-Define-clause-moves c = λ ns.
     let e = tree-is _ c.args.id _ (step.Define c.in-Define.word c.in-Define.field-1 c.in-Define.field-2)
     c.step.ensures.origin c.in-Define.is in
     defined c.pops.result g _ _ c.store_theorems.new.self c.pops.new.self x c.in-Define.word
-    (origins_at g.trees c.in-Define.field-1.items) c.theorems.result c.symbols.result e c.theorems.ensures
+    (origins_at g.trees c.in-Define.field-1.value.items) c.theorems.result c.symbols.result e c.theorems.ensures
     c.symbols.ensures
     c.in_ok-put_word-in-Define.ensures refl (c.in_ok-store_theorems-in-Define.ensures.moves ns)
     (c.pops.ensures.moves g)

@@ -11,7 +11,7 @@ use Rattle.ot_write.proofs.writer.Writer.define.Goals as goal
 pub run-requires-clause-work : goal.run-requires-clause-work
 run-requires-clause-work c =
     let empty : c.new-work.result.items ≡ [] = search rules in
-    let a : c.ask.new.work.items ≡ ([] ++ task.Close c.args.id ∷ []) ++ reverse (map task.Write c.in-Define.operands.items) = subst (λ l. c.ask.new.work.items ≡ ([] ++ task.Close c.args.id ∷ []) ++ reverse (map task.Write l)) c.as_slice.ensures (c.in_ok-ask-in-Define.ensures ∙ ap (λ z. (z ++ task.Close c.args.id ∷ []) ++ reverse (map task.Write c.as_slice.result.now)) empty) in
+    let a : c.ask.new.work.items ≡ ([] ++ task.Close c.args.id ∷ []) ++ reverse (map task.Write c.in-Define.operands.value.items) = subst (λ l. c.ask.new.work.items ≡ ([] ++ task.Close c.args.id ∷ []) ++ reverse (map task.Write l)) (c.as_slice.ensures.value ∙ ap (λ v. v.items) c.deref.ensures) (c.in_ok-ask-in-Define.ensures ∙ ap (λ z. (z ++ task.Close c.args.id ∷ []) ++ reverse (map task.Write c.as_slice.result.now)) empty) in
     asked-work _ _ c.args.id _ c.requires.inside
     (operands-inside _ c.args.id _ (step.Define c.in-Define.field-0 c.in-Define.operands c.in-Define.field-2)
     c.step.ensures.below c.in-Define.is c.requires.inside) a
@@ -20,12 +20,12 @@ pub returns-in_ok-ask-in-Define-clause-moves : goal.returns-in_ok-ask-in-Define-
 returns-in_ok-ask-in-Define-clause-moves c =
     let g = given c.args.names.now c.args.trace.now c.args.counts.now in
     let empty : c.new-work.result.items ≡ [] = search rules in
-    let a : c.ask.new.work.items ≡ ([] ++ task.Close c.args.id ∷ []) ++ reverse (map task.Write c.in-Define.operands.items) = subst (λ l. c.ask.new.work.items ≡ ([] ++ task.Close c.args.id ∷ []) ++ reverse (map task.Write l)) c.as_slice.ensures (c.in_ok-ask-in-Define.ensures ∙ ap (λ z. (z ++ task.Close c.args.id ∷ []) ++ reverse (map task.Write c.as_slice.result.now)) empty) in
+    let a : c.ask.new.work.items ≡ ([] ++ task.Close c.args.id ∷ []) ++ reverse (map task.Write c.in-Define.operands.value.items) = subst (λ l. c.ask.new.work.items ≡ ([] ++ task.Close c.args.id ∷ []) ++ reverse (map task.Write l)) (c.as_slice.ensures.value ∙ ap (λ v. v.items) c.deref.ensures) (c.in_ok-ask-in-Define.ensures ∙ ap (λ z. (z ++ task.Close c.args.id ∷ []) ++ reverse (map task.Write c.as_slice.result.now)) empty) in
     let e = tree-is _ c.args.id _ (step.Define c.in-Define.field-0 c.in-Define.operands c.in-Define.field-2)
     c.step.ensures.origin c.in-Define.is in
     moves-same c.run.result g _ c.run.new.self (rest g c.ask.new.work.items)
     (w.emit_definition same (keep g) (used g) (origin_at g.trees c.args.id))
-    (definition-text g c.args.id c.in-Define.field-0 c.in-Define.operands.items e _ a) c.run.ensures.moves
+    (definition-text g c.args.id c.in-Define.field-0 c.in-Define.operands.value.items e _ a) c.run.ensures.moves
 
 pub returns-in-Number-clause-moves : goal.returns-in-Number-clause-moves
 returns-in-Number-clause-moves c =
