@@ -1,12 +1,10 @@
 -- Members of lists, by the test and by recursion.
-use Rattle.std.specs.Prelude.{◌≤◌, length}
 use Rattle.std.specs.List.{list_any}
 use Rattle.std.specs.Bool.{Decides}
 use Rattle.std.proofs.Common.{◌≡◌, Bool, List, [], ◌∷◌, ◌++◌, ◌⊎◌, true, false}
-use Rattle.std.proofs.Common.{inl, inr, sym, ap, ◌∙◌, refl, subst, arith}
+use Rattle.std.proofs.Common.{inl, inr, ap, ◌∙◌, refl}
 use Rattle.std.proofs.lemmas.Bool.{or_cases, or_left, or_right, both_ways}
-use Rattle.std.proofs.lemmas.List.{length-append}
-use Rattle.ot_plain.specs.Lists.{IsMember, IsPart, AreDistinct}
+use Rattle.ot_plain.specs.Lists.{IsMember}
 
 module _ {K : Type 0} (same : K → K → Bool) (tells : (x y : K) → Decides (same x y) (x ≡ y)) where
   pub member_from_test : (ks : List K) (k : K) → list_any (λ x. same x k) ks ≡ true → IsMember k ks
@@ -56,21 +54,3 @@ module _ {X : Type 0} where
   split_member x (y ∷ ys) (inl e) = ([], ys, ap (λ z. z ∷ ys) e)
   split_member x (y ∷ ys) (inr m) = let (front, back, e) = split_member x ys m in
       (y ∷ front, back, ap (λ zs. y ∷ zs) e)
-
-  without_one : (x z : X) (front back : List X) → IsMember z (front ++ x ∷ back) → ¬ (x ≡ z)
-      → IsMember z (front ++ back)
-  without_one x z [] back m n = elim m [ inl e ↦ absurd (n e) | inr h ↦ h ]
-  without_one x z (y ∷ front) back m n = elim m [ inl e ↦ inl e | inr h ↦ inr (without_one x z front back h n) ]
-
-  -- a list whose members are distinct and stand in another one is no longer than that one
-  pub distinct_length : (xs ys : List X) → AreDistinct xs → IsPart xs ys → length xs ≤ length ys
-  distinct_length [] ys d p = omega arith
-  distinct_length (x ∷ xs) ys d p =
-      let (front, back, e) = split_member x ys (p x (inl refl)) in
-      let rest : IsPart xs (front ++ back) = λ z m. without_one x z front back
-      (subst (λ w. IsMember z w) e (p z (inr m))) (λ same. d.0 (subst (λ w. IsMember w xs) (sym same) m)) in
-      let most = distinct_length xs (front ++ back) d.1 rest in
-      let l1 = length-append front (x ∷ back) in
-      let l2 = length-append front back in
-      let l3 : length ys ≡ length (front ++ x ∷ back) = ap length e in
-      omega (arith, most, l1, l2, l3)

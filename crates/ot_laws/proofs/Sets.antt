@@ -1,7 +1,6 @@
 -- Lists as sets: members, and lists without repetition.
-use Rattle.std.specs.Prelude.{◌≢◌}
 use Rattle.std.specs.List.{AllByRecursion}
-use Rattle.std.proofs.Common.{◌≡◌, suc, ◌≤◌, List, [], ◌∷◌, ◌++◌, length, refl, sym, ap, ◌∙◌, subst, inl, inr, arith}
+use Rattle.std.proofs.Common.{List, [], ◌∷◌, ◌++◌, refl, subst, inl, inr}
 use Rattle.ot_plain.specs.Lists.{IsMember, IsPart, IsSameSet, AreDistinct}
 use Rattle.ot_plain.proofs.Members.{IsMember-cases, IsMember-left, IsMember-right}
 
@@ -50,21 +49,3 @@ module _ {X : Type 0} where
     distinct-append xs ys
         d.1 e (λ y i. apart y (inr i)),
   )
-
-  -- a list without one of its elements
-  taken_out : (k : X) (ys : List X) → IsMember k ys → (zs : List X) × (length ys ≡ suc (length zs))
-      × ((x : X) → IsMember x ys → x ≢ k → IsMember x zs)
-  taken_out k [] m = absurd m
-  taken_out k (y ∷ ys) (inl e) = (ys, refl, λ x i n. elim i [ inl d ↦ absurd (n (sym d ∙ e)) | inr j ↦ j ])
-  taken_out k (y ∷ ys) (inr m) =
-      let (zs, l, f) = taken_out k ys m in
-      (y ∷ zs, ap suc l, λ x i n. elim i [ inl d ↦ inl d | inr j ↦ inr (f x j n) ])
-
-  -- a list without repetition is no longer than one that has its members
-  pub distinct-length : (ks ys : List X) → AreDistinct ks → IsPart ks ys → length ks ≤ length ys
-  distinct-length [] ys d h = omega arith
-  distinct-length (k ∷ ks) ys d h =
-      let (zs, l, f) = taken_out k ys (h k (inl refl)) in
-      let inside = λ (x : X) (i : IsMember x ks). f x (h x (inr i)) (λ e. d.0 (subst (λ z. IsMember z ks) e i)) in
-      let p = distinct-length ks zs d.1 inside in
-      omega arith

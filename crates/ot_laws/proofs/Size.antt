@@ -6,8 +6,7 @@ use Rattle.ot_plain.specs.Lists.{IsMember, IsPart, IsSameSet, AreDistinct}
 use Rattle.ot_plain.specs.Trees.{Alphabet, Named, NVar, NConst, NApp, NAbs}
 use Rattle.ot_plain.specs.Hol.{same_named, parts, has_named, distinct_named, size}
 use Rattle.ot_laws.proofs.Tests.{Tells, cases_of, same_named-is}
-use Rattle.ot_laws.proofs.Sets.{distinct-length}
-use Rattle.ot_plain.proofs.Members.{IsMember-cases, IsMember-left, IsMember-right}
+use Rattle.ot_plain.proofs.Members.{IsMember-cases, IsMember-left, IsMember-right, distinct-length}
 
 module _ {N : Type 0} (alphabet : Alphabet N) where
   -- a term is a part of itself, and a part of a part is a part

@@ -1,7 +1,8 @@
 -- Members of lists.
 use Rattle.std.specs.List.{All, flat_map, list_any}
 use Rattle.std.proofs.Common.{◌≡◌, ℕ, zero, suc, ◌<◌, ◌||◌, Bool, true, false, List, [], ◌∷◌, ◌++◌, length}
-use Rattle.std.proofs.Common.{map, take, slice_get, get_or, Some, refl, sym, ap, subst, inl, inr, ◌⊎◌, arith}
+use Rattle.std.proofs.Common.{◌≤◌, ◌≢◌, map, take, slice_get, get_or, Some, refl, sym, ap, ◌∙◌, subst, inl, inr, ◌⊎◌}
+use Rattle.std.proofs.Common.{arith}
 use Rattle.std.proofs.lemmas.Option.{same_Some}
 use Rattle.std.proofs.lemmas.List.Elements.{All-nil, All-cons, All-head, All-tail}
 use Rattle.ot_plain.specs.Lists.{IsMember, IsPart, AreDistinct}
@@ -60,6 +61,24 @@ module _ {X : Type 0} where
   IsPart-take (suc i) [] x m = absurd m
   IsPart-take (suc i) (y ∷ xs) x (inl e) = inl e
   IsPart-take (suc i) (y ∷ xs) x (inr m) = inr (IsPart-take i xs x m)
+
+  -- a list without one of its elements
+  taken_out : (k : X) (ys : List X) → IsMember k ys → (zs : List X) × (length ys ≡ suc (length zs))
+      × ((x : X) → IsMember x ys → x ≢ k → IsMember x zs)
+  taken_out k [] m = absurd m
+  taken_out k (y ∷ ys) (inl e) = (ys, refl, λ x i n. elim i [ inl d ↦ absurd (n (sym d ∙ e)) | inr j ↦ j ])
+  taken_out k (y ∷ ys) (inr m) =
+      let (zs, l, f) = taken_out k ys m in
+      (y ∷ zs, ap suc l, λ x i n. elim i [ inl d ↦ inl d | inr j ↦ inr (f x j n) ])
+
+  -- a list without repetition is no longer than one that has its members
+  pub distinct-length : (ks ys : List X) → AreDistinct ks → IsPart ks ys → length ks ≤ length ys
+  distinct-length [] ys d h = omega arith
+  distinct-length (k ∷ ks) ys d h =
+      let (zs, l, f) = taken_out k ys (h k (inl refl)) in
+      let inside = λ (x : X) (i : IsMember x ks). f x (h x (inr i)) (λ e. d.0 (subst (λ z. IsMember z ks) e i)) in
+      let p = distinct-length ks zs d.1 inside in
+      omega arith
 
 -- ---- what holds of each
 pub All-from_members : {X : Type 0} (P : X → Type 0) (xs : List X) → ((x : X) → IsMember x xs → P x) → All P xs

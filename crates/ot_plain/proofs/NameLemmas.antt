@@ -1,5 +1,7 @@
 -- Lemmas on the table of names.
-use Rattle.std.proofs.Common.{zero, suc, true, false, List, [], ◌∷◌, ◌++◌, if◌then◌else◌, refl, arith}
+use Rattle.std.proofs.Common.{◌≡◌, ◌<◌, ℕ, zero, suc, true, false, List, [], ◌∷◌, ◌++◌, length, map, if◌then◌else◌}
+use Rattle.std.proofs.Common.{refl, ap, arith}
+use Rattle.std.proofs.lemmas.List.{length-map}
 use Rattle.std.specs.List.{All, IsDistinct, list_any}
 use Rattle.std.proofs.lemmas.List.Elements.{All-push}
 use Rattle.indexmap.specs.IndexSet.{insert_key}
@@ -32,3 +34,7 @@ first_table d = record { injective = injective_names first_names d; each = each;
     each (suc (suc (suc zero))) e h = omega arith
     each (suc (suc (suc (suc zero)))) e h = omega arith
     each (suc (suc (suc (suc (suc k))))) e h = absurd (omega arith)
+
+-- a name of components is not empty
+pub has-components : {X : Type 0} (f : X → List ℕ) (n : Name) (xs : List X) → map f xs ≡ n → 0 < length xs → IsName n
+has-components f n xs p h = let a = length-map xs f in let b = ap length p in omega (arith, a, b, h)

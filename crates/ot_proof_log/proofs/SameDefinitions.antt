@@ -20,7 +20,8 @@ use Rattle.ot_laws.specs.Conditions.{is_empty, function_of, are_names_of, is_clo
 use Rattle.ot_laws.proofs.Tests.{tells_names}
 use Rattle.ot_laws.proofs.Steps.{and_then-some}
 use Rattle.ot_laws.proofs.Membership.{is_among-same_set}
-use Rattle.ot_laws.proofs.Sets.{same_set-self, same_set-append, distinct-length}
+use Rattle.ot_laws.proofs.Sets.{same_set-self, same_set-append}
+use Rattle.ot_plain.proofs.Members.{distinct-length}
 use Rattle.ot_laws.proofs.Hypotheses.{same_sequent-is}
 use Rattle.ot_kernel.specs.Defining.{all_defined, all_used}
 use Rattle.ot_machine.specs.States.{Made}

@@ -7,7 +7,8 @@ use Rattle.ot_plain.specs.Lists.{IsMember, IsPart, AreDistinct}
 use Rattle.ot_repo.specs.Walk.{Edge, Walk, Walked, Stops, TooDeep, ◌>>=◌}
 use Rattle.ot_repo.specs.Walk.{followed, is_in, arrive, walk_edges, walk_key}
 use Rattle.ot_repo.specs.Walks.{HasEdge, EndsAlways}
-use Rattle.ot_blocks.proofs.Members.{apart_from_test, distinct_length}
+use Rattle.ot_plain.proofs.Members.{distinct-length}
+use Rattle.ot_blocks.proofs.Members.{apart_from_test}
 
 module _ {K E : Type 0} where
   bind_ends : (w : Walk K E) (f : List K → Walk K E) → w ≢ TooDeep → ((ks : List K) → f ks ≢ TooDeep)
@@ -61,7 +62,7 @@ module _ {K E : Type 0} (same : K → K → Bool) (tells : (x y : K) → Decides
       → VisitEnds (walk_key same edges n path) path
   key_ends later zero path once part bound done k new here =
       let most : length (k ∷ path) ≤ length all =
-      distinct_length (k ∷ path) all (apart_from_test same tells path k new, once)
+      distinct-length (k ∷ path) all (apart_from_test same tells path k new, once)
       (λ c m. elim m [ inl e ↦ subst (λ z. IsMember z all) e here | inr h ↦ part c h ]) in
       absurd (omega (arith, most, bound))
   key_ends later (suc n) path once part bound done k new here =
