@@ -14,16 +14,8 @@ use Rattle.ot_term.specs.Term.{TermTable}
 use Rattle.ot_term.specs.TermTable.{term_at, variable_of}
 use Rattle.ot_term.specs.declared.term.VarKey.{VarKey}
 use Rattle.ot_subst.specs.Substitution.{Substitution, named_part}
-use Rattle.ot_subst.specs.Clash.{AreFrees}
+use Rattle.ot_subst.specs.Clash.{AreFrees, CollectsFrees}
 use Rattle.ot_plain.proofs.Members.{IsMember-cases, IsMember-left, IsMember-map, IsMember-map_back, IsMember-right}
-
--- the variables that are free in the terms of these pairs
-pub record CollectsFrees (t : TermTable) (ps : List (VarKey × ℕ)) (frees : List VarKey) : Type 0 where
-  pub inside : All (λ y. y.ty < length t.types) frees
-  pub to : (y : VarKey) → IsMember y frees → (p : VarKey × ℕ) × IsMember p ps × IsFree numbers (variable_of t.types y)
-      (nameless numbers (term_at t.terms p.1))
-  pub back : (p : VarKey × ℕ) → IsMember p ps → (x : Variable ℕ)
-      → IsFree numbers x (nameless numbers (term_at t.terms p.1)) → IsMember x (map (variable_of t.types) frees)
 
 module _ (t : TermTable) (ps : List (VarKey × ℕ)) (frees : List VarKey) (before : CollectsFrees t ps frees)
     (p : VarKey × ℕ) (more : List VarKey) (inside : All (λ y. y.ty < length t.types) more)
@@ -55,6 +47,22 @@ module _ (t : TermTable) (ps : List (VarKey × ℕ)) (frees : List VarKey) (befo
           ]
         ]);
   }
+
+-- the pairs of two lists
+pub collects-both : (t : TermTable) (ps qs : List (VarKey × ℕ)) (fs gs : List VarKey) → CollectsFrees t ps fs
+    → CollectsFrees t qs gs → CollectsFrees t (ps ++ qs) (fs ++ gs)
+collects-both t ps qs fs gs a b = record {
+  inside = All-append (λ (y : VarKey). y.ty < length t.types) fs gs a.inside b.inside;
+  to = λ y m. elim (IsMember-cases y fs gs m) [
+    | inl i ↦ let (q, j, f) = a.to y i in (q, IsMember-left q ps qs j, f)
+    | inr i ↦ let (q, j, f) = b.to y i in (q, IsMember-right q ps qs j, f)
+  ];
+  back = λ q m x f. subst (IsMember x) (sym (map-append (variable_of t.types) fs gs))
+      (elim (IsMember-cases q ps qs m) [
+        | inl i ↦ IsMember-left x (map (variable_of t.types) fs) (map (variable_of t.types) gs) (a.back q i x f)
+        | inr i ↦ IsMember-right x (map (variable_of t.types) fs) (map (variable_of t.types) gs) (b.back q i x f)
+      ]);
+}
 
 pub collects-all : (t : TermTable) (s : Substitution) (frees : List VarKey) → CollectsFrees t s.terms frees
     → AreFrees t s frees

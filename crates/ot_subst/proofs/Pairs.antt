@@ -1,9 +1,12 @@
 -- The pairs of a substitution.
 use Rattle.std.specs.Prelude.{OnOk, OnErr}
 use Rattle.std.proofs.Common.{◌≡◌, ℕ, ◌<◌, Bool, true, false, cond, length, Result, Ok, Err}
-use Rattle.std.proofs.Common.{List, [], ◌∷◌, ◌++◌, Some, is_some, refl, sym, ap, subst, ◌∙◌}
+use Rattle.std.proofs.Common.{List, [], ◌∷◌, ◌++◌, Some, None, is_some, refl, sym, ap, subst, ◌∙◌}
+use Rattle.std.specs.List.{All}
 use Rattle.std.specs.Map.{lookup}
-use Rattle.std.proofs.lemmas.List.Elements.{All-push}
+use Rattle.std.proofs.lemmas.List.{append_assoc}
+use Rattle.std.proofs.lemmas.List.Elements.{All-push, All-tail}
+use Rattle.std.proofs.lemmas.Option.{none-some}
 use Rattle.ot_plain.specs.Trees.{Variable, Tm}
 use Rattle.ot_plain.specs.Hol.{TermMap, HasType, IsTyped, nameless, named_type}
 use Rattle.ot_plain.specs.Naming.{numbers}
@@ -18,14 +21,57 @@ use Rattle.ot_term.specs.declared.term.VarKey.{VarKey}
 use Rattle.ot_subst.specs.Substitution.{Substitution, same_key, term_for, with_pair, variable_part, IsSubstOf}
 use Rattle.ot_plain.proofs.Results.{none_from}
 
--- a pair that is added
-pub added : {S : Type 0} (tys : List (ℕ × ℕ)) (m : IndexMap VarKey ℕ S) (now : Substitution) (v : VarKey) (t : ℕ)
-    (new : List (VarKey × ℕ)) → ◌≡◌ {A = Substitution} (record { types = tys; terms = m.entries }) now
-    → is_some (lookup (same_key v) m.entries) ≡ false → new ≡ insert_entry same_key m.entries v t
-    → ◌≡◌ {A = Substitution} (record { types = tys; terms = new }) (with_pair now v t)
-added tys m now v t new view absent entries =
-    let after : new ≡ m.entries ++ (v, t) ∷ [] = entries ∙ insert_entry-new same_key m v t (none_from _ absent) in
-    rw (after, ← view, absent) refl
+-- ---- two lists of pairs, of which the first is looked through first
+pub lookup-first : {K X : Type 0} (p : K → Bool) (xs ys : List (K × X)) (x : X) → lookup p xs ≡ Some x
+    → lookup p (xs ++ ys) ≡ Some x
+lookup-first p [] ys x e = absurd (none-some x e)
+lookup-first p (d ∷ xs) ys x e = go (p d.0) e (lookup-first p xs ys x)
+  where
+    go : (b : Bool) → cond b (Some d.1) (lookup p xs) ≡ Some x
+        → (lookup p xs ≡ Some x → lookup p (xs ++ ys) ≡ Some x) → cond b (Some d.1) (lookup p (xs ++ ys)) ≡ Some x
+    go true e f = e
+    go false e f = f e
+
+pub lookup-others : {K X : Type 0} (p : K → Bool) (xs ys : List (K × X)) → lookup p xs ≡ None
+    → lookup p (xs ++ ys) ≡ lookup p ys
+lookup-others p [] ys e = refl
+lookup-others p (d ∷ xs) ys e = go (p d.0) e (lookup-others p xs ys)
+  where
+    go : (b : Bool) → cond b (Some d.1) (lookup p xs) ≡ None
+        → (lookup p xs ≡ None → lookup p (xs ++ ys) ≡ lookup p ys)
+        → cond b (Some d.1) (lookup p (xs ++ ys)) ≡ lookup p ys
+    go true e f = absurd (none-some d.1 (sym e))
+    go false e f = f e
+
+none-others : {K X : Type 0} (p : K → Bool) (xs ys : List (K × X)) → lookup p (xs ++ ys) ≡ None → lookup p ys ≡ None
+none-others p [] ys e = e
+none-others p (d ∷ xs) ys e = go (p d.0) e (none-others p xs ys)
+  where
+    go : (b : Bool) → cond b (Some d.1) (lookup p (xs ++ ys)) ≡ None
+        → (lookup p (xs ++ ys) ≡ None → lookup p ys ≡ None) → lookup p ys ≡ None
+    go true e f = absurd (none-some d.1 (sym e))
+    go false e f = f e
+
+-- what holds of all pairs holds of those that come after
+pub All-others : {X : Type 0} (P : X → Type 0) (xs ys : List X) → All P (xs ++ ys) → All P ys
+All-others P [] ys h = h
+All-others P (x ∷ xs) ys h = All-others P xs ys (All-tail P x (xs ++ ys) h)
+
+-- ---- a pair that is added
+pub added-other : {S : Type 0} (tys : List (ℕ × ℕ)) (xs new : List (VarKey × ℕ)) (m : IndexMap VarKey ℕ S)
+    (now : Substitution) (v : VarKey) (t : ℕ)
+    → ◌≡◌ {A = Substitution} (record { types = tys; terms = xs ++ m.entries }) now
+    → is_some (term_for now v) ≡ false → new ≡ insert_entry same_key m.entries v t
+    → ◌≡◌ {A = Substitution} (record { types = tys; terms = xs ++ new }) (with_pair now v t)
+added-other tys xs new m now v t view absent entries =
+    let none = none-others (same_key v) xs m.entries
+    (ap (λ (s : Substitution). lookup (same_key v) s.terms) view ∙ none_from _ absent) in
+    let after : new ≡ m.entries ++ (v, t) ∷ [] = entries ∙ insert_entry-new same_key m v t none in
+    let all : xs ++ new ≡ (xs ++ m.entries) ++ (v, t) ∷ [] = ap (λ zs. xs ++ zs) after
+    ∙ sym (append_assoc xs m.entries ((v, t) ∷ [])) in
+    (λ i. record { types = tys; terms = all i })
+    ∙ (λ i. record { types = (view i).types; terms = (view i).terms ++ (v, t) ∷ [] })
+    ∙ sym (ap (λ b. cond b now (record { types = now.types; terms = now.terms ++ (v, t) ∷ [] })) absent)
 
 -- ---- the substitution fits the table
 typed-push : (m : TermMap numbers) (p : Variable ℕ × Tm ℕ) → IsTyped numbers m → HasType numbers p.1 p.0.ty

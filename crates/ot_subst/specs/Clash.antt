@@ -4,7 +4,7 @@ use Rattle.std.specs.List.{All}
 use Rattle.std.specs.Global.{Global}
 use Rattle.ot_plain.specs.Lists.{IsMember}
 use Rattle.ot_plain.specs.Trees.{Variable, Tm, Free}
-use Rattle.ot_plain.specs.Hol.{inst_var, image, IsFree, IsFreeIn, IsApart}
+use Rattle.ot_plain.specs.Hol.{inst_var, image, nameless, IsFree, IsFreeIn, IsApart}
 use Rattle.ot_plain.specs.Naming.{numbers}
 use Rattle.ot_term.specs.Term.{TermTable}
 use Rattle.ot_term.specs.TermTable.{term_at, variable_of}
@@ -19,6 +19,14 @@ pub record AreFrees (t : TermTable) (s : Substitution) (frees : List VarKey) : T
       × IsFree numbers (variable_of t.types y) p.1
   pub back : (p : Variable ℕ × Tm ℕ) → IsMember p (variable_part t s) → (x : Variable ℕ) → IsFree numbers x p.1
       → IsMember x (map (variable_of t.types) frees)
+
+-- the variables that are free in the terms of these pairs
+pub record CollectsFrees (t : TermTable) (ps : List (VarKey × ℕ)) (frees : List VarKey) : Type 0 where
+  pub inside : All (λ y. y.ty < length t.types) frees
+  pub to : (y : VarKey) → IsMember y frees → (p : VarKey × ℕ) × IsMember p ps × IsFree numbers (variable_of t.types y)
+      (nameless numbers (term_at t.terms p.1))
+  pub back : (p : VarKey × ℕ) → IsMember p ps → (x : Variable ℕ)
+      → IsFree numbers x (nameless numbers (term_at t.terms p.1)) → IsMember x (map (variable_of t.types) frees)
 
 -- what was found out of them
 abbrev pub AreKnown : TermTable → Substitution → Option (Vec VarKey Global) → Type 0

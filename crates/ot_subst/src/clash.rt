@@ -8,10 +8,11 @@ ghost use Rattle.ot_term.specs.TermTable.{variable_of, Grows, NamesUpTo, IsTermT
 ghost use Rattle.ot_subst.specs.Substitution.{type_part, IsSubstOf};
 ghost use Rattle.ot_subst.specs.Renamed.{pairs_of};
 ghost use Rattle.ot_subst.specs.Walk.{AreReady};
-ghost use Rattle.ot_subst.specs.Clash.{AreFrees, AreKnown, IsPutIn, Coincides, MayStay, IsUnclashing};
+ghost use Rattle.ot_subst.specs.Clash.{AreFrees, CollectsFrees, AreKnown, IsPutIn, Coincides, MayStay, IsUnclashing};
 
 use crate::renamed::{Renamed, meets};
 use crate::subst::Subst;
+use indexmap::IndexMap;
 use ot_plain::Memory;
 use ot_term::{Nodes, TermId, VarKey};
 use ot_type::TableFault;
@@ -163,8 +164,40 @@ fn frees_of<N: Nodes<L>, L>(alloc: Global, terms: &N, subst: &Subst) -> Result<V
     requires { IsSubstOf (N.table terms.now) subst.now }
     ensures { IfOk result (λ frees. AreFrees (N.table terms.now) subst.now frees.items) }
 {
+    let (first, others) = subst.terms();
+    let mut frees = frees_of_pairs(alloc, terms, first)?;
+    let more = frees_of_map(alloc, terms, others)?;
+    frees.extend_from_slice(&more)?;
+    Ok(frees)
+}
+
+// The variables that are free in the terms of pairs.
+fn frees_of_pairs<N: Nodes<L>, L>(
+    alloc: Global,
+    terms: &N,
+    pairs: &[(VarKey, TermId)],
+) -> Result<Vec<VarKey>, Memory>
+    requires { All (λ p. p.1 < length (N.table terms.now).terms) pairs.now }
+    ensures { IfOk result (λ frees. CollectsFrees (N.table terms.now) pairs.now frees.items) }
+{
     let mut frees = Vec::new(alloc);
-    let pairs = subst.terms();
+    for index in 0..pairs.len() {
+        let (_, id) = pairs[index];
+        frees.extend_from_slice(&terms.free_vars(alloc, id)?)?;
+    }
+    Ok(frees)
+}
+
+// The same of pairs that are hashed.
+fn frees_of_map<N: Nodes<L>, L>(
+    alloc: Global,
+    terms: &N,
+    pairs: &IndexMap<VarKey, TermId>,
+) -> Result<Vec<VarKey>, Memory>
+    requires { All (λ p. p.1 < length (N.table terms.now).terms) pairs.now.entries }
+    ensures { IfOk result (λ frees. CollectsFrees (N.table terms.now) pairs.now.entries frees.items) }
+{
+    let mut frees = Vec::new(alloc);
     for index in 0..pairs.len() {
         let Some((_, id)) = pairs.get_index(index) else {
             unreachable!();

@@ -1,11 +1,13 @@
 //! Substitutions: a type part and a variable part.
-ghost use Rattle.std.specs.Prelude.{◌≡◌, ◌<◌, [], Some, OnOk, OnErr, length};
+ghost use Rattle.std.specs.Prelude.{◌≡◌, ◌<◌, ◌++◌, [], Some, OnOk, OnErr, length};
 ghost use Rattle.std.specs.List.{All};
+ghost use Rattle.std.specs.Map.{lookup};
 ghost use Rattle.ot_plain.specs.Hol.{named_type};
 ghost use Rattle.ot_plain.specs.Naming.{numbers};
 ghost use Rattle.ot_type.specs.TypeTable.{type_at};
 ghost use Rattle.ot_term.specs.Term.{TermTable};
 ghost use Rattle.ot_term.specs.TermTable.{term_at};
+ghost use Rattle.ot_subst.specs.Substitution.{same_key};
 
 use indexmap::IndexMap;
 use ot_plain::Memory;
@@ -14,22 +16,29 @@ use ot_type::TypeSubst;
 use std::alloc::Global;
 use std::marker::Model;
 
+// How many pairs are looked through one by one.
+const FEW: usize = 8;
+
 /// A substitution: types for names, and terms for variables. The type part is put in first, then the variable part at
 /// once; a variable is matched by its name and by its type after the first part.
 #[derive(Drop)]
 pub struct Subst {
     types: TypeSubst,
-    terms: IndexMap<VarKey, TermId>,
+    // The first pairs. Most substitutions have few, and no more than few are here.
+    first: Vec<(VarKey, TermId)>,
+    // Those that come after, by hash.
+    others: IndexMap<VarKey, TermId>,
 }
 
 impl Model for Subst {
+    ghost use Rattle.std.specs.Prelude.{◌++◌};
     ghost use Rattle.ot_subst.specs.Substitution.{Substitution, coded_substitution};
 
     ghost Value = { Substitution };
 
     ghost coded = { coded_substitution };
 
-    ghost view = { λ s. record { types = s.types; terms = s.terms.entries } };
+    ghost view = { λ s. record { types = s.types; terms = s.first.items ++ s.others.entries } };
 }
 
 impl Subst {
@@ -42,7 +51,8 @@ impl Subst {
     {
         Subst {
             types,
-            terms: IndexMap::new(alloc),
+            first: Vec::new(alloc),
+            others: IndexMap::new(alloc),
         }
     }
 
@@ -66,8 +76,13 @@ impl Subst {
         ensures ok { OnOk result (self.new ≡ with_pair self.old v t) }
         ensures err { OnErr result (self.new ≡ self.old) }
     {
-        if !self.terms.contains_key(&v) {
-            self.terms.insert(v, t)?;
+        if self.get(&v).is_some() {
+            return Ok(());
+        }
+        if self.first.len() < FEW && self.others.is_empty() {
+            self.first.push((v, t))?;
+        } else {
+            self.others.insert(v, t)?;
         }
         Ok(())
     }
@@ -76,7 +91,10 @@ impl Subst {
     pub(crate) fn get(&self, v: &VarKey) -> Option<TermId>
         ensures { result ≡ term_for self.now v.now }
     {
-        self.terms.get(v).copied()
+        match term_among(&self.first, v) {
+            Some(t) => Some(t),
+            None => self.others.get(v).copied(),
+        }
     }
 
     // The type part.
@@ -86,10 +104,22 @@ impl Subst {
         &self.types
     }
 
-    // The variable part.
-    pub(crate) fn terms(&self) -> &IndexMap<VarKey, TermId>
-        ensures { result.now.entries ≡ self.now.terms }
+    // The variable part: the first pairs, and those that come after.
+    pub(crate) fn terms(&self) -> (&[(VarKey, TermId)], &IndexMap<VarKey, TermId>)
+        ensures { self.now.terms ≡ result.0.now ++ result.1.now.entries }
     {
-        &self.terms
+        (&self.first, &self.others)
     }
+}
+
+// The term of a variable among pairs that are looked through.
+fn term_among(pairs: &[(VarKey, TermId)], v: &VarKey) -> Option<TermId>
+    ensures { result ≡ lookup (same_key v.now) pairs.now }
+{
+    'each: for pair in pairs {
+        if *v == pair.0 {
+            return Some(pair.1);
+        }
+    }
+    None
 }
