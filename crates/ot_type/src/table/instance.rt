@@ -75,11 +75,14 @@ impl Types {
         }
         let (name, args): (_, SmallVec<TypeId, 2>) = match self.node(id) {
             TypeNode::Var(name) => return Ok(s.get(*name).unwrap_or(id)),
-            TypeNode::Op(name, args) => (*name, SmallVec::from_slice(alloc, args.as_slice())?),
+            TypeNode::Op(name, args) => {
+                // Before its arguments are copied: a type of many may be met many times.
+                if let Some(instance) = done.get(&id) {
+                    return Ok(*instance);
+                }
+                (*name, SmallVec::from_slice(alloc, args.as_slice())?)
+            }
         };
-        if let Some(instance) = done.get(&id) {
-            return Ok(*instance);
-        }
         let instances = self.inst_parts(s, args.as_slice(), done)?;
         let instance = self.op(name, instances.as_slice())?;
         let is_great = (args.len() > FEW) | (self.height(id) > SMALL_DEPTH);
