@@ -44,7 +44,8 @@ module _ {N : Type 0} (alphabet : Alphabet N) where
 
 module _ {N : Type 0} (alphabet : Alphabet N) (tells : Tells alphabet) where
   -- ---- substitution
-  term_at-typed : (m : TermMap alphabet) (v : Variable N) → IsTyped alphabet m
+  -- the term of each variable has its type
+  pub term_at-typed : (m : TermMap alphabet) (v : Variable N) → IsTyped alphabet m
       → HasType alphabet (term_at alphabet m v) v.ty
   term_at-typed [] v h = refl
   term_at-typed (p ∷ m) v h = elim (var_cases alphabet tells v p.0) [
