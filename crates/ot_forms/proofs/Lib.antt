@@ -1,6 +1,7 @@
 -- The forms are what the readers read, a line is read or refused at one place, and printed text is read back.
 pub mod Readers
 pub mod Types
+pub mod TypeDepths
 pub mod BareWords
 pub mod Spellings
 pub mod RoundTrip
@@ -12,6 +13,7 @@ pub mod Growing
 pub mod TypeLaw
 pub mod Marks
 pub mod Terms
+pub mod TermTexts
 pub mod WholeTerms
 pub mod Printed
 pub mod FirstRefusal

@@ -20,7 +20,8 @@ use Rattle.ot_forms.proofs.Spellings.{variable-reads}
 use Rattle.ot_forms.proofs.Marks.{part-reads, signs-reads}
 use Rattle.ot_forms.specs.Words.{IsNotation}
 use Rattle.ot_forms.proofs.ConstantWords.{constant-reads}
-use Rattle.ot_forms.proofs.Terms.{SaysTerm, opened-reads, brace-reads}
+use Rattle.ot_forms.proofs.Terms.{SaysTerm}
+use Rattle.ot_forms.proofs.TermTexts.{opened-reads, brace-reads}
 use Rattle.ot_forms.proofs.WholeTerms.{term-reads}
 use Rattle.ot_forms.proofs.Halting.{StopsAt, OpensTooMany, stops, opens}
 use Rattle.ot_forms.proofs.Growing.{left, Grows, Shrinks, reads-shrinks, IsPlain, plain-grows}

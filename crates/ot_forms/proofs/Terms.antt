@@ -1,28 +1,24 @@
 -- Terms behind an opening parenthesis or brace: their readers read each such text, and halt where none goes on.
-use Rattle.std.specs.Prelude.{◌≡◌, ◌≤◌, ℕ, zero, suc, ◌+◌, ◌-◌, ◌==◌, ◌||◌, ◌&&◌, not}
-use Rattle.std.specs.Prelude.{Bool, true, false, cond, List, [], ◌∷◌, ◌++◌, length, codes}
+use Rattle.std.specs.Prelude.{◌≡◌, ◌≤◌, ℕ, zero, suc, ◌+◌, ◌-◌, ◌==◌, ◌||◌, ◌&&◌, not, Bool, true, false, cond, List}
+use Rattle.std.specs.Prelude.{[], ◌∷◌, ◌++◌, length, codes}
 use Rattle.std.specs.List.{list_all}
 use Rattle.std.proofs.Common.{refl, sym, ◌∙◌, ap, subst, append_assoc, length-append, inl, inr, arith, lit<}
 use Rattle.std.proofs.lemmas.Bool.{eqb-true}
-use Rattle.std.proofs.lemmas.Slice.Eq.{bytes_eq-Decides}
 use Rattle.ot_plain.specs.Names.{Name, IsName, spelled}
 use Rattle.ot_plain.specs.Trees.{Ty, TyVar, Symbol, ConSymbol}
-use Rattle.ot_forms.specs.Words.{is_inner, is_letter, is_part, is_sign, is_operator}
-use Rattle.ot_forms.specs.Words.{is_bare, dotted, same_text, variable_word, word}
-use Rattle.ot_forms.specs.Forms.{type_text, HasNames, most_open_type, Written, Writtens, Place, FreeAs}
-use Rattle.ot_forms.specs.Forms.{ConAs, Equal, Infix, Applied, Binding, NoMore, More, term_text}
-use Rattle.ot_forms.specs.Forms.{terms_text, IsWritten, AreWritten, most_open, most_open_all}
+use Rattle.ot_forms.specs.Words.{is_inner, is_letter, is_sign, is_bare, dotted, word}
+use Rattle.ot_forms.specs.Forms.{Written, Writtens, Place, FreeAs, ConAs, Equal, Infix, Applied, Binding, NoMore}
+use Rattle.ot_forms.specs.Forms.{More, term_text, terms_text, IsWritten, AreWritten, most_open, most_open_all}
 use Rattle.ot_forms.specs.Reading.{Reading, Got, Halted, next, mapped, literal_at, bare_at, part_at, signs_at}
 use Rattle.ot_forms.specs.Reading.{variable_at, is_single, first_part, joined_by, free_at, further_terms_at}
-use Rattle.ot_forms.specs.Reading.{application_at, operation_at, behind_term_at, behind_bare_at, spaced_at}
-use Rattle.ot_forms.specs.Reading.{named_at, quoted_variable_at, headed_at, binding_at, plain_inside_at}
-use Rattle.ot_forms.specs.Reading.{unquoted_inside_at, inside_term_at, closed_term_at, braced_at}
+use Rattle.ot_forms.specs.Reading.{application_at, operation_at, behind_term_at, behind_bare_at, spaced_at, named_at}
+use Rattle.ot_forms.specs.Reading.{quoted_variable_at, headed_at, binding_at, plain_inside_at, unquoted_inside_at}
+use Rattle.ot_forms.specs.Reading.{inside_term_at, closed_term_at, braced_at}
 use Rattle.ot_forms.proofs.Readers.{Follows, Reads, Joined, Image, Begins, HasByte, Is, Any, Either, picked, join}
-use Rattle.ot_forms.proofs.Readers.{told, mapped-reads, mapped-follows, pick, literal-reads, behind, at_byte}
-use Rattle.ot_forms.proofs.Readers.{at_end, ends_here, unchanged, second-read, first-halted, same-reads, weaken}
-use Rattle.ot_forms.proofs.Types.{ends_word, IsEnd, IsLast, ends_arguments}
-use Rattle.ot_forms.proofs.Types.{SaysVariable, SaysType, differs, other_byte}
-use Rattle.ot_forms.proofs.BareWords.{SaysBare, bare-reads, both_true, and_true}
+use Rattle.ot_forms.proofs.Readers.{mapped-reads, mapped-follows, pick, literal-reads, behind, at_byte, at_end}
+use Rattle.ot_forms.proofs.Readers.{ends_here, unchanged, second-read, first-halted, same-reads, weaken}
+use Rattle.ot_forms.proofs.Types.{ends_word, IsEnd, IsLast, ends_arguments, SaysVariable, SaysType, differs}
+use Rattle.ot_forms.proofs.BareWords.{SaysBare, bare-reads, both_true}
 use Rattle.ot_forms.proofs.Spellings.{variable-reads, bare-byte}
 use Rattle.ot_forms.proofs.Marks.{SaysPart, IsPartEnd, part-reads, SaysSigns, IsSignsEnd, signs-reads}
 
@@ -33,6 +29,34 @@ ends_constant (b ∷ s) = not (is_inner b || (b == 46)) && not (is_sign b)
 
 abbrev pub IsConstantEnd : List ℕ → Type 0
 IsConstantEnd r = ends_constant r ≡ true
+
+-- ---- what goes on behind a literal
+abbrev pub After : {A : Type 0} → List ℕ → (A → List ℕ → Type 0) → A → List ℕ → Type 0
+After l Q = Joined (Is l) (λ _. Q)
+
+after-reads : {A : Type 0} (l : List ℕ) (E : List ℕ → Type 0) (Q : A → List ℕ → Type 0) (g : List ℕ → Reading A)
+    → Reads Q E g → (a : A) (y : List ℕ) → Q a y → Reads (After l Q) E (λ r. next (literal_at l r) (λ _ q. g q))
+after-reads l E Q g h a y q = join (Is l) (λ _. Q) Any E (literal_at l) (λ _. g) (literal-reads l) (λ _. h)
+    (λ _. (a, y, q)) (λ _ _ _ _ _ _. tt)
+
+pub after-some : {A : Type 0} (l : List ℕ) (Q : A → List ℕ → Type 0) (a : A) (y : List ℕ) → Q a y
+    → After l Q a (l ++ y)
+after-some l Q a y q = record { one = tt; front = l; back = y; says = refl; then = q; is = refl }
+
+pub after-text : {A : Type 0} (l : List ℕ) (Q : A → List ℕ → Type 0) (a : A) (y : List ℕ) → (h : After l Q a y)
+    → y ≡ l ++ h.back
+after-text l Q a y h = h.is ∙ ap (λ z. z ++ h.back) h.says
+
+-- ---- first bytes
+-- the first byte of a term's text
+abbrev pub starts_term : ℕ → Bool
+starts_term b = is_letter b || ((b == 40) || (b == 123))
+
+abbrev pub is_colon : Name → ℕ → Bool
+is_colon n b = (b == 58) || not (is_single n)
+
+abbrev pub opens_term_byte : ℕ → Bool
+opens_term_byte b = (b == 40) || (b == 123)
 
 module _ (hidden : List (Symbol Name)) where
   pub record SaysConstant (n : Name) (x : List ℕ) : Type 0 where
@@ -84,29 +108,12 @@ module _ (hidden : List (Symbol Name)) where
   module _ (m : ℕ) (constant_at : List ℕ → Reading Name) (type : List ℕ → Reading (Ty Name))
       (term : List ℕ → Reading Written) (hc : Reads SaysConstant IsConstantEnd constant_at)
       (hy : Reads (SaysType hidden m) IsEnd type) (ht : Reads (SaysTerm m) IsEnd term) where
-    -- ---- what goes on behind a literal
-    abbrev After : {A : Type 0} → List ℕ → (A → List ℕ → Type 0) → A → List ℕ → Type 0
-    After l Q = Joined (Is l) (λ _. Q)
-
-    after-reads : {A : Type 0} (l : List ℕ) (E : List ℕ → Type 0) (Q : A → List ℕ → Type 0) (g : List ℕ → Reading A)
-        → Reads Q E g → (a : A) (y : List ℕ) → Q a y → Reads (After l Q) E (λ r. next (literal_at l r) (λ _ q. g q))
-    after-reads l E Q g h a y q = join (Is l) (λ _. Q) Any E (literal_at l) (λ _. g) (literal-reads l) (λ _. h)
-        (λ _. (a, y, q)) (λ _ _ _ _ _ _. tt)
-
-    after-some : {A : Type 0} (l : List ℕ) (Q : A → List ℕ → Type 0) (a : A) (y : List ℕ) → Q a y
-        → After l Q a (l ++ y)
-    after-some l Q a y q = record { one = tt; front = l; back = y; says = refl; then = q; is = refl }
-
-    after-text : {A : Type 0} (l : List ℕ) (Q : A → List ℕ → Type 0) (a : A) (y : List ℕ) → (h : After l Q a y)
-        → y ≡ l ++ h.back
-    after-text l Q a y h = h.is ∙ ap (λ z. z ++ h.back) h.says
-
     space-end : {A : Type 0} (Q : A → List ℕ → Type 0) (a : A) (y r : List ℕ) → After (codes " ") Q a y
         → IsEnd (y ++ r)
     space-end Q a y r h = ap (λ z. ends_word (z ++ r)) (after-text (codes " ") Q a y h)
 
     -- ---- a free variable's type
-    abbrev Free : Name → Written → List ℕ → Type 0
+    abbrev pub Free : Name → Written → List ℕ → Type 0
     Free n = After (codes ": ") (Image (FreeAs n) (SaysType hidden m))
 
     free-reads : (n : Name) → Reads (Free n) IsEnd (free_at constant_at type term n)
@@ -234,7 +241,7 @@ module _ (hidden : List (Symbol Name)) where
     more-reads = record { complete = more-complete; follows = λ s. more-follows (length s) s (omega arith) }
 
     -- ---- behind the first term: arguments, or an operator and a term
-    abbrev Application : Written → Written → List ℕ → Type 0
+    abbrev pub Application : Written → Written → List ℕ → Type 0
     Application a = Joined (SaysTerm m) (λ x. Image (Applied a x) SaysTerms)
 
     application-reads : (a : Written) → Reads (Application a) IsLast (application_at constant_at type term a)
@@ -244,7 +251,7 @@ module _ (hidden : List (Symbol Name)) where
         (λ x. (Applied a x NoMore, [], record { from = NoMore; says = none; is = refl }))
         (λ x w y r h e. subst (λ z. IsEnd (z ++ r)) (sym h.says.text) (terms-end h.from r e))
 
-    abbrev Operation : Written → Written → List ℕ → Type 0
+    abbrev pub Operation : Written → Written → List ℕ → Type 0
     Operation a = Joined SaysSigns (λ o. After (codes " ") (Image (joined_by a o) (SaysTerm m)))
 
     operation-some : (a : Written) (o : List ℕ) → After (codes " ") (Image (joined_by a o) (SaysTerm m))
@@ -268,10 +275,6 @@ module _ (hidden : List (Symbol Name)) where
     abbrev opens_term : ℕ → Bool
     opens_term b = (b == 40) || (b == 123)
 
-    -- the first byte of a term's text
-    abbrev starts_term : ℕ → Bool
-    starts_term b = is_letter b || ((b == 40) || (b == 123))
-
     begins-more : (test : ℕ → Bool) (t : Bool) (x z y : List ℕ) → Begins test t x → y ≡ x ++ z → Begins test t y
     begins-more test t x z y w e =
         record { byte = w.byte; rest = w.rest ++ z; is = e ∙ ap (λ q. q ++ z) w.is; tells = w.tells }
@@ -279,7 +282,7 @@ module _ (hidden : List (Symbol Name)) where
     has_byte : (test : ℕ → Bool) (t : Bool) (x : List ℕ) → Begins test t x → HasByte x
     has_byte test t x w = record { byte = w.byte; rest = w.rest; is = w.is }
 
-    starts : (w : Written) → IsWritten w → Begins starts_term true (term_text hidden w)
+    pub starts : (w : Written) → IsWritten w → Begins starts_term true (term_text hidden w)
     starts = starts_of
 
     no_sign : (b : ℕ) → starts_term b ≡ true → is_sign b ≡ false
@@ -291,7 +294,7 @@ module _ (hidden : List (Symbol Name)) where
         || (differs starts_term 126 b refl e i
         || (differs starts_term 38 b refl e i || differs starts_term 124 b refl e i))))))
 
-    application-byte : (a w : Written) (y : List ℕ) → Application a w y → Begins is_sign false y
+    pub application-byte : (a w : Written) (y : List ℕ) → Application a w y → Begins is_sign false y
     application-byte a w y h = let k = starts h.one h.says.fine in
         record {
           byte = k.byte;
@@ -300,7 +303,7 @@ module _ (hidden : List (Symbol Name)) where
           tells = no_sign k.byte k.tells;
         }
 
-    operation-byte : (a w : Written) (y : List ℕ) → Operation a w y → Begins is_sign true y
+    pub operation-byte : (a w : Written) (y : List ℕ) → Operation a w y → Begins is_sign true y
     operation-byte a w y h = let k = h.says in
         record {
           byte = k.first_byte;
@@ -309,7 +312,7 @@ module _ (hidden : List (Symbol Name)) where
           tells = k.begins;
         }
 
-    abbrev Behind : Written → Written → List ℕ → Type 0
+    abbrev pub Behind : Written → Written → List ℕ → Type 0
     Behind a = Either (Operation a) (Application a) IsLast (operation_at constant_at type term a)
         (application_at constant_at type term a) is_sign
 
@@ -342,14 +345,11 @@ module _ (hidden : List (Symbol Name)) where
         same (b ∷ s) = refl
 
     -- ---- behind a bare word
-    abbrev is_colon : Name → ℕ → Bool
-    is_colon n b = (b == 58) || not (is_single n)
-
-    abbrev BehindBare : Name → Written → List ℕ → Type 0
+    abbrev pub BehindBare : Name → Written → List ℕ → Type 0
     BehindBare n = Either (Free n) (Behind (Place (first_part n))) IsLast (free_at constant_at type term n)
         (behind_term_at constant_at type term (Place (first_part n))) (is_colon n)
 
-    free-byte : (n : Name) (w : Written) (y : List ℕ) → Free n w y → Begins (is_colon n) true y
+    pub free-byte : (n : Name) (w : Written) (y : List ℕ) → Free n w y → Begins (is_colon n) true y
     free-byte n w y h =
         record {
           byte = 58;
@@ -388,7 +388,7 @@ module _ (hidden : List (Symbol Name)) where
     abbrev Spaced : (Written → List ℕ → Type 0) → Written → List ℕ → Type 0
     Spaced = After (codes " ")
 
-    abbrev Named : Written → List ℕ → Type 0
+    abbrev pub Named : Written → List ℕ → Type 0
     Named = Joined SaysBare (λ n. Spaced (BehindBare n))
 
     named-reads : Reads Named IsLast (named_at constant_at type term)
@@ -399,7 +399,7 @@ module _ (hidden : List (Symbol Name)) where
         (λ n. (FreeAs n some_type, codes " : 'a", after-some (codes " ") (BehindBare n) _ _ (behind_bare-some n)))
         (λ n w y r h e. space-end (BehindBare n) w y r h)
 
-    abbrev Quoted : Written → List ℕ → Type 0
+    abbrev pub Quoted : Written → List ℕ → Type 0
     Quoted = Joined SaysVariable (λ n. Spaced (Free n))
 
     quoted-reads : Reads Quoted IsLast (quoted_variable_at constant_at type term)
@@ -411,7 +411,7 @@ module _ (hidden : List (Symbol Name)) where
         (λ n. (FreeAs n some_type, codes " : 'a", after-some (codes " ") (Free n) _ _ (free-some n)))
         (λ n w y r h e. space-end (Free n) w y r h)
 
-    abbrev Headed : Written → List ℕ → Type 0
+    abbrev pub Headed : Written → List ℕ → Type 0
     Headed = Joined (SaysTerm m) (λ a. Spaced (Behind a))
 
     headed-reads : Reads Headed IsLast (headed_at constant_at type term)
@@ -428,7 +428,7 @@ module _ (hidden : List (Symbol Name)) where
     abbrev Typed : List ℕ → Written → List ℕ → Type 0
     Typed x = After (codes " : ") (Joined (SaysType hidden m) (λ t. Body x t))
 
-    abbrev Bound_by : Written → List ℕ → Type 0
+    abbrev pub Bound_by : Written → List ℕ → Type 0
     Bound_by = After (codes "\\") (Joined SaysPart (λ x. Typed x))
 
     body-some : (x : List ℕ) (t : Ty Name) → Body x t (Binding x t some_term) (codes " . a")
@@ -445,7 +445,7 @@ module _ (hidden : List (Symbol Name)) where
     binder_type_at x q =
         next (type q) (λ t u. next (literal_at (codes " . ") u) (λ _ v. mapped (Binding x t) (term v)))
 
-    abbrev Type_body : List ℕ → Written → List ℕ → Type 0
+    abbrev pub Type_body : List ℕ → Written → List ℕ → Type 0
     Type_body x = Joined (SaysType hidden m) (λ t. Body x t)
 
     type_body-some : (x : List ℕ) → Type_body x (Binding x some_type some_term) (codes "'a . a")
@@ -473,7 +473,7 @@ module _ (hidden : List (Symbol Name)) where
     typed-some : (x : List ℕ) → Typed x (Binding x some_type some_term) (codes " : 'a . a")
     typed-some x = after-some (codes " : ") (Type_body x) _ _ (type_body-some x)
 
-    abbrev Part_typed : Written → List ℕ → Type 0
+    abbrev pub Part_typed : Written → List ℕ → Type 0
     Part_typed = Joined SaysPart (λ x. Typed x)
 
     abbrev part_typed_at : List ℕ → Reading Written
@@ -507,24 +507,21 @@ module _ (hidden : List (Symbol Name)) where
         (Binding (codes "a") some_type some_term) (codes "a : 'a . a") part_typed-some)
 
     -- ---- the three choices by the first byte
-    abbrev opens_term_byte : ℕ → Bool
-    opens_term_byte b = (b == 40) || (b == 123)
-
-    abbrev Plain : Written → List ℕ → Type 0
+    abbrev pub Plain : Written → List ℕ → Type 0
     Plain = Either Headed Named IsLast (headed_at constant_at type term) (named_at constant_at type term)
         opens_term_byte
 
     abbrev quote_byte : ℕ → Bool
     quote_byte b = b == 34
 
-    abbrev Unquoted : Written → List ℕ → Type 0
+    abbrev pub Unquoted : Written → List ℕ → Type 0
     Unquoted = Either Quoted Plain IsLast (quoted_variable_at constant_at type term)
         (plain_inside_at constant_at type term) quote_byte
 
     abbrev lambda_byte : ℕ → Bool
     lambda_byte b = b == 92
 
-    abbrev Inside : Written → List ℕ → Type 0
+    abbrev pub Inside : Written → List ℕ → Type 0
     Inside = Either Bound_by Unquoted IsLast (binding_at constant_at type term)
         (unquoted_inside_at constant_at type term) lambda_byte
 
@@ -596,7 +593,7 @@ module _ (hidden : List (Symbol Name)) where
           record { byte = k.byte; rest = k.rest; is = k.is; tells = differs is_letter 34 k.byte refl k.tells },
         )
 
-    named-inside : (w : Written) (y : List ℕ) → Named w y → Inside w y
+    pub named-inside : (w : Written) (y : List ℕ) → Named w y → Inside w y
     named-inside w y h = let k = named-byte w y h in
         inr (
           named-unquoted w y h,
@@ -635,10 +632,10 @@ module _ (hidden : List (Symbol Name)) where
         same [] = refl
         same (b ∷ s) = refl
 
-    abbrev Closed : Written → List ℕ → Type 0
+    abbrev pub Closed : Written → List ℕ → Type 0
     Closed = Joined Inside (λ a. Image (λ _. a) (Is (codes ")")))
 
-    closed-reads : Reads Closed Any (closed_term_at constant_at type term)
+    pub closed-reads : Reads Closed Any (closed_term_at constant_at type term)
     closed-reads = join Inside (λ a. Image (λ _. a) (Is (codes ")"))) IsLast Any
         (inside_term_at constant_at type term) (λ a r. mapped (λ _. a) (literal_at (codes ")") r)) inside-reads
         (λ a. mapped-reads (λ _. a) (Is (codes ")")) Any (literal_at (codes ")")) (literal-reads (codes ")")))
@@ -646,13 +643,13 @@ module _ (hidden : List (Symbol Name)) where
         (λ a b y r h e. ap (λ z. ends_arguments (z ++ r)) h.says)
 
     -- ---- behind a brace
-    abbrev Constant_type : Name → Written → List ℕ → Type 0
+    abbrev pub Constant_type : Name → Written → List ℕ → Type 0
     Constant_type n = Joined (SaysType hidden m) (λ t. Image (λ _. ConAs n t) (Is (codes "}")))
 
     abbrev Constant_typed : Name → Written → List ℕ → Type 0
     Constant_typed n = After (codes " : ") (Constant_type n)
 
-    abbrev Braced : Written → List ℕ → Type 0
+    abbrev pub Braced : Written → List ℕ → Type 0
     Braced = Joined SaysConstant (λ n. Constant_typed n)
 
     constant_type-some : (n : Name) → Constant_type n (ConAs n some_type) (codes "'a}")
@@ -676,7 +673,7 @@ module _ (hidden : List (Symbol Name)) where
         (λ t. (ConAs n t, codes "}", record { from = tt; says = refl; is = refl }))
         (λ t w y r h e. ap (λ z. ends_word (z ++ r)) h.says)
 
-    braced-reads : Reads Braced Any (braced_at constant_at type term)
+    pub braced-reads : Reads Braced Any (braced_at constant_at type term)
     braced-reads = join SaysConstant (λ n. Constant_typed n) IsConstantEnd Any constant_at
         (λ n r. next (literal_at (codes " : ") r) (λ _ q. constant_type_at n q)) hc
         (λ n. after-reads (codes " : ") Any (Constant_type n) (constant_type_at n) (constant_type-reads n)
@@ -688,435 +685,3 @@ module _ (hidden : List (Symbol Name)) where
               (constant_type-some n),
         ))
         (λ n w y r h e. ap (λ z. ends_constant (z ++ r)) (after-text (codes " : ") (Constant_type n) w y h))
-
-    -- ---- the texts, regrouped
-    three : (a b c : List ℕ) → (a ++ b) ++ c ≡ a ++ (b ++ c)
-    three a b c = append_assoc a b c
-
-    four : (a b c d : List ℕ) → ((a ++ b) ++ c) ++ d ≡ a ++ (b ++ (c ++ d))
-    four a b c d = simp append_assoc
-
-    five : (a b c d e : List ℕ) → (((a ++ b) ++ c) ++ d) ++ e ≡ a ++ (b ++ (c ++ (d ++ e)))
-    five a b c d e = simp append_assoc
-
-    says-of : (w : Written) → IsWritten w → most_open w ≤ m → SaysTerm m w (term_text hidden w)
-    says-of w f k = record { text = refl; fine = f; within = k }
-
-    -- ---- what stands between parentheses is a written term's
-    abbrev Whole : Written → List ℕ → Type 0
-    Whole w x = SaysTerm (suc m) w (40 ∷ (x ++ codes ")"))
-
-    free-whole : (n : Name) (v y : List ℕ) (w : Written) → IsName n → v ≡ variable_word n → Free n w y
-        → Whole w (v ++ 32 ∷ y)
-    free-whole n v y w hn e h = let t = h.then in
-        subst (λ z. Whole z (v ++ 32 ∷ y)) (sym t.is) (record {
-          text = ap (λ z. 40 ∷ (z ++ 41 ∷ []))
-              ((λ i. e i ++ 32
-              ∷ (after-text (codes ": ") (Image (FreeAs n) (SaysType hidden m)) w y h ∙ ap (λ z. codes ": " ++ z)
-              t.says.text) i) ∙ sym (three (variable_word n) (32 ∷ 58 ∷ 32 ∷ []) (type_text hidden t.from)));
-          fine = (hn, t.says.named);
-          within = let k = t.says.within in omega (arith, k);
-        })
-
-    operator-is : (o : List ℕ) → SaysSigns o o → same_text o (61 ∷ []) ≡ false → is_operator o ≡ true
-    operator-is o h e = subst (λ z. same_text z (61 ∷ []) ≡ false → is_operator z ≡ true) (sym h.is)
-        (λ e. λ i. (h.begins i && h.inner_is i) && not (e i)) e
-
-    infix-whole : (a b : Written) (o : List ℕ) → IsWritten a → IsWritten b → most_open a ≤ m → most_open b ≤ m
-        → SaysSigns o o → Whole (joined_by a o b) (term_text hidden a ++ 32 ∷ (o ++ 32 ∷ term_text hidden b))
-    infix-whole a b o fa fb ka kb h = go (same_text o (61 ∷ [])) refl where
-      go : (t : Bool) → same_text o (61 ∷ []) ≡ t
-          → Whole (cond t (Equal a b) (Infix o a b)) (term_text hidden a ++ 32 ∷ (o ++ 32 ∷ term_text hidden b))
-      go true e = let q : o ≡ 61 ∷ [] = (bytes_eq-Decides o (61 ∷ [])).0 e in record {
-        text = ap (λ z. 40 ∷ (z ++ 41 ∷ [])) (ap (λ z. term_text hidden a ++ 32 ∷ (z ++ 32 ∷ term_text hidden b)) q
-            ∙ sym (three (term_text hidden a) (32 ∷ 61 ∷ 32 ∷ []) (term_text hidden b)));
-        fine = (fa, fb);
-        within = omega arith;
-      }
-      go false e = record {
-        text = ap (λ z. 40 ∷ (z ++ 41 ∷ []))
-            (sym (five (term_text hidden a) (32 ∷ []) o (32 ∷ []) (term_text hidden b)));
-        fine = (operator-is o h e, fa, fb);
-        within = omega arith;
-      }
-
-    run-itself : (o y : List ℕ) → SaysSigns o y → SaysSigns o o
-    run-itself o y h =
-        record {
-          first_byte = h.first_byte;
-          rest = h.rest;
-          is = h.is;
-          begins = h.begins;
-          inner_is = h.inner_is;
-          text = refl;
-        }
-
-    behind-whole : (a w : Written) (y : List ℕ) → IsWritten a → most_open a ≤ m → Behind a w y
-        → Whole w (term_text hidden a ++ 32 ∷ y)
-    behind-whole a w y fa ka h = elim h [ inl p ↦ operation p.0 | inr q ↦ application q.0 ] where
-      operation : Operation a w y → Whole w (term_text hidden a ++ 32 ∷ y)
-      operation p =
-          let q = p.then.then in
-          let text : y ≡ p.one ++ 32 ∷ term_text hidden q.from =
-          p.is ∙ (λ i. p.says.text i
-          ++ (after-text (codes " ") (Image (joined_by a p.one) (SaysTerm m)) w p.back p.then
-          ∙ ap (λ z. 32 ∷ z) q.says.text) i) in
-          let s = infix-whole a q.from p.one fa q.says.fine ka q.says.within (run-itself p.one p.front p.says) in
-          subst (λ z. Whole z (term_text hidden a ++ 32 ∷ y)) (sym q.is)
-          (subst (λ z. Whole (joined_by a p.one q.from) (term_text hidden a ++ 32 ∷ z)) (sym text) s)
-
-      application : Application a w y → Whole w (term_text hidden a ++ 32 ∷ y)
-      application p =
-          let q = p.then in
-          let text : y ≡ term_text hidden p.one ++ terms_text hidden q.from =
-          p.is ∙ (λ i. p.says.text i ++ q.says.text i) in
-          subst (λ z. Whole z (term_text hidden a ++ 32 ∷ y)) (sym q.is) (record {
-            text = ap (λ z. 40 ∷ (z ++ 41 ∷ [])) (ap (λ z. term_text hidden a ++ 32 ∷ z) text
-                ∙ sym (four (term_text hidden a) (32 ∷ []) (term_text hidden p.one) (terms_text hidden q.from)));
-            fine = (fa, p.says.fine, q.says.fine);
-            within = let k1 = p.says.within in let k2 = q.says.within in omega (arith, ka, k1, k2);
-          })
-
-    part-is : (x y : List ℕ) → SaysPart x y → is_part x ≡ true
-    part-is x y h = subst (λ z. is_part z ≡ true) (sym h.is) (λ i. h.begins i && h.inner_is i)
-
-    binding-whole : (w : Written) (y : List ℕ) → Bound_by w y → Whole w y
-    binding-whole w y h =
-        let p = h.then in let ty = p.then.then in let b = ty.then.then in
-        let text : y ≡ 92 ∷ (p.one ++ 32 ∷ 58 ∷ 32 ∷ (type_text hidden ty.one ++ 32 ∷ 46 ∷ 32 ∷ term_text hidden b.from)) =
-        after-text (codes "\\") Part_typed w y h
-        ∙ ap (λ z. 92 ∷ z)
-        (p.is ∙ (λ i. p.says.text i
-        ++ (after-text (codes " : ") (Type_body p.one) w p.back p.then
-        ∙ ap (λ z. 32 ∷ 58 ∷ 32 ∷ z)
-        (ty.is ∙ (λ j. ty.says.text j
-        ++ (after-text (codes " . ") (Image (Binding p.one ty.one) (SaysTerm m)) w ty.back ty.then
-        ∙ ap (λ z. 32 ∷ 46 ∷ 32 ∷ z) b.says.text) j))) i)) in
-        subst (λ z. Whole z y) (sym b.is) (record {
-          text = ap (λ z. 40 ∷ (z ++ 41 ∷ []))
-              (text ∙ ap (λ z. 92 ∷ z)
-              (sym (five p.one (32 ∷ 58 ∷ 32 ∷ []) (type_text hidden ty.one) (32 ∷ 46 ∷ 32 ∷ [])
-              (term_text hidden b.from))));
-          fine = (part-is p.one p.front p.says, ty.says.named, b.says.fine);
-          within = let k1 = ty.says.within in let k2 = b.says.within in omega (arith, k1, k2);
-        })
-
-    named-whole : (w : Written) (y : List ℕ) → Named w y → Whole w y
-    named-whole w y h = elim h.then.then [ inl p ↦ free p.0 | inr q ↦ place h.one h.says q.0 q.1 refl ] where
-      text : y ≡ h.front ++ 32 ∷ h.then.back
-      text = h.is ∙ ap (λ z. h.front ++ z) (after-text (codes " ") (BehindBare h.one) w h.back h.then)
-
-      free : Free h.one w h.then.back → Whole w y
-      free p = subst (Whole w) (sym text)
-          (free-whole h.one h.front h.then.back w h.says.named
-          (h.says.text ∙ (λ i. cond (sym h.says.bare i) (dotted h.one) (spelled h.one))) p)
-
-      place : (n : Name) → SaysBare n h.front → Behind (Place (first_part n)) w h.then.back
-          → Begins (is_colon n) false h.then.back → n ≡ n → Whole w y
-      place [] s q k r = absurd (let z = s.named in omega (arith, z))
-      place (x ∷ []) s q k r = subst (Whole w) (sym (text ∙ ap (λ z. z ++ 32 ∷ h.then.back) s.text))
-          (behind-whole (Place x) w h.then.back (both_true (is_part x) true s.bare).0 (omega arith) q)
-      place (x ∷ d ∷ ds) s q k r = absurd (never (k.byte == 58) k.tells)
-        where
-          never : (t : Bool) → (t || true) ≡ false → ⊥
-          never true e = cc
-          never false e = cc
-
-    inside-whole : (w : Written) (y : List ℕ) → Inside w y → Whole w y
-    inside-whole w y h = elim h [ inl b ↦ binding-whole w y b.0 | inr u ↦ unquoted u.0 ] where
-      unquoted : Unquoted w y → Whole w y
-      unquoted u = elim u [
-        | inl p ↦ let q = p.0 in
-            subst (Whole w)
-            (sym (q.is ∙ ap (λ z. q.front ++ z) (after-text (codes " ") (Free q.one) w q.back q.then)))
-            (free-whole q.one q.front q.then.back w q.says.named q.says.text q.then.then)
-        | inr p ↦ elim p.0 [
-          | inl d ↦ let q = d.0 in
-              subst (Whole w)
-              (sym (q.is ∙ (λ i. q.says.text i ++ after-text (codes " ") (Behind q.one) w q.back q.then i)))
-              (behind-whole q.one w q.then.back q.says.fine q.says.within q.then.then)
-          | inr d ↦ named-whole w y d.0
-        ]
-      ]
-
-    abbrev Opened : Written → List ℕ → Type 0
-    Opened w x = SaysTerm (suc m) w (40 ∷ x)
-
-    closed-says : (w : Written) (x : List ℕ) → Closed w x → Opened w x
-    closed-says w x h =
-        let s = inside-whole h.one h.front h.says in
-        let text : x ≡ h.front ++ codes ")" = h.is ∙ ap (λ z. h.front ++ z) h.then.says in
-        let all : Opened h.one x = subst (λ z. SaysTerm (suc m) h.one (40 ∷ z)) (sym text) s in
-        subst (λ z. Opened z x) (sym h.then.is) all
-
-    -- ---- each written term's text between parentheses is read
-    closed-of : (w : Written) (x : List ℕ) → Inside w x → Closed w (x ++ codes ")")
-    closed-of w x h = record {
-      one = w;
-      front = x;
-      back = codes ")";
-      says = h;
-      then =
-          record { from = tt; says = refl; is = refl };
-      is = refl;
-    }
-
-    not_lambda : (w : Written) (y : List ℕ) (b : ℕ) (z : List ℕ) → y ≡ b ∷ z → (b == 92) ≡ false → Unquoted w y
-        → Inside w y
-    not_lambda w y b z e d h = inr (h, record { byte = b; rest = z; is = e; tells = d })
-
-    -- a term that begins with a parenthesis or a brace, and what goes on behind it
-    headed-inside : (a w : Written) (y : List ℕ) (b : ℕ) (z : List ℕ) → term_text hidden a ≡ b ∷ z → opens_term_byte b
-        ≡ true → IsWritten a → most_open a ≤ m → Behind a w y → Inside w (term_text hidden a ++ 32 ∷ y)
-    headed-inside a w y b z e d fa ka h =
-        let x : Headed w (term_text hidden a ++ 32 ∷ y) =
-        record {
-          one = a;
-          front = term_text hidden a;
-          back = 32 ∷ y;
-          says = says-of a fa ka;
-          then = after-some (codes " ") (Behind a) w y h;
-          is = refl;
-        } in
-        let is : term_text hidden a ++ 32 ∷ y ≡ b ∷ (z ++ 32 ∷ y) = ap (λ q. q ++ 32 ∷ y) e in
-        let p : Plain w (term_text hidden a ++ 32 ∷ y) =
-        inl (x, record { byte = b; rest = z ++ 32 ∷ y; is = is; tells = d }) in
-        not_lambda w _ b (z ++ 32 ∷ y) is (differs opens_term_byte 92 b refl d)
-        (inr (p, record { byte = b; rest = z ++ 32 ∷ y; is = is; tells = differs opens_term_byte 34 b refl d }))
-
-    no_colon : (a w : Written) (y : List ℕ) → Behind a w y → Begins (λ b. b == 58) false y
-    no_colon a w y h = elim h [
-      | inl p ↦
-          record { byte = p.1.byte; rest = p.1.rest; is = p.1.is; tells = differs is_sign 58 p.1.byte refl p.1.tells }
-      | inr q ↦ let k = starts q.0.one q.0.says.fine in
-          record {
-            byte = k.byte;
-            rest = k.rest ++ q.0.back;
-            is = q.0.is
-                ∙ ap (λ z. z ++ q.0.back) (q.0.says.text ∙ k.is);
-            tells = differs starts_term 58 k.byte refl k.tells;
-          }
-    ]
-
-    place-inside : (x : List ℕ) (w : Written) (y : List ℕ) → is_part x ≡ true → Behind (Place x) w y
-        → Inside w (x ++ 32 ∷ y)
-    place-inside x w y fx h =
-        let k = no_colon (Place x) w y h in
-        let b : BehindBare (x ∷ []) w y =
-        inr (h, record { byte = k.byte; rest = k.rest; is = k.is; tells = ap (λ t. t || false) k.tells }) in
-        named-inside w (x ++ 32 ∷ y)
-        (record {
-          one = x ∷ [];
-          front = x;
-          back = 32 ∷ y;
-          says = record { bare = and_true (is_part x) true fx refl; named = lit< tt; text = refl };
-          then =
-              after-some (codes " ") (BehindBare (x ∷ [])) w y b;
-          is = refl;
-        })
-
-    head-inside : (a w : Written) (y : List ℕ) → IsWritten a → most_open a ≤ m → Behind a w y
-        → Inside w (term_text hidden a ++ 32 ∷ y)
-    head-inside (Place x) w y fa ka h = place-inside x w y fa h
-    head-inside (FreeAs n t) w y fa ka h = headed-inside (FreeAs n t) w y 40 _ refl refl fa ka h
-    head-inside (ConAs n t) w y fa ka h = headed-inside (ConAs n t) w y 123 _ refl refl fa ka h
-    head-inside (Equal a b) w y fa ka h = headed-inside (Equal a b) w y 40 _ refl refl fa ka h
-    head-inside (Infix o a b) w y fa ka h = headed-inside (Infix o a b) w y 40 _ refl refl fa ka h
-    head-inside (Applied f a more) w y fa ka h = headed-inside (Applied f a more) w y 40 _ refl refl fa ka h
-    head-inside (Binding x t a) w y fa ka h = headed-inside (Binding x t a) w y 40 _ refl refl fa ka h
-
-    operation-behind : (a b : Written) (o : List ℕ) → SaysSigns o o → IsWritten b → most_open b ≤ m
-        → Behind a (joined_by a o b) (o ++ 32 ∷ term_text hidden b)
-    operation-behind a b o ho fb kb =
-        let h : Operation a (joined_by a o b) (o ++ 32 ∷ term_text hidden b) =
-        record {
-          one = o;
-          front = o;
-          back = 32 ∷ term_text hidden b;
-          says = ho;
-          then = after-some (codes " ") (Image (joined_by a o) (SaysTerm m)) _ (term_text hidden b)
-              (record { from = b; says = says-of b fb kb; is = refl });
-          is = refl;
-        } in
-        inl (h, operation-byte a _ _ h)
-
-    application-behind : (a b : Written) (more : Writtens) → IsWritten b → AreWritten more → most_open b ≤ m
-        → most_open_all more ≤ m → Behind a (Applied a b more) (term_text hidden b ++ terms_text hidden more)
-    application-behind a b more fb fm kb km =
-        let h : Application a (Applied a b more) (term_text hidden b ++ terms_text hidden more) =
-        record {
-          one = b;
-          front = term_text hidden b;
-          back = terms_text hidden more;
-          says = says-of b fb kb;
-          then = record { from = more; says = record { text = refl; fine = fm; within = km }; is = refl };
-          is =
-              refl;
-        } in
-        inr (h, application-byte a _ _ h)
-
-    free-says : (n : Name) (t : Ty Name) → HasNames t → most_open_type t ≤ m
-        → Free n (FreeAs n t) (58 ∷ 32 ∷ type_text hidden t)
-    free-says n t ht kt = after-some (codes ": ") (Image (FreeAs n) (SaysType hidden m)) (FreeAs n t)
-        (type_text hidden t) (record { from = t; says = record { text = refl; named = ht; within = kt }; is = refl })
-
-    free-inside : (n : Name) (t : Ty Name) → IsName n → HasNames t → most_open_type t ≤ m
-        → Inside (FreeAs n t) (variable_word n ++ 32 ∷ 58 ∷ 32 ∷ type_text hidden t)
-    free-inside n t hn ht kt = go (is_bare n) refl where
-      go : (b : Bool) → is_bare n ≡ b
-          → Inside (FreeAs n t) (cond b (dotted n) (spelled n) ++ 32 ∷ 58 ∷ 32 ∷ type_text hidden t)
-      go true e = named-inside _ _ (record {
-        one = n;
-        front = dotted n;
-        back = 32 ∷ 58 ∷ 32 ∷ type_text hidden t;
-        says = record { bare = e; named = hn; text = refl };
-        then = after-some (codes " ") (BehindBare n) _ _
-            (inl (free-says n t ht kt, free-byte n _ _ (free-says n t ht kt)));
-        is = refl;
-      })
-      go false e =
-          let q : Quoted (FreeAs n t) (spelled n ++ 32 ∷ 58 ∷ 32 ∷ type_text hidden t) = record {
-            one = n;
-            front = spelled n;
-            back = 32 ∷ 58 ∷ 32 ∷ type_text hidden t;
-            says = record { named = hn; text = λ i. cond (sym e i) (dotted n) (spelled n) };
-            then = after-some (codes " ") (Free n) _ _ (free-says n t ht kt);
-            is = refl;
-          } in
-          not_lambda _ _ 34 _ refl refl (inl (q, record { byte = 34; rest = _; is = refl; tells = refl }))
-
-    part-says : (x : List ℕ) → is_part x ≡ true → SaysPart x x
-    part-says [] h = cc
-    part-says (b ∷ x) h = let k = both_true (is_letter b) (list_all is_inner x) h in
-        record { first_byte = b; rest = x; is = refl; begins = k.0; inner_is = k.1; text = refl }
-
-    signs-says : (o : List ℕ) → is_operator o ≡ true → SaysSigns o o
-    signs-says [] h = cc
-    signs-says (b ∷ o) h = let k = both_true (list_all is_sign (b ∷ o)) (not (same_text (b ∷ o) (61 ∷ []))) h in
-        let l = both_true (is_sign b) (list_all is_sign o) k.0 in
-        record { first_byte = b; rest = o; is = refl; begins = l.0; inner_is = l.1; text = refl }
-
-    binding-inside : (x : List ℕ) (t : Ty Name) (a : Written) → is_part x ≡ true → HasNames t → IsWritten a
-        → most_open_type t ≤ m → most_open a ≤ m → Inside (Binding x t a)
-        (92 ∷ (x ++ 32 ∷ 58 ∷ 32 ∷ (type_text hidden t ++ 32 ∷ 46 ∷ 32 ∷ term_text hidden a)))
-    binding-inside x t a fx ht fa kt ka =
-        let body = after-some (codes " . ") (Image (Binding x t) (SaysTerm m)) (Binding x t a) (term_text hidden a)
-        (record { from = a; says = says-of a fa ka; is = refl }) in
-        let ty : Type_body x (Binding x t a) (type_text hidden t ++ 32 ∷ 46 ∷ 32 ∷ term_text hidden a) =
-        record {
-          one = t;
-          front = type_text hidden t;
-          back = 32 ∷ 46 ∷ 32 ∷ term_text hidden a;
-          says = record { text = refl; named = ht; within = kt };
-          then = body;
-          is = refl;
-        } in
-        let p : Part_typed (Binding x t a) (x ++ 32 ∷ 58 ∷ 32 ∷ (type_text hidden t ++ 32 ∷ 46 ∷ 32 ∷ term_text hidden a)) = record { one = x; front = x; back = 32 ∷ 58 ∷ 32 ∷ (type_text hidden t ++ 32 ∷ 46 ∷ 32 ∷ term_text hidden a); says = part-says x fx; then = after-some (codes " : ") (Type_body x) _ _ ty; is = refl } in
-        let h : Bound_by (Binding x t a) (92 ∷ (x ++ 32 ∷ 58 ∷ 32 ∷ (type_text hidden t ++ 32 ∷ 46 ∷ 32 ∷ term_text hidden a))) = after-some (codes "\\") Part_typed (Binding x t a) (x ++ 32 ∷ 58 ∷ 32 ∷ (type_text hidden t ++ 32 ∷ 46 ∷ 32 ∷ term_text hidden a)) p in
-        inl (h, record { byte = 92; rest = _; is = refl; tells = refl })
-
-    -- what stands between the parentheses
-    behind_it : {x y : List ℕ} → 40 ∷ x ≡ 40 ∷ y → x ≡ y
-    behind_it e = cc
-
-    closed-at : (w : Written) (x y : List ℕ) → 40 ∷ x ≡ 40 ∷ (y ++ codes ")") → Inside w y → Closed w x
-    closed-at w x y e h = subst (Closed w) (sym (behind_it e)) (closed-of w y h)
-
-    says-closed : (w : Written) (x : List ℕ) → Opened w x → Closed w x
-    says-closed (Place []) x h = let f = h.fine in cc
-    says-closed (Place (b ∷ z)) x h =
-        let k = both_true (is_letter b) (list_all is_inner z) h.fine in
-        absurd (other_byte b 40 z x (differs is_letter 40 b refl k.0) (sym h.text))
-    says-closed (FreeAs n t) x h = closed-at (FreeAs n t) x _ (h.text ∙ ap (λ z. 40 ∷ (z ++ codes ")"))
-        (three (variable_word n) (32 ∷ 58 ∷ 32 ∷ []) (type_text hidden t)))
-        (free-inside n t h.fine.0 h.fine.1 (let k = h.within in omega (arith, k)))
-    says-closed (ConAs n t) x h = absurd (other_byte 40 123 x _ refl h.text)
-    says-closed (Equal a b) x h = closed-at (Equal a b) x _ (h.text ∙ ap (λ z. 40 ∷ (z ++ codes ")"))
-        (three (term_text hidden a) (32 ∷ 61 ∷ 32 ∷ []) (term_text hidden b)))
-        (head-inside a (Equal a b) (61 ∷ 32 ∷ term_text hidden b) h.fine.0 (let k = h.within in omega (arith, k))
-        (operation-behind a b (61 ∷ [])
-        (record { first_byte = 61; rest = []; is = refl; begins = refl; inner_is = refl; text = refl }) h.fine.1
-        (let k = h.within in omega (arith, k))))
-    says-closed (Infix o a b) x h = closed-at (Infix o a b) x _ (h.text ∙ ap (λ z. 40 ∷ (z ++ codes ")"))
-        (five (term_text hidden a) (32 ∷ []) o (32 ∷ []) (term_text hidden b)))
-        (subst (λ w. Inside w (term_text hidden a ++ 32 ∷ (o ++ 32 ∷ term_text hidden b))) (no_equals o h.fine.0)
-        (head-inside a (joined_by a o b) (o ++ 32 ∷ term_text hidden b) h.fine.1
-        (let k = h.within in omega (arith, k))
-        (operation-behind a b o (signs-says o h.fine.0) h.fine.2 (let k = h.within in omega (arith, k)))))
-      where
-        no_equals : (o : List ℕ) → is_operator o ≡ true → joined_by a o b ≡ Infix o a b
-        no_equals [] e = cc
-        no_equals (c ∷ o) e = let k = both_true (list_all is_sign (c ∷ o)) (not (same_text (c ∷ o) (61 ∷ []))) e in
-            go (same_text (c ∷ o) (61 ∷ [])) k.1
-          where
-            go : (t : Bool) → not t ≡ true → cond t (Equal a b) (Infix (c ∷ o) a b) ≡ Infix (c ∷ o) a b
-            go true q = cc
-            go false q = refl
-    says-closed (Applied f a more) x h = closed-at (Applied f a more) x _ (h.text ∙ ap (λ z. 40 ∷ (z ++ codes ")"))
-        (four (term_text hidden f) (32 ∷ []) (term_text hidden a) (terms_text hidden more)))
-        (head-inside f (Applied f a more) (term_text hidden a ++ terms_text hidden more) h.fine.0
-        (let k = h.within in omega (arith, k))
-        (application-behind f a more h.fine.1 h.fine.2 (let k = h.within in omega (arith, k))
-        (let k = h.within in omega (arith, k))))
-    says-closed (Binding x0 t a) x h = closed-at (Binding x0 t a) x _ (h.text ∙ ap (λ z. 40 ∷ 92 ∷ (z ++ codes ")"))
-        (five x0 (32 ∷ 58 ∷ 32 ∷ []) (type_text hidden t) (32 ∷ 46 ∷ 32 ∷ []) (term_text hidden a)))
-        (binding-inside x0 t a h.fine.0 h.fine.1 h.fine.2 (let k = h.within in omega (arith, k))
-        (let k = h.within in omega (arith, k)))
-
-    pub opened-reads : Reads Opened Any (closed_term_at constant_at type term)
-    opened-reads = told Closed Opened Any (closed_term_at constant_at type term) closed-reads closed-says says-closed
-
-    -- ---- behind a brace
-    abbrev Brace : Written → List ℕ → Type 0
-    Brace w x = SaysTerm (suc m) w (123 ∷ x)
-
-    brace-says : (w : Written) (x : List ℕ) → Braced w x → Brace w x
-    brace-says w x h =
-        let p = h.then.then in let q = p.then in
-        let text : x ≡ word hidden (ConSymbol h.one) ++ 32 ∷ 58 ∷ 32 ∷ (type_text hidden p.one ++ 125 ∷ []) =
-        h.is ∙ (λ i. h.says.text i ++ (after-text (codes " : ") (Constant_type h.one) w h.back h.then
-        ∙ ap (λ z. 32 ∷ 58 ∷ 32 ∷ z) (p.is ∙ (λ j. p.says.text j ++ q.says j))) i) in
-        subst (λ z. Brace z x) (sym q.is) (record {
-          text = ap (λ z. 123 ∷ z) (text
-              ∙ sym (four (word hidden (ConSymbol h.one)) (32 ∷ 58 ∷ 32 ∷ []) (type_text hidden p.one) (125 ∷ [])));
-          fine = (h.says.named, p.says.named);
-          within = let k = p.says.within in omega (arith, k);
-        })
-
-    behind_brace : {x y : List ℕ} → 123 ∷ x ≡ 123 ∷ y → x ≡ y
-    behind_brace e = cc
-
-    says-brace : (w : Written) (x : List ℕ) → Brace w x → Braced w x
-    says-brace (Place []) x h = let f = h.fine in cc
-    says-brace (Place (b ∷ z)) x h = let k = both_true (is_letter b) (list_all is_inner z) h.fine in
-        absurd (other_byte b 123 z x (differs is_letter 123 b refl k.0) (sym h.text))
-    says-brace (FreeAs n t) x h = absurd (other_byte 123 40 x _ refl h.text)
-    says-brace (ConAs n t) x h =
-        let text : x ≡ word hidden (ConSymbol n) ++ 32 ∷ 58 ∷ 32 ∷ (type_text hidden t ++ 125 ∷ []) =
-        behind_brace (h.text ∙ ap (λ z. 123 ∷ z)
-        (four (word hidden (ConSymbol n)) (32 ∷ 58 ∷ 32 ∷ []) (type_text hidden t) (125 ∷ []))) in
-        let ty : Constant_type n (ConAs n t) (type_text hidden t ++ 125 ∷ []) =
-        record {
-          one = t;
-          front = type_text hidden t;
-          back = 125 ∷ [];
-          says = record { text = refl; named = h.fine.1; within = let k = h.within in omega (arith, k) };
-          then =
-              record { from = tt; says = refl; is = refl };
-          is = refl;
-        } in
-        record {
-          one = n;
-          front = word hidden (ConSymbol n);
-          back = 32 ∷ 58 ∷ 32 ∷ (type_text hidden t ++ 125 ∷ []);
-          says = record { named = h.fine.0; text = refl };
-          then = after-some (codes " : ") (Constant_type n) _ _ ty;
-          is = text;
-        }
-    says-brace (Equal a b) x h = absurd (other_byte 123 40 x _ refl h.text)
-    says-brace (Infix o a b) x h = absurd (other_byte 123 40 x _ refl h.text)
-    says-brace (Applied f a more) x h = absurd (other_byte 123 40 x _ refl h.text)
-    says-brace (Binding x0 t a) x h = absurd (other_byte 123 40 x _ refl h.text)
-
-    pub brace-reads : Reads Brace Any (braced_at constant_at type term)
-    brace-reads = told Braced Brace Any (braced_at constant_at type term) braced-reads brace-says says-brace

@@ -9,7 +9,8 @@ use Rattle.ot_forms.specs.Reading.{Reason, NoForm, OneTooMany, Reading, Got, Hal
 use Rattle.ot_forms.specs.Reading.{is_special, literal_at, bare_at, bare_on, spelled_at, escaped_at, quoted_at}
 use Rattle.ot_forms.specs.Reading.{settled, is_spelled, variable_at, operator_at, closed_type_at, type_by, type_at}
 use Rattle.ot_forms.proofs.Readers.{Follows, IsHalted, Reads, first}
-use Rattle.ot_forms.proofs.Types.{SaysType, IsEnd, type-reads, closed-reads}
+use Rattle.ot_forms.proofs.Types.{SaysType, IsEnd, closed-reads}
+use Rattle.ot_forms.proofs.TypeDepths.{type-reads}
 use Rattle.ot_forms.proofs.Spellings.{variable-reads}
 use Rattle.ot_forms.proofs.OperatorWords.{operator-reads, word-starts}
 use Rattle.ot_forms.specs.Words.{IsNotation}

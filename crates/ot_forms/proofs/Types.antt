@@ -1,8 +1,8 @@
--- Types: their reader reads each text of a type, and halts where no text of a type goes on.
-use Rattle.std.specs.Prelude.{◌≡◌, ◌≤◌, ℕ, zero, suc, ◌+◌, ◌-◌, ◌==◌, ◌||◌, ◌&&◌, not, Bool, true}
-use Rattle.std.specs.Prelude.{false, cond, List, [], ◌∷◌, ◌++◌, length, codes, Some, None, is_some}
-use Rattle.std.proofs.Common.{refl, sym, ◌∙◌, ap, subst, append_assoc, append-nil}
-use Rattle.std.proofs.Common.{length-append, inl, inr, eq-eqb, arith, lit<}
+-- Types between parentheses: their reader reads each such text, and halts where none goes on.
+use Rattle.std.specs.Prelude.{◌≡◌, ◌≤◌, ℕ, zero, suc, ◌+◌, ◌-◌, ◌==◌, ◌||◌, ◌&&◌, not, Bool, true, false, cond, List}
+use Rattle.std.specs.Prelude.{[], ◌∷◌, ◌++◌, length, codes, Some, None, is_some}
+use Rattle.std.proofs.Common.{refl, sym, ◌∙◌, ap, subst, append_assoc, append-nil, length-append, inl, inr, eq-eqb}
+use Rattle.std.proofs.Common.{arith, lit<}
 use Rattle.std.proofs.lemmas.Bool.{eqb-true}
 use Rattle.ot_plain.specs.Names.{Name, IsName, same_name, same_name-Decides}
 use Rattle.ot_plain.specs.Naming.{names}
@@ -11,13 +11,12 @@ use Rattle.ot_plain.specs.Trees.{Ty, Tys, TyVar, TyOp, NoTys, MoreTys, Symbol, O
 use Rattle.ot_forms.specs.Words.{is_inner, is_letter, variable_word, word}
 use Rattle.ot_text.specs.Texts.{is_function}
 use Rattle.ot_forms.specs.Forms.{type_text, types_text, HasNames, HaveNames, most_open_type, most_open_types}
-use Rattle.ot_forms.specs.Reading.{NoForm, OneTooMany, Reading, Got, Halted, next, mapped, kept, literal_at}
-use Rattle.ot_forms.specs.Reading.{variable_at, operator_at, range_at, further_at, arguments_at}
-use Rattle.ot_forms.specs.Reading.{operands_at, behind_word_at, inside_at, closed_type_at, type_by, type_at}
-use Rattle.ot_forms.proofs.Readers.{Follows, Reads, Joined, Image, Kept, Extends, Begins, HasByte, Is, Any}
-use Rattle.ot_forms.proofs.Readers.{Either, picked, join, told, mapped-reads, mapped-follows, kept-reads}
-use Rattle.ot_forms.proofs.Readers.{pick, literal-reads, behind, same_at, at_byte, at_end, halts_here}
-use Rattle.ot_forms.proofs.Readers.{ends_here, unchanged, second-read, first-halted, same-reads, weaken}
+use Rattle.ot_forms.specs.Reading.{Reading, Got, Halted, next, mapped, kept, literal_at, operator_at, range_at}
+use Rattle.ot_forms.specs.Reading.{further_at, arguments_at, operands_at, behind_word_at, inside_at, closed_type_at}
+use Rattle.ot_forms.proofs.Readers.{Follows, Reads, Joined, Image, Kept, Extends, Begins, HasByte, Is, Any, Either}
+use Rattle.ot_forms.proofs.Readers.{picked, join, told, mapped-reads, mapped-follows, kept-reads, pick, literal-reads}
+use Rattle.ot_forms.proofs.Readers.{behind, at_byte, at_end, ends_here, unchanged, second-read, first-halted}
+use Rattle.ot_forms.proofs.Readers.{same-reads, weaken}
 
 -- a word ends before these bytes
 abbrev pub ends_word : List ℕ → Bool
@@ -85,10 +84,10 @@ module _ (hidden : List (Symbol Name)) where
     pub within : most_open_type t ≤ n
 
   -- the type that completes what nothing else does
-  abbrev some_type : Ty Name
+  abbrev pub some_type : Ty Name
   some_type = TyVar (codes "a" ∷ [])
 
-  some-says : (n : ℕ) → SaysType n some_type (codes "'a")
+  pub some-says : (n : ℕ) → SaysType n some_type (codes "'a")
   some-says n = record { text = refl; named = lit< tt; within = omega arith }
 
   module _ (n : ℕ) (read : List ℕ → Reading (Ty Name)) (hr : Reads (SaysType n) IsEnd read) where
@@ -699,115 +698,3 @@ module _ (hidden : List (Symbol Name)) where
           (λ t. (t, codes ")", record { from = tt; says = refl; is = refl }))
           (λ a b y r h e. ap (λ z. ends_arguments (z ++ r)) h.says))
           closed-says says-closed
-
-  -- ---- types
-  module _ (vr : Reads SaysVariable IsEnd variable_at) (wr : Reads SaysWord IsEnd (operator_at hidden))
-      (wf : (w : Name) → IsName w → Begins starts_word true (word hidden (OpSymbol w))) where
-    -- so many may be open, and an opening parenthesis does this
-    module _ (n : ℕ) (opened : List ℕ → Reading (Ty Name)) where
-      abbrev Behind_open : Ty Name → List ℕ → Type 0
-      Behind_open t x = SaysType n t (40 ∷ x)
-
-      variable-text : (v : Name) (x : List ℕ) → SaysVariable v x → SaysType n (TyVar v) (39 ∷ x)
-      variable-text v x h = record { text = ap (λ z. 39 ∷ z) h.text; named = h.named; within = omega arith }
-
-      word-text : (w : Name) (x : List ℕ) → SaysWord w x → SaysType n (TyOp w NoTys) x
-      word-text w x h = record { text = h.text; named = (h.named, tt); within = omega arith }
-
-      by-complete : ((t : Ty Name) (x r : List ℕ) → Behind_open t x → opened (x ++ r) ≡ Got t r)
-          → (t : Ty Name) (x r : List ℕ) → SaysType n t x → IsEnd r → type_by hidden opened (x ++ r) ≡ Got t r
-      by-complete ho (TyVar v) x r h e = ap (λ z. type_by hidden opened (z ++ r)) h.text
-          ∙ ap (mapped TyVar) (vr.complete v (variable_word v) r (record { named = h.named; text = refl }) e)
-      by-complete ho (TyOp w NoTys) x r h e =
-          let k = wf w h.named.0 in
-          ap (λ z. type_by hidden opened (z ++ r)) (h.text ∙ k.is)
-          ∙ (λ i. cond (differs starts_word 39 k.byte refl k.tells i) (mapped TyVar (variable_at (k.rest ++ r)))
-          (cond (differs starts_word 40 k.byte refl k.tells i) (opened (k.rest ++ r))
-          (mapped (λ m. TyOp m NoTys) (operator_at hidden (k.byte ∷ (k.rest ++ r))))))
-          ∙ ap (λ z. mapped (λ m. TyOp m NoTys) (operator_at hidden (z ++ r))) (sym k.is)
-          ∙ ap (mapped (λ m. TyOp m NoTys))
-          (wr.complete w (word hidden (OpSymbol w)) r (record { named = h.named.0; text = refl }) e)
-      by-complete ho (TyOp w (MoreTys a ts)) x r h e = go (is_function names (TyOp w (MoreTys a ts))) h.text where
-        go : (b : Bool)
-            → x ≡ cond b (codes "(" ++ type_text hidden a ++ codes " ->" ++ types_text hidden ts ++ codes ")")
-            (codes "(" ++ word hidden (OpSymbol w) ++ types_text hidden (MoreTys a ts) ++ codes ")")
-            → type_by hidden opened (x ++ r) ≡ Got (TyOp w (MoreTys a ts)) r
-        go true q = behind_it _ q
-          where
-            behind_it : (y : List ℕ) → x ≡ 40 ∷ y → type_by hidden opened (x ++ r) ≡ Got (TyOp w (MoreTys a ts)) r
-            behind_it y q = ap (λ z. type_by hidden opened (z ++ r)) q
-                ∙ ho (TyOp w (MoreTys a ts)) y r (subst (SaysType n (TyOp w (MoreTys a ts))) q h)
-        go false q = behind_it _ q
-          where
-            behind_it : (y : List ℕ) → x ≡ 40 ∷ y → type_by hidden opened (x ++ r) ≡ Got (TyOp w (MoreTys a ts)) r
-            behind_it y q = ap (λ z. type_by hidden opened (z ++ r)) q
-                ∙ ho (TyOp w (MoreTys a ts)) y r (subst (SaysType n (TyOp w (MoreTys a ts))) q h)
-
-      by-follows : ((s : List ℕ) → Follows (SaysType n) (type_by hidden opened) (40 ∷ s) (opened s)) → (s : List ℕ)
-          → Follows (SaysType n) (type_by hidden opened) s (type_by hidden opened s)
-      by-follows ho [] = halts_here (SaysType n) (type_by hidden opened) [] NoForm some_type (codes "'a")
-          (some-says n) (at_end (λ m. type_by hidden opened m ≡ Halted NoForm m) refl)
-      by-follows ho (b ∷ s) = variable (b == 39) refl where
-        f : List ℕ → Reading (Ty Name)
-        f z = mapped (λ m. TyOp m NoTys) (operator_at hidden z)
-
-        other : (t : Bool) → (b == 39) ≡ false → (b == 40) ≡ t → Follows (SaysType n) (type_by hidden opened) (b ∷ s)
-            (cond t (opened s) (mapped (λ m. TyOp m NoTys) (operator_at hidden (b ∷ s))))
-        other true d e = subst (λ c. Follows (SaysType n) (type_by hidden opened) (c ∷ s) (opened s))
-            (sym (eqb-true b 40 e)) (ho s)
-        other false d e = same_at (SaysType n) (λ z. mapped (λ m. TyOp m NoTys) (operator_at hidden z))
-            (type_by hidden opened) b
-            (λ t i. cond (d i) (mapped TyVar (variable_at t))
-            (cond (e i) (opened t) (mapped (λ m. TyOp m NoTys) (operator_at hidden (b ∷ t)))))
-            s (mapped (λ m. TyOp m NoTys) (operator_at hidden (b ∷ s)))
-            (mapped-follows SaysWord (SaysType n) (operator_at hidden) (λ m. TyOp m NoTys) word-text (b ∷ s)
-            (operator_at hidden (b ∷ s)) (wr.follows (b ∷ s)))
-
-        variable : (t : Bool) → (b == 39) ≡ t → Follows (SaysType n) (type_by hidden opened) (b ∷ s)
-            (cond t (mapped TyVar (variable_at s))
-            (cond (b == 40) (opened s) (mapped (λ m. TyOp m NoTys) (operator_at hidden (b ∷ s)))))
-        variable true e = behind SaysVariable (SaysType n) variable_at (type_by hidden opened) TyVar b
-            (λ t i. cond (e i) (mapped TyVar (variable_at t))
-            (cond (b == 40) (opened t) (mapped (λ m. TyOp m NoTys) (operator_at hidden (b ∷ t)))))
-            (λ v x h. subst (λ c. SaysType n (TyVar v) (c ∷ x)) (sym (eqb-true b 39 e)) (variable-text v x h)) s
-            (variable_at s) (vr.follows s)
-        variable false e = other (b == 40) e refl
-
-    no_parens : (t : Ty Name) (x : List ℕ) → SaysType 0 t (40 ∷ x) → ⊥
-    no_parens (TyVar v) x h = other_byte 40 39 x _ refl h.text
-    no_parens (TyOp w NoTys) x h = let k = wf w h.named.0 in no_word k (h.text ∙ k.is) where
-      no_word : (k : Begins starts_word true (word hidden (OpSymbol w))) → 40 ∷ x ≡ k.byte ∷ k.rest → ⊥
-      no_word k e = let q : k.byte ≡ 40 = cc in
-          let z : starts_word 40 ≡ true = subst (λ b. starts_word b ≡ true) q k.tells in cc
-    no_parens (TyOp w (MoreTys a ts)) x h = let k = h.within in omega (arith, k)
-
-    no_change : (P : Ty Name → List ℕ → Type 0) (f : List ℕ → Reading (Ty Name)) (s : List ℕ) (o : Reading (Ty Name))
-        → Follows P f s (mapped (λ u. u) o) → Follows P f s o
-    no_change P f s (Got a r) h = h
-    no_change P f s (Halted k r) h = h
-
-    -- the reader of types with room for n open parentheses reads exactly the texts of types with at most n open, and
-    -- halts where none of them goes on
-    pub type-reads : (n : ℕ) → Reads (SaysType n) IsEnd (type_at hidden n)
-    type-reads zero = record {
-      complete = by-complete 0 (λ s. Halted OneTooMany (40 ∷ s)) (λ t x r h. absurd (no_parens t x h));
-      follows =
-          by-follows 0 (λ s. Halted OneTooMany (40 ∷ s))
-          (λ s. halts_here (SaysType 0) (type_at hidden 0) (40 ∷ s) OneTooMany some_type (codes "'a") (some-says 0)
-          (at_byte 40 s (λ m. type_at hidden 0 m ≡ Halted OneTooMany m) (λ t. refl)));
-    }
-    type-reads (suc n) =
-        let hr = type-reads n in
-        let h = closed-reads n (type_at hidden n) hr wr wf in
-        record {
-          complete =
-              by-complete (suc n) (closed_type_at hidden (type_at hidden n)) (λ t x r w. h.complete t x r w tt);
-          follows =
-              by-follows (suc n) (closed_type_at hidden (type_at hidden n))
-              (λ s. no_change (SaysType (suc n)) (type_at hidden (suc n)) (40 ∷ s)
-              (closed_type_at hidden (type_at hidden n) s)
-              (behind (λ t x. SaysType (suc n) t (40 ∷ x)) (SaysType (suc n))
-              (closed_type_at hidden (type_at hidden n)) (type_at hidden (suc n)) (λ u. u) 40
-              (λ z. sym (unchanged (closed_type_at hidden (type_at hidden n) z))) (λ t x w. w) s
-              (closed_type_at hidden (type_at hidden n) s) (h.follows s)));
-        }

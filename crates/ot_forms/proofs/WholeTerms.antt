@@ -16,7 +16,8 @@ use Rattle.ot_forms.proofs.Types.{IsEnd, SaysType, differs}
 use Rattle.ot_forms.proofs.BareWords.{both_true}
 use Rattle.ot_forms.proofs.Marks.{SaysPart, part-reads}
 use Rattle.ot_forms.proofs.Terms.{SaysConstant, IsConstantEnd, SaysTerm, some_term}
-use Rattle.ot_forms.proofs.Terms.{some-says, end-part, opened-reads, brace-reads}
+use Rattle.ot_forms.proofs.Terms.{some-says, end-part}
+use Rattle.ot_forms.proofs.TermTexts.{opened-reads, brace-reads}
 
 module _ (hidden : List (Symbol Name)) where
   -- ---- a term, by its first byte
