@@ -1,5 +1,4 @@
 -- The pieces of texts that the printers put on a page.
 pub mod Depths
 pub mod Pieces
-pub mod Sections
 pub mod Separating

@@ -2,4 +2,3 @@
 pub mod Separating
 pub mod Spelled
 pub mod Pieces
-pub mod Sections

@@ -9,4 +9,5 @@ pub mod SequentLaw
 pub mod Decimals
 pub mod Putting
 pub mod Separating
+pub mod SectionPieces
 pub mod Gathering

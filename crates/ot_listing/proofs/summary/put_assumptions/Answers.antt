@@ -6,7 +6,7 @@ use Rattle.ot_text.specs.Sections.{section_text}
 use Rattle.ot_text.specs.Gathered.{bytes_in}
 use Rattle.ot_text.proofs.Putting.{same-text, gives-up}
 use Rattle.ot_text.proofs.Gathering.{texts-through}
-use Rattle.ot_listing.proofs.Sections.{section-bytes}
+use Rattle.ot_text.proofs.SectionPieces.{section-bytes}
 use Rattle.ot_listing.proofs.summary.put_assumptions.Goals as goal
 
 pub returns-in-Ok : goal.returns-in-Ok
@@ -22,6 +22,6 @@ returns-in-Err c =
     let texts = texts-through sequent_text at c.args.assumptions.now (map at c.args.assumptions.now) refl in
     gives-up _ _ _ c.room.result c.in-Err.fault c.stop.ensures (sym c.is_stopped.ensures ∙ c.if-is_stopped.false)
     c.room.ensures
-    (λ p. section-bytes c.room.result (codes "assumptions")
-    (ascending (map sequent_text (map at c.args.assumptions.now)))
+    (λ p. section-bytes c.room.result true (codes "assumptions")
+    (ascending (map sequent_text (map at c.args.assumptions.now))) refl
     (subst (λ xs. c.room.result < bytes_in (ascending xs)) texts (c.in-Err.ensures.too_large (λ j. Err (p j)))))

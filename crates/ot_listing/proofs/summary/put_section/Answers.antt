@@ -1,9 +1,9 @@
-use Rattle.std.proofs.Common.{map, sym, arith}
+use Rattle.std.proofs.Common.{map, refl, sym, arith}
 use Rattle.std.proofs.lemmas.List.{length-map}
 use Rattle.ot_text.specs.Sections.{items_text}
 use Rattle.ot_text.specs.Pages.{printed}
 use Rattle.ot_text.proofs.Putting.{then, same-text, puts-all, nothing}
-use Rattle.ot_listing.proofs.Sections.{items-more, section-pieces}
+use Rattle.ot_text.proofs.SectionPieces.{items-more, section-pieces}
 use Rattle.ot_listing.proofs.summary.put_section.Goals as goal
 
 pub loop-item-preserved : goal.loop-item-preserved
@@ -14,7 +14,8 @@ loop-item-preserved g c =
 
 pub returns : goal.returns
 returns g c =
-    same-text (section-pieces _ _ _ (sym (length-map c.args.items.now (g.T.Printable.text c.args.nodes.now))))
+    same-text
+    (section-pieces _ _ _ _ refl (sym (length-map c.args.items.now (g.T.Printable.text c.args.nodes.now))))
     (then c.put_title.ensures
     (puts-all (λ xs. items_text (map (g.T.Printable.text c.args.nodes.now) xs)) c.args.items.now
     c.loop-item.item-index _ _ _ (omega arith) c.loop-item.invariant (nothing (printed c.loop-item.page))))

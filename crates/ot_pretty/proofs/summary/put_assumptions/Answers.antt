@@ -7,7 +7,7 @@ use Rattle.ot_text.specs.Gathered.{bytes_in}
 use Rattle.ot_text.proofs.Putting.{same-text, gives-up}
 use Rattle.ot_text.proofs.Gathering.{texts-through}
 use Rattle.ot_forms.specs.Printing.{readable_text}
-use Rattle.ot_print.proofs.Sections.{section-bytes}
+use Rattle.ot_text.proofs.SectionPieces.{section-bytes}
 use Rattle.ot_pretty.proofs.summary.put_assumptions.Goals as goal
 
 pub returns-in-Ok : goal.returns-in-Ok

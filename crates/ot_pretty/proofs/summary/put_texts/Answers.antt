@@ -4,7 +4,7 @@ use Rattle.std.proofs.lemmas.Map.Iter.{rest_more, rest_all}
 use Rattle.ot_kernel.proofs.Namings.{length-map}
 use Rattle.ot_text.specs.Sections.{items_text}
 use Rattle.ot_text.proofs.Putting.{then, same-text, leaves-more, leaves-all, nothing}
-use Rattle.ot_print.proofs.Sections.{items-first, section-pieces}
+use Rattle.ot_text.proofs.SectionPieces.{items-first, section-pieces}
 use Rattle.ot_pretty.proofs.summary.put_texts.Goals as goal
 
 pub loop-text-preserved : goal.loop-text-preserved

@@ -7,7 +7,7 @@ use Rattle.ot_text.specs.Pages.{printed}
 use Rattle.ot_text.proofs.Putting.{then, same-text, puts-all, nothing}
 use Rattle.ot_text.proofs.Gathering.{texts-through}
 use Rattle.ot_forms.specs.Printing.{readable_text}
-use Rattle.ot_print.proofs.Sections.{items-more, section-pieces}
+use Rattle.ot_text.proofs.SectionPieces.{items-more, section-pieces}
 use Rattle.ot_pretty.proofs.summary.put_theorems.Goals as goal
 
 pub loop-th-preserved : goal.loop-th-preserved

@@ -3,7 +3,7 @@ use Rattle.ot_kernel.proofs.Namings.{length-map}
 use Rattle.ot_text.specs.Sections.{items_text}
 use Rattle.ot_text.specs.Pages.{printed}
 use Rattle.ot_text.proofs.Putting.{then, same-text, puts-all, nothing}
-use Rattle.ot_print.proofs.Sections.{items-more, section-pieces}
+use Rattle.ot_text.proofs.SectionPieces.{items-more, section-pieces}
 use Rattle.ot_print.proofs.summary.put_section.Goals as goal
 
 pub loop-item-preserved : goal.loop-item-preserved
