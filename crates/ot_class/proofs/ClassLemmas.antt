@@ -1,5 +1,5 @@
 -- Lemmas on the table of nameless terms.
-use Rattle.std.proofs.Common.{◌≡◌, ℕ, ◌<◌, ◌≤◌, cond, ◌⊎◌, inl, inr, Ordering, Less, Equal, Greater}
+use Rattle.std.proofs.Common.{◌≡◌, ℕ, ◌<◌, ◌≤◌, cond, inl, inr, Ordering, Less, Equal, Greater}
 use Rattle.std.proofs.Common.{nat_cmp, is_lt, Bool, true, false, ◌&&◌, Decides, nat_eq, eqb-true, eq-eqb}
 use Rattle.std.proofs.Common.{true≢false, List, length, slice_get, Some, refl, sym, ap, subst, ◌∙◌, arith}
 use Rattle.std.proofs.lemmas.Option.{get_or_from_slice_get}
@@ -7,6 +7,7 @@ use Rattle.std.proofs.lemmas.Map.Keys.{ge_from_not_lt}
 use Rattle.std.proofs.Math.Bool.{and-false}
 use Rattle.std.specs.Cmp.Derive.{both_true}
 use Rattle.std.specs.Ordering.{ord_max}
+use Rattle.std.proofs.lemmas.Bool.{and_cases}
 use Rattle.ot_type.proofs.SubtypeLemmas.{less_is}
 use Rattle.ot_plain.specs.Trees.{Ty, Variable, Tm, Free, Con, Bound, App, Abs}
 use Rattle.ot_plain.specs.Hol.{IsFree, IsClosed}
@@ -33,11 +34,6 @@ less_than x y p = by (nat_cmp x y) refl p
 
 abbrev pub node_eq : ClassNode → ClassNode → Bool
 node_eq = derived.ghosts.eq
-
-both : (a b : Bool) → (a && b) ≡ true → (a ≡ true) × (b ≡ true)
-both true true p = (refl, refl)
-both true false p = absurd (true≢false (sym p))
-both false b p = absurd (true≢false (sym p))
 
 more_below : (j k : ℕ) → j ≤ k → (n : ClassNode) → AreBelow j n → AreBelow k n
 more_below j k le (node.Free v) h = h
@@ -137,10 +133,6 @@ described-variable v b newest closed = record {
   unclosed = λ p. (variable_of v, refl);
 }
 
-one_open : (f x : Bool) → (f && x) ≡ false → (f ≡ false) ⊎ (x ≡ false)
-one_open true x p = inr p
-one_open false x p = inl refl
-
 -- what stands beside an application and an abstraction, by their parts
 pub described-application : (f x : Tm ℕ) (b c d : Beside) → d.newest ≡ ord_max nat_cmp b.newest c.newest
     → d.closed ≡ (b.closed && c.closed) → Describes f b → Describes x c → Describes (App f x) d
@@ -158,7 +150,7 @@ described-application f x b c d e s g h = record { most = most; closed = closed;
     closed w (inr i) = s ∙ ap (λ l. b.closed && l) (h.closed w i) ∙ and-false b.closed
 
     unclosed : d.closed ≡ false → (w : Variable ℕ) × IsFree alphabet w (App f x)
-    unclosed p = elim (one_open b.closed c.closed (sym s ∙ p)) [
+    unclosed p = elim (and_cases b.closed c.closed (sym s ∙ p)) [
       | inl q ↦ let (w, i) = g.unclosed q in (w, inl i)
       | inr q ↦ let (w, i) = h.unclosed q in (w, inr i)
     ]

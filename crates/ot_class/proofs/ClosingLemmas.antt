@@ -1,8 +1,9 @@
 -- A variable that becomes the place of an abstraction around a nameless term.
 use Rattle.std.specs.Map.{lookup}
 use Rattle.std.proofs.Common.{◌≡◌, ℕ, suc, ◌<◌, Bool, true, false, ◌&&◌, cond, nat_eq, eqb-true}
-use Rattle.std.proofs.Common.{true≢false, List, length, slice_get, Some, refl, sym, ap, subst, ◌∙◌, arith}
+use Rattle.std.proofs.Common.{List, length, slice_get, Some, refl, sym, ap, subst, ◌∙◌, arith}
 use Rattle.std.proofs.lemmas.Option.{same_Some, slice_get-get_or, slice_get_within, get_or_from_slice_get}
+use Rattle.std.proofs.lemmas.Bool.{and_parts}
 use Rattle.ot_plain.specs.Trees.{Ty, Variable, Tm, Free, Bound, App, Abs}
 use Rattle.ot_plain.specs.Hol.{close_at, IsFree}
 use Rattle.ot_plain.specs.Naming.{numbers}
@@ -40,11 +41,6 @@ closing_grown cs ds v es e h = record {
       );
 }
 
-both : (a b : Bool) → (a && b) ≡ true → (a ≡ true) × (b ≡ true)
-both true true p = (refl, refl)
-both true false p = absurd (true≢false (sym p))
-both false b p = absurd (true≢false (sym p))
-
 -- one more result
 pub closing_insert : (cs : List (Tm ℕ)) (v : Key) (old new : List (Place × ℕ)) (p : Place) (r : ℕ)
     → IsClosing cs v old
@@ -58,7 +54,7 @@ closing_insert cs v old new p r h within is after =
         → cond (same_place p q) (Some r) (lookup (same_place q) old) ≡ Some s
         → (q.id < length cs) × (slice_get cs s ≡ Some (close_at numbers q.depth (variable_of v) (class_at cs q.id)))
     by q s true e known =
-        let parts = both (nat_eq p.depth q.depth) (nat_eq p.id q.id) e in
+        let parts = and_parts (nat_eq p.depth q.depth) (nat_eq p.id q.id) e in
         let depth : p.depth ≡ q.depth = eqb-true p.depth q.depth parts.0 in
         let id : p.id ≡ q.id = eqb-true p.id q.id parts.1 in
         let value : r ≡ s = same_Some r s (sym (ap (λ b. cond b (Some r) (lookup (same_place q) old)) e) ∙ known) in (

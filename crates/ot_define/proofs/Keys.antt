@@ -15,7 +15,6 @@ use Rattle.ot_plain.specs.Naming.{numbers}
 use Rattle.ot_plain.specs.Table.{IsInjective}
 use Rattle.ot_plain.proofs.TableLemmas.{get_or-IsInjective}
 use Rattle.ot_type.specs.TypeTable.{type_at}
-use Rattle.ot_type.proofs.SubtypeLemmas.{All-member}
 use Rattle.ot_laws.proofs.Tests.{tells_numbers, same_var-is}
 use Rattle.ot_laws.proofs.Sets.{same_set-then, same_set-append, same_set-self, same_set-swap, same_set-both_ways}
 use Rattle.ot_term.specs.declared.term.Symbol.{Symbol as Code}
@@ -32,7 +31,7 @@ use Rattle.ot_term.proofs.GatherLemmas.{same_set-map}
 use Rattle.ot_laws.specs.Conditions.{same_symbol, is_among, is_closed_but, keeps_type_vars, are_distinct}
 use Rattle.ot_define.specs.Signature.{with_symbols}
 use Rattle.ot_laws.proofs.Membership.{part-is, part-same_set, is_closed_but-is, are_distinct-is}
-use Rattle.ot_plain.proofs.Members.{IsMember-map, IsMember-map_back}
+use Rattle.ot_plain.proofs.Members.{IsMember-map, IsMember-map_back, All-at_member}
 
 -- ---- symbols
 same-symbol : (s t : Code) → symbol_eq s t ≡ same_symbol numbers (symbol_of s) (symbol_of t)
@@ -135,7 +134,7 @@ module _ (tys : List (Ty ℕ)) (inj : IsInjective tys) where
       → IsMember (variable_of tys v) (map (variable_of tys) ws) → IsMember v ws
   member-key v ws l all m =
       let (w, i, e) = IsMember-map_back (variable_of tys) (variable_of tys v) ws m in
-      subst (λ x. IsMember x ws) (same-variable w v (All-member (λ x. x.ty < length tys) ws all w i) l e) i
+      subst (λ x. IsMember x ws) (same-variable w v (All-at_member (λ x. x.ty < length tys) ws w all i) l e) i
 
   -- a term is closed but for the variables just where its free ones are among them
   pub closed-keys : (free vs : List VarKey) (t : Tm ℕ) → All (λ v. v.ty < length tys) free
@@ -154,7 +153,7 @@ module _ (tys : List (Ty ℕ)) (inj : IsInjective tys) where
           subst (λ x. IsMember x (map (variable_of tys) vs)) e (IsMember-map (variable_of tys) v vs (p v i))
 
       back : ((w : Variable ℕ) → IsFree numbers w t → IsMember w (map (variable_of tys) vs)) → IsPart free vs
-      back h v i = member-key v vs (All-member (λ x. x.ty < length tys) free below v i) inside
+      back h v i = member-key v vs (All-at_member (λ x. x.ty < length tys) free v below i) inside
           (h (variable_of tys v) ((all (variable_of tys v)).0 (IsMember-map (variable_of tys) v free i)))
 
   distinct-map : (vs : List VarKey) → All (λ v. v.ty < length tys) vs → AreDistinct vs

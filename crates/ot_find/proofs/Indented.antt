@@ -4,7 +4,6 @@ use Rattle.std.proofs.Common.{◌≡◌, ℕ, suc, ◌+◌, ◌<◌, ◌≤◌, 
 use Rattle.std.proofs.Common.{refl, sym, ap, ◌∙◌, append_assoc, length-append, arith}
 use Rattle.ot_plain.specs.Names.{Name, IsName, spelled}
 use Rattle.ot_kernel.specs.State.{State, type_at, term_at}
-use Rattle.ot_kernel.proofs.Namings.{length-map}
 use Rattle.ot_text.specs.Texts.{name_text}
 use Rattle.ot_text.specs.Gathered.{bytes_in}
 use Rattle.ot_text.proofs.Gathering.{texts-through}
@@ -15,9 +14,6 @@ use Rattle.ot_find.specs.Texts.{type_line, variable_line, indented_text}
 pub name-spelled : (n : Name) → IsName n → spelled n ≡ name_text n
 name-spelled [] h = absurd (omega arith)
 name-spelled (c ∷ cs) h = refl
-
-pub has-components : {X : Type 0} (f : X → List ℕ) (n : Name) (xs : List X) → map f xs ≡ n → 0 < length xs → IsName n
-has-components f n xs p h = let a = length-map f xs in let b = ap length p in omega arith
 
 -- they have at least the bytes of the texts
 pub indented-bytes : (room : ℕ) (xs : List (List ℕ)) → room < bytes_in xs → room < length (indented_text xs)

@@ -4,7 +4,7 @@ use Rattle.std.specs.Prelude.{List, [], ◌∷◌, ◌++◌, map, length, slice_
 use Rattle.std.specs.List.{All}
 use Rattle.std.proofs.Common.{◌+◌, refl, sym, ap, ◌∙◌, subst, arith, length-append, inl, inr}
 use Rattle.std.proofs.lemmas.Option.{slice_get-get_or, slice_get_within, get_or_from_slice_get}
-use Rattle.std.proofs.lemmas.List.{get_or_append_left, map-append}
+use Rattle.std.proofs.lemmas.List.{get_or_append_left, map-append, length-map}
 use Rattle.std.proofs.lemmas.List.Elements.{All-head, All-tail, All-push, All-append}
 use Rattle.ot_plain.specs.Lists.{IsMember, IsSameSet}
 use Rattle.ot_plain.specs.Names.{Name}
@@ -33,7 +33,7 @@ use Rattle.ot_kernel.specs.Spelled.{Held, sequent_of, sequents_at, undefined_sta
 use Rattle.ot_kernel.specs.Accepting.{adding, added_definition, accepting, IsAcceptable}
 use Rattle.ot_kernel.proofs.Placing.{places-grown}
 use Rattle.ot_kernel.proofs.Accepted.{definition_stays, definitions_kept, held_stays, held_stay}
-use Rattle.ot_kernel.proofs.Namings.{length-map, map-push, name_of-index}
+use Rattle.ot_kernel.proofs.Namings.{map-push, name_of-index}
 use Rattle.ot_plain.proofs.Members.{IsMember-cases, IsMember-left, IsMember-right}
 
 -- ---- the symbols of a signature with more of them
@@ -190,7 +190,7 @@ defined_from ns t held ths c defs uses k p = record { kernel = kernel; state = s
     longer = subst (Extends qs) (sym theorems_more) (Extends-append qs (map f ths))
 
     same_length : length qs ≡ length held.theorems
-    same_length = length-map f held.theorems
+    same_length = length-map held.theorems f
 
     assumed : sequents_at (map f (held.theorems ++ ths)) held.assumptions ≡ sequents_at qs held.assumptions
     assumed = ap (λ l. sequents_at l held.assumptions) theorems_more ∙ sequents_at-append qs (map f ths)
@@ -206,7 +206,7 @@ defined_from ns t held ths c defs uses k p = record { kernel = kernel; state = s
     new_held : IsHeld (adding s ths) c
     new_held = record {
       within = subst (λ n. IsDefinitionIn (length s.names) (length s.types) n c)
-          (ap (λ n. length qs + n) (sym (length-map f ths)) ∙ sym (length-append qs (map f ths))) p.within;
+          (ap (λ n. length qs + n) (sym (length-map ths f)) ∙ sym (length-append qs (map f ths))) p.within;
       theorems = p.numbered;
     }
 
@@ -274,7 +274,7 @@ defined_from ns t held ths c defs uses k p = record { kernel = kernel; state = s
       terms = k.terms;
       table = k.table;
       inside = All-append (IsInside (length t.terms)) held.theorems ths k.inside
-          (subst (λ n. All (IsInside n) ths) (length-map (map_named (name_of ns)) t.terms) p.inside);
+          (subst (λ n. All (IsInside n) ths) (length-map t.terms (map_named (name_of ns))) p.inside);
       numbered = λ i e h. let l = k.numbered i e h in omega (arith, l, length-append held.theorems ths);
       accepted =
           All-push (IsHeld (state_of ns t more)) held.definitions c

@@ -3,6 +3,7 @@ use Rattle.std.specs.Prelude.{◌&&◌, Bool}
 use Rattle.std.specs.List.{All}
 use Rattle.std.proofs.Common.{◌≡◌, ℕ, ◌<◌, List, [], length, slice_index_or, sym, ap, ◌∙◌, subst, arith}
 use Rattle.std.proofs.lemmas.List.Elements.{All-nil}
+use Rattle.std.proofs.lemmas.List.{length-map}
 use Rattle.ot_plain.specs.Names.{Name}
 use Rattle.ot_plain.specs.Hol.{same_tm, is_in, all_in}
 use Rattle.ot_plain.specs.Naming.{names, numbers, name_of}
@@ -14,7 +15,7 @@ use Rattle.ot_kernel.specs.State.{State, term_at, terms_at, theorem_at}
 use Rattle.ot_kernel.specs.Spelled.{Held, sequent_of, state_of, IsInside, IsKernel}
 use Rattle.ot_kernel.specs.Numbered.{tm_at, tms_at, numbered_sequent}
 use Rattle.ot_kernel.proofs.Carried.{carry-sequents}
-use Rattle.ot_kernel.proofs.Namings.{length-map, table_names}
+use Rattle.ot_kernel.proofs.Namings.{table_names}
 use Rattle.ot_kernel.proofs.Theorems.{real_theorem, real_sequent}
 
 module _ (ns : List Name) (t : TermTable) (held : Held) (now : State) (view : state_of ns t held ≡ now)
@@ -24,7 +25,7 @@ module _ (ns : List Name) (t : TermTable) (held : Held) (now : State) (view : st
   pub inside-real : IsInside (length t.terms) th
   inside-real =
       let e = ap (λ (s : State). length s.theorems) view in
-      let f = length-map (sequent_of (state_of ns t held).terms) held.theorems in
+      let f = length-map held.theorems (sequent_of (state_of ns t held).terms) in
       subst (IsInside (length t.terms)) (sym p) (k.inside i th (omega (arith, e, f)))
 
   pub within-real : (hyps : List ℕ) (concl : ℕ) (b : Bool) → All (λ i. i < length now.terms) hyps
@@ -35,7 +36,7 @@ module _ (ns : List Name) (t : TermTable) (held : Held) (now : State) (view : st
       (term_at now concl))
   within-real hyps concl b g l q =
       let d = ap (λ (s : State). length s.terms) view in
-      let n = length-map (map_named (name_of ns)) t.terms in
+      let n = length-map t.terms (map_named (name_of ns)) in
       let inside = inside-real in
       let within : All (λ i. i < length now.terms) th.hyps = λ j x m. let w = inside.hyps j x m in
       omega (arith, d, n) in
@@ -51,7 +52,7 @@ module _ (ns : List Name) (t : TermTable) (held : Held) (now : State) (view : st
       (tms_at t.terms th.hyps) → b ≡ is_in names (term_at now u) (theorem_at now i).hyps
   hyp-real u b l q =
       let d = ap (λ (s : State). length s.terms) view in
-      let n = length-map (map_named (name_of ns)) t.terms in
+      let n = length-map t.terms (map_named (name_of ns)) in
       let inside = inside-real in
       let within : All (λ i. i < length now.terms) th.hyps = λ j x m. let w = inside.hyps j x m in
       omega (arith, d, n) in

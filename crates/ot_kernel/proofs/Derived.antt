@@ -1,6 +1,7 @@
 -- What a rule derives over numbers is what it gives over names, and follows.
 use Rattle.std.specs.Prelude.{◌≡◌, ℕ, ◌<◌, List, length, Result, Ok, Err, IfOk}
 use Rattle.std.proofs.Common.{sym, ap, ◌∙◌, subst, arith}
+use Rattle.std.proofs.lemmas.List.{length-map}
 use mathlib.Core.Path.{PathP}
 use Rattle.ot_plain.specs.Names.{Name}
 use Rattle.ot_plain.specs.Trees.{Alphabet, Variable, Tm, Sequent, Definition}
@@ -26,7 +27,6 @@ use Rattle.ot_kernel.specs.Pairs.{type_pairs, term_pairs, IsSubstIn}
 use Rattle.ot_kernel.specs.Numbered.{tm_at, numbered_sequent, Derives}
 use Rattle.ot_kernel.specs.Answers.{RefusesRule}
 use Rattle.ot_kernel.specs.Derived.{Follows, Adds}
-use Rattle.ot_kernel.proofs.Namings.{length-map}
 use Rattle.ot_kernel.proofs.Theorems.{real_sequent, Concluded, concluded}
 use Rattle.ot_kernel.proofs.Later.{Later, IsHeld, Between, alphabet_at, over-term, over-variable}
 use Rattle.ot_kernel.proofs.Later.{over-theorem, over-type_pairs, over-term_pairs, types_within}
@@ -76,7 +76,7 @@ module _ {ns ms : List Name} {t u : TermTable} {held : Held} {now mid : State}
   pub inside_after : (th : Theorem) → IsInside (length u.terms) th → IsInside (length mid.terms) th
   inside_after th h =
       let e = ap (λ (s : State). length s.terms) l.after in
-      let n = length-map (map_named (name_of ms)) u.terms in
+      let n = length-map u.terms (map_named (name_of ms)) in
       record { hyps = λ j d m. let w = h.hyps j d m in omega (arith, e, n); concl = omega (arith, e, n, h.concl) }
 
   -- ---- operands over the line of alphabets

@@ -4,7 +4,7 @@ use Rattle.std.specs.List.{All}
 use Rattle.std.specs.Map.{lookup}
 use Rattle.std.proofs.Common.{◌≡◌, ℕ, ◌<◌, ◌≤◌, Bool, true, false, List, [], length}
 use Rattle.std.proofs.Common.{map, take, drop, refl, sym, ap, ◌∙◌, inl, inr, arith}
-use Rattle.std.proofs.lemmas.List.{length-take, get_or-take, drop-map}
+use Rattle.std.proofs.lemmas.List.{length-take, get_or-take, drop-map, length-map}
 use Rattle.std.proofs.lemmas.Option.{get_or_from_slice_get}
 use Rattle.ot_plain.specs.Names.{Name}
 use Rattle.ot_plain.specs.Trees.{Bound, Sequent}
@@ -16,10 +16,10 @@ use Rattle.ot_laws.proofs.Tests.{tells_numbers, cases_of, same_tm-is}
 use Rattle.ot_kernel.specs.State.{State, term_at, theorem_at}
 use Rattle.ot_kernel.specs.Spelled.{Held, sequent_of, state_of, IsInside, IsKernel}
 use Rattle.ot_kernel.specs.Numbered.{tm_at}
-use Rattle.ot_kernel.proofs.Namings.{length-map, index-map}
-use Rattle.ot_kernel.proofs.Placing.{All-at, find-past}
+use Rattle.ot_kernel.proofs.Namings.{index-map}
+use Rattle.ot_kernel.proofs.Placing.{find-past}
 use Rattle.ot_kernel.proofs.Theorems.{real_theorem, same_tm-real}
-use Rattle.ot_plain.proofs.Elements.{slice_get-there}
+use Rattle.ot_plain.proofs.Elements.{slice_get-there, All-slice_get}
 
 -- as many as their numbers
 pub counted : (ns : List Name) (t : TermTable) (held : Held) (now : State) → state_of ns t held ≡ now
@@ -27,7 +27,7 @@ pub counted : (ns : List Name) (t : TermTable) (held : Held) (now : State) → s
 counted ns t held now view =
     let dflt : Sequent Name = record { hyps = []; concl = Bound 0 } in
     ap (λ (s : State). length s.assumptions) (sym view)
-    ∙ length-map (λ i. slice_index_or (state_of ns t held).theorems i dflt) held.assumptions
+    ∙ length-map held.assumptions (λ i. slice_index_or (state_of ns t held).theorems i dflt)
 
 module _ (ns : List Name) (t : TermTable) (held : Held) (now : State) (view : state_of ns t held ≡ now)
     (k : IsKernel ns t held) where
@@ -39,7 +39,7 @@ module _ (ns : List Name) (t : TermTable) (held : Held) (now : State) (view : st
         → same_tm names (theorem_at now i).concl (term_at now concl) ≡ false
     other j i h at below =
         let (th, found) = slice_get-there held.theorems i below in
-        let inside = All-at (IsInside (length t.terms)) held.theorems i th k.inside found in
+        let inside = All-slice_get (IsInside (length t.terms)) held.theorems i th k.inside found in
         let (d, is) = slice_get-there t.classes th.concl (omega (arith, inside.concl, k.table.classed)) in
         let apart : tm_at t.terms th.concl ≡ tm_at t.terms concl → ⊥ = λ e.
         let same = (k.table.alike th.concl concl d c is class).1 e in
@@ -47,7 +47,7 @@ module _ (ns : List Name) (t : TermTable) (held : Held) (now : State) (view : st
         let lt = first p l in
         omega (arith, lt, le, h) in
         let theorems = ap (λ (s : State). length s.theorems) view in
-        let many = length-map (sequent_of (state_of ns t held).terms) held.theorems in
+        let many = length-map held.theorems (sequent_of (state_of ns t held).terms) in
         let no : same_tm numbers (tm_at t.terms th.concl) (tm_at t.terms concl) ≡ false =
         elim (cases_of (same_tm numbers (tm_at t.terms th.concl) (tm_at t.terms concl))
         (same_tm-is numbers tells_numbers (tm_at t.terms th.concl) (tm_at t.terms concl)))
@@ -59,7 +59,7 @@ module _ (ns : List Name) (t : TermTable) (held : Held) (now : State) (view : st
         ∙ no
       where
         terms_counted : length now.terms ≡ length t.terms
-        terms_counted = ap (λ (s : State). length s.terms) (sym view) ∙ length-map (map_named (name_of ns)) t.terms
+        terms_counted = ap (λ (s : State). length s.terms) (sym view) ∙ length-map t.terms (map_named (name_of ns))
 
     pub none_before : n ≤ length held.assumptions → All (λ r. same_tm names r.concl (term_at now concl) ≡ false)
         (take n now.assumptions)
@@ -68,7 +68,7 @@ module _ (ns : List Name) (t : TermTable) (held : Held) (now : State) (view : st
         let many = counted ns t held now view in
         let short : j < n = omega (arith, h, many, length-take n now.assumptions) in
         let (i, at) = slice_get-there held.assumptions j (omega (arith, short, le)) in
-        let below = All-at (λ m. m < length held.theorems) held.assumptions j i k.numbered at in
+        let below = All-slice_get (λ m. m < length held.theorems) held.assumptions j i k.numbered at in
         let read : slice_index_or now.assumptions j r ≡ theorem_at now i =
         ap (λ (s : State). slice_index_or s.assumptions j r) (sym view)
         ∙ index-map (λ m. slice_index_or (state_of ns t held).theorems m dflt) held.assumptions j 0 r

@@ -4,6 +4,7 @@ use Rattle.std.specs.List.{All}
 use Rattle.std.proofs.Common.{refl, sym, ap, subst, arith}
 use Rattle.std.proofs.lemmas.Option.{slice_get-get_or, get_or_from_slice_get}
 use Rattle.std.proofs.lemmas.List.Elements.{All-head, All-tail}
+use Rattle.std.proofs.lemmas.List.{length-map}
 use Rattle.ot_plain.specs.Names.{Name}
 use Rattle.ot_plain.specs.Trees.{TyVar, Named, NConst, Sequent, Definition}
 use Rattle.ot_plain.specs.Hol.{nameless, IsSequent, Accepted}
@@ -20,7 +21,7 @@ use Rattle.ot_laws.specs.Theorem.{IsTheorem}
 use Rattle.ot_kernel.specs.Spelled.{Held, sequent_of, sequents_at, undefined_state, state_of, IsInside, IsKernel}
 use Rattle.ot_kernel.proofs.Placing.{places-grown}
 use Rattle.ot_kernel.proofs.Accepted.{held_stay, definitions_kept, signature_kept}
-use Rattle.ot_kernel.proofs.Namings.{agree_ty, agree_named, length-map, map-Extends}
+use Rattle.ot_kernel.proofs.Namings.{agree_ty, agree_named, map-Extends}
 use Rattle.ot_kernel.proofs.Namings.{bound_ty-get, bound_named-get, name_of-Extends}
 
 -- ---- sequents
@@ -129,8 +130,8 @@ grown_from ns ms t u held k more first g table a b = record {
         sequents-Extends ts us terms held.theorems
         (λ i th p. let h = k.inside i th p in
         record {
-          hyps = λ j n q. let l = h.hyps j n q in omega (arith, length-map (map_named f) t.terms);
-          concl = omega (arith, h.concl, length-map (map_named f) t.terms);
+          hyps = λ j n q. let l = h.hyps j n q in omega (arith, length-map t.terms (map_named f));
+          concl = omega (arith, h.concl, length-map t.terms (map_named f));
         })
 
     theorems : Extends (map (sequent_of ts) held.theorems) (map (sequent_of us) held.theorems)

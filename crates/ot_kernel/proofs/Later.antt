@@ -6,6 +6,7 @@ use Rattle.std.proofs.Common.{refl, sym, ap, ◌∙◌, subst, arith}
 use mathlib.Core.Path.{PathP}
 use Rattle.std.proofs.lemmas.Option.{slice_get-get_or}
 use Rattle.std.proofs.lemmas.List.Elements.{All-head, All-tail}
+use Rattle.std.proofs.lemmas.List.{length-map}
 use Rattle.ot_plain.specs.Names.{Name}
 use Rattle.ot_plain.specs.Trees.{Alphabet, Ty, TyVar, Variable, Tm, Bound, Named, NConst, Sequent}
 use Rattle.ot_plain.specs.Hol.{same_ty, same_var, nameless, named_type, IsWellTyped, TypeMap, TermMap}
@@ -35,7 +36,7 @@ use Rattle.ot_kernel.specs.Numbered.{tm_at, tms_at, numbered_sequent, IsGrownBy}
 use Rattle.ot_kernel.specs.Proved.{IsGrownTo}
 use Rattle.ot_kernel.specs.Pairs.{type_pairs, term_pairs, AreTypePairs, IsSubstIn}
 use Rattle.ot_kernel.proofs.Growth.{Grown, grown, terms_grown, names_grown}
-use Rattle.ot_kernel.proofs.Namings.{length-map, table_names}
+use Rattle.ot_kernel.proofs.Namings.{table_names}
 use Rattle.ot_kernel.proofs.Numbers.{real_name, real_type}
 use Rattle.ot_kernel.proofs.Theorems.{real_tm, real_theorem}
 
@@ -121,15 +122,15 @@ module _ {ns ms : List Name} {t u : TermTable} {held : Held} {now mid : State}
   -- ---- lengths
   pub types_within : (i : ℕ) → i < length now.types → i < length t.types
   types_within i h = let e = ap (λ (s : State). length s.types) l.before in
-      omega (arith, e, length-map (map_ty (name_of ns)) t.types)
+      omega (arith, e, length-map t.types (map_ty (name_of ns)))
 
   pub terms_within : (i : ℕ) → i < length now.terms → i < length t.terms
   terms_within i h = let e = ap (λ (s : State). length s.terms) l.before in
-      omega (arith, e, length-map (map_named (name_of ns)) t.terms)
+      omega (arith, e, length-map t.terms (map_named (name_of ns)))
 
   pub now_within : (i : ℕ) → i < length t.terms → i < length now.terms
   now_within i h = let e = ap (λ (s : State). length s.terms) l.before in
-      omega (arith, e, length-map (map_named (name_of ns)) t.terms)
+      omega (arith, e, length-map t.terms (map_named (name_of ns)))
 
   -- ---- what a number stands for, over numbers and over names
   pub spelled_name : (i : ℕ) → i < length now.names → name_of ms i ≡ name_at now i
@@ -186,7 +187,7 @@ module _ {ns ms : List Name} {t u : TermTable} {held : Held} {now mid : State}
   pub inside_held : (i : ℕ) (th : Theorem) → IsHeld i th → IsInside (length t.terms) th
   inside_held i th h =
       let e = ap (λ (s : State). length s.theorems) l.before in
-      let f = length-map (sequent_of (state_of ns t held).terms) held.theorems in
+      let f = length-map held.theorems (sequent_of (state_of ns t held).terms) in
       subst (IsInside (length t.terms)) (sym h.at) (l.old.inside i th (omega (arith, e, f, h.within)))
 
   spelled_sequent : (i : ℕ) (th : Theorem) → IsHeld i th → map_sequent (name_of ms) (numbered_sequent t.terms th)

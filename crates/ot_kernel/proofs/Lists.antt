@@ -1,10 +1,10 @@
 -- Constants that are defined for the variables of a theorem.
-use Rattle.std.specs.Prelude.{◌≡◌, ℕ, ◌<◌, suc, List, [], ◌∷◌, ◌++◌, map, length, Result, Ok, Err}
+use Rattle.std.specs.Prelude.{◌≡◌, ℕ, ◌<◌, List, [], ◌∷◌, ◌++◌, map, length, Result, Ok, Err}
 use Rattle.std.specs.List.{All}
 use Rattle.std.proofs.Common.{refl, sym, ap, ◌∙◌, subst, arith, ◌+◌}
 use Rattle.std.proofs.Math.Seq.{get_or-append_seam}
 use Rattle.std.proofs.lemmas.List.{get_or_append_left}
-use Rattle.std.proofs.lemmas.List.{append-nil}
+use Rattle.std.proofs.lemmas.List.{append-nil, length-map}
 use Rattle.std.proofs.lemmas.List.Elements.{All-head, All-tail, All-nil, All-cons}
 use mathlib.Core.Path.{PathP}
 use Rattle.ot_plain.specs.Names.{Name}
@@ -17,7 +17,6 @@ use Rattle.ot_plain.specs.Naming.{names, numbers, name_of}
 use Rattle.ot_plain.specs.Renamed.{map_symbol}
 use Rattle.ot_plain.specs.Answers.{◌>>=◌}
 use Rattle.ot_laws.proofs.Tests.{tells_names}
-use Rattle.ot_type.proofs.SubtypeLemmas.{All-member}
 use Rattle.ot_term.specs.Term.{TermTable}
 use Rattle.ot_term.specs.TermTable.{variable_of}
 use Rattle.ot_term.specs.declared.term.VarKey.{VarKey}
@@ -43,7 +42,7 @@ use Rattle.ot_kernel.proofs.Constants.{over-name}
 use Rattle.ot_kernel.proofs.Accepted.{pairs_stay, theorem_stays}
 use Rattle.ot_kernel.proofs.Derived.{Made, made}
 use Rattle.ot_kernel.proofs.Later.{Later, Between, over-variable, over-theorem, IsHeld, held_sound}
-use Rattle.ot_plain.proofs.Members.{IsMember-map_back}
+use Rattle.ot_plain.proofs.Members.{IsMember-map_back, All-at_member}
 use Rattle.ot_plain.proofs.Results.{same_Ok}
 
 -- ---- pairs
@@ -65,10 +64,6 @@ zip_symbols : {N : Type 0} (alphabet : Alphabet N) (ns : List N) (vs : List (Var
 zip_symbols alphabet [] vs h = refl
 zip_symbols alphabet (n ∷ ns) [] h = let no_such : ⊥ = omega (arith, h) in absurd no_such
 zip_symbols alphabet (n ∷ ns) (v ∷ vs) h = ap (λ l. ConSymbol n ∷ l) (zip_symbols alphabet ns vs (omega (arith, h)))
-
-length_map : {X Y : Type 0} (f : X → Y) (xs : List X) → length (map f xs) ≡ length xs
-length_map f [] = refl
-length_map f (x ∷ xs) = ap suc (length_map f xs)
 
 zip_pairs : (s : State) (ns : List ℕ) (vs : List VarKey)
     → pairs_at s ns vs ≡ zipped names (map (name_at s) ns) (map (variable_at s) vs)
@@ -153,7 +148,7 @@ module _ {ns : List Name} {t : TermTable} {held : Held} {now : State} (l : Later
   constants_passed u h = sym same_check ∙ passed_named u h
 
   same_length : length constants ≡ length variables
-  same_length = length_map (name_at now) is ∙ pairs ∙ sym (length_map (variable_at now) vs)
+  same_length = length-map is (name_at now) ∙ pairs ∙ sym (length-map vs (variable_at now))
 
   pub constants_next : (u : Unit {0}) → Checks (Ok u) over_numbers
       → IsNext names now.assumptions now.definitions (ListDef (zipped names constants variables) q)
@@ -170,7 +165,7 @@ module _ {ns : List Name} {t : TermTable} {held : Held} {now : State} (l : Later
   only =
       let all : (x : Symbol ℕ) → IsMember x (map ConSymbol is) → number_of x < length now.names =
       λ x m. (let r = IsMember-map_back ConSymbol x is m in subst (λ y. number_of y < length now.names) r.2
-      (All-member (λ n. n < length now.names) is names_in r.0 r.1)) in
+      (All-at_member (λ n. n < length now.names) is r.0 names_in r.1)) in
       list_only (λ (x : Symbol ℕ). number_of x < length now.names) numbers held.signature.defined held.signature.used
       is (map (variable_of t.types) vs) (sequent_at t.terms hs th.concl) all
 
@@ -248,7 +243,7 @@ module _ (now : State) (is : List ℕ) (vs : List VarKey) (i : ℕ) (th : Theore
     follow = λ _. All-nil _;
     next = subst (IsNext names now.assumptions now.definitions) (sym reads) next;
     symbols_defined =
-        let same = length_map (name_at now) is ∙ pairs ∙ sym (length_map (variable_at now) vs) in
+        let same = length-map is (name_at now) ∙ pairs ∙ sym (length-map vs (variable_at now)) in
         let list : map (map_symbol (name_at now)) (map ConSymbol is) ≡ defined names definition = symbols_read is
         ∙ zip_symbols names (map (name_at now) is) (map (variable_at now) vs) same in
         subst (IsSameSet (map (map_symbol (name_at now)) (map ConSymbol is))) (list ∙ ap (defined names) (sym reads))
@@ -326,6 +321,6 @@ module _ {ns ms : List Name} {t u : TermTable} {held : Held} {now mid : State} (
   pub distinct_numbers : IsNext names now.assumptions now.definitions (list_at now)
       → AreDistinct (map (variable_of t.types) vs)
   distinct_numbers h =
-      let same = length_map (name_at now) is ∙ pairs ∙ sym (length_map (variable_at now) vs) in
+      let same = length-map is (name_at now) ∙ pairs ∙ sym (length-map vs (variable_at now)) in
       let seconds = zip_seconds names (map (name_at now) is) (map (variable_at now) vs) same in
       coe 1 0 (j. AreDistinct (over-variables l vs vars_in j)) (subst AreDistinct seconds h.fine.distinct)

@@ -3,6 +3,7 @@ use Rattle.std.specs.Prelude.{◌≡◌, ℕ, zero, suc, ◌<◌, ◌≤◌, max
 use Rattle.std.specs.Prelude.{◌++◌, map, length, slice_get, slice_index_or, Some}
 use Rattle.std.proofs.Common.{◌+◌, get_or, drop, drop-cons, add-one, inl, inr, refl, sym, ◌∙◌, ap, arith}
 use Rattle.std.proofs.lemmas.Option.{none-some, same_Some, slice_get-get_or, get_or_from_slice_get}
+use Rattle.std.proofs.lemmas.List.{length-map}
 use Rattle.ot_plain.specs.Lists.{IsMember, AreDistinct}
 use Rattle.ot_plain.specs.Names.{Name}
 use Rattle.ot_plain.specs.Trees.{Ty, Tys, TyVar, TyOp, NoTys, MoreTys, Variable, Named, NVar, NConst, NApp, NAbs}
@@ -52,10 +53,6 @@ module _ {X Y : Type 0} where
   map-slice_get f (x ∷ xs) zero y p = (x, refl, same_Some (f x) y p)
   map-slice_get f (x ∷ xs) (suc i) y p = map-slice_get f xs i y p
 
-  pub length-map : (f : X → Y) (xs : List X) → length (map f xs) ≡ length xs
-  length-map f [] = refl
-  length-map f (x ∷ xs) = ap suc (length-map f xs)
-
   pub map-push : (f : X → Y) (xs : List X) (x : X) → map f (xs ++ x ∷ []) ≡ map f xs ++ f x ∷ []
   map-push f [] x = refl
   map-push f (y ∷ xs) x = ap (λ ys. f y ∷ ys) (map-push f xs x)
@@ -75,7 +72,7 @@ module _ {X Y : Type 0} where
     keeps = λ i y p.
         let r = map-slice_get f xs i y p in
         slice_get-map g us i r.0 (e.keeps i r.0 r.1) ∙ ap Some (sym (same i r.0 r.1) ∙ r.2);
-    longer = omega (arith, e.longer, length-map f xs, length-map g us);
+    longer = omega (arith, e.longer, length-map xs f, length-map us g);
   }
 
 -- ---- the numbers of names in a table

@@ -5,6 +5,7 @@ use Rattle.std.proofs.Common.{◌≡◌, ℕ, ◌<◌, false, List, [], ◌∷�
 use Rattle.std.proofs.Common.{slice_get, Some, refl, sym, ap, ◌∙◌, subst, arith}
 use Rattle.std.proofs.lemmas.List.Elements.{All-head, All-tail}
 use Rattle.std.proofs.lemmas.Option.{slice_get_within, get_or_from_slice_get}
+use Rattle.std.proofs.lemmas.List.{length-map}
 use Rattle.ot_plain.specs.Names.{Name}
 use Rattle.ot_plain.specs.Trees.{Alphabet, Ty, Tys, TyVar, TyOp, NoTys, MoreTys}
 use Rattle.ot_plain.specs.Trees.{Variable, Free, Con, Named, NVar, NConst, NApp, NAbs}
@@ -31,7 +32,7 @@ use Rattle.ot_kernel.proofs.Carried.{carry-op, carry-terms, carry-binder}
 use Rattle.ot_kernel.proofs.TermRules.{op-made, op-nesting, app-made, app-not_function}
 use Rattle.ot_kernel.proofs.TermRules.{app-argument_type, app-nesting, abs-made, abs-nesting}
 use Rattle.ot_kernel.proofs.Refusals.{refuses}
-use Rattle.ot_kernel.proofs.Namings.{slice_get-map, length-map, index-map, table_names, name_of-index}
+use Rattle.ot_kernel.proofs.Namings.{slice_get-map, index-map, table_names, name_of-index}
 
 -- ---- a new number
 module _ (ns : List Name) (u : TermTable) (held : Held) where
@@ -57,7 +58,7 @@ module _ (ns : List Name) (t : TermTable) (held : Held) (now : State) (view : st
   real_type i h =
       let e = ap (λ (s : State). length s.types) view in
       sym (index-map (map_ty (name_of ns)) t.types i (TyVar 0) (TyVar [])
-      (omega (arith, e, length-map (map_ty (name_of ns)) t.types))) ∙ ap (λ s. type_at s i) view
+      (omega (arith, e, length-map t.types (map_ty (name_of ns))))) ∙ ap (λ s. type_at s i) view
 
   pub real_types : (is : List ℕ) → All (λ i. i < length now.types) is
       → map_tys (name_of ns) (types.types_at t.types is) ≡ types_at now is
@@ -76,7 +77,7 @@ module _ (ns : List Name) (t : TermTable) (held : Held) (now : State) (view : st
   real_term i h =
       let e = ap (λ (s : State). length s.terms) view in
       sym (index-map (map_named (name_of ns)) t.terms i (NConst 0 (TyVar 0)) (NConst [] (TyVar []))
-      (omega (arith, e, length-map (map_named (name_of ns)) t.terms)))
+      (omega (arith, e, length-map t.terms (map_named (name_of ns)))))
       ∙ ap (λ (s : State). named_at s.terms i) view
 
   -- ---- calls that only want of memory refuses

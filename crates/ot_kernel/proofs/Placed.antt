@@ -3,7 +3,7 @@ use Rattle.std.specs.Prelude.{nat_eq, slice_get, slice_index_or, Some, None, Opt
 use Rattle.std.specs.Map.{lookup}
 use Rattle.std.proofs.Common.{◌≡◌, ℕ, ◌<◌, ◌≤◌, Bool, true, false, List, [], ◌∷◌, ◌++◌, length}
 use Rattle.std.proofs.Common.{refl, sym, ap, subst, ◌∙◌, inl, inr, arith, length-append}
-use Rattle.std.proofs.lemmas.List.{length-take, get_or-take}
+use Rattle.std.proofs.lemmas.List.{length-take, get_or-take, length-map}
 use Rattle.std.proofs.lemmas.Option.{slice_get_within, slice_get-get_or, same_Some, none-some}
 use Rattle.ot_plain.proofs.InternedLemmas.{slice_get-push}
 use Rattle.ot_plain.specs.Names.{Name}
@@ -18,7 +18,6 @@ use Rattle.ot_kernel.specs.Spelled.{Held, state_of, IsKernel}
 use Rattle.ot_kernel.specs.Numbered.{tm_at}
 use Rattle.ot_kernel.specs.Places.{IsPlaced}
 use Rattle.ot_kernel.specs.Alike.{HasPlace, AreFirstPlaces, IsFirstPlace}
-use Rattle.ot_kernel.proofs.Namings.{length-map}
 use Rattle.ot_kernel.proofs.Theorems.{same_tm-real}
 
 -- no terms
@@ -37,7 +36,7 @@ module _ (ns : List Name) (t : TermTable) (held : Held) (now : State) (view : st
   term_within i c at =
       let below = slice_get_within t.classes i c at in
       let terms = ap (λ (s : State). length s.terms) view in
-      omega (arith, below, k.table.classed, terms, length-map (map_named (name_of ns)) t.terms)
+      omega (arith, below, k.table.classed, terms, length-map t.terms (map_named (name_of ns)))
 
   -- terms that are one have one class
   pub one_class : (i j c d : ℕ) → slice_get t.classes i ≡ Some c → slice_get t.classes j ≡ Some d

@@ -4,7 +4,7 @@ use Rattle.std.specs.List.{All}
 use Rattle.std.specs.Map.{lookup}
 use Rattle.std.proofs.Common.{◌≡◌, ℕ, zero, suc, ◌<◌, ◌≤◌, Bool, true, false, cond, List, [], ◌∷◌, ◌++◌, length}
 use Rattle.std.proofs.Common.{take, drop, refl, sym, ap, subst, ◌∙◌, ◌⊎◌, inl, inr, arith, length-append, eqb-true}
-use Rattle.std.proofs.lemmas.Option.{slice_get_within, slice_get-get_or, get_or_from_slice_get, same_Some, none-some}
+use Rattle.std.proofs.lemmas.Option.{slice_get_within, slice_get-get_or, same_Some, none-some}
 use Rattle.std.proofs.lemmas.Bool.{cases_lt}
 use Rattle.std.proofs.lemmas.List.Elements.{All-head, All-tail}
 use Rattle.ot_plain.specs.Table.{Extends}
@@ -14,15 +14,13 @@ use Rattle.ot_kernel.specs.declared.theorem.Theorem.{Theorem}
 use Rattle.ot_kernel.specs.Places.{ArePlaces, IsPlaced}
 use Rattle.ot_kernel.specs.Spelled.{IsInside}
 use Rattle.ot_plain.proofs.Results.{none_from, some_from}
+use Rattle.ot_plain.proofs.Elements.{All-slice_get}
 
 module _ {X : Type 0} where
   -- an entry of the longer table at an old number
   older : (old new : List X) (i : ℕ) (x : X) → Extends old new → i < length old → slice_get new i ≡ Some x
       → slice_get old i ≡ Some x
   older old new i x e h at = let here = slice_get-get_or old i x h in here ∙ sym (e.keeps i _ here) ∙ at
-
-  pub All-at : (P : X → Type 0) (xs : List X) (i : ℕ) (x : X) → All P xs → slice_get xs i ≡ Some x → P x
-  All-at P xs i x all at = subst P (get_or_from_slice_get xs i x x at) (all i x (slice_get_within xs i x at))
 
   -- nothing is found among the first
   pub find-past : (p : X → Bool) (xs : List X) (n : ℕ) → All (λ x. p x ≡ false) (take n xs)
@@ -46,8 +44,8 @@ pub places-grown : (n : ℕ) (cs ds : List ℕ) (ths more : List Theorem) (is : 
     → ArePlaces cs ths is ps → ArePlaces ds more is ps
 places-grown n cs ds ths more is ps len e f numbered inside p = record {
   found = λ j i c th a b d.
-      let old = older ths more i th f (All-at (λ k. k < length ths) is j i numbered a) b in
-      let within = (All-at (IsInside n) ths i th inside old).concl in
+      let old = older ths more i th f (All-slice_get (λ k. k < length ths) is j i numbered a) b in
+      let within = (All-slice_get (IsInside n) ths i th inside old).concl in
       p.found j i c th a old (older cs ds th.concl c e (omega (arith, within, len)) d);
   within = p.within;
 }
@@ -78,7 +76,7 @@ places-more cs ths is qs th c class numbered p at = record {
     old j i d u h a b g =
         let a' = older is (is ++ length ths ∷ []) j i (Extends-append is (length ths ∷ [])) h a in
         p.found j i d u a' (older ths (ths ++ th ∷ []) i u (Extends-append ths (th ∷ []))
-        (All-at (λ k. k < length ths) is j i numbered a') b) g
+        (All-slice_get (λ k. k < length ths) is j i numbered a') b) g
 
     last : (j i d : ℕ) (u : Theorem) → length is ≤ j → slice_get (is ++ length ths ∷ []) j ≡ Some i
         → slice_get (ths ++ th ∷ []) i ≡ Some u → slice_get cs u.concl ≡ Some d

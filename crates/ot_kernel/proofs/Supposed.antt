@@ -8,6 +8,7 @@ use Rattle.std.proofs.Common.{◌∙◌, subst, arith, length-append, ◌⊎◌,
 use Rattle.std.proofs.Math.Seq.{get_or-append_seam}
 use Rattle.std.proofs.lemmas.List.Elements.{All-push}
 use Rattle.std.proofs.lemmas.List.Quantifiers.{all_pairs_push}
+use Rattle.std.proofs.lemmas.List.{length-map}
 use Rattle.ot_plain.specs.Lists.{AreDistinct}
 use Rattle.ot_plain.specs.Names.{Name}
 use Rattle.ot_plain.specs.Trees.{Ty, Tm, Bound, Sequent, Definition}
@@ -43,7 +44,7 @@ use Rattle.ot_kernel.proofs.Accepted.{held_stay, definitions_kept}
 use Rattle.ot_kernel.proofs.EquationRules.{refuses_rule, memory_refuses}
 use Rattle.ot_kernel.proofs.Growth.{named_at-Extends, hyps-Extends}
 use Rattle.ot_kernel.proofs.Later.{Later, now_within, alphabet_at, over-terms}
-use Rattle.ot_kernel.proofs.Namings.{length-map, map-push, map-drop}
+use Rattle.ot_kernel.proofs.Namings.{map-push, map-drop}
 use Rattle.ot_kernel.proofs.Theorems.{sequents_at-push}
 
 -- ---- growth
@@ -114,7 +115,7 @@ assumed_from ns t held th ps c place class here noted k p new = record { kernel 
     }
 
     same_length : length qs ≡ length held.theorems
-    same_length = length-map f held.theorems
+    same_length = length-map held.theorems f
 
     theorems : map f (held.theorems ++ th ∷ []) ≡ qs ++ q ∷ []
     theorems = map-push f held.theorems th
@@ -162,7 +163,7 @@ assumed_from ns t held th ps c place class here noted k p new = record { kernel 
       terms = k.terms;
       table = k.table;
       inside = All-push (IsInside (length t.terms)) held.theorems th k.inside
-          (subst (λ n. IsInside n th) (length-map (map_named (name_of ns)) t.terms) p.inside);
+          (subst (λ n. IsInside n th) (length-map t.terms (map_named (name_of ns))) p.inside);
       numbered = All-push (λ i. i < length (held.theorems ++ th ∷ [])) held.assumptions (length held.theorems)
           (λ i d h. let l = k.numbered i d h in omega (arith, l, length-append held.theorems (th ∷ [])))
           (omega (arith, length-append held.theorems (th ∷ [])));

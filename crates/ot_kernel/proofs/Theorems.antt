@@ -3,7 +3,7 @@ use Rattle.std.specs.Prelude.{Bool, Result, Ok, Err, IfOk, IfErr}
 use Rattle.std.specs.List.{All}
 use Rattle.std.proofs.Common.{◌≡◌, ℕ, ◌<◌, List, [], ◌∷◌, ◌++◌, map, length, slice_index_or}
 use Rattle.std.proofs.Common.{refl, sym, ap, ◌∙◌, subst, arith, length-append}
-use Rattle.std.proofs.lemmas.List.{get_or_append_left}
+use Rattle.std.proofs.lemmas.List.{get_or_append_left, length-map}
 use Rattle.std.proofs.lemmas.List.Elements.{All-head, All-tail, All-push}
 use Rattle.ot_plain.specs.Names.{Name}
 use Rattle.ot_plain.specs.Faults.{Fault}
@@ -31,7 +31,7 @@ use Rattle.ot_kernel.specs.Answers.{Concludes}
 use Rattle.ot_kernel.proofs.Carried.{carry-sequents}
 use Rattle.ot_kernel.proofs.EquationRules.{memory_refuses}
 use Rattle.ot_kernel.proofs.Numbers.{real_term}
-use Rattle.ot_kernel.proofs.Namings.{index-map, length-map, map-push, table_names}
+use Rattle.ot_kernel.proofs.Namings.{index-map, map-push, table_names}
 
 -- ---- a number of a theorem
 pub real_theorem : (ns : List Name) (t : TermTable) (held : Held) (now : State) → state_of ns t held ≡ now
@@ -44,7 +44,7 @@ real_theorem ns t held now view i th h p =
     ap (λ (s : State). record { hyps = terms_at s th.hyps; concl = term_at s th.concl }) (sym view)
     ∙ ap f p
     ∙ sym (index-map f held.theorems i th (record { hyps = []; concl = Bound 0 })
-    (omega (arith, e, length-map f held.theorems)))
+    (omega (arith, e, length-map held.theorems f)))
     ∙ ap (λ s. theorem_at s i) view
 
 -- ---- a sequent that is compared with a theorem's
@@ -77,8 +77,8 @@ module _ (ns : List Name) (t : TermTable) (held : Held) (now : State) (view : st
   same-real i th hyps concl b h p g l q =
       let e = ap (λ (s : State). length s.theorems) view in
       let d = ap (λ (s : State). length s.terms) view in
-      let f = length-map (sequent_of (state_of ns t held).terms) held.theorems in
-      let n = length-map (map_named (name_of ns)) t.terms in
+      let f = length-map held.theorems (sequent_of (state_of ns t held).terms) in
+      let n = length-map t.terms (map_named (name_of ns)) in
       let inside : IsInside (length t.terms) th =
       subst (IsInside (length t.terms)) (sym p) (k.inside i th (omega (arith, e, f))) in
       let within : All (λ i. i < length now.terms) th.hyps = λ j x m. let w = inside.hyps j x m in
@@ -150,7 +150,7 @@ pushed_from ns t held ths th k e inside follows =
     assumed =
         ap (λ l. sequents_at l held.assumptions) theorems
         ∙ sequents_at-push qs q held.assumptions
-        (λ i d h. let l = k.numbered i d h in omega (arith, l, length-map f held.theorems))
+        (λ i d h. let l = k.numbered i d h in omega (arith, l, length-map held.theorems f))
 
     defined : (state_of ns t more).definitions ≡ (state_of ns t held).definitions
     defined = definitions_kept ns t held (undefined_state ns t more) k (Extends-refl _) (Extends-refl _) longer
@@ -176,7 +176,7 @@ pushed_from ns t held ths th k e inside follows =
       terms = k.terms;
       table = k.table;
       inside = All-push (IsInside (length t.terms)) held.theorems th k.inside
-          (subst (λ n. IsInside n th) (length-map (map_named (name_of ns)) t.terms) inside);
+          (subst (λ n. IsInside n th) (length-map t.terms (map_named (name_of ns))) inside);
       numbered = λ i d h. let l = k.numbered i d h in omega (arith, l, length-append held.theorems (th ∷ []));
       accepted = held_stay (state_of ns t held) (state_of ns t more) (Extends-refl _) (Extends-refl _) longer
           held.definitions k.accepted;

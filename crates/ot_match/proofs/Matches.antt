@@ -8,10 +8,11 @@ use Rattle.std.proofs.lemmas.Bool.Decides.{Decides-and, Decides-like}
 use Rattle.std.proofs.lemmas.Option.{same_Some}
 use Rattle.ot_plain.specs.Trees.{Alphabet, Ty, Variable, Tm, Free}
 use Rattle.ot_plain.specs.Hol.{TypeMap, TermMap, type_at, term_at, inst, inst_var}
-use Rattle.ot_plain.specs.Hol.{same_var, same_tm, subst_tm, vars_tm, bind, HasType, IsFree, IsTyped}
+use Rattle.ot_plain.specs.Hol.{same_var, same_tm, subst_tm, vars_tm, bind, IsFree, IsTyped}
 use Rattle.ot_plain.specs.Rules.{has_type}
 use Rattle.ot_plain.specs.Lists.{IsMember, AreDistinct}
-use Rattle.ot_laws.proofs.Tests.{Tells, cases_of, var_cases, same_var-is, same_tm-is, has_type-is}
+use Rattle.ot_laws.proofs.Tests.{Tells, cases_of, same_var-is, same_tm-is, has_type-is}
+use Rattle.ot_laws.proofs.Typed.{term_at-typed}
 use Rattle.ot_match.specs.Matching.{each_once, same_key, keys, frees_tm, IsMatch, type_pairs_tm}
 use Rattle.ot_match.specs.Matching.{term_pairs, type_part, term_part, is_match, matched_by, matched}
 use Rattle.ot_match.specs.Laws.{MatchedIsMatch, NoneMatch, OneMatch, AnySubstitution}
@@ -29,15 +30,6 @@ map-self [] = refl
 map-self (x ∷ xs) = ap (λ zs. x ∷ zs) (map-self xs)
 
 module _ {N : Type 0} (alphabet : Alphabet N) (tells : Tells alphabet) where
-  -- the term of each variable has its type
-  pub term_at-typed : (m : TermMap alphabet) (v : Variable N) → IsTyped alphabet m
-      → HasType alphabet (term_at alphabet m v) v.ty
-  term_at-typed [] v h = refl
-  term_at-typed (p ∷ m) v h = elim (var_cases alphabet tells v p.0) [
-    | inl q ↦ rw (q.0, q.1) h.0
-    | inr q ↦ rw q.0 (term_at-typed m v h.1)
-  ]
-
   typed-is : (m : TermMap alphabet) → Decides (list_all (λ q. has_type alphabet q.1 q.0.ty) m) (IsTyped alphabet m)
   typed-is [] = ((λ h. tt), (λ h. refl))
   typed-is (q ∷ m) = Decides-and (has_type alphabet q.1 q.0.ty) (list_all (λ r. has_type alphabet r.1 r.0.ty) m)
@@ -56,7 +48,7 @@ module _ {N : Type 0} (alphabet : Alphabet N) (tells : Tells alphabet) where
     types-are =
         rw (← gives) (type_pairs_tm-bind alphabet (type_at alphabet s)
         (λ v. term_at alphabet m (inst_var alphabet s v)) p
-        (λ v i. term_at-typed m (inst_var alphabet s v) typed))
+        (λ v i. term_at-typed alphabet tells m (inst_var alphabet s v) typed))
 
     terms-are : term_pairs alphabet p c ≡ map (λ v. (v, term_at alphabet m (inst_var alphabet s v)))
         (frees_tm alphabet p)
@@ -215,7 +207,7 @@ module _ {N : Type 0} (alphabet : Alphabet N) (tells : Tells alphabet) where
 
       typed_m : (ws : List (Variable N)) → IsTyped alphabet (map (λ w. (w, term_at alphabet k w)) ws)
       typed_m [] = tt
-      typed_m (w ∷ ws) = (term_at-typed k w typed, typed_m ws)
+      typed_m (w ∷ ws) = (term_at-typed alphabet tells k w typed, typed_m ws)
 
       same : subst_tm alphabet s m p ≡ subst_tm alphabet r k p
       same = bind-same alphabet (type_at alphabet s) (type_at alphabet r)

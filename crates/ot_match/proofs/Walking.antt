@@ -14,11 +14,12 @@ use Rattle.ot_plain.specs.Hol.{TypeMap, TermMap, type_at, term_at, inst_by, inst
 use Rattle.ot_plain.specs.Hol.{vars_tm, bind, subst_tm, type_in, HasType, IsTyped, same_ty, same_var, same_tm}
 use Rattle.ot_plain.specs.Lists.{IsMember, AreDistinct}
 use Rattle.ot_laws.proofs.Tests.{Tells, cases_of, same_ty-is, same_var-is, same_tm-is}
+use Rattle.ot_laws.proofs.Typed.{term_at-typed}
 use Rattle.ot_match.specs.Matching.{keys, frees_tm, each_once, IsMatch, matched}
 use Rattle.ot_match.specs.Walk.{◌>>=◌, put, put_type, put_term, walk_type, walk_types}
 use Rattle.ot_match.specs.Walk.{walk_var, walk_in_type, walk_term, Maps, WalkMatches}
 use Rattle.ot_match.proofs.Once.{each_once-distinct, by-keys}
-use Rattle.ot_match.proofs.Matches.{term_at-typed, any_substitution, matched_is_match}
+use Rattle.ot_match.proofs.Matches.{any_substitution, matched_is_match}
 use Rattle.ot_match.proofs.Adding.{added, all_added, added-distinct, all_added-append, all_added-each_once}
 
 bind-some : {A B : Type 0} (o : Option A) (f : A → Option B) (y : B) → (o >>= f) ≡ Some y

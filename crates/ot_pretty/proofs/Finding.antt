@@ -17,13 +17,13 @@ use Rattle.ot_plain.proofs.Naming.{name_of-injective}
 use Rattle.ot_laws.proofs.Sets.{same_set-self, same_set-then, same_set-append, same_set-swap}
 use Rattle.ot_laws.proofs.Symbols.{symbols-abs}
 use Rattle.ot_laws.proofs.Tests.{tells_names}
-use Rattle.ot_type.proofs.SubtypeLemmas.{less_is, All-member}
+use Rattle.ot_type.proofs.SubtypeLemmas.{less_is}
 use Rattle.ot_term.specs.declared.term.Symbol as code
 use Rattle.ot_term.specs.declared.term.SymbolKind.{SymbolKind}
 use Rattle.ot_term.specs.declared.term.SymbolKind.TheVariants as kinds
 use Rattle.ot_term.proofs.Distinct.{symbol_eq, symbol-is, distinct_members, distinct_once}
 use Rattle.ot_term.proofs.GatherLemmas.{same_set-map}
-use Rattle.ot_term.proofs.Walking.{member_push, set_one}
+use Rattle.ot_term.proofs.Walking.{set_one}
 use Rattle.ot_kernel.specs.State.{State, name_at, type_at, types_at, term_at, terms_at, named_at}
 use Rattle.ot_kernel.proofs.Namings.{name_of-index}
 use Rattle.ot_pretty.specs.declared.search.Search.{Search}
@@ -32,7 +32,7 @@ use Rattle.ot_pretty.specs.Found.{type_symbols, term_symbols, symbols_with, IsSe
 use Rattle.ot_pretty.specs.Found.{Reaches, AddsSymbol, AddsType, AddsTerm, AddsTypes}
 use Rattle.ot_pretty.proofs.Roots.{take-item}
 use Rattle.ot_plain.proofs.Members.{IsMember-flat_map, IsMember-flat_map_back}
-use Rattle.ot_plain.proofs.Members.{IsMember-last, IsMember-left, IsMember-map_back}
+use Rattle.ot_plain.proofs.Members.{IsMember-last, IsMember-left, IsMember-map_back, IsMember-push, All-at_member}
 
 -- ---- sets
 same-list : {X : Type 0} {xs ys : List X} → xs ≡ ys → IsSameSet xs ys
@@ -95,7 +95,7 @@ module _ (s : State) (n m : ℕ) where
 
   pushed : (i k : ℕ) (old new : List ℕ) (bound : ℕ) → i < bound → new ≡ insert_ordered nat_cmp old i → IsMember k new
       → IsMember k old ⊎ (k < bound)
-  pushed i k old new bound h e at = elim (member_push i k old ((set_one old i).to k (subst (IsMember k) e at)))
+  pushed i k old new bound h e at = elim (IsMember-push k old i ((set_one old i).to k (subst (IsMember k) e at)))
       [ inl a ↦ inl a | inr same ↦ inr (subst (λ z. z < bound) same h) ]
 
   abbrev symbols_so : Search → List (Symbol Name)
@@ -163,7 +163,7 @@ module _ (s : State) (n m : ℕ) where
       record {
         terms = λ k m. inl (subst (IsMember k) t m);
         types = λ k m. inl (subst (IsMember k) y m);
-        inside = λ z m. elim (member_push x z old.symbols.keys (one.to z m))
+        inside = λ z m. elim (IsMember-push z old.symbols.keys x (one.to z m))
             [ inl k ↦ inl k | inr same ↦ inr (subst (λ (w : code.Symbol). w.name < length s.names) same h) ];
         once = λ d. subst AreDistinct (sym e) (distinct_once symbol_eq symbol-is old.symbols.keys (x ∷ []) d);
         symbols = subst (λ l. IsSameSet l ((a ++ r) ++ d))
@@ -274,7 +274,7 @@ module _ (s : State) where
 
   -- ---- the greatest number is taken, and looked at
   below : (i k : ℕ) (ks : List ℕ) → All (λ q. nat_cmp q i ≡ Less) ks → IsMember k ks → k < i
-  below i k ks h m = less_is k i (All-member (λ q. nat_cmp q i ≡ Less) ks h k m)
+  below i k ks h m = less_is k i (All-at_member (λ q. nat_cmp q i ≡ Less) ks k h m)
 
   pub terms-below : {m : ℕ} {old new : Search} {more : List (Symbol Name)} (i : ℕ) → All (λ q. nat_cmp q i ≡ Less)
       old.terms.keys → Finds s i m old new more → (k : ℕ) → IsMember k new.terms.keys → k < i
@@ -435,7 +435,7 @@ module _ (s : State) (table : IsNameTable s.names) where
         λ m.
             let w = IsMember-map_back (named_symbol s) (named_symbol s x) xs m in
             d.0 (subst (λ z. IsMember z xs)
-            (one-number w.0 x (All-member (λ (z : code.Symbol). z.name < length s.names) xs rest w.0 w.1)
+            (one-number w.0 x (All-at_member (λ (z : code.Symbol). z.name < length s.names) xs w.0 rest w.1)
             (All-head (λ (z : code.Symbol). z.name < length s.names) x xs h) w.2) w.1),
         named-once xs rest d.1,
       )

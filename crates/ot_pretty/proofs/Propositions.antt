@@ -24,8 +24,7 @@ use Rattle.ot_kernel.proofs.Namings.{bound_named-get}
 use Rattle.ot_forms.specs.Forms.{HasNames, HaveNames, HaveTermNames}
 use Rattle.ot_forms.specs.Laws.{IsProposition, ArePropositions}
 use Rattle.ot_print.proofs.Spelled.{name_is, term_is, term_inside, lettered}
-use Rattle.ot_type.proofs.SubtypeLemmas.{All-member}
-use Rattle.ot_plain.proofs.Members.{IsMember-map_back}
+use Rattle.ot_plain.proofs.Members.{IsMember-map_back, All-at_member}
 
 module _ (s : State) (t : TermTable) (k : IsSpelled s t) (table : IsNameTable s.names) where
   abbrev f : ℕ → Name
@@ -86,7 +85,7 @@ module _ (s : State) (t : TermTable) (k : IsSpelled s t) (table : IsNameTable s.
     hyps = λ u m.
         let w = IsMember-map_back (term_at s) u hs (subst (IsMember u) (sym p) m) in
         let h = all-member (λ v. HasType names v (bool_ty names)) q.hyps typed.hyps u m in
-        subst IsProposition w.2 (proposition w.0 (All-member (λ i. i < length s.terms) hs inside w.0 w.1)
+        subst IsProposition w.2 (proposition w.0 (All-at_member (λ i. i < length s.terms) hs w.0 inside w.1)
         (subst (λ v. HasType names v (bool_ty names)) (sym w.2) h));
     concl = subst IsProposition r
         (proposition c within (subst (λ v. HasType names v (bool_ty names)) (sym r) typed.concl));

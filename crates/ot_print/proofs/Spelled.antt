@@ -5,6 +5,7 @@ use Rattle.std.proofs.Common.{◌≡◌, ℕ, ◌<◌, ◌≤◌, false, nat_eq,
 use Rattle.std.proofs.Common.{slice_index_or, Option, Some, None, refl, sym, ap, ◌∙◌, subst, arith}
 use Rattle.std.proofs.lemmas.List.Elements.{All-head, All-tail}
 use Rattle.std.proofs.lemmas.Option.{slice_get_within, get_or_from_slice_get}
+use Rattle.std.proofs.lemmas.List.{length-map}
 use Rattle.ot_plain.specs.Names.{Name}
 use Rattle.ot_plain.specs.Trees.{Alphabet, Ty, TyVar, TyOp, NoTys, MoreTys, Variable}
 use Rattle.ot_plain.specs.Trees.{Tm, Con, App, Named, NVar, NConst, NApp, NAbs}
@@ -31,7 +32,7 @@ use Rattle.ot_alpha.proofs.Comparison.{same_type}
 use Rattle.ot_kernel.specs.State.{State, name_at, type_at, types_at, variable_at, named_at}
 use Rattle.ot_kernel.specs.Spelled.{IsSpelled}
 use Rattle.ot_kernel.proofs.Carried.{carry-term}
-use Rattle.ot_kernel.proofs.Namings.{length-map, index-map, name_of-index, table_names, bound_ty-get, bound_named-get}
+use Rattle.ot_kernel.proofs.Namings.{index-map, name_of-index, table_names, bound_ty-get, bound_named-get}
 use Rattle.ot_text.specs.Texts.{is_function, is_equation}
 use Rattle.ot_print.specs.Nodes.{type_tree, IsTypeNode, IsKey, term_tree, IsTermNode, equation_of}
 
@@ -102,10 +103,10 @@ module _ (s : State) (t : TermTable) (k : IsSpelled s t) (table : IsNameTable s.
   f = name_of s.names
 
   types-length : length s.types ≡ length t.types
-  types-length = ap length k.types ∙ length-map (map_ty f) t.types
+  types-length = ap length k.types ∙ length-map t.types (map_ty f)
 
   terms-length : length s.terms ≡ length t.terms
-  terms-length = ap length k.terms ∙ length-map (map_named f) t.terms
+  terms-length = ap length k.terms ∙ length-map t.terms (map_named f)
 
   pub type_inside : (i : ℕ) → i < length s.types → i < length t.types
   type_inside i h = omega (arith, types-length)

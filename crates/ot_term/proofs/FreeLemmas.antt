@@ -7,7 +7,6 @@ use Rattle.ot_plain.specs.Trees.{Ty, Variable, Tm, Free, Con, Bound, App, Abs, N
 use Rattle.ot_plain.specs.Hol.{IsClosed, IsFree, nameless}
 use Rattle.ot_plain.specs.Naming.{numbers}
 use Rattle.ot_type.specs.TypeTable.{type_at}
-use Rattle.ot_type.proofs.SubtypeLemmas.{All-from_member}
 use Rattle.ot_class.specs.Class.{class_at, variable_by, numbered, variable_of as nameless_variable}
 use Rattle.ot_class.specs.Spelled.{IsOver, spelled, spelled_ty, spelled_var}
 use Rattle.ot_class.specs.declared.node.Key.{Key}
@@ -18,7 +17,7 @@ use Rattle.ot_term.specs.declared.table.Beside.{Beside}
 use Rattle.ot_term.specs.declared.term.TermNode.{TermNode}
 use Rattle.ot_term.specs.declared.term.VarKey.{VarKey}
 use Rattle.ot_term.proofs.TermTableLemmas.{table_of}
-use Rattle.ot_plain.proofs.Members.{IsMember-map, IsMember-map_back}
+use Rattle.ot_plain.proofs.Members.{IsMember-map, IsMember-map_back, All-from_members}
 
 -- the images of distinct items by a function that tells them apart
 pub distinct-map : {X Y : Type 0} (f : X → Y) → ((x y : X) → f x ≡ f y → x ≡ y) → (xs : List X) → AreDistinct xs
@@ -70,7 +69,7 @@ pub free_of_class : (tys : List (Ty ℕ)) (cs : List (Tm ℕ)) (t : Named ℕ) (
     → ((v : Key) → IsMember v ks ↔ IsFree numbers (nameless_variable v) (class_at cs c)) → AreDistinct ks
     → AreFree tys t (map var_key ks)
 free_of_class tys cs t c ks class free once = record {
-  within = All-from_member (λ (v : VarKey). v.ty < length tys) (map var_key ks) (λ v m.
+  within = All-from_members (λ (v : VarKey). v.ty < length tys) (map var_key ks) (λ v m.
       let (k, n, e) = IsMember-map_back var_key v ks m in
       subst (λ (v : VarKey). v.ty < length tys) e
       (free-over (length tys) (class_at cs c) class.over k.name k.ty ((free k).0 n)));

@@ -13,13 +13,12 @@ use Rattle.ot_plain.specs.Naming.{numbers}
 use Rattle.ot_plain.specs.Table.{IsInjective}
 use Rattle.ot_plain.proofs.TableLemmas.{get_or-IsInjective}
 use Rattle.ot_laws.proofs.Tests.{tells_numbers, is_free-is}
-use Rattle.ot_type.proofs.SubtypeLemmas.{All-member, All-from_member}
 use Rattle.ot_class.specs.Class.{class_at, variable_by}
 use Rattle.ot_term.specs.Free.{key_at, AreTypesOf}
 use Rattle.ot_term.specs.TermTable.{variable_of, IsClassOf}
 use Rattle.ot_term.proofs.FreeLemmas.{free-over, spelled-free, free-spelled, distinct-map}
 use Rattle.ot_term.specs.declared.term.VarKey.{VarKey}
-use Rattle.ot_plain.proofs.Members.{IsMember-map, IsMember-map_back}
+use Rattle.ot_plain.proofs.Members.{IsMember-map, IsMember-map_back, All-at_member, All-from_members}
 
 -- ---- the types that stand beside a name
 pub types_of_class : (tys : List (Ty ℕ)) (cs : List (Tm ℕ)) (t : Named ℕ) (c name : ℕ) (ks : List ℕ)
@@ -27,7 +26,7 @@ pub types_of_class : (tys : List (Ty ℕ)) (cs : List (Tm ℕ)) (t : Named ℕ) 
     → ((k : ℕ) → IsMember k ks ↔ IsFree numbers (variable_by name k) (class_at cs c)) → AreDistinct ks
     → AreTypesOf tys name t ks
 types_of_class tys cs t c name ks class free once = record {
-  within = All-from_member (λ k. k < length tys) ks
+  within = All-from_members (λ k. k < length tys) ks
       (λ k m. free-over (length tys) (class_at cs c) class.over name k ((free k).0 m));
   to = λ k m. subst (IsFree numbers (variable_of tys (key_at name k))) class.form
       (spelled-free tys (class_at cs c) (variable_by name k) ((free k).0 m));
@@ -47,9 +46,9 @@ types_of_result (Err e) tys cs t c name class free once = tt
 
 module _ (tys : List (Ty ℕ)) (name : ℕ) (t : Named ℕ) (ks : List ℕ) (h : AreTypesOf tys name t ks) where
   pub named-within : All (λ v. v.ty < length tys) (map (key_at name) ks)
-  named-within = All-from_member (λ (v : VarKey). v.ty < length tys) (map (key_at name) ks) (λ v m.
+  named-within = All-from_members (λ (v : VarKey). v.ty < length tys) (map (key_at name) ks) (λ v m.
       let (k, n, e) = IsMember-map_back (key_at name) v ks m in
-      subst (λ (v : VarKey). v.ty < length tys) e (All-member (λ k. k < length tys) ks h.within k n))
+      subst (λ (v : VarKey). v.ty < length tys) e (All-at_member (λ k. k < length tys) ks k h.within n))
 
   pub named-free : (w : Variable ℕ) → IsMember w (map (variable_of tys) (map (key_at name) ks))
       ↔ ((w.name ≡ name) × IsFree numbers w (nameless numbers t))
@@ -96,4 +95,4 @@ named-is_free tys one v below t ks h =
     back f =
         let (k, m, e) = h.back (variable_of tys v) refl f in
         subst (λ j. IsMember j ks)
-        (get_or-IsInjective tys one k v.ty (TyVar 0) (All-member (λ k. k < length tys) ks h.within k m) below e) m
+        (get_or-IsInjective tys one k v.ty (TyVar 0) (All-at_member (λ k. k < length tys) ks k h.within m) below e) m

@@ -16,8 +16,8 @@ use Rattle.ot_term.specs.TermTable.{term_at, term_of}
 use Rattle.ot_term.specs.Walk.{AddsParts, AreFound, IsInsideSome}
 use Rattle.ot_term.specs.Gather.{IsSubterm, own_type, IsMentioned, AreOwnTypes}
 use Rattle.ot_term.specs.declared.term.TermNode.{TermNode}
-use Rattle.ot_term.proofs.Walking.{IsSearch, search_start, member_push, set_one, set_with}
-use Rattle.ot_plain.proofs.Members.{IsMember-cases, IsMember-left, IsMember-right}
+use Rattle.ot_term.proofs.Walking.{IsSearch, search_start, set_one, set_with}
+use Rattle.ot_plain.proofs.Members.{IsMember-cases, IsMember-left, IsMember-right, IsMember-push}
 
 -- ---- subterms
 pub IsSubterm-refl : (t : Named ℕ) → IsSubterm t t
@@ -88,7 +88,7 @@ module _ (ts : List (Named ℕ)) where
       let same : IsSameSet ys (xs ++ b ∷ []) = subst (λ ys. IsSameSet ys (xs ++ b ∷ [])) (sym is) (set_one xs b) in
       record {
         kept = λ y m. same.back y (IsMember-left y xs (b ∷ []) m);
-        each = λ y m. elim (member_push b y xs (same.to y m)) [
+        each = λ y m. elim (IsMember-push y xs b (same.to y m)) [
           | inl a ↦ inl a
           | inr e ↦
               inr (subst (λ y. (y < i) × IsSubterm (term_at ts y) (term_at ts i)) e
@@ -143,7 +143,7 @@ module _ (t : TermTable) where
       → AreOwnTypes t (ids ++ i ∷ []) ks
   own_skip ids ks i own none = record {
     each = λ k m. let e = own.each k m in (e.0, (e.1.0, IsMember-left e.1.0 ids (i ∷ []) e.1.1, e.1.2));
-    all = λ j ty m e. elim (member_push i j ids m) [
+    all = λ j ty m e. elim (IsMember-push j ids i m) [
       | inl a ↦ own.all j ty a e
       | inr same ↦ let clash : None ≡ Some ty = sym none ∙ ap (λ j. own_type (term_at t.terms j)) same ∙ e in cc
     ];
@@ -155,14 +155,14 @@ module _ (t : TermTable) where
   own_push ids ks i k new own below here is =
       let same : IsSameSet new (ks ++ k ∷ []) = subst (λ l. IsSameSet l (ks ++ k ∷ [])) (sym is) (set_one ks k) in
       record {
-        each = λ j m. elim (member_push k j ks (same.to j m)) [
+        each = λ j m. elim (IsMember-push j ks k (same.to j m)) [
           | inl a ↦ let e = own.each j a in (e.0, (e.1.0, IsMember-left e.1.0 ids (i ∷ []) e.1.1, e.1.2))
           | inr e ↦
               subst (λ j. (j < length t.types)
               × ((i' : ℕ) × IsMember i' (ids ++ i ∷ []) × (own_type (term_at t.terms i') ≡ Some (type_at t.types j))))
               e (below, (i, IsMember-right i ids (i ∷ []) (inl refl), here))
         ];
-        all = λ j ty m e. elim (member_push i j ids m) [
+        all = λ j ty m e. elim (IsMember-push j ids i m) [
           | inl a ↦ let p = own.all j ty a e in (p.0, same.back p.0 (IsMember-left p.0 ks (k ∷ []) p.1), p.2)
           | inr eq ↦ (
             k,

@@ -8,14 +8,10 @@ use Rattle.std.specs.declared.cmp.Ordering.TheVariants.{Less}
 use Rattle.std.specs.BTreeSet.{insert_key}
 use Rattle.ot_plain.specs.Lists.{IsMember, IsSameSet}
 use Rattle.ot_type.specs.Subtypes.{IsFalling}
-use Rattle.ot_type.proofs.SubtypeLemmas.{less_is, added_one, All-member}
+use Rattle.ot_type.proofs.SubtypeLemmas.{less_is, added_one}
 use Rattle.ot_term.specs.Walk.{AreFound, AddsParts, IsInsideSome}
-use Rattle.ot_plain.proofs.Members.{IsMember-cases, IsMember-last, IsMember-left, IsMember-right}
-
-module _ {X : Type 0} where
-  pub member_push : (x y : X) (xs : List X) → IsMember y (xs ++ x ∷ []) → IsMember y xs ⊎ (x ≡ y)
-  member_push x y xs h = elim (IsMember-cases y xs (x ∷ []) h)
-      [ inl a ↦ inl a | inr b ↦ elim b [ inl e ↦ inr e | inr never ↦ absurd never ] ]
+use Rattle.ot_plain.proofs.Members.{IsMember-cases, IsMember-last, IsMember-left, IsMember-right, IsMember-push}
+use Rattle.ot_plain.proofs.Members.{All-at_member}
 
 -- a set of numbers with one more
 nothing_more : (ks : List ℕ) → IsSameSet ks (ks ++ [])
@@ -36,7 +32,7 @@ set_with ks (i ∷ ids) =
     let one = set_one ks i in
     record {
       to = λ x h. elim (IsMember-cases x (insert_key nat_cmp ks i) ids (rest.to x h)) [
-        | inl a ↦ elim (member_push i x ks (one.to x a))
+        | inl a ↦ elim (IsMember-push x ks i (one.to x a))
             [ inl k ↦ IsMember-left x ks (i ∷ ids) k | inr e ↦ IsMember-right x ks (i ∷ ids) (inl e) ]
         | inr b ↦ IsMember-right x ks (i ∷ ids) (inr b)
       ];
@@ -75,7 +71,7 @@ module _ {T : Type 0} (tree : ℕ → T) (Inside : T → T → Type 0) (len : �
   falling-push : (xs : List ℕ) (y : ℕ) → IsFalling xs → ((x : ℕ) → IsMember x xs → y < x) → IsFalling (xs ++ y ∷ [])
   falling-push [] y f h = (λ z never. absurd never, tt)
   falling-push (x ∷ xs) y f h = (
-    λ z m. elim (member_push y z xs m) [ inl a ↦ f.0 z a | inr e ↦ subst (λ z. z < x) e (h x (inl refl)) ],
+    λ z m. elim (IsMember-push z xs y m) [ inl a ↦ f.0 z a | inr e ↦ subst (λ z. z < x) e (h x (inl refl)) ],
     falling-push xs y f.1 (λ z m. h z (inr m)),
   )
 
@@ -84,13 +80,17 @@ module _ {T : Type 0} (tree : ℕ → T) (Inside : T → T → Type 0) (len : �
     -- what is pending now is below the number that is found
     pub all_below : (y : ℕ) → IsMember y qs → y < k
     all_below y m =
-        elim (adds.each y m) [ inl a ↦ less_is y k (All-member (λ q. nat_cmp q k ≡ Less) ps least y a) | inr b ↦ b.0 ]
+        elim (adds.each y m) [
+          | inl a ↦ less_is y k (All-at_member (λ q. nat_cmp q k ≡ Less) ps y least a)
+          | inr b ↦
+              b.0
+        ]
 
     pub search_step : ((u v : T) → Inside u v → IsAsked v → IsAsked u) → IsSearch (found ++ k ∷ []) qs
     search_step closed =
         let top = s.each_pending k (IsMember-last k ps) in
         record {
-          each_found = λ x m. elim (member_push k x found m) [
+          each_found = λ x m. elim (IsMember-push x found k m) [
             | inl a ↦ s.each_found x a
             | inr e ↦ subst (λ x. (x < len) × IsAsked (tree x)) e top
           ];
@@ -98,14 +98,14 @@ module _ {T : Type 0} (tree : ℕ → T) (Inside : T → T → Type 0) (len : �
             | inl a ↦ s.each_pending y (IsMember-left y ps (k ∷ []) a)
             | inr b ↦ (omega (arith, b.0, top.0), closed (tree y) (tree k) b.1 top.1)
           ];
-          apart = λ x y m n. let low = all_below y n in elim (member_push k x found m) [
+          apart = λ x y m n. let low = all_below y n in elim (IsMember-push x found k m) [
             | inl a ↦ omega (arith, low, s.apart x k a (IsMember-last k ps))
             | inr e ↦ subst (λ x. y < x) e low
           ];
           falling = falling-push found k s.falling (λ x m. s.apart x k m (IsMember-last k ps));
           all = λ u h. elim (s.all u h) [
             | inl a ↦ inl (a.0, IsMember-left a.0 found (k ∷ []) a.1, a.2)
-            | inr b ↦ elim (member_push k b.0 ps b.1) [
+            | inr b ↦ elim (IsMember-push b.0 ps k b.1) [
               | inl m ↦ inr (b.0, adds.kept b.0 m, b.2)
               | inr e ↦ elim (adds.all u (subst (λ y. Inside u (tree y)) (sym e) b.2)) [
                 | inl same ↦ inl (k, IsMember-last k found, sym same)

@@ -1,5 +1,5 @@
 -- Lemmas on substitution in the table of types.
-use Rattle.std.proofs.Common.{◌≡◌, ℕ, ◌<◌, ◌≤◌, Bool, true, false, ◌&&◌, cond, nat_eq}
+use Rattle.std.proofs.Common.{◌≡◌, ℕ, ◌<◌, ◌≤◌, Bool, true, false, cond, nat_eq}
 use Rattle.std.proofs.Common.{eqb-true, inl, inr, List, [], ◌∷◌, ◌++◌, length, slice_get}
 use Rattle.std.proofs.Common.{Some, is_some, unwrap_or, true≢false, get_or, take, refl, sym, ap, subst, ◌∙◌, arith}
 use Rattle.std.proofs.Common.{◌+◌}
@@ -7,6 +7,7 @@ use Rattle.std.specs.List.{All, AllZip}
 use Rattle.std.specs.Map.{lookup}
 use Rattle.std.proofs.lemmas.List.Elements.{All-head, All-tail, All-cons, All-nil, all_zip_more}
 use Rattle.std.proofs.lemmas.Option.{get_or_from_slice_get, slice_get-get_or, slice_get_within, same_Some}
+use Rattle.std.proofs.lemmas.Bool.{and_parts}
 use Rattle.smallvec.specs.SmallVec.{SmallVec}
 use Rattle.indexmap.specs.IndexMap.{IndexMap, insert_entry}
 use Rattle.indexmap.proofs.CallerLemmas.{insert_entry-new}
@@ -19,12 +20,13 @@ use Rattle.ot_plain.specs.Table.{Extends}
 use Rattle.ot_plain.proofs.TableLemmas.{Extends-trans}
 use Rattle.ot_type.specs.TypeTable.{type_at, types_at, tree_of, images, is_ground, are_ground, IsTypeTable}
 use Rattle.ot_type.specs.Instance.{IsMemo, IsInstance}
-use Rattle.ot_type.proofs.SubtypeLemmas.{member_at, above, above-member}
+use Rattle.ot_type.proofs.SubtypeLemmas.{above, above-member}
 use Rattle.ot_type.specs.declared.node.TypeNode.{TypeNode}
 use Rattle.ot_type.specs.declared.node.TypeNode.TheVariants.{Var, Op}
 use Rattle.ot_type.proofs.TypeTableLemmas.{type_at-Extends, node_op}
 use Rattle.ot_type.proofs.NamesIn.{bound_ty-type_at}
 use Rattle.ot_plain.proofs.Results.{none_from}
+use Rattle.ot_plain.proofs.Members.{IsMember-get_or}
 
 -- ---- a pair that is added to a substitution
 -- a pair of a new name goes to the end
@@ -53,10 +55,6 @@ nothing_put ts s id none h = slice_get-get_or ts id (TyVar 0) h
     ∙ ap Some (sym (ap (λ p. inst numbers (images ts p) (type_at ts id)) none ∙ inst-nothing (type_at ts id)))
 
 -- ---- a type in which no type variable stands
-both_ground : (a b : Bool) → (a && b) ≡ true → (a ≡ true) × (b ≡ true)
-both_ground true b p = (refl, p)
-both_ground false b p = absurd (true≢false (sym p))
-
 mutual
   inst-ground : (g : ℕ → Ty ℕ) (t : Ty ℕ) → is_ground t ≡ true → inst_by numbers g t ≡ t
   inst-ground g (TyVar n) p = absurd (true≢false (sym p))
@@ -65,7 +63,7 @@ mutual
   all-ground : (g : ℕ → Ty ℕ) (ts : Tys ℕ) → are_ground ts ≡ true → inst_all numbers g ts ≡ ts
   all-ground g NoTys p = refl
   all-ground g (MoreTys t ts) p =
-      let parts = both_ground (is_ground t) (are_ground ts) p in
+      let parts = and_parts (is_ground t) (are_ground ts) p in
       λ i. MoreTys (inst-ground g t parts.0 i) (all-ground g ts parts.1 i)
 
 pub ground_put : (ts : List (Ty ℕ)) (s : List (ℕ × ℕ)) (id : ℕ) → is_ground (type_at ts id) ≡ true → id < length ts
@@ -156,7 +154,7 @@ module _ (s : List (ℕ × ℕ)) (ts us : List (Ty ℕ)) (es : List (ℕ × ℕ)
   item_within = subst (λ j. j < length ts) (sym item) (all i k there)
 
   item_member : IsMember k ids
-  item_member = subst (λ j. IsMember j ids) (sym item) (member_at ids i k there)
+  item_member = subst (λ j. IsMember j ids) (sym item) (IsMember-get_or ids i k there)
 
   pub item_low : k < above ids
   item_low = above-member ids k item_member

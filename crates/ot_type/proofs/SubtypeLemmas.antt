@@ -1,5 +1,5 @@
 -- Lemmas on the types inside a type.
-use Rattle.std.proofs.Common.{◌≡◌, ℕ, zero, suc, ◌+◌, ◌<◌, ◌≤◌, ◌⊎◌, inl, inr, Bool, true}
+use Rattle.std.proofs.Common.{◌≡◌, ℕ, suc, ◌+◌, ◌<◌, ◌≤◌, ◌⊎◌, inl, inr, Bool, true}
 use Rattle.std.proofs.Common.{false, cond, nat_lt, nat_eq, List, [], ◌∷◌, ◌++◌, length, get_or}
 use Rattle.std.proofs.Common.{take, max, refl, sym, ap, subst, ◌∙◌, arith, eqb-true, ltb-true}
 use Rattle.std.specs.List.{All}
@@ -8,34 +8,20 @@ use Rattle.std.specs.declared.cmp.Ordering.{Ordering}
 use Rattle.std.specs.declared.cmp.Ordering.TheVariants.{Less, Equal, Greater}
 use Rattle.std.specs.BTreeSet.{insert_key}
 use Rattle.std.proofs.lemmas.List.{take_more}
-use Rattle.std.proofs.lemmas.List.Elements.{All-head, All-tail}
 use Rattle.ot_plain.specs.Lists.{IsMember, IsSameSet}
 use Rattle.ot_plain.specs.Trees.{Ty, Tys, TyVar, TyOp, NoTys, MoreTys}
 use Rattle.ot_type.specs.TypeTable.{type_at, types_at}
 use Rattle.ot_type.specs.Subtypes.{IsSubtype, IsInside, IsFalling, AddsParts}
-use Rattle.ot_plain.proofs.Members.{IsMember-cases, IsMember-last, IsMember-left, IsMember-right}
+use Rattle.ot_plain.proofs.Members.{IsMember-cases, IsMember-last, IsMember-left, IsMember-right, IsMember-push}
+use Rattle.ot_plain.proofs.Members.{IsMember-get_or, All-at_member}
 
 -- ---- members
 module _ {X : Type 0} where
-  pub member_push : (x y : X) (xs : List X) → IsMember y (xs ++ x ∷ []) → IsMember y xs ⊎ (x ≡ y)
-  member_push x y xs h = elim (IsMember-cases y xs (x ∷ []) h)
-      [ inl a ↦ inl a | inr b ↦ elim b [ inl e ↦ inr e | inr never ↦ absurd never ] ]
-
-  pub member_at : (xs : List X) (i : ℕ) (d : X) → i < length xs → IsMember (get_or xs i d) xs
-  member_at [] i d h = absurd (omega arith)
-  member_at (x ∷ xs) zero d h = inl refl
-  member_at (x ∷ xs) (suc i) d h = inr (member_at xs i d (omega arith))
-
   pub member_item : (xs : List X) (i : ℕ) (x : X) → i < length xs → x ≡ get_or xs i x → IsMember x xs
-  member_item xs i x h item = subst (λ y. IsMember y xs) (sym item) (member_at xs i x h)
+  member_item xs i x h item = subst (λ y. IsMember y xs) (sym item) (IsMember-get_or xs i x h)
 
   pub All-member : (P : X → Type 0) (xs : List X) → All P xs → (x : X) → IsMember x xs → P x
-  All-member P [] all x h = absurd h
-  All-member P (y ∷ xs) all x (inl e) = subst P e (All-head P y xs all)
-  All-member P (y ∷ xs) all x (inr h) = All-member P xs (All-tail P y xs all) x h
-
-  pub All-from_member : (P : X → Type 0) (xs : List X) → ((x : X) → IsMember x xs → P x) → All P xs
-  All-from_member P xs each = λ i d h. each (get_or xs i d) (member_at xs i d h)
+  All-member P xs all x h = All-at_member P xs x all h
 
 -- ---- a set of numbers, in order
 equal_is : (x y : ℕ) → nat_cmp x y ≡ Equal → x ≡ y
@@ -102,7 +88,7 @@ added_one ks olds ids i k new within item same is = record { to = to; back = bac
     back : (x : ℕ) → IsMember x (olds ++ take (i + 1) ids) → IsMember x new
     back x h = subst (IsMember x) (sym is) (insert_back k x ks (elim (IsMember-cases x olds (take (i + 1) ids) h) [
       | inl a ↦ inl (same.back x (IsMember-left x olds (take i ids) a))
-      | inr b ↦ elim (member_push k x (take i ids) (rw more at b)) [
+      | inr b ↦ elim (IsMember-push x (take i ids) k (rw more at b)) [
         | inl c ↦ inl (same.back x (IsMember-right x olds (take i ids) c))
         | inr e ↦ inr e
       ]
@@ -145,7 +131,7 @@ parts_of_op ts i n args xs ys root below same = record {
   each = λ y m. elim (IsMember-cases y xs args (same.to y m)) [
     | inl a ↦ inl a
     | inr b ↦ inr (
-      All-member (λ k. k < i) args below y b,
+      All-at_member (λ k. k < i) args y below b,
       subst (IsSubtype (type_at ts y)) (sym root)
           (inr (inside_at ts y args b)),
     )
@@ -171,7 +157,7 @@ pub record IsSearch (ts : List (Ty ℕ)) (t : Ty ℕ) (found pending : List ℕ)
 IsFalling-push : (xs : List ℕ) (y : ℕ) → IsFalling xs → ((x : ℕ) → IsMember x xs → y < x) → IsFalling (xs ++ y ∷ [])
 IsFalling-push [] y f h = (λ z never. absurd never, tt)
 IsFalling-push (x ∷ xs) y f h = (
-  λ z m. elim (member_push y z xs m) [ inl a ↦ f.0 z a | inr e ↦ subst (λ z. z < x) e (h x (inl refl)) ],
+  λ z m. elim (IsMember-push z xs y m) [ inl a ↦ f.0 z a | inr e ↦ subst (λ z. z < x) e (h x (inl refl)) ],
   IsFalling-push xs y f.1 (λ z m. h z (inr m)),
 )
 
@@ -195,11 +181,15 @@ module _ (ts : List (Ty ℕ)) (t : Ty ℕ) (found ps : List ℕ) (k : ℕ) (qs :
   -- what is pending now is below the number that is found
   pub all_below : (y : ℕ) → IsMember y qs → y < k
   all_below y m =
-      elim (adds.each y m) [ inl a ↦ less_is y k (All-member (λ q. nat_cmp q k ≡ Less) ps least y a) | inr b ↦ b.0 ]
+      elim (adds.each y m) [
+        | inl a ↦ less_is y k (All-at_member (λ q. nat_cmp q k ≡ Less) ps y least a)
+        | inr b ↦
+            b.0
+      ]
 
   pub search_step : IsSearch ts t (found ++ k ∷ []) qs
   search_step = record {
-    each_found = λ x m. elim (member_push k x found m) [
+    each_found = λ x m. elim (IsMember-push x found k m) [
       | inl a ↦ s.each_found x a
       | inr e ↦ subst (λ x. (x < length ts) × IsSubtype (type_at ts x) t) e (s.each_pending k (IsMember-last k ps))
     ];
@@ -208,14 +198,14 @@ module _ (ts : List (Ty ℕ)) (t : Ty ℕ) (found ps : List ℕ) (k : ℕ) (qs :
       | inr b ↦ let top = s.each_pending k (IsMember-last k ps) in
           (omega (arith, b.0, top.0), IsSubtype-trans (type_at ts y) (type_at ts k) t b.1 top.1)
     ];
-    apart = λ x y m n. let low = all_below y n in elim (member_push k x found m) [
+    apart = λ x y m n. let low = all_below y n in elim (IsMember-push x found k m) [
       | inl a ↦ omega (arith, low, s.apart x k a (IsMember-last k ps))
       | inr e ↦ subst (λ x. y < x) e low
     ];
     falling = IsFalling-push found k s.falling (λ x m. s.apart x k m (IsMember-last k ps));
     all = λ u h. elim (s.all u h) [
       | inl a ↦ inl (a.0, IsMember-left a.0 found (k ∷ []) a.1, a.2)
-      | inr b ↦ elim (member_push k b.0 ps b.1) [
+      | inr b ↦ elim (IsMember-push b.0 ps k b.1) [
         | inl m ↦ inr (b.0, adds.kept b.0 m, b.2)
         | inr e ↦ elim (adds.all u (subst (λ y. IsSubtype u (type_at ts y)) (sym e) b.2)) [
           | inl same ↦ inl (k, IsMember-last k found, sym same)

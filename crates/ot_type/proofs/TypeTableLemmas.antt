@@ -1,5 +1,5 @@
 -- Lemmas on the table of types.
-use Rattle.std.proofs.Common.{◌≡◌, ℕ, ◌<◌, ◌≤◌, Bool, true, false, ◌&&◌, List, [], ◌∷◌}
+use Rattle.std.proofs.Common.{◌≡◌, ℕ, ◌<◌, ◌≤◌, Bool, true, false, List, [], ◌∷◌}
 use Rattle.std.proofs.Common.{length, slice_get, Some, nat_eq, eq-eqb, eqb-true, Option, None}
 use Rattle.std.proofs.Common.{MatchOption, ◌≢◌, refl, sym, ap, subst, ◌∙◌, true≢false, arith}
 use Rattle.std.specs.List.{All}
@@ -7,6 +7,7 @@ use Rattle.std.specs.Cmp.Lexicographic.{pointwise}
 use Rattle.std.proofs.lemmas.Option.{get_or_from_slice_get, same_Some}
 use Rattle.std.proofs.lemmas.List.Elements.{All-head, All-tail}
 use Rattle.std.proofs.lemmas.Slice.Eq.{bytes_eq-Decides}
+use Rattle.std.proofs.lemmas.Bool.{and_parts}
 use Rattle.smallvec.specs.SmallVec.{SmallVec}
 use Rattle.ot_plain.specs.Trees.{Ty, TyVar, TyOp, NoTys, MoreTys}
 use Rattle.ot_plain.specs.Hol.{depth_ty, fun_ty, depth_limit}
@@ -80,18 +81,13 @@ tree_of-injective ts one (Op m xs) (Op n ys) g h p =
     let args : types_at ts xs.items ≡ types_at ts ys.items = cc in
     node_eq-op m n xs ys name (types_at-injective ts one xs.items ys.items g h args)
 
-true_part : (a b : Bool) → (a && b) ≡ true → (a ≡ true) × (b ≡ true)
-true_part true true p = (refl, refl)
-true_part true false p = absurd (true≢false (sym p))
-true_part false b p = absurd (true≢false (sym p))
-
 -- nodes that pass the test stand for one tree
 tree_of-node_eq : (ts : List (Ty ℕ)) (m n : TypeNode) → node_eq m n ≡ true → tree_of ts m ≡ tree_of ts n
 tree_of-node_eq ts (Var m) (Var n) p = ap TyVar (eqb-true m n p)
 tree_of-node_eq ts (Var m) (Op n ys) p = absurd (true≢false (sym p))
 tree_of-node_eq ts (Op m xs) (Var n) p = absurd (true≢false (sym p))
 tree_of-node_eq ts (Op m xs) (Op n ys) p =
-    let parts = true_part (nat_eq m n) (pointwise nat_eq xs.items ys.items) p in
+    let parts = and_parts (nat_eq m n) (pointwise nat_eq xs.items ys.items) p in
     λ j. TyOp (eqb-true m n parts.0 j) (types_at ts ((bytes_eq-Decides xs.items ys.items).0 parts.1 j))
 
 -- a table of types meets the laws

@@ -1,7 +1,7 @@
 -- Definitions that are accepted as a part of others.
 use Rattle.std.specs.Prelude.{slice_get}
-use Rattle.std.proofs.Common.{◌≡◌, ℕ, suc, List, [], ◌∷◌, ap, inl, inr, Some, take}
-use Rattle.ot_plain.specs.Lists.{IsMember, IsPart}
+use Rattle.std.proofs.Common.{◌≡◌, ℕ, List, Some, take}
+use Rattle.ot_plain.specs.Lists.{IsPart}
 use Rattle.ot_plain.specs.Trees.{Alphabet, Sequent, Definition, ConDef, ListDef, TyDef}
 use Rattle.ot_plain.specs.Hol.{Derivable, IsFine, Accepted}
 
@@ -10,11 +10,6 @@ abbrev pub IsInOrder : {X : Type 0} → List X → List X → Type 0
 IsInOrder {X} part whole =
     (i : ℕ) (x : X) → slice_get part i ≡ Some x → (k : ℕ) × (slice_get whole k ≡ Some x)
     × IsPart (take i part) (take k whole)
-
-pub member_at : {X : Type 0} (xs : List X) (x : X) → IsMember x xs → (i : ℕ) × (slice_get xs i ≡ Some x)
-member_at [] x m = absurd m
-member_at (y ∷ ys) x (inl e) = (0, ap Some e)
-member_at (y ∷ ys) x (inr m) = let (i, e) = member_at ys x m in (suc i, e)
 
 module _ {N : Type 0} (alphabet : Alphabet N) where
   -- the premise of a definition is derivable, where it has one

@@ -3,7 +3,7 @@ use Rattle.std.specs.Prelude.{codes}
 use Rattle.std.proofs.Common.{◌≡◌, ℕ, zero, suc, ◌+◌, ◌<◌, ◌≤◌, List, [], ◌∷◌, ◌++◌, map, length, take, drop}
 use Rattle.std.proofs.Common.{length-drop, get_or, refl, sym, ap, ◌∙◌, append-nil, append_assoc, arith}
 use Rattle.std.specs.List.{All}
-use Rattle.std.proofs.lemmas.List.{take_more, map-append, drop-map}
+use Rattle.std.proofs.lemmas.List.{take_more, map-append, drop-map, take_all}
 use Rattle.std.proofs.lemmas.Grind.{flat_map-append}
 use Rattle.ot_text.specs.Pages.{Printed, IsPut}
 use Rattle.ot_text.proofs.Gathering.{texts-through}
@@ -70,12 +70,6 @@ picked-long {X} xs (i ∷ is) h =
     one [] h zs = absurd (omega arith)
     one (y ∷ ys) h zs = refl
 
-pub take-all : {X : Type 0} (xs : List X) (n : ℕ) → length xs ≤ n → take n xs ≡ xs
-take-all [] zero h = refl
-take-all [] (suc n) h = refl
-take-all (x ∷ xs) zero h = absurd (omega arith)
-take-all (x ∷ xs) (suc n) h = ap (λ l. x ∷ l) (take-all xs n (omega arith))
-
 -- the texts of what was picked by number are those of what stands at the places
 pub picked-texts : {X Y : Type 0} (text : Y → List ℕ) (f : X → Y)
     (xs : List X) (ys : List Y) (places : List ℕ) (n : ℕ) (used : List X)
@@ -83,7 +77,7 @@ pub picked-texts : {X Y : Type 0} (text : Y → List ℕ) (f : X → Y)
     → map (λ x. text (f x)) used ≡ map text (picked ys places)
 picked-texts text f xs ys places n used is h maps =
     texts-through text f used (picked ys places)
-    (ap (map f) (is ∙ ap (picked xs) (take-all places n h)) ∙ picked-map f xs places ∙ ap (λ l. picked l places) maps)
+    (ap (map f) (is ∙ ap (picked xs) (take_all n places h)) ∙ picked-map f xs places ∙ ap (λ l. picked l places) maps)
 
 -- ---- the lines of what is picked
 

@@ -37,10 +37,10 @@ use Rattle.ot_uses.proofs.Parted.{IsInOrder, HasPremise, HavePremises}
 use Rattle.ot_uses.proofs.Leaves.{IsGood, IsLeaf, HasLeaves, HaveLeaves}
 use Rattle.ot_machine.specs.Rows.{definitions_of}
 use Rattle.ot_uses.proofs.Resting.{IsAssumed, StandsOn, AllStand, PartsSuffice}
-use Rattle.ot_uses.proofs.Parted.{member_at, accepted_part}
+use Rattle.ot_uses.proofs.Parted.{accepted_part}
 use Rattle.ot_uses.proofs.Goodness.{if_bind, any_bind, value_at-good, read-theorem, value-good, values-good}
 use Rattle.ot_plain.proofs.Elements.{slice_get-map}
-use Rattle.ot_plain.proofs.Members.{IsMember-at, IsMember-map, IsPart-map, IsPart-take}
+use Rattle.ot_plain.proofs.Members.{IsMember-at, IsMember-map, IsPart-map, IsPart-take, IsMember-place}
 use Rattle.ot_plain.proofs.Results.{if_ok}
 
 -- ---- axioms
@@ -130,7 +130,8 @@ module _ (al bl : List (Sequent Name)) (ms : List Made) (seqs : AreSequents name
     where
       good : (v : Object) → value (Make words.Axiom os) ≡ Ok v → IsProposed v → IsGood bl (definitions_of es) v
       good (theorem q) e p =
-          let (i, at) = member_at bl q (assumed q e) in assumption-theorem names bl (definitions_of es) i q at p.0 p.1
+          let (i, at) = IsMember-place q bl (assumed q e) in
+          assumption-theorem names bl (definitions_of es) i q at p.0 p.1
       good _ e p = absurd p
 
   leaf : (es : List Made) (w : Cmd) (os : Origins Name) → IsAssumed bl es w os → IsLeaf bl (definitions_of es) w os
@@ -146,9 +147,10 @@ module _ (al bl : List (Sequent Name)) (ms : List Made) (seqs : AreSequents name
           → IfOk {E = Fault Name} (some_or StackEmpty o >>= λ q. Ok (theorem q)) (IsGood bl (definitions_of es))
       go None e = tt
       go (Some q) e =
-          let (i, at) = member_at (definitions_of es) m.definition (IsMember-map (λ x. x.definition) m es here) in
+          let (i, at) =
+          IsMember-place m.definition (definitions_of es) (IsMember-map (λ x. x.definition) m es here) in
           let (k, old) =
-          member_at (definitions_of ms) m.definition (IsMember-map (λ x. x.definition) m ms (part m here)) in
+          IsMember-place m.definition (definitions_of ms) (IsMember-map (λ x. x.definition) m ms (part m here)) in
           record {
             derivable = Defined i j at e;
             sequent = accepted-sequents names tells_names al (definitions_of ms) seqs acc k m.definition old j q e;
@@ -241,7 +243,7 @@ parts_suffice al bl ms es seqs acc order made = record {
 }
   where
     part : IsPart es ms
-    part x m = let (i, at) = member_at es x m in let (k, old, before) = order i x at in IsMember-at ms k x old
+    part x m = let (i, at) = IsMember-place x es m in let (k, old, before) = order i x at in IsMember-at ms k x old
 
     in-order : IsInOrder (definitions_of es) (definitions_of ms)
     in-order i d at =

@@ -32,10 +32,10 @@ use Rattle.ot_machine.proofs.Fewer.{none-fewer}
 use Rattle.ot_machine.proofs.DefinitionFewer.{definition-fewer}
 use Rattle.ot_uses.specs.Used.{same, is_assumed, used_assumptions, used_definitions}
 use Rattle.ot_uses.specs.Suffices.{UsesSuffice}
-use Rattle.ot_uses.proofs.Parted.{IsInOrder, member_at}
+use Rattle.ot_uses.proofs.Parted.{IsInOrder}
 use Rattle.ot_uses.proofs.Resting.{IsAssumed, StandsOn, AllStand, StandsMade, Suffice}
 use Rattle.ot_uses.proofs.Suffices.{parts_suffice, get-map, ok_if, value-axiom, IsProposed}
-use Rattle.ot_plain.proofs.Members.{IsMember-at, IsMember-map, IsMember-map_back, IsPart-take}
+use Rattle.ot_plain.proofs.Members.{IsMember-at, IsMember-map, IsMember-map_back, IsPart-take, IsMember-place}
 use Rattle.ot_plain.proofs.Results.{same_Ok}
 
 all-member : {A : Type 0} (P : A → Type 0) (xs : List A) → All P xs → (x : A) → IsMember x xs → P x
@@ -224,7 +224,7 @@ uses_suffice IsNamed r lawful acc e law = record {
 
     own : (m : Made) → IsMember m ms → definition_of [] m.origin ≡ Ok m.definition
     own m here =
-        let (k, at) = member_at ms m here in
+        let (k, at) = IsMember-place m ms here in
         definition-fewer [] (definitions_of (take k ms)) (none-fewer (definitions_of (take k ms)))
         m.definition m.origin (lawful.definitions k m at).accepted
 
@@ -264,7 +264,7 @@ uses_suffice IsNamed r lawful acc e law = record {
 
     es-part : IsPart es ms
     es-part y n =
-        let (i, at) = member_at es y n in let (k, old, part, has) = kept-place found [] ms i y at in
+        let (i, at) = IsMember-place y es n in let (k, old, part, has) = kept-place found [] ms i y at in
         IsMember-at ms k y old
 
     -- of a front of the definitions, each that is reached is kept

@@ -1,7 +1,6 @@
 use Rattle.std.specs.Prelude.{Err}
 use Rattle.std.proofs.Common.{◌<◌, map, ap, ◌∙◌, subst, arith}
-use Rattle.std.proofs.lemmas.List.{take_all}
-use Rattle.ot_kernel.proofs.Namings.{length-map}
+use Rattle.std.proofs.lemmas.List.{take_all, length-map}
 use Rattle.ot_text.specs.Texts.{ascending}
 use Rattle.ot_text.specs.Gathered.{texts_of, bytes_in}
 use Rattle.ot_text.proofs.Gathering.{one-kept, one-too_large, together-too_large}
@@ -41,6 +40,6 @@ returns-clause-ok c =
     let texts = map (variable_line_at k) c.args.vars.now in
     c.loop-item.invariant.0
     ∙ ap ascending
-    (take_all c.loop-item.item-index texts (let n = length-map (variable_line_at k) c.args.vars.now in
+    (take_all c.loop-item.item-index texts (let n = length-map c.args.vars.now (variable_line_at k) in
     omega arith)
     ∙ variable-lines k c.args.vars.now)

@@ -2,7 +2,7 @@ use Rattle.std.specs.List.{All}
 use Rattle.std.proofs.Common.{◌<◌, length, map, sym, subst}
 use Rattle.std.proofs.lemmas.Result.{IfOk-weaker}
 use Rattle.ot_plain.specs.Lists.{AreDistinct, IsSameSet}
-use Rattle.ot_type.proofs.SubtypeLemmas.{All-from_member}
+use Rattle.ot_plain.proofs.Members.{All-from_members}
 use Rattle.ot_term.specs.declared.term.Symbol as code
 use Rattle.ot_pretty.specs.Found.{term_symbols}
 use Rattle.ot_pretty.specs.Run.{named_symbol}
@@ -33,7 +33,7 @@ pub returns-clause-inside : goal.returns-clause-inside
 returns-clause-inside c =
     let IsIn = λ (x : code.Symbol). x.name < length c.args.kernel.now.names in
     IfOk-weaker c.listed.result _ _
-    (λ v e. subst (All IsIn) (sym e) (All-from_member IsIn _ c.in_ok-look_at_types.ensures.reaches.search.inside))
+    (λ v e. subst (All IsIn) (sym e) (All-from_members IsIn _ c.in_ok-look_at_types.ensures.reaches.search.inside))
     c.listed.ensures
 
 pub returns-clause-once : goal.returns-clause-once

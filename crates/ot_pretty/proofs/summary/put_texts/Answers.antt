@@ -1,7 +1,7 @@
 use Rattle.std.specs.Map.Iter.{deref}
 use Rattle.std.proofs.Common.{map, ap, sym, ◌∙◌, refl}
 use Rattle.std.proofs.lemmas.Map.Iter.{rest_more, rest_all}
-use Rattle.ot_kernel.proofs.Namings.{length-map}
+use Rattle.std.proofs.lemmas.List.{length-map}
 use Rattle.ot_text.specs.Sections.{items_text}
 use Rattle.ot_text.proofs.Putting.{then, same-text, leaves-more, leaves-all, nothing}
 use Rattle.ot_text.proofs.SectionPieces.{items-first, section-pieces}
@@ -18,7 +18,7 @@ loop-text-preserved c =
 pub returns : goal.returns
 returns c =
     same-text
-    (section-pieces _ _ _ _ refl (c.len.ensures.len ∙ sym (length-map (λ t. t.items) c.args.texts.now.keys)))
+    (section-pieces _ _ _ _ refl (c.len.ensures.len ∙ sym (length-map c.args.texts.now.keys (λ t. t.items))))
     (then c.put_title.ensures
     (leaves-all c.loop-text.invariant
     (ap (λ ts. items_text (map (λ t. t.items) ts)) (rest_all deref _ _ _ c.in-None.is c.next.ensures.steps))

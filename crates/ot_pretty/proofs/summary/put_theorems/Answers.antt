@@ -1,7 +1,7 @@
 use Rattle.std.proofs.Common.{ℕ, List, length, map, sym, ap, refl, ◌∙◌, arith}
 use Rattle.std.specs.Prelude.{codes, true}
+use Rattle.std.proofs.lemmas.List.{length-map}
 use Rattle.ot_kernel.specs.State.{theorem_at}
-use Rattle.ot_kernel.proofs.Namings.{length-map}
 use Rattle.ot_text.specs.Sections.{items_text, section_text}
 use Rattle.ot_text.specs.Pages.{printed}
 use Rattle.ot_text.proofs.Putting.{then, same-text, puts-all, nothing}
@@ -21,7 +21,7 @@ returns c =
     let text : ℕ → List ℕ = λ th. readable_text c.args.notation.now (theorem_at c.args.kernel.now th) in
     same-text
     (section-pieces true (codes "theorems") (length c.args.theorems.now) (map text c.args.theorems.now) refl
-    (sym (length-map text c.args.theorems.now))
+    (sym (length-map c.args.theorems.now text))
     ∙ ap (section_text true (codes "theorems"))
     (texts-through (readable_text c.args.notation.now) (theorem_at c.args.kernel.now) c.args.theorems.now
     (map (theorem_at c.args.kernel.now) c.args.theorems.now) refl))

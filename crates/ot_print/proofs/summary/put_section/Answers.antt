@@ -1,5 +1,5 @@
 use Rattle.std.proofs.Common.{map, sym, arith}
-use Rattle.ot_kernel.proofs.Namings.{length-map}
+use Rattle.std.proofs.lemmas.List.{length-map}
 use Rattle.ot_text.specs.Sections.{items_text}
 use Rattle.ot_text.specs.Pages.{printed}
 use Rattle.ot_text.proofs.Putting.{then, same-text, puts-all, nothing}
@@ -16,7 +16,7 @@ pub returns : goal.returns
 returns g c =
     same-text
     (section-pieces _ _ _ _ c.if-not-is_asked.false
-    (sym (length-map (g.T.Printable.text c.args.kernel.now) c.args.items.now)))
+    (sym (length-map c.args.items.now (g.T.Printable.text c.args.kernel.now))))
     (then c.put_title.ensures
     (puts-all (λ xs. items_text (map (g.T.Printable.text c.args.kernel.now) xs)) c.args.items.now
     c.loop-item.item-index _ _ _ (omega arith) c.loop-item.invariant (nothing (printed c.loop-item.page))))

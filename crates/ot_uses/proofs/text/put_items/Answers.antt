@@ -1,5 +1,5 @@
 use Rattle.std.proofs.Common.{sym, arith, ◌∙◌}
-use Rattle.ot_kernel.proofs.Namings.{length-map}
+use Rattle.std.proofs.lemmas.List.{length-map}
 use Rattle.ot_text.specs.Pages.{printed}
 use Rattle.ot_text.proofs.Putting.{then, same-text, puts-all, nothing}
 use Rattle.ot_uses.specs.Placing.{picked}
@@ -18,7 +18,7 @@ loop-place-preserved g c =
 pub returns : goal.returns
 returns g c =
     same-text (counted-pieces _ _ _ (sym (length-map
-    (g.T.Printable.text c.args.kernel.now) (picked c.args.items.now c.args.places.now)
+    (picked c.args.items.now c.args.places.now) (g.T.Printable.text c.args.kernel.now)
     ∙ picked-long c.args.items.now c.args.places.now c.requires.places)))
     (then c.put_count.ensures
     (puts-all (lines_at (g.T.Printable.text c.args.kernel.now) c.args.items.now) c.args.places.now

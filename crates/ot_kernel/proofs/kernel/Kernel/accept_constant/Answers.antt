@@ -1,4 +1,5 @@
 use Rattle.std.proofs.Common.{◌≡◌, ℕ, [], ◌∷◌, ◌++◌, List, map, length, sym, ap, subst, ◌∙◌, arith}
+use Rattle.std.proofs.lemmas.List.{length-map}
 use Rattle.ot_plain.specs.Trees.{Symbol}
 use Rattle.ot_term.specs.Symbols.{symbol_of}
 use Rattle.ot_kernel.specs.Accepting.{IsAcceptable}
@@ -8,14 +9,13 @@ use Rattle.ot_kernel.specs.Spelled.{sequent_of, state_of}
 use Rattle.ot_kernel.specs.State.{State}
 use Rattle.ot_kernel.proofs.Constants.{constant_acceptable}
 use Rattle.ot_kernel.proofs.Later.{held_of}
-use Rattle.ot_kernel.proofs.Namings.{length-map}
 use Rattle.ot_kernel.proofs.kernel.Kernel.accept_constant.Goals as goal
 
 pub accept-requires : goal.accept-requires
 accept-requires c =
     let e = ap (λ (s : State). length s.theorems) c.self.view_is in
-    let d = length-map (sequent_of (state_of c.self.inside.names c.self.inside.terms (held_of c.self.inside)).terms)
-    c.self.inside.theorems.items in
+    let d = length-map c.self.inside.theorems.items
+    (sequent_of (state_of c.self.inside.names c.self.inside.terms (held_of c.self.inside)).terms) in
     let count : c.len.result ≡ length c.args.self.now.theorems =
     omega (arith, e, d, c.len.ensures, c.self.inside.theorems.ok.0) in
     let ths : c.push.new.self.items ≡ c.args.theorem ∷ [] = c.in_ok-push.ensures.items

@@ -1,4 +1,5 @@
 use Rattle.std.proofs.Common.{◌≡◌, ℕ, [], ◌∷◌, ◌++◌, List, map, length, sym, ap, subst, ◌∙◌, ◌+◌, arith}
+use Rattle.std.proofs.lemmas.List.{length-map}
 use Rattle.ot_plain.specs.Trees.{Symbol, ConSymbol, ListDef}
 use Rattle.ot_term.specs.Symbols.{symbol_of}
 use Rattle.ot_term.specs.declared.term.VarKey.{VarKey}
@@ -12,15 +13,14 @@ use Rattle.ot_kernel.specs.Spelled.{sequent_of, state_of}
 use Rattle.ot_kernel.specs.State.{State, theorem_at}
 use Rattle.ot_kernel.proofs.Later.{held_of}
 use Rattle.ot_kernel.proofs.Lists.{constants_acceptable, constants_accepted}
-use Rattle.ot_kernel.proofs.Namings.{length-map}
 use Rattle.ot_kernel.proofs.kernel.Kernel.accept_constants.Goals as goal
 use Rattle.ot_kernel.proofs.kernel.Kernel.accept_constants.Goals.{After-as_slice-2}
 
 count : (c : After-as_slice-2) → c.len.result ≡ length c.args.self.now.theorems
 count c =
     let e = ap (λ (s : State). length s.theorems) c.self.view_is in
-    let d = length-map (sequent_of (state_of c.self.inside.names c.self.inside.terms (held_of c.self.inside)).terms)
-    c.self.inside.theorems.items in
+    let d = length-map c.self.inside.theorems.items
+    (sequent_of (state_of c.self.inside.names c.self.inside.terms (held_of c.self.inside)).terms) in
     omega (arith, e, d, c.len.ensures, c.self.inside.theorems.ok.0)
 
 abbrev definition : After-as_slice-2 → kind.Definition

@@ -1,5 +1,6 @@
 use Rattle.std.proofs.Common.{◌≡◌, ℕ, ◌<◌, [], ◌∷◌, ◌++◌, List, map, length, sym, ap, subst, ◌∙◌, ◌+◌, arith}
 use Rattle.std.specs.List.{All}
+use Rattle.std.proofs.lemmas.List.{length-map}
 use Rattle.ot_plain.specs.Trees.{Symbol, ConSymbol, OpSymbol, TyDef}
 use Rattle.ot_term.specs.Symbols.{symbol_of}
 use Rattle.ot_kernel.specs.Accepting.{accepting, IsAcceptable}
@@ -10,7 +11,6 @@ use Rattle.ot_kernel.specs.Definitions.{definition_at, theorems_at, IsDefinition
 use Rattle.ot_kernel.specs.Spelled.{sequent_of, state_of}
 use Rattle.ot_kernel.specs.State.{State, name_at, theorem_at}
 use Rattle.ot_kernel.proofs.Later.{held_of}
-use Rattle.ot_kernel.proofs.Namings.{length-map}
 use Rattle.ot_kernel.proofs.Operators.{AreNames, operator_at, operator_acceptable, operator_accepted}
 use Rattle.ot_kernel.proofs.kernel.Kernel.accept_operator.Goals as goal
 use Rattle.ot_kernel.proofs.kernel.Kernel.accept_operator.Goals.{After-as_slice}
@@ -19,8 +19,8 @@ count : (c : After-as_slice) → (c.len.result ≡ length c.args.self.now.theore
     × (c.len-2.result ≡ length c.args.self.now.theorems)
 count c =
     let e = ap (λ (s : State). length s.theorems) c.self.view_is in
-    let d = length-map (sequent_of (state_of c.self.inside.names c.self.inside.terms (held_of c.self.inside)).terms)
-    c.self.inside.theorems.items in (
+    let d = length-map c.self.inside.theorems.items
+    (sequent_of (state_of c.self.inside.names c.self.inside.terms (held_of c.self.inside)).terms) in (
       omega (arith, e, d, c.len.ensures, c.self.inside.theorems.ok.0),
       omega
           (arith, e, d, c.len-2.ensures, c.self.inside.theorems.ok.0),

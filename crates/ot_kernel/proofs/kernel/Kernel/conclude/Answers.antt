@@ -1,7 +1,7 @@
 use Rattle.std.proofs.Common.{ap, length, arith}
+use Rattle.std.proofs.lemmas.List.{length-map}
 use Rattle.ot_kernel.specs.State.{State}
 use Rattle.ot_kernel.specs.Spelled.{sequent_of, state_of}
-use Rattle.ot_kernel.proofs.Namings.{length-map}
 use Rattle.ot_kernel.proofs.Theorems.{Pushed, pushed}
 use Rattle.ot_kernel.proofs.kernel.Kernel.conclude.Goals as goal
 
@@ -24,7 +24,7 @@ pub returns-clause-ok : goal.returns-clause-ok
 returns-clause-ok c =
     let e = ap (λ (s : State). length s.theorems) c.self.view_is in
     let d = length-map
-    (sequent_of (state_of c.self.inside.names c.self.inside.terms
+    c.self.inside.theorems.items (sequent_of (state_of c.self.inside.names c.self.inside.terms
     (record {
       theorems = c.self.inside.theorems.items;
       assumptions = c.self.inside.assumptions.items;
@@ -32,5 +32,5 @@ returns-clause-ok c =
       signature = c.self.inside.signature;
       places =
           c.self.inside.places;
-    })).terms) c.self.inside.theorems.items in
+    })).terms) in
     ((grown c).state, omega (arith, e, d, c.len.ensures, c.self.inside.theorems.ok.0))

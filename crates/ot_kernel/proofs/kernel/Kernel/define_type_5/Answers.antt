@@ -1,5 +1,6 @@
 use Rattle.std.proofs.Common.{◌≡◌, ◌<◌, ◌+◌, suc, ◌∷◌, map, length, Ok, Err, refl, ap, arith}
 use Rattle.std.proofs.lemmas.Result.{err_from_is_err_and}
+use Rattle.std.proofs.lemmas.List.{length-map}
 use Rattle.ot_plain.specs.Hol.{theorems_at}
 use Rattle.ot_plain.specs.Naming.{names, numbers}
 use Rattle.ot_kernel.specs.Defining.{type_definition}
@@ -9,7 +10,6 @@ use Rattle.ot_kernel.specs.Spelled.{sequent_of, state_of}
 use Rattle.ot_kernel.specs.State.{State, name_at, theorem_at}
 use Rattle.ot_kernel.proofs.Checked.{names_no_symbol}
 use Rattle.ot_kernel.proofs.Later.{Later, later_to, unchanged, held_of, terms_within}
-use Rattle.ot_kernel.proofs.Namings.{length-map}
 use Rattle.ot_kernel.proofs.NewTypes.{grown_further}
 use Rattle.ot_kernel.proofs.OpenTypes.{premise_stays, limit_stays, both_stay, open_stays, open_inside, open_holds}
 use Rattle.ot_kernel.proofs.OpenTypes.{refused_before, open_refused, open_made, nothing_defined, operator_opens}
@@ -257,8 +257,8 @@ returns-clause-defines c =
     c.concl-concl.result (named_open d) c.requires.th c.concl-concl.ensures.inside c.concl-concl.ensures.concl
     (made d) c.in_ok-open.open made_open in
     let e = ap (λ (s : State). length s.theorems) c.self.view_is in
-    let n = length-map (sequent_of (state_of c.self.inside.names c.self.inside.terms (held_of c.self.inside)).terms)
-    c.self.inside.theorems.items in
+    let n = length-map c.self.inside.theorems.items
+    (sequent_of (state_of c.self.inside.names c.self.inside.terms (held_of c.self.inside)).terms) in
     let kept = ap length (later_open d).same.theorems in
     let ok = c.in_ok-numbers.ensures.ok in
     let count : c.len-count.result ≡ length (mid d).theorems =
@@ -284,8 +284,8 @@ returns-clause-keeps c =
     c.concl-concl.result (named_open d) c.requires.th c.concl-concl.ensures.inside c.concl-concl.ensures.concl
     (made d) c.in_ok-open.open made_open in
     let e = ap (λ (s : State). length s.theorems) c.self.view_is in
-    let n = length-map (sequent_of (state_of c.self.inside.names c.self.inside.terms (held_of c.self.inside)).terms)
-    c.self.inside.theorems.items in
+    let n = length-map c.self.inside.theorems.items
+    (sequent_of (state_of c.self.inside.names c.self.inside.terms (held_of c.self.inside)).terms) in
     let kept = ap length (later_open d).same.theorems in
     let ok = c.in_ok-numbers.ensures.ok in
     let count : c.len-count.result ≡ length (mid d).theorems =

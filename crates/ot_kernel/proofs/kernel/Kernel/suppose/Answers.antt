@@ -1,9 +1,8 @@
 use Rattle.std.proofs.Common.{◌≡◌, ℕ, ◌-◌, List, [], ◌∷◌, take, vec_len, ap, subst, arith, length, sym, ◌∙◌}
-use Rattle.std.proofs.lemmas.List.{take_at}
+use Rattle.std.proofs.lemmas.List.{take_at, length-map}
 use Rattle.ot_kernel.specs.State.{State}
 use Rattle.ot_kernel.specs.Spelled.{sequent_of, state_of, IsKernel}
 use Rattle.ot_kernel.proofs.Later.{held_of}
-use Rattle.ot_kernel.proofs.Namings.{length-map}
 use Rattle.ot_kernel.proofs.Supposed.{Assumed, assumed, noted, pushed_items, unpushed_items}
 use Rattle.ot_kernel.proofs.kernel.Kernel.suppose.Goals as goal
 use Rattle.ot_kernel.proofs.kernel.Kernel.suppose.Goals.{Else-is_err}
@@ -63,6 +62,6 @@ invariant_of-self-else-is_err c = (added c).kernel
 pub returns-clause-ok : goal.returns-clause-ok
 returns-clause-ok c =
     let e = ap (λ (s : State). length s.theorems) c.self.view_is in
-    let n = length-map (sequent_of (state_of c.self.inside.names c.self.inside.terms (held_of c.self.inside)).terms)
-    c.self.inside.theorems.items in
+    let n = length-map c.self.inside.theorems.items
+    (sequent_of (state_of c.self.inside.names c.self.inside.terms (held_of c.self.inside)).terms) in
     (count c ∙ sym n ∙ e, (added c).state)

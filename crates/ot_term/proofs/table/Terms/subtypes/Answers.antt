@@ -2,16 +2,16 @@ use Rattle.std.proofs.Common.{◌++◌, ◌∷◌, [], arith, ap, subst, sym, le
 use Rattle.ot_plain.specs.Lists.{IsMember}
 use Rattle.ot_type.specs.TypeTable.{type_at}
 use Rattle.ot_type.specs.Subtypes.{IsSubtype}
-use Rattle.ot_type.proofs.SubtypeLemmas.{above, above-le, above-last, All-member}
+use Rattle.ot_type.proofs.SubtypeLemmas.{above, above-le, above-last}
 use Rattle.ot_term.specs.Walk.{IsInsideSome}
 use Rattle.ot_term.proofs.Walking.{IsSearch, search_step, search_end, all_below, no_more}
 use Rattle.ot_term.proofs.Gathering.{subtypes_start, inside_closed}
 use Rattle.ot_term.proofs.table.Terms.subtypes.Goals as goal
-use Rattle.ot_plain.proofs.Members.{IsMember-last}
+use Rattle.ot_plain.proofs.Members.{IsMember-last, All-at_member}
 
 pub loop-next-init : goal.loop-next-init
 loop-next-init c = rw c.new-found.ensures.items
-    (subtypes_start c.args.self.now.types c.args.pending.keys (All-member _ _ c.requires))
+    (subtypes_start c.args.self.now.types c.args.pending.keys (λ x m. All-at_member _ _ x c.requires m))
 
 pub add_arguments-requires : goal.add_arguments-requires
 add_arguments-requires c =

@@ -4,8 +4,8 @@ use Rattle.std.proofs.lemmas.Result.{IfOk-weaker}
 use Rattle.ot_plain.specs.Hol.{symbols_tm, nameless}
 use Rattle.ot_plain.specs.Lists.{IsSameSet, AreDistinct}
 use Rattle.ot_plain.specs.Naming.{numbers}
+use Rattle.ot_plain.proofs.Members.{All-from_members}
 use Rattle.ot_type.specs.TypeTable.{type_at}
-use Rattle.ot_type.proofs.SubtypeLemmas.{All-from_member}
 use Rattle.ot_term.specs.TermTable.{term_at}
 use Rattle.ot_term.specs.Symbols.{symbol_of, constant_of, operator_of}
 use Rattle.ot_term.proofs.GatherLemmas.{symbols_found, same_set-map}
@@ -14,15 +14,15 @@ use Rattle.ot_laws.proofs.Sets.{same_set-then}
 use Rattle.ot_term.proofs.table.Terms.symbols.Goals as goal
 
 pub types_in-requires : goal.types_in-requires
-types_in-requires c = rw c.as_slice.ensures.value (All-from_member _ _ (λ i m. (c.in_ok-terms.ensures.each i m).0))
+types_in-requires c = rw c.as_slice.ensures.value (All-from_members _ _ (λ i m. (c.in_ok-terms.ensures.each i m).0))
 
 pub add_constants-requires : goal.add_constants-requires
 add_constants-requires c =
-    rw c.as_slice-2.ensures.value (All-from_member _ _ (λ i m. (c.in_ok-terms.ensures.each i m).0))
+    rw c.as_slice-2.ensures.value (All-from_members _ _ (λ i m. (c.in_ok-terms.ensures.each i m).0))
 
 pub add_operators-requires : goal.add_operators-requires
 add_operators-requires c = rw (c.types.ensures.types, c.as_slice-3.ensures.value)
-    (All-from_member _ _ (λ x m. (c.in_ok-types.ensures.each x m).0))
+    (All-from_members _ _ (λ x m. (c.in_ok-types.ensures.each x m).0))
 
 -- the symbols before repetitions are dropped
 all_symbols : (c : goal.After-drop-terms-2) → c.as_slice-4.result.now

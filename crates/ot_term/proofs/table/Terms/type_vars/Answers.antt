@@ -4,19 +4,19 @@ use Rattle.std.proofs.lemmas.Result.{IfOk-weaker}
 use Rattle.ot_plain.specs.Hol.{vars_tm, nameless}
 use Rattle.ot_plain.specs.Lists.{IsSameSet, AreDistinct}
 use Rattle.ot_plain.specs.Naming.{numbers}
+use Rattle.ot_plain.proofs.Members.{All-from_members}
 use Rattle.ot_type.specs.TypeTable.{type_at}
 use Rattle.ot_term.specs.Symbols.{variable_name}
-use Rattle.ot_type.proofs.SubtypeLemmas.{All-from_member}
 use Rattle.ot_term.specs.TermTable.{term_at}
 use Rattle.ot_term.proofs.GatherLemmas.{vars_found, names_once}
 use Rattle.ot_term.proofs.table.Terms.type_vars.Goals as goal
 
 pub types_in-requires : goal.types_in-requires
-types_in-requires c = rw c.as_slice.ensures.value (All-from_member _ _ (λ i m. (c.in_ok-terms.ensures.each i m).0))
+types_in-requires c = rw c.as_slice.ensures.value (All-from_members _ _ (λ i m. (c.in_ok-terms.ensures.each i m).0))
 
 pub variable_names-requires : goal.variable_names-requires
 variable_names-requires c = rw (c.types.ensures.types, c.as_slice-2.ensures.value)
-    (All-from_member _ _ (λ x m. (c.in_ok-types.ensures.each x m).0))
+    (All-from_members _ _ (λ x m. (c.in_ok-types.ensures.each x m).0))
 
 -- the names among the types that were found
 same_names : (c : goal.After-drop-terms-2)

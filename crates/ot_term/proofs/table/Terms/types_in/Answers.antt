@@ -1,10 +1,10 @@
 use Rattle.std.proofs.lemmas.Result.{IfOk-weaker}
-use Rattle.ot_type.proofs.SubtypeLemmas.{All-from_member}
+use Rattle.ot_plain.proofs.Members.{All-from_members}
 use Rattle.ot_term.proofs.Gathering.{mentioned}
 use Rattle.ot_term.proofs.table.Terms.types_in.Goals as goal
 
 pub subtypes-requires : goal.subtypes-requires
-subtypes-requires c = All-from_member _ _ (λ k m. (c.in_ok-pending.ensures.each k m).0)
+subtypes-requires c = All-from_members _ _ (λ k m. (c.in_ok-pending.ensures.each k m).0)
 
 pub returns : goal.returns
 returns c =

@@ -5,9 +5,10 @@ use Rattle.ot_plain.specs.Hol.{depth_ty, depth_limit, inst}
 use Rattle.ot_plain.specs.Naming.{numbers}
 use Rattle.ot_plain.proofs.Results.{same_Err}
 use Rattle.ot_plain.proofs.TableLemmas.{Extends-trans}
+use Rattle.ot_plain.proofs.Members.{All-at_member}
 use Rattle.ot_type.specs.Instance.{IsMemo}
 use Rattle.ot_type.specs.TypeTable.{type_at, types_at, images, ArgsBelow}
-use Rattle.ot_type.proofs.SubtypeLemmas.{All-member, above-le}
+use Rattle.ot_type.proofs.SubtypeLemmas.{above-le}
 use Rattle.ot_type.proofs.TypeTableLemmas.{node_op}
 use Rattle.ot_type.proofs.InstLemmas.{ground_put, instance_var, name_within, results_below, instance_op, IsMemo-Extends}
 use Rattle.ot_type.proofs.InstLemmas.{images-Extends, pairs_stay, same_instance, item_low, item_now, item_nesting}
@@ -31,7 +32,7 @@ inst_part-inst_parts-requires t c =
       omega (
         arith,
         above-le c.as_slice-2.result.now c.args.id
-            (λ x m. All-member (λ i. i < c.args.id) c.as_slice-2.result.now below x m),
+            (λ x m. All-at_member (λ i. i < c.args.id) c.as_slice-2.result.now x below m),
       ),
       (
         (λ i d within. let low = below i d within in omega (arith, low, c.requires.id)),
