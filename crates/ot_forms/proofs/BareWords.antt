@@ -2,7 +2,7 @@
 use Rattle.std.specs.Prelude.{◌≡◌, ℕ, ◌==◌, ◌||◌, ◌&&◌, not, Bool, true, false, cond, List, [], ◌∷◌, ◌++◌, codes}
 use Rattle.std.specs.List.{list_all}
 use Rattle.std.proofs.Common.{refl, sym, ◌∙◌, ap, subst, append_assoc, lit<, arith}
-use Rattle.std.proofs.lemmas.Bool.{eqb-true}
+use Rattle.std.proofs.lemmas.Bool.{eqb-true, and_parts, and_from}
 use Rattle.ot_plain.specs.Names.{Name, IsName}
 use Rattle.ot_forms.specs.Words.{is_letter, is_inner, is_part, is_bare, dotted}
 use Rattle.ot_forms.specs.Reading.{NoForm, Got, Halted, mapped, before, bare_at, bare_on}
@@ -23,14 +23,6 @@ pub record SaysOn (n : Name) (x : List ℕ) : Type 0 where
   pub bare : is_bare parts ≡ true
   pub text : x ≡ dotted (part ∷ parts)
 
-pub both_true : (p q : Bool) → (p && q) ≡ true → (p ≡ true) × (q ≡ true)
-both_true true true h = (refl, refl)
-both_true true false h = cc
-both_true false q h = cc
-
-pub and_true : (p q : Bool) → p ≡ true → q ≡ true → (p && q) ≡ true
-and_true p q h k = (λ i. h i && k i)
-
 pub neither : (p q : Bool) → not (p || q) ≡ true → (p ≡ false) × (q ≡ false)
 neither true q h = cc
 neither false true h = cc
@@ -47,7 +39,7 @@ on-end (b ∷ r) e = let w = neither (is_inner b) (b == 46) e in
 on-part : (c k : List ℕ) (n : Name) (r : List ℕ) → list_all is_inner c ≡ true → bare_on k ≡ Got ([] ∷ n) r
     → bare_on (c ++ k) ≡ Got (c ∷ n) r
 on-part [] k n r h e = e
-on-part (b ∷ c) k n r h e = let w = both_true (is_inner b) (list_all is_inner c) h in
+on-part (b ∷ c) k n r h e = let w = and_parts (is_inner b) (list_all is_inner c) h in
     (λ i. cond (w.0 i) (mapped (before b) (bare_on (c ++ k)))
     (cond (b == 46) (mapped (λ n. [] ∷ n) (bare_at (c ++ k))) (Got ([] ∷ []) (b ∷ (c ++ k)))))
     ∙ ap (mapped (before b)) (on-part c k n r w.1 e)
@@ -55,14 +47,14 @@ on-part (b ∷ c) k n r h e = let w = both_true (is_inner b) (list_all is_inner 
 at-part : (c k : List ℕ) (n : Name) (r : List ℕ) → is_part c ≡ true → bare_on k ≡ Got ([] ∷ n) r
     → bare_at (c ++ k) ≡ Got (c ∷ n) r
 at-part [] k n r h e = cc
-at-part (b ∷ c) k n r h e = let w = both_true (is_letter b) (list_all is_inner c) h in
+at-part (b ∷ c) k n r h e = let w = and_parts (is_letter b) (list_all is_inner c) h in
     (λ i. cond (w.0 i) (mapped (before b) (bare_on (c ++ k))) (Halted NoForm (b ∷ (c ++ k))))
     ∙ ap (mapped (before b)) (on-part c k n r w.1 e)
 
 at-complete : (c : List ℕ) (cs : Name) (r : List ℕ) → is_bare (c ∷ cs) ≡ true → IsEnd r
     → bare_at (dotted (c ∷ cs) ++ r) ≡ Got (c ∷ cs) r
-at-complete c [] r h e = at-part c r [] r (both_true (is_part c) true h).0 (on-end r e)
-at-complete c (d ∷ ds) r h e = let w = both_true (is_part c) (is_bare (d ∷ ds)) h in
+at-complete c [] r h e = at-part c r [] r (and_parts (is_part c) true h).0 (on-end r e)
+at-complete c (d ∷ ds) r h e = let w = and_parts (is_part c) (is_bare (d ∷ ds)) h in
     ap bare_at (append_assoc c (46 ∷ dotted (d ∷ ds)) r) ∙ at-part c (46 ∷ (dotted (d ∷ ds) ++ r)) (d ∷ ds) r w.0
     (ap (mapped (λ n. [] ∷ n)) (at-complete d ds r w.1 e))
 
@@ -80,8 +72,8 @@ at_front b c (d ∷ ds) = refl
 
 with-letter : (b : ℕ) → is_letter b ≡ true → (n : Name) (x : List ℕ) → SaysOn n x → SaysBare (before b n) (b ∷ x)
 with-letter b e n x h = subst (λ m. SaysBare (before b m) (b ∷ x)) (sym h.is) (record {
-  bare = and_true (is_letter b && list_all is_inner h.part) (is_bare h.parts)
-      (and_true (is_letter b) (list_all is_inner h.part) e h.inner) h.bare;
+  bare = and_from (is_letter b && list_all is_inner h.part) (is_bare h.parts)
+      (and_from (is_letter b) (list_all is_inner h.part) e h.inner) h.bare;
   named = omega arith;
   text = ap (λ z. b ∷ z) h.text ∙ at_front b h.part h.parts;
 })
@@ -91,7 +83,7 @@ with-inner b e n x h = record {
   part = b ∷ h.part;
   parts = h.parts;
   is = ap (before b) h.is;
-  inner = and_true (is_inner b) (list_all is_inner h.part) e h.inner;
+  inner = and_from (is_inner b) (list_all is_inner h.part) e h.inner;
   bare = h.bare;
   text = ap (λ z. b ∷ z) h.text ∙ at_front b h.part h.parts;
 }

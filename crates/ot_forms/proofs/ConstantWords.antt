@@ -2,6 +2,7 @@
 use Rattle.std.specs.Prelude.{◌≡◌, ℕ, ◌==◌, ◌||◌, ◌&&◌, not, Bool, true, false, cond, List, [], ◌∷◌, ◌++◌, codes}
 use Rattle.std.specs.List.{list_all}
 use Rattle.std.proofs.Common.{refl, sym, ◌∙◌, ap, subst, inl, inr, arith}
+use Rattle.std.proofs.lemmas.Bool.{and_parts}
 use Rattle.ot_plain.specs.Names.{Name, spelled, same_name, same_name-Decides}
 use Rattle.ot_plain.specs.Trees.{Symbol, OpSymbol, ConSymbol}
 use Rattle.ot_plain.specs.Lists.{IsMember}
@@ -14,7 +15,6 @@ use Rattle.ot_forms.proofs.Readers.{Follows, Reads, Begins, told-follows, same_a
 use Rattle.ot_forms.proofs.Types.{IsEnd, differs}
 use Rattle.ot_forms.proofs.Terms.{SaysConstant, IsConstantEnd}
 use Rattle.ot_forms.proofs.SignWords.{SaysCandidate, AreApart, AreSigns, IsSignEnd, sign-complete, sign-follows}
-use Rattle.ot_forms.proofs.BareWords.{both_true}
 use Rattle.ot_forms.proofs.Spellings.{no_part_space}
 use Rattle.ot_forms.proofs.SymbolWords.{IsKind, SaysSymbol, Bare_symbol, Quote, is_worded}
 use Rattle.ot_forms.proofs.SymbolWords.{quote_at, is_quote, and_false, dot-part, inner}
@@ -125,7 +125,7 @@ module _ (hidden : List (Symbol Name)) (nt : IsNotation hidden) where
   signs x n p = go x (operators-is hidden x n p).2 where
     go : (x : List ℕ) → is_operator x ≡ true → list_all is_sign x ≡ true
     go [] e = cc
-    go (b ∷ x) e = (both_true (list_all is_sign (b ∷ x)) (not (same_text (b ∷ x) (61 ∷ []))) e).0
+    go (b ∷ x) e = (and_parts (list_all is_sign (b ∷ x)) (not (same_text (b ∷ x) (61 ∷ []))) e).0
 
   candidate-says : (n : Name) (x : List ℕ) → IsMember (x, n) (operators hidden) → SaysConstant hidden n x
   candidate-says n x h =
@@ -234,11 +234,11 @@ module _ (hidden : List (Symbol Name)) (nt : IsNotation hidden) where
 
   word-end : (r : List ℕ) → IsConstantEnd r → IsEnd r
   word-end [] e = refl
-  word-end (b ∷ r) e = (both_true (not (is_inner b || (b == 46))) (not (is_sign b)) e).0
+  word-end (b ∷ r) e = (and_parts (not (is_inner b || (b == 46))) (not (is_sign b)) e).0
 
   sign-end : (r : List ℕ) → IsConstantEnd r → IsSignEnd r
   sign-end [] e = refl
-  sign-end (b ∷ r) e = (both_true (not (is_inner b || (b == 46))) (not (is_sign b)) e).1
+  sign-end (b ∷ r) e = (and_parts (not (is_inner b || (b == 46))) (not (is_sign b)) e).1
 
   by-byte : (b : ℕ) (t : List ℕ) (p q : Bool) → (b == 34) ≡ p → is_sign b ≡ q → constant_at hidden (b ∷ t)
       ≡ by_byte p q b t
@@ -273,7 +273,7 @@ module _ (hidden : List (Symbol Name)) (nt : IsNotation hidden) where
                 → constant_at hidden (y ++ r) ≡ sign_word_at (operators hidden) (y ++ r)
             first_sign [] hs ho = cc
             first_sign (b ∷ y) hs ho =
-                let k = (both_true (is_sign b) (list_all is_sign y) hs).0 in
+                let k = (and_parts (is_sign b) (list_all is_sign y) hs).0 in
                 by-byte b (y ++ r) false true (differs is_sign 34 b refl k) k
 
       bare : Bare_word n x → constant_at hidden (x ++ r) ≡ Got n r

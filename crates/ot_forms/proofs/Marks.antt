@@ -2,10 +2,10 @@
 use Rattle.std.specs.Prelude.{◌≡◌, ℕ, not, Bool, true, false, cond, List, [], ◌∷◌, ◌++◌}
 use Rattle.std.specs.List.{list_all}
 use Rattle.std.proofs.Common.{refl, sym, ◌∙◌, ap, subst}
+use Rattle.std.proofs.lemmas.Bool.{and_parts, and_from, not-true}
 use Rattle.ot_forms.specs.Words.{is_letter, is_inner, is_sign}
 use Rattle.ot_forms.specs.Reading.{NoForm, Reading, Got, Halted, mapped, part_at, part_on, signs_at, signs_on}
 use Rattle.ot_forms.proofs.Readers.{Follows, Reads, behind, at_byte, at_end, halts_here, ends_here}
-use Rattle.ot_forms.proofs.BareWords.{both_true, and_true}
 
 -- the longest front of bytes of one kind, where its first byte is of some kind
 module _ (starts inner : ℕ → Bool) (on at : List ℕ → Reading (List ℕ)) (on-nil : on [] ≡ Got [] [])
@@ -31,15 +31,11 @@ module _ (starts inner : ℕ → Bool) (on at : List ℕ → Reading (List ℕ))
   abbrev pub IsRunEnd : List ℕ → Type 0
   IsRunEnd r = ends_run r ≡ true
 
-  flip : (b : Bool) → not b ≡ true → b ≡ false
-  flip true h = cc
-  flip false h = refl
-
   on-complete : (x r : List ℕ) → list_all inner x ≡ true → IsRunEnd r → on (x ++ r) ≡ Got x r
   on-complete [] [] h e = on-nil
   on-complete [] (b ∷ r) h e = on-cons b r ∙ ap (λ t. cond t (mapped (λ x. b ∷ x) (on r)) (Got [] (b ∷ r)))
-      (flip (inner b) e)
-  on-complete (b ∷ x) r h e = let w = both_true (inner b) (list_all inner x) h in
+      (not-true (inner b) e)
+  on-complete (b ∷ x) r h e = let w = and_parts (inner b) (list_all inner x) h in
       on-cons b (x ++ r) ∙ ap (λ t. cond t (mapped (λ x. b ∷ x) (on (x ++ r))) (Got [] (b ∷ (x ++ r)))) w.0
       ∙ ap (mapped (λ x. b ∷ x)) (on-complete x r w.1 e)
 
@@ -48,7 +44,7 @@ module _ (starts inner : ℕ → Bool) (on at : List ℕ → Reading (List ℕ))
   on-byte b s h true e = behind SaysRest SaysRest on on (λ x. b ∷ x) b
       (λ z. on-cons b z ∙ ap (λ t. cond t (mapped (λ x. b ∷ x) (on z)) (Got [] (b ∷ z))) e)
       (λ x y w. record {
-        inner_is = and_true (inner b) (list_all inner x) e w.inner_is;
+        inner_is = and_from (inner b) (list_all inner x) e w.inner_is;
         text = ap (λ z. b ∷ z) w.text;
       }) s (on s) h
   on-byte b s h false e = ends_here SaysRest on (b ∷ s) [] (record { inner_is = refl; text = refl })

@@ -2,12 +2,11 @@
 use Rattle.std.specs.Prelude.{◌≡◌, ◌≤◌, ℕ, zero, suc, ◌+◌, ◌||◌, Bool, true, false, List, [], ◌∷◌, ◌++◌, length}
 use Rattle.std.specs.List.{list_all}
 use Rattle.std.proofs.Common.{refl, ◌∙◌, ap, append_assoc, length-append, arith}
-use Rattle.std.proofs.lemmas.Bool.{and_parts}
+use Rattle.std.proofs.lemmas.Bool.{and_parts, and_from}
 use Rattle.ot_plain.specs.Names.{Name, IsName, same_name, same_name-Decides}
 use Rattle.ot_plain.specs.Trees.{Symbol}
 use Rattle.ot_forms.specs.Words.{is_letter, is_inner, is_part, is_bare, dotted, base}
 use Rattle.ot_forms.specs.Words.{symbol_name, same_kind, same_symbol, is_hidden}
-use Rattle.ot_forms.proofs.BareWords.{both_true, and_true}
 
 abbrev pub letters : ℕ → List ℕ
 letters zero = []
@@ -26,20 +25,20 @@ padded n (c ∷ d ∷ ds) = c ∷ padded n (d ∷ ds)
 inner-letters : (c : List ℕ) (n : ℕ) → list_all is_inner c ≡ true → list_all is_inner (c ++ letters n) ≡ true
 inner-letters [] zero h = refl
 inner-letters [] (suc n) h = inner-letters [] n refl
-inner-letters (b ∷ c) n h = let w = both_true (is_inner b) (list_all is_inner c) h in
-    and_true (is_inner b) (list_all is_inner (c ++ letters n)) w.0 (inner-letters c n w.1)
+inner-letters (b ∷ c) n h = let w = and_parts (is_inner b) (list_all is_inner c) h in
+    and_from (is_inner b) (list_all is_inner (c ++ letters n)) w.0 (inner-letters c n w.1)
 
 part-letters : (c : List ℕ) (n : ℕ) → is_part c ≡ true → is_part (c ++ letters n) ≡ true
 part-letters [] n h = cc
-part-letters (b ∷ c) n h = let w = both_true (is_letter b) (list_all is_inner c) h in
-    and_true (is_letter b) (list_all is_inner (c ++ letters n)) w.0 (inner-letters c n w.1)
+part-letters (b ∷ c) n h = let w = and_parts (is_letter b) (list_all is_inner c) h in
+    and_from (is_letter b) (list_all is_inner (c ++ letters n)) w.0 (inner-letters c n w.1)
 
 pub bare-padded : (n : ℕ) (m : Name) → is_bare m ≡ true → is_bare (padded n m) ≡ true
 bare-padded n [] h = refl
-bare-padded n (c ∷ []) h = let w = both_true (is_part c) true h in
-    and_true (is_part (c ++ letters n)) true (part-letters c n w.0) refl
-bare-padded n (c ∷ d ∷ ds) h = let w = both_true (is_part c) (is_bare (d ∷ ds)) h in
-    and_true (is_part c) (is_bare (padded n (d ∷ ds))) w.0 (bare-padded n (d ∷ ds) w.1)
+bare-padded n (c ∷ []) h = let w = and_parts (is_part c) true h in
+    and_from (is_part (c ++ letters n)) true (part-letters c n w.0) refl
+bare-padded n (c ∷ d ∷ ds) h = let w = and_parts (is_part c) (is_bare (d ∷ ds)) h in
+    and_from (is_part c) (is_bare (padded n (d ∷ ds))) w.0 (bare-padded n (d ∷ ds) w.1)
 
 pub named-padded : (n : ℕ) (m : Name) → IsName m → IsName (padded n m)
 named-padded n [] h = h

@@ -4,7 +4,7 @@ use Rattle.std.specs.Prelude.{true, false, cond, List, [], ◌∷◌, ◌++◌, 
 use Rattle.std.specs.Option.{option_map}
 use Rattle.std.specs.List.{list_all, AllByRecursion}
 use Rattle.std.proofs.Common.{refl, sym, ◌∙◌, ap, subst, arith}
-use Rattle.std.proofs.lemmas.Bool.{and_parts, leb-true}
+use Rattle.std.proofs.lemmas.Bool.{and_parts, leb-true, and_from}
 use Rattle.std.proofs.lemmas.Bool.Decides.{nat_tests}
 use Rattle.std.proofs.lemmas.Int.Digits.{all_below_base_digits_of}
 use Rattle.ot_plain.specs.Names.{Name}
@@ -28,7 +28,6 @@ use Rattle.ot_forms.proofs.Terms.{SaysConstant, IsConstantEnd}
 use Rattle.ot_forms.proofs.WholeTerms.{term-reads}
 use Rattle.ot_forms.specs.Words.{IsNotation}
 use Rattle.ot_forms.proofs.TypeLaw.{reads}
-use Rattle.ot_forms.proofs.BareWords.{and_true}
 use Rattle.ot_forms.proofs.RoundTrip.{IsFine, HasConstants, means, app-parts, abs-parts, shallow-parts}
 
 -- ---- binders' names are parts
@@ -37,7 +36,7 @@ digit-inner d h = grind (arith, nat_tests)
 
 digits-inner : (ds : List ℕ) → AllByRecursion (λ d. d < 10) ds → list_all is_inner (map (λ d. 48 + d) ds) ≡ true
 digits-inner [] a = refl
-digits-inner (d ∷ ds) a = and_true (is_inner (48 + d)) (list_all is_inner (map (λ d. 48 + d) ds)) (digit-inner d a.0)
+digits-inner (d ∷ ds) a = and_from (is_inner (48 + d)) (list_all is_inner (map (λ d. 48 + d) ds)) (digit-inner d a.0)
     (digits-inner ds a.1)
 
 number-inner : (n : ℕ) → list_all is_inner (number_text n) ≡ true

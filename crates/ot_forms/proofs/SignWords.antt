@@ -2,14 +2,13 @@
 use Rattle.std.specs.Prelude.{◌≡◌, ℕ, ◌==◌, not, Bool, true, false, cond, List, [], ◌∷◌, ◌++◌, Option, Some, None}
 use Rattle.std.specs.List.{list_all}
 use Rattle.std.proofs.Common.{refl, sym, ◌∙◌, ap, subst, inl, inr, eq-eqb}
-use Rattle.std.proofs.lemmas.Bool.{eqb-true}
+use Rattle.std.proofs.lemmas.Bool.{eqb-true, and_parts}
 use Rattle.ot_plain.specs.Names.{Name}
 use Rattle.ot_plain.specs.Lists.{IsMember}
 use Rattle.ot_forms.specs.Words.{is_sign}
 use Rattle.ot_forms.specs.Reading.{NoForm, Reading, Got, Halted, mapped, Candidate}
 use Rattle.ot_forms.specs.Reading.{narrowed, ended, ended_at, sign_word_at}
 use Rattle.ot_forms.proofs.Readers.{Follows, behind, at_byte, at_end, halts_here, ends_here, unchanged, first}
-use Rattle.ot_forms.proofs.BareWords.{both_true}
 
 abbrev pub SaysCandidate : List Candidate → Name → List ℕ → Type 0
 SaysCandidate cs n x = IsMember (x, n) cs
@@ -93,7 +92,7 @@ narrowed-apart : (b : ℕ) (cs : List Candidate) → AreApart cs → AreApart (n
 narrowed-apart b cs h x n m p q = h (b ∷ x) n m (narrowed-back b cs x n p) (narrowed-back b cs x m q)
 
 narrowed-signs : (b : ℕ) (cs : List Candidate) → AreSigns cs → AreSigns (narrowed b cs)
-narrowed-signs b cs h x n p = (both_true (is_sign b) (list_all is_sign x) (h (b ∷ x) n (narrowed-back b cs x n p))).1
+narrowed-signs b cs h x n p = (and_parts (is_sign b) (list_all is_sign x) (h (b ∷ x) n (narrowed-back b cs x n p))).1
 
 -- no word goes on with a byte that isn't a sign
 narrowed-none : (b : ℕ) (cs : List Candidate) → AreSigns cs → not (is_sign b) ≡ true → narrowed b cs ≡ []
@@ -102,7 +101,7 @@ narrowed-none b cs hs e = go (narrowed b cs) refl where
   go [] q = refl
   go ((x, n) ∷ ds) q =
       let w : IsMember (x, n) (narrowed b cs) = subst (IsMember (x, n)) (sym q) (inl refl) in
-      let k = (both_true (is_sign b) (list_all is_sign x) (hs (b ∷ x) n (narrowed-back b cs x n w))).0 in
+      let k = (and_parts (is_sign b) (list_all is_sign x) (hs (b ∷ x) n (narrowed-back b cs x n w))).0 in
       absurd (clash (is_sign b) k e)
     where
       clash : (t : Bool) → t ≡ true → not t ≡ true → ⊥

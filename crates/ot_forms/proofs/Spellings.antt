@@ -2,7 +2,7 @@
 use Rattle.std.specs.Prelude.{◌≡◌, ℕ, ◌==◌, ◌||◌, ◌&&◌, not, Bool, true, false, cond, List, [], ◌∷◌, ◌++◌, map, codes}
 use Rattle.std.specs.List.{list_all, flat_map}
 use Rattle.std.proofs.Common.{refl, sym, ◌∙◌, ap, subst, append_assoc, inl, inr, lit<, arith}
-use Rattle.std.proofs.lemmas.Bool.{eqb-true}
+use Rattle.std.proofs.lemmas.Bool.{eqb-true, and_parts}
 use Rattle.ot_plain.specs.Names.{Name, IsName, Plain, Escaped, item_of, item_text, joined, spelled}
 use Rattle.ot_forms.specs.Words.{is_letter, is_inner, is_part, is_bare, dotted}
 use Rattle.ot_forms.specs.Reading.{NoForm, Reading, Got, Halted, next, mapped, kept, before, literal_at}
@@ -11,7 +11,7 @@ use Rattle.ot_forms.proofs.Readers.{Follows, Reads, Joined, Image, Kept, Extends
 use Rattle.ot_forms.proofs.Readers.{picked, join, told, mapped-reads, kept-reads, pick, literal-reads, behind}
 use Rattle.ot_forms.proofs.Readers.{at_byte, at_end, halts_here, ends_here, unchanged, same-reads, weaken}
 use Rattle.ot_forms.proofs.Types.{IsEnd, SaysVariable, differs}
-use Rattle.ot_forms.proofs.BareWords.{SaysBare, bare-reads, both_true}
+use Rattle.ot_forms.proofs.BareWords.{SaysBare, bare-reads}
 
 -- the component spellings with a dot between two
 abbrev pub inside : Name → List ℕ
@@ -282,16 +282,16 @@ bare-byte ((b ∷ c) ∷ []) x h =
       byte = b;
       rest = c;
       is = h.text;
-      tells = (both_true (is_letter b) (list_all is_inner c)
-          (both_true (is_letter b && list_all is_inner c) true h.bare).0).0;
+      tells = (and_parts (is_letter b) (list_all is_inner c)
+          (and_parts (is_letter b && list_all is_inner c) true h.bare).0).0;
     }
 bare-byte ((b ∷ c) ∷ d ∷ ds) x h =
     record {
       byte = b;
       rest = c ++ 46 ∷ dotted (d ∷ ds);
       is = h.text;
-      tells = (both_true (is_letter b) (list_all is_inner c)
-          (both_true (is_letter b && list_all is_inner c) (is_bare (d ∷ ds)) h.bare).0).0;
+      tells = (and_parts (is_letter b) (list_all is_inner c)
+          (and_parts (is_letter b && list_all is_inner c) (is_bare (d ∷ ds)) h.bare).0).0;
     }
 
 quote-byte : (n : Name) (x : List ℕ) → Quote n x → Begins is_quote true x

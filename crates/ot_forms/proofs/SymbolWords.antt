@@ -4,6 +4,7 @@ use Rattle.std.specs.Prelude.{List, [], ◌∷◌, ◌++◌, length, suc, codes}
 use Rattle.std.specs.List.{list_all}
 use Rattle.std.specs.Option.{unwrap_or}
 use Rattle.std.proofs.Common.{refl, sym, ◌∙◌, ap, subst, inl, inr, lit<, arith}
+use Rattle.std.proofs.lemmas.Bool.{and_parts, not-true}
 use Rattle.ot_plain.specs.Names.{Name, IsName, spelled}
 use Rattle.ot_plain.specs.Trees.{Symbol}
 use Rattle.ot_forms.specs.Words.{is_letter, is_inner, is_part, is_bare, is_short, dotted, base}
@@ -13,7 +14,7 @@ use Rattle.ot_forms.specs.Reading.{quoted_at, with_base, settled, bare_symbol_at
 use Rattle.ot_forms.proofs.Readers.{Reads, Joined, Image, Kept, Extends, Begins, Is, Any}
 use Rattle.ot_forms.proofs.Readers.{join, mapped-reads, kept-reads, literal-reads, weaken}
 use Rattle.ot_forms.proofs.Types.{IsEnd}
-use Rattle.ot_forms.proofs.BareWords.{SaysBare, bare-reads, both_true}
+use Rattle.ot_forms.proofs.BareWords.{SaysBare, bare-reads}
 use Rattle.ot_forms.proofs.Spellings.{inside, with_space, no_bare_space, SaysQuoted, quoted-reads, bare-byte}
 use Rattle.ot_forms.proofs.Padding.{letters, padded, bare-padded, named-padded, dotted-padded, not-hidden, base_bytes}
 use Rattle.ot_forms.proofs.Hiding.{IsFound, with_base-some, with_base-none, not_taken-none, taken-base, hidden-taken}
@@ -27,10 +28,6 @@ base-space (c ∷ d ∷ e ∷ es) = base-space (d ∷ e ∷ es)
 pub and_false : (p : Bool) → (p && false) ≡ false
 and_false true = refl
 and_false false = refl
-
-pub flip : (b : Bool) → not b ≡ true → b ≡ false
-flip true h = cc
-flip false h = refl
 
 -- a word with a dot is no part
 dot-inner : (c z : List ℕ) → list_all is_inner (c ++ 46 ∷ z) ≡ false
@@ -138,9 +135,9 @@ module _ (hidden : List (Symbol Name)) (nt : IsNotation hidden) (kind : Name →
   pub quote-says : (n : Name) (x : List ℕ) → Quote n x → SaysSymbol hidden kind n x
   quote-says n x q =
       let w = q.then in
-      let e = both_true (not (is_hidden hidden (kind n))) (not (is_worded hidden kind n)) w.fine in
-      let nh = flip (is_hidden hidden (kind n)) e.0 in
-      let nb = flip (is_worded hidden kind n) e.1 in
+      let e = and_parts (not (is_hidden hidden (kind n))) (not (is_worded hidden kind n)) w.fine in
+      let nh = not-true (is_hidden hidden (kind n)) e.0 in
+      let nb = not-true (is_worded hidden kind n) e.1 in
       record {
         named = w.named;
         text = q.is ∙ ap (λ z. z ++ q.back) q.says ∙ w.text
@@ -169,7 +166,7 @@ module _ (hidden : List (Symbol Name)) (nt : IsNotation hidden) (kind : Name →
               ∙ (λ i. cond (sym hid i) (base n) (cond (is_worded hidden kind n) (dotted n) (spelled n)));
         }
     go None e =
-        let nh = flip (is_hidden hidden (kind (c ∷ []))) h.fine in
+        let nh = not-true (is_hidden hidden (kind (c ∷ []))) h.fine in
         let free = with_base-none hidden (kind (c ∷ [])) c e in
         record {
           named = lit< tt;
@@ -178,7 +175,7 @@ module _ (hidden : List (Symbol Name)) (nt : IsNotation hidden) (kind : Name →
         }
   settled-says (c ∷ d ∷ ds) x h =
       let n = c ∷ d ∷ ds in
-      let nh = flip (is_hidden hidden (kind n)) h.fine in
+      let nh = not-true (is_hidden hidden (kind n)) h.fine in
       let free = not_taken (is_taken hidden (kind n) (dotted n)) refl in
       record {
         named = omega arith;
@@ -251,11 +248,11 @@ module _ (hidden : List (Symbol Name)) (nt : IsNotation hidden) (kind : Name →
     go : (b : Bool) → is_worded hidden kind n ≡ b → x ≡ cond b (dotted n) (spelled n)
         → Quote n x ⊎ Bare_symbol hidden kind n x
     go true e q =
-        let w = both_true (is_bare n) (not (is_taken hidden (kind n) (dotted n))) e in
+        let w = and_parts (is_bare n) (not (is_taken hidden (kind n) (dotted n))) e in
         inr (record {
           from = n;
           says = record { says = record { bare = w.0; named = named; text = q }; fine = ap not nh };
-          is = itself n (flip (is_taken hidden (kind n) (dotted n)) w.1);
+          is = itself n (not-true (is_taken hidden (kind n) (dotted n)) w.1);
         })
     go false e q = inl (record {
       one = tt;

@@ -4,6 +4,7 @@ use Rattle.std.specs.Prelude.{codes}
 use Rattle.std.specs.List.{list_all}
 use Rattle.std.proofs.Common.{refl, sym, ◌∙◌, ap, subst, append_assoc, inl, inr, arith, lit<}
 use Rattle.std.proofs.lemmas.Slice.Eq.{bytes_eq-Decides}
+use Rattle.std.proofs.lemmas.Bool.{and_parts, and_from}
 use Rattle.ot_plain.specs.Names.{Name, IsName, spelled}
 use Rattle.ot_plain.specs.Trees.{Ty, Symbol, ConSymbol}
 use Rattle.ot_forms.specs.Words.{is_inner, is_letter, is_part, is_sign, is_operator, is_bare, dotted, same_text}
@@ -14,7 +15,7 @@ use Rattle.ot_forms.specs.Forms.{most_open_all}
 use Rattle.ot_forms.specs.Reading.{Reading, first_part, joined_by, closed_term_at, braced_at}
 use Rattle.ot_forms.proofs.Readers.{Reads, Image, Begins, Any, told}
 use Rattle.ot_forms.proofs.Types.{IsEnd, SaysType, differs, other_byte}
-use Rattle.ot_forms.proofs.BareWords.{SaysBare, both_true, and_true}
+use Rattle.ot_forms.proofs.BareWords.{SaysBare}
 use Rattle.ot_forms.proofs.Marks.{SaysPart, SaysSigns}
 use Rattle.ot_forms.proofs.Terms as terms
 use Rattle.ot_forms.proofs.Terms.{after-some, after-text, starts_term, is_colon, opens_term_byte, IsConstantEnd}
@@ -203,7 +204,7 @@ module _ (hidden : List (Symbol Name)) where
           → Begins (is_colon n) false h.then.back → n ≡ n → Whole w y
       place [] s q k r = absurd (let z = s.named in omega (arith, z))
       place (x ∷ []) s q k r = subst (Whole w) (sym (text ∙ ap (λ z. z ++ 32 ∷ h.then.back) s.text))
-          (behind-whole (Place x) w h.then.back (both_true (is_part x) true s.bare).0 (omega arith) q)
+          (behind-whole (Place x) w h.then.back (and_parts (is_part x) true s.bare).0 (omega arith) q)
       place (x ∷ d ∷ ds) s q k r = absurd (never (k.byte == 58) k.tells)
         where
           never : (t : Bool) → (t || true) ≡ false → ⊥
@@ -297,7 +298,7 @@ module _ (hidden : List (Symbol Name)) where
           one = x ∷ [];
           front = x;
           back = 32 ∷ y;
-          says = record { bare = and_true (is_part x) true fx refl; named = lit< tt; text = refl };
+          says = record { bare = and_from (is_part x) true fx refl; named = lit< tt; text = refl };
           then =
               after-some (codes " ") (BehindBare (x ∷ [])) w y b;
           is = refl;
@@ -379,13 +380,13 @@ module _ (hidden : List (Symbol Name)) where
 
     part-says : (x : List ℕ) → is_part x ≡ true → SaysPart x x
     part-says [] h = cc
-    part-says (b ∷ x) h = let k = both_true (is_letter b) (list_all is_inner x) h in
+    part-says (b ∷ x) h = let k = and_parts (is_letter b) (list_all is_inner x) h in
         record { first_byte = b; rest = x; is = refl; begins = k.0; inner_is = k.1; text = refl }
 
     signs-says : (o : List ℕ) → is_operator o ≡ true → SaysSigns o o
     signs-says [] h = cc
-    signs-says (b ∷ o) h = let k = both_true (list_all is_sign (b ∷ o)) (not (same_text (b ∷ o) (61 ∷ []))) h in
-        let l = both_true (is_sign b) (list_all is_sign o) k.0 in
+    signs-says (b ∷ o) h = let k = and_parts (list_all is_sign (b ∷ o)) (not (same_text (b ∷ o) (61 ∷ []))) h in
+        let l = and_parts (is_sign b) (list_all is_sign o) k.0 in
         record { first_byte = b; rest = o; is = refl; begins = l.0; inner_is = l.1; text = refl }
 
     binding-inside : (x : List ℕ) (t : Ty Name) (a : Written) → is_part x ≡ true → HasNames t → IsWritten a
@@ -418,7 +419,7 @@ module _ (hidden : List (Symbol Name)) where
     says-closed : (w : Written) (x : List ℕ) → Opened w x → Closed w x
     says-closed (Place []) x h = let f = h.fine in cc
     says-closed (Place (b ∷ z)) x h =
-        let k = both_true (is_letter b) (list_all is_inner z) h.fine in
+        let k = and_parts (is_letter b) (list_all is_inner z) h.fine in
         absurd (other_byte b 40 z x (differs is_letter 40 b refl k.0) (sym h.text))
     says-closed (FreeAs n t) x h = closed-at (FreeAs n t) x _ (h.text ∙ ap (λ z. 40 ∷ (z ++ codes ")"))
         (three (variable_word n) (32 ∷ 58 ∷ 32 ∷ []) (type_text hidden t)))
@@ -439,7 +440,7 @@ module _ (hidden : List (Symbol Name)) where
       where
         no_equals : (o : List ℕ) → is_operator o ≡ true → joined_by a o b ≡ Infix o a b
         no_equals [] e = cc
-        no_equals (c ∷ o) e = let k = both_true (list_all is_sign (c ∷ o)) (not (same_text (c ∷ o) (61 ∷ []))) e in
+        no_equals (c ∷ o) e = let k = and_parts (list_all is_sign (c ∷ o)) (not (same_text (c ∷ o) (61 ∷ []))) e in
             go (same_text (c ∷ o) (61 ∷ [])) k.1
           where
             go : (t : Bool) → not t ≡ true → cond t (Equal a b) (Infix (c ∷ o) a b) ≡ Infix (c ∷ o) a b
@@ -482,7 +483,7 @@ module _ (hidden : List (Symbol Name)) where
 
     says-brace : (w : Written) (x : List ℕ) → Brace w x → Braced w x
     says-brace (Place []) x h = let f = h.fine in cc
-    says-brace (Place (b ∷ z)) x h = let k = both_true (is_letter b) (list_all is_inner z) h.fine in
+    says-brace (Place (b ∷ z)) x h = let k = and_parts (is_letter b) (list_all is_inner z) h.fine in
         absurd (other_byte b 123 z x (differs is_letter 123 b refl k.0) (sym h.text))
     says-brace (FreeAs n t) x h = absurd (other_byte 123 40 x _ refl h.text)
     says-brace (ConAs n t) x h =

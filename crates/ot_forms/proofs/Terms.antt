@@ -3,7 +3,7 @@ use Rattle.std.specs.Prelude.{◌≡◌, ◌≤◌, ℕ, zero, suc, ◌+◌, ◌
 use Rattle.std.specs.Prelude.{[], ◌∷◌, ◌++◌, length, codes}
 use Rattle.std.specs.List.{list_all}
 use Rattle.std.proofs.Common.{refl, sym, ◌∙◌, ap, subst, append_assoc, length-append, inl, inr, arith, lit<}
-use Rattle.std.proofs.lemmas.Bool.{eqb-true}
+use Rattle.std.proofs.lemmas.Bool.{eqb-true, and_parts}
 use Rattle.ot_plain.specs.Names.{Name, IsName, spelled}
 use Rattle.ot_plain.specs.Trees.{Ty, TyVar, Symbol, ConSymbol}
 use Rattle.ot_forms.specs.Words.{is_inner, is_letter, is_sign, is_bare, dotted, word}
@@ -18,7 +18,7 @@ use Rattle.ot_forms.proofs.Readers.{Follows, Reads, Joined, Image, Begins, HasBy
 use Rattle.ot_forms.proofs.Readers.{mapped-reads, mapped-follows, pick, literal-reads, behind, at_byte, at_end}
 use Rattle.ot_forms.proofs.Readers.{ends_here, unchanged, second-read, first-halted, same-reads, weaken}
 use Rattle.ot_forms.proofs.Types.{ends_word, IsEnd, IsLast, ends_arguments, SaysVariable, SaysType, differs}
-use Rattle.ot_forms.proofs.BareWords.{SaysBare, bare-reads, both_true}
+use Rattle.ot_forms.proofs.BareWords.{SaysBare, bare-reads}
 use Rattle.ot_forms.proofs.Spellings.{variable-reads, bare-byte}
 use Rattle.ot_forms.proofs.Marks.{SaysPart, IsPartEnd, part-reads, SaysSigns, IsSignsEnd, signs-reads}
 
@@ -83,7 +83,7 @@ module _ (hidden : List (Symbol Name)) where
 
   last-end : (r : List ℕ) → IsLast r → IsEnd r
   last-end [] e = refl
-  last-end (b ∷ r) e = (both_true (not (is_inner b || (b == 46))) (not (b == 32)) e).0
+  last-end (b ∷ r) e = (and_parts (not (is_inner b || (b == 46))) (not (b == 32)) e).0
 
   pub end-part : (r : List ℕ) → IsEnd r → IsPartEnd r
   end-part [] e = refl
@@ -96,7 +96,7 @@ module _ (hidden : List (Symbol Name)) where
   pub starts_of : (w : Written) → IsWritten w → Begins (λ b. is_letter b || ((b == 40) || (b == 123))) true
       (term_text hidden w)
   starts_of (Place []) h = cc
-  starts_of (Place (b ∷ x)) h = let k = both_true (is_letter b) (list_all is_inner x) h in
+  starts_of (Place (b ∷ x)) h = let k = and_parts (is_letter b) (list_all is_inner x) h in
       record { byte = b; rest = x; is = refl; tells = ap (λ t. t || ((b == 40) || (b == 123))) k.0 }
   starts_of (FreeAs n t) h = record { byte = 40; rest = _; is = refl; tells = refl }
   starts_of (ConAs n t) h = record { byte = 123; rest = _; is = refl; tells = refl }
@@ -165,7 +165,7 @@ module _ (hidden : List (Symbol Name)) where
 
     last-stops : (r : List ℕ) → IsLast r → more_at r ≡ Got NoMore r
     last-stops [] e = refl
-    last-stops (b ∷ r) e = go (b == 32) (both_true (not (is_inner b || (b == 46))) (not (b == 32)) e).1 where
+    last-stops (b ∷ r) e = go (b == 32) (and_parts (not (is_inner b || (b == 46))) (not (b == 32)) e).1 where
       go : (t : Bool) → not t ≡ true
           → cond t (next (term r)
           (λ t q. mapped (More t) (further_terms_at constant_at type term (length r - length q) r)))

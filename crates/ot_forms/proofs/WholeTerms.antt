@@ -3,7 +3,7 @@ use Rattle.std.specs.Prelude.{◌≡◌, ℕ, zero, suc, ◌==◌, ◌||◌, ◌
 use Rattle.std.specs.Prelude.{true, false, cond, List, [], ◌∷◌, ◌++◌, codes}
 use Rattle.std.specs.List.{list_all}
 use Rattle.std.proofs.Common.{refl, sym, ◌∙◌, ap, subst, arith}
-use Rattle.std.proofs.lemmas.Bool.{eqb-true}
+use Rattle.std.proofs.lemmas.Bool.{eqb-true, and_parts}
 use Rattle.ot_plain.specs.Names.{Name}
 use Rattle.ot_plain.specs.Trees.{Symbol}
 use Rattle.ot_forms.specs.Words.{is_inner, is_letter, is_part}
@@ -13,7 +13,6 @@ use Rattle.ot_forms.specs.Reading.{closed_term_at, braced_at, term_by, term_at, 
 use Rattle.ot_forms.proofs.Readers.{Follows, Reads, Any, mapped-follows, behind}
 use Rattle.ot_forms.proofs.Readers.{same_at, at_byte, at_end, halts_here, unchanged}
 use Rattle.ot_forms.proofs.Types.{IsEnd, SaysType, differs}
-use Rattle.ot_forms.proofs.BareWords.{both_true}
 use Rattle.ot_forms.proofs.Marks.{SaysPart, part-reads}
 use Rattle.ot_forms.proofs.Terms.{SaysConstant, IsConstantEnd, SaysTerm, some_term}
 use Rattle.ot_forms.proofs.Terms.{some-says, end-part}
@@ -25,7 +24,7 @@ module _ (hidden : List (Symbol Name)) where
     part-complete : (x r : List ℕ) → is_part x ≡ true → IsEnd r → part_at (x ++ r) ≡ Got x r
     part-complete [] r h e = cc
     part-complete (b ∷ x) r h e =
-        let k = both_true (is_letter b) (list_all is_inner x) h in
+        let k = and_parts (is_letter b) (list_all is_inner x) h in
         let part : SaysPart (b ∷ x) (b ∷ x) =
         record { first_byte = b; rest = x; is = refl; begins = k.0; inner_is = k.1; text = refl } in
         part-reads.complete (b ∷ x) (b ∷ x) r part (end-part hidden r e)
@@ -47,7 +46,7 @@ module _ (hidden : List (Symbol Name)) where
         ∙ go w (record { text = refl; fine = h.fine; within = h.within }) where
           go : (w : Written) → SaysTerm hidden m w (term_text hidden w) → reader (term_text hidden w ++ r) ≡ Got w r
           go (Place []) h = let f = h.fine in cc
-          go (Place (b ∷ x)) h = let k = both_true (is_letter b) (list_all is_inner x) h.fine in
+          go (Place (b ∷ x)) h = let k = and_parts (is_letter b) (list_all is_inner x) h.fine in
               (λ i. cond (differs is_letter 40 b refl k.0 i) (opened (x ++ r))
               (cond (differs is_letter 123 b refl k.0 i) (braced (x ++ r)) (place_at (b ∷ (x ++ r)))))
               ∙ ap (mapped Place) (part-complete (b ∷ x) r h.fine e)
@@ -91,7 +90,7 @@ module _ (hidden : List (Symbol Name)) where
   no_paren : (w : Written) (x : List ℕ) (b : ℕ) → ((b == 40) || (b == 123)) ≡ true → SaysTerm hidden 0 w (b ∷ x) → ⊥
   no_paren (Place []) x b e h = let f = h.fine in cc
   no_paren (Place (c ∷ z)) x b e h =
-      let k = both_true (is_letter c) (list_all is_inner z) h.fine in
+      let k = and_parts (is_letter c) (list_all is_inner z) h.fine in
       let q : b ≡ c = let t = h.text in cc in
       no_letter b (ap is_letter q ∙ k.0) e
     where

@@ -2,7 +2,7 @@
 use Rattle.std.specs.Prelude.{nat_le, not}
 use Rattle.std.specs.Map.{lookup}
 use Rattle.std.specs.Bool.{OnTrue}
-use Rattle.std.proofs.lemmas.Bool.{leb-true}
+use Rattle.std.proofs.lemmas.Bool.{leb-true, and_parts}
 use Rattle.ot_records.specs.Walks.{loose, has_free}
 use Rattle.ot_records.proofs.Walking.{open-kept, close-kept}
 use Rattle.std.proofs.Common.{◌≡◌, ◌≤◌, ℕ, Bool, true, false, ◌&&◌, cond, nat_eq, eqb-true, eq-eqb, true≢false}
@@ -126,11 +126,6 @@ instances-insert ts s old new k v h here is after =
         )
     by q w false e p = h.known q w (sym (ap (λ b. cond b (Some v) (lookup (nat_eq q) old)) e) ∙ p)
 
-both : (a b : Bool) → (a && b) ≡ true → (a ≡ true) × (b ≡ true)
-both true true p = (refl, refl)
-both true false p = absurd (true≢false (sym p))
-both false b p = absurd (true≢false (sym p))
-
 -- one changed term more
 pub changed-insert : (ts : List Item) (c : Changing) (old new : List (Place × ℕ)) (p : Place) (r : ℕ)
     → AreChanged ts c old → HasTerm ts p.id → IsTerm ts r (changed c p.depth (term_at ts p.id))
@@ -142,7 +137,7 @@ changed-insert ts c old new p r h here is after =
     by : (q : Place) (s : ℕ) (b : Bool) → same_place p q ≡ b → cond (same_place p q) (Some r)
         (lookup (same_place q) old) ≡ Some s → HasTerm ts q.id × IsTerm ts s (changed c q.depth (term_at ts q.id))
     by q s true e known =
-        let parts = both (nat_eq p.depth q.depth) (nat_eq p.id q.id) e in
+        let parts = and_parts (nat_eq p.depth q.depth) (nat_eq p.id q.id) e in
         let depth : p.depth ≡ q.depth = eqb-true p.depth q.depth parts.0 in
         let id : p.id ≡ q.id = eqb-true p.id q.id parts.1 in
         let value : r ≡ s = same_Some r s (sym (ap (λ b. cond b (Some r) (lookup (same_place q) old)) e) ∙ known) in (

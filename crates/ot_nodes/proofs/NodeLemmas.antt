@@ -1,5 +1,5 @@
 -- The table's nodes meet the laws of nodes.
-use Rattle.std.proofs.Common.{◌≡◌, ℕ, ◌<◌, ◌≤◌, Bool, true, false, ◌&&◌, List, [], ◌∷◌, length, slice_get, Some, None}
+use Rattle.std.proofs.Common.{◌≡◌, ℕ, ◌<◌, ◌≤◌, Bool, true, false, List, [], ◌∷◌, length, slice_get, Some, None}
 use Rattle.std.proofs.Common.{position, ◌++◌, nat_eq, eq-eqb, eqb-true, true≢false, refl, sym, ap, subst, ◌∙◌, arith}
 use Rattle.std.specs.Prelude.{IsTrue, ◌↔◌}
 use Rattle.std.specs.List.{All}
@@ -18,6 +18,7 @@ use Rattle.ot_plain.specs.Interned.{NodeLaws, IsSound, IsEntry}
 use Rattle.ot_plain.proofs.TableLemmas.{get_or-Extends, Extends-refl}
 use Rattle.ot_plain.proofs.InternedLemmas.{pushed, Pushed}
 use Rattle.std.specs.Map.{keys_of, lookup}
+use Rattle.std.proofs.lemmas.Bool.{and_parts}
 use Rattle.indexmap.specs.IndexMap.{IndexMap, keys, insert_entry}
 use Rattle.indexmap.proofs.CallerLemmas.{insert_entry-new}
 use Rattle.ot_nodes.specs.Items.{Item, NameItem, TypeItem, TermItem, as_name, as_type, as_term, HasName}
@@ -48,11 +49,6 @@ type_eq = derived_type.ghosts.eq
 
 abbrev pub term_eq : TermNode → TermNode → Bool
 term_eq = derived_term.ghosts.eq
-
-both : (a b : Bool) → (a && b) ≡ true → (a ≡ true) × (b ≡ true)
-both true true p = (refl, refl)
-both true false p = absurd (true≢false (sym p))
-both false b p = absurd (true≢false (sym p))
 
 -- ---- parts below a number
 types_below : (j k : ℕ) → j ≤ k → (n : TypeNode) → AreTypesBelow j n → AreTypesBelow k n
@@ -139,29 +135,29 @@ module _ (ts us : List Item) (e : Extends ts us) where
 type_same : (ts : List Item) (m n : TypeNode) → type_eq m n ≡ true → type_tree ts m ≡ type_tree ts n
 type_same ts (ty.Var m) (ty.Var n) p = ap (λ i. TyVar (name_at ts i)) (eqb-true m n p)
 type_same ts (ty.Op m xs) (ty.Op n ys) p =
-    let parts = both (nat_eq m n) (pointwise nat_eq xs.items ys.items) p in
+    let parts = and_parts (nat_eq m n) (pointwise nat_eq xs.items ys.items) p in
     λ j. TyOp (name_at ts (eqb-true m n parts.0 j)) (types_at ts ((bytes_eq-Decides xs.items ys.items).0 parts.1 j))
 type_same ts _ _ p = absurd (true≢false (sym p))
 
 term_same : (ts : List Item) (m n : TermNode) → term_eq m n ≡ true → term_tree ts m ≡ term_tree ts n
 term_same ts (tm.Free v) (tm.Free w) p =
-    let parts = both (nat_eq v.name w.name) (nat_eq v.ty w.ty) p in
+    let parts = and_parts (nat_eq v.name w.name) (nat_eq v.ty w.ty) p in
     let name = eqb-true v.name w.name parts.0 in
     let type = eqb-true v.ty w.ty parts.1 in
     λ j. Free (record { name = name_at ts (name j); ty = type_at ts (type j) })
 term_same ts (tm.Const n t) (tm.Const m u) p =
-    let parts = both (nat_eq n m) (nat_eq t u) p in
+    let parts = and_parts (nat_eq n m) (nat_eq t u) p in
     let name = eqb-true n m parts.0 in
     let type = eqb-true t u parts.1 in
     λ j. Con (name_at ts (name j)) (type_at ts (type j))
 term_same ts (tm.Bound i) (tm.Bound k) p = ap Bound (eqb-true i k p)
 term_same ts (tm.App f x) (tm.App g y) p =
-    let parts = both (nat_eq f g) (nat_eq x y) p in
+    let parts = and_parts (nat_eq f g) (nat_eq x y) p in
     let left = eqb-true f g parts.0 in
     let right = eqb-true x y parts.1 in
     λ j. App (term_at ts (left j)) (term_at ts (right j))
 term_same ts (tm.Abs t b) (tm.Abs u c) p =
-    let parts = both (nat_eq t u) (nat_eq b c) p in
+    let parts = and_parts (nat_eq t u) (nat_eq b c) p in
     let type = eqb-true t u parts.0 in
     let body = eqb-true b c parts.1 in
     λ j. Abs (type_at ts (type j)) (term_at ts (body j))

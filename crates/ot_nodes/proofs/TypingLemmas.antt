@@ -5,11 +5,12 @@ use Rattle.std.specs.Option.{option_map, ForSome}
 use Rattle.std.specs.Cmp.Lexicographic.{pointwise}
 use Rattle.std.proofs.lemmas.Slice.Eq.{bytes_eq-Decides}
 use Rattle.std.proofs.Common.{◌≡◌, ℕ, zero, suc, ◌<◌, ◌≤◌, Bool, true, false, ◌&&◌, cond, nat_eq}
-use Rattle.std.proofs.Common.{eqb-true, eq-eqb, true≢false, List, [], ◌∷◌, map, take, length}
+use Rattle.std.proofs.Common.{eqb-true, eq-eqb, List, [], ◌∷◌, map, take, length}
 use Rattle.std.proofs.Common.{slice_get, Option, None, Some, refl, sym, ap, subst, ◌∙◌, arith}
 use Rattle.std.specs.List.{All}
 use Rattle.std.proofs.lemmas.List.Elements.{All-head, All-tail}
 use Rattle.std.proofs.lemmas.Option.{same_Some, none-some}
+use Rattle.std.proofs.lemmas.Bool.{and_parts}
 use Rattle.ot_plain.specs.Names.{Name, same_name}
 use Rattle.ot_plain.specs.Naming.{names}
 use Rattle.ot_plain.specs.Table.{Extends, IsInjective}
@@ -58,11 +59,6 @@ module _ (ts us : List Item) (e : Extends ts us) where
         );
   }
 
-both : (a b : Bool) → (a && b) ≡ true → (a ≡ true) × (b ≡ true)
-both true true p = (refl, refl)
-both true false p = absurd (true≢false (sym p))
-both false b p = absurd (true≢false (sym p))
-
 -- one typing more
 pub typings-insert : (ts : List Item) (old new : List (Scope × Option Typed)) (s : Scope) (r : Option Typed)
     → AreTypings ts old → HasTerm ts s.id → All (HasType ts) s.binders.items
@@ -76,7 +72,7 @@ typings-insert ts old new s r h term binders is after =
         → cond (same_scope s q) (Some r) (lookup (same_scope q) old) ≡ Some w → HasTerm ts q.id
         × All (HasType ts) q.binders.items × IsTyping ts (binders_at ts q.binders.items) (term_at ts q.id) w
     by q w true e p =
-        let parts = both (nat_eq s.id q.id) (pointwise nat_eq s.binders.items q.binders.items) e in
+        let parts = and_parts (nat_eq s.id q.id) (pointwise nat_eq s.binders.items q.binders.items) e in
         let id : s.id ≡ q.id = eqb-true s.id q.id parts.0 in
         let items : s.binders.items ≡ q.binders.items =
         (bytes_eq-Decides s.binders.items q.binders.items).0 parts.1 in

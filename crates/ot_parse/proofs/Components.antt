@@ -1,9 +1,9 @@
 -- Names and their components.
-use Rattle.std.specs.Prelude.{◌≡◌, ◌==◌, ℕ, zero, suc, ◌+◌, ◌-◌, ◌<◌, ◌≤◌, Bool}
+use Rattle.std.specs.Prelude.{◌≡◌, ◌==◌, ℕ, suc, ◌+◌, ◌-◌, ◌<◌, ◌≤◌, Bool}
 use Rattle.std.specs.Prelude.{true, false, List, [], ◌∷◌, ◌++◌, map, length, take}
 use Rattle.std.proofs.Common.{refl, sym, ◌∙◌, ap, subst, arith, get_or}
 use Rattle.std.proofs.Math.Seq.{take-suc}
-use Rattle.std.proofs.lemmas.List.{length-map, get_or-map}
+use Rattle.std.proofs.lemmas.List.{length-map, get_or-map, take_all}
 use Rattle.std.proofs.lemmas.Bool.Decides.{nat_tests}
 use Rattle.ot_plain.specs.Names.{Name}
 use Rattle.ot_forms.specs.Words.{base, namespace}
@@ -30,15 +30,9 @@ module _ {X : Type 0} (f : X → List ℕ) where
       ∙ ap (λ z. f c ∷ z) (namespace-take (e ∷ cs) (omega arith))
 
 -- ---- a copy
-pub take-all : {X : Type 0} (xs : List X) (i : ℕ) → length xs ≤ i → take i xs ≡ xs
-take-all [] zero h = refl
-take-all [] (suc i) h = refl
-take-all (x ∷ xs) zero h = absurd (omega arith)
-take-all (x ∷ xs) (suc i) h = ap (λ z. x ∷ z) (take-all xs i (omega arith))
-
 module _ {X Y : Type 0} (f : X → Y) where
   pub copied-all : (cs ds : List X) (i : ℕ) → map f ds ≡ take i (map f cs) → length cs ≤ i → map f ds ≡ map f cs
-  copied-all cs ds i p h = p ∙ take-all (map f cs) i (let n = length-map cs f in omega (arith, n, h))
+  copied-all cs ds i p h = p ∙ take_all i (map f cs) (let n = length-map cs f in omega (arith, n, h))
 
   pub copied-some : (cs ds : List X) (i : ℕ) → map f ds ≡ take i (map f cs) → length cs ≤ i → 0 < length cs
       → 0 < length ds

@@ -1,10 +1,10 @@
 -- The hidden symbols among the first symbols of a run.
-use Rattle.std.specs.Prelude.{◌≡◌, ℕ, zero, suc, ◌+◌, ◌<◌, ◌≤◌, Bool, true, false}
+use Rattle.std.specs.Prelude.{◌≡◌, ℕ, suc, ◌+◌, ◌<◌, ◌≤◌, Bool, true, false}
 use Rattle.std.specs.Prelude.{cond, List, [], ◌∷◌, ◌++◌, map, length, take}
 use Rattle.std.specs.List.{filter}
 use Rattle.std.proofs.Common.{refl, sym, ◌∙◌, ap, subst, inl, inr, ◌⊎◌, arith, get_or}
 use Rattle.std.proofs.Math.Seq.{take-suc}
-use Rattle.std.proofs.lemmas.List.{length-map, get_or-map}
+use Rattle.std.proofs.lemmas.List.{length-map, get_or-map, take_all}
 use Rattle.ot_plain.specs.Lists.{IsMember}
 use Rattle.ot_plain.specs.Names.{Name, IsName}
 use Rattle.ot_plain.specs.Trees.{Symbol}
@@ -36,15 +36,9 @@ module _ {X : Type 0} (f : X → Symbol Name) (p : Symbol Name → Bool) where
       ∙ ap (λ y. filter p (take i (map f xs) ++ y ∷ [])) (ap f q ∙ sym (get_or-map f xs i x (f x) h))
       ∙ ap (filter p) (sym (take-suc (map f xs) i (f x) within)) ∙ ap (λ m. filter p (take m (map f xs))) (sym k)
 
-  take-all : (xs : List (Symbol Name)) (i : ℕ) → length xs ≤ i → take i xs ≡ xs
-  take-all [] zero h = refl
-  take-all [] (suc i) h = refl
-  take-all (x ∷ xs) zero h = absurd (omega arith)
-  take-all (x ∷ xs) (suc i) h = ap (λ z. x ∷ z) (take-all xs i (omega arith))
-
   pub all : (xs : List X) (hs : List (Symbol Name)) (i : ℕ) → hs ≡ filter p (take i (map f xs)) → length xs ≤ i
       → hs ≡ filter p (map f xs)
-  all xs hs i e h = e ∙ ap (filter p) (take-all (map f xs) i (let n = length-map xs f in omega (arith, n, h)))
+  all xs hs i e h = e ∙ ap (filter p) (take_all i (map f xs) (let n = length-map xs f in omega (arith, n, h)))
 
 -- ---- names
 pub named-more : (ns : List Name) (i : ℕ) (n : Name) → AreNames (take i ns) → i < length ns → n ≡ get_or ns i n
@@ -60,15 +54,4 @@ named-more ns i n h k e w m g =
     split (x ∷ xs) h g = elim g [ inl p ↦ h m (inl p) | inr q ↦ split xs (λ k z. h k (inr z)) q ]
 
 pub named-all : (ns : List Name) (i : ℕ) → AreNames (take i ns) → length ns ≤ i → AreNames ns
-named-all ns i h k = subst AreNames (take-whole ns i k) h where
-  take-whole : (xs : List Name) (i : ℕ) → length xs ≤ i → take i xs ≡ xs
-  take-whole [] zero h = refl
-  take-whole [] (suc i) h = refl
-  take-whole (x ∷ xs) zero h = absurd (omega arith)
-  take-whole (x ∷ xs) (suc i) h = ap (λ z. x ∷ z) (take-whole xs i (omega arith))
-
-pub is-name : {X : Type 0} (f : X → List ℕ) (n : Name) (cs : List X) → map f cs ≡ n → 0 < length cs → IsName n
-is-name f n cs e h = subst IsName e (some cs h) where
-  some : (cs : List _) → 0 < length cs → IsName (map f cs)
-  some [] h = absurd (omega arith)
-  some (c ∷ cs) h = omega arith
+named-all ns i h k = subst AreNames (take_all i ns k) h

@@ -1,6 +1,6 @@
 -- Hidden symbols that are looked up by their names and base names.
-use Rattle.std.specs.Prelude.{◌≡◌, ◌<◌, ◌≤◌, ℕ, zero, suc, Bool, true, false, cond, not, ◌&&◌, ◌||◌}
-use Rattle.std.specs.Prelude.{◌==◌, nat_le, List, [], ◌∷◌, ◌++◌, map, drop, length, Option, Some, None}
+use Rattle.std.specs.Prelude.{◌≡◌, ◌<◌, ◌≤◌, ℕ, Bool, true, false, cond, not, ◌&&◌, ◌||◌}
+use Rattle.std.specs.Prelude.{◌==◌, nat_le, List, [], ◌∷◌, ◌++◌, map, length, Option, Some, None}
 use Rattle.std.specs.List.{list_any, list_all}
 use Rattle.std.specs.Option.{unwrap_or}
 use Rattle.std.proofs.Common.{◌+◌, refl, sym, ◌∙◌, ap, arith, get_or, append_assoc}
@@ -154,12 +154,6 @@ pub single-kept : {X : Type 0} (f : X → List ℕ) (h : List (Symbol Name)) (k 
     → map f (x ∷ []) ≡ n → with_base h (symbol_of (k, [])) (f x) ≡ None → n ≡ settled h (λ j. symbol_of (k, j)) n
 single-kept f h k n x e w = sym e ∙ sym (ap (λ o. unwrap_or o (f x ∷ [])) (based-kind h k (f x ∷ []) [] (f x) ∙ w))
     ∙ ap (settled h (λ j. symbol_of (k, j))) e
-
-pub drop-none : {X : Type 0} (xs : List X) (i : ℕ) → length xs ≤ i → drop i xs ≡ []
-drop-none [] zero h = refl
-drop-none [] (suc i) h = refl
-drop-none (x ∷ xs) zero h = absurd (omega arith)
-drop-none (x ∷ xs) (suc i) h = drop-none xs i (omega arith)
 
 pub one-item : {X : Type 0} (xs : List X) (x : X) → 1 ≤ length xs → length xs < 2 → x ≡ get_or xs 0 x → xs ≡ x ∷ []
 one-item [] x h k e = absurd (omega (arith, h))

@@ -7,6 +7,7 @@ use Rattle.std.proofs.Common.{refl, sym, ◌∙◌, ap, subst, arith, get_or}
 use Rattle.std.proofs.Math.Seq.{take-suc}
 use Rattle.std.proofs.lemmas.Bool.{and_parts}
 use Rattle.std.proofs.lemmas.Bool.Decides.{nat_tests}
+use Rattle.std.proofs.lemmas.List.{take_all}
 use Rattle.ot_plain.specs.Answers.{◌>>=◌, some_or}
 use Rattle.ot_plain.specs.Names.{Name}
 use Rattle.ot_plain.specs.Naming.{names}
@@ -29,7 +30,7 @@ use Rattle.ot_parse.specs.declared.values.Meant.TheVariants as parts
 use Rattle.ot_plain.specs.PlainTrees.{type_of_tree, term_of_tree, tys_of}
 use Rattle.ot_parse.specs.Meant.{Meaning, wholly, equal_of, apply_of, relation_of, related_at}
 use Rattle.ot_parse.specs.Values.{IsValue, IsMeant, Means, meant_of, deeper, IsBoundTo}
-use Rattle.ot_parse.proofs.Components.{take-all, map-push}
+use Rattle.ot_parse.proofs.Components.{map-push}
 use Rattle.ot_plain.proofs.PlainTrees.{term_Free, term_Con, term_Bound, term_App, term_Abs}
 
 -- ---- limits
@@ -61,7 +62,7 @@ depth-more xs i x d e k p h q r =
 pub depth-whole : (n : Name) (xs : List types.Ty) (i d k : ℕ)
     → d ≡ min (depth_all names (tys_of (map type_of_tree (take i xs)))) k → length xs ≤ i
     → d + 1 ≡ min (depth_ty names (TyOp n (tys_of (map type_of_tree xs)))) (suc k)
-depth-whole n xs i d k p h = let e = ap (λ ys. depth_all names (tys_of (map type_of_tree ys))) (take-all xs i h) in
+depth-whole n xs i d k p h = let e = ap (λ ys. depth_all names (tys_of (map type_of_tree ys))) (take_all i xs h) in
     omega (arith, p, e)
 
 -- ---- values

@@ -5,38 +5,30 @@ use Rattle.std.proofs.Common.{refl, sym, ◌∙◌, ap, subst, inl, inr, arith, 
 use Rattle.std.proofs.Common.{append-nil, length-append, drop, drop-cons, get_or}
 use Rattle.std.proofs.lemmas.Bool.Decides.{nat_tests}
 use Rattle.std.proofs.Math.ListN.{drop_of_length-le}
+use Rattle.std.proofs.lemmas.Bool.{leb-true, le-leb, lt-leb}
 use Rattle.ot_text.specs.declared.fault.PrintFault.{PrintFault}
 use Rattle.ot_text.specs.declared.fault.PrintFault.TheVariants.{TooLarge, Memory}
 use Rattle.ot_text.specs.Pages.{Printed, Bytes, Full, NoMemory, put, is_stopped, IsPut, HasRoom, stopped}
 
-le-true : (a b : ℕ) → nat_le a b ≡ true → a ≤ b
-le-true a b h = grind (arith, nat_tests)
-
 le-false : (a b : ℕ) → nat_le a b ≡ false → b < a
 le-false a b h = grind (arith, nat_tests)
-
-true-le : (a b : ℕ) → a ≤ b → nat_le a b ≡ true
-true-le a b h = grind (arith, nat_tests)
-
-false-le : (a b : ℕ) → b < a → nat_le a b ≡ false
-false-le a b h = grind (arith, nat_tests)
 
 pub put-put : (x y : List ℕ) (s : Printed) → put y (put x s) ≡ put (x ++ y) s
 put-put x y (Bytes bs room) = go (nat_le (length x) room) refl where
   fits : (e : Bool) → nat_le (length x) room ≡ true → nat_le (length y) (room - length x) ≡ e
       → cond e (Bytes ((bs ++ x) ++ y) (room - length x - length y)) Full ≡ put (x ++ y) (Bytes bs room)
   fits true h k =
-      let a = le-true _ _ h in
-      let b = le-true _ _ k in
+      let a = leb-true _ _ h in
+      let b = leb-true _ _ k in
       let n = length-append x y in
-      let t = true-le (length (x ++ y)) room (omega (arith, n, a, b)) in
+      let t = le-leb (length (x ++ y)) room (omega (arith, n, a, b)) in
       let d : room - length x - length y ≡ room - length (x ++ y) = omega (arith, n, a, b) in
       rw (t, append_assoc, d) refl
   fits false h k =
-      let a = le-true _ _ h in
+      let a = leb-true _ _ h in
       let b = le-false _ _ k in
       let n = length-append x y in
-      let t = false-le (length (x ++ y)) room (omega (arith, n, a, b)) in
+      let t = lt-leb (length (x ++ y)) room (omega (arith, n, a, b)) in
       rw t refl
 
   go : (e : Bool) → nat_le (length x) room ≡ e → put y (cond e (Bytes (bs ++ x) (room - length x)) Full)
@@ -45,7 +37,7 @@ put-put x y (Bytes bs room) = go (nat_le (length x) room) refl where
   go false h =
       let b = le-false _ _ h in
       let n = length-append x y in
-      let t = false-le (length (x ++ y)) room (omega (arith, n, b)) in
+      let t = lt-leb (length (x ++ y)) room (omega (arith, n, b)) in
       rw t refl
 put-put x y Full = refl
 put-put x y NoMemory = refl
@@ -59,7 +51,7 @@ then {x} {y} {s} {t} {u} p q = record { state = go p.state q.state } where
 
 put-nil : (s : Printed) → s ≡ put [] s
 put-nil (Bytes bs room) =
-    let t : nat_le 0 room ≡ true = true-le 0 room (omega arith) in
+    let t : nat_le 0 room ≡ true = le-leb 0 room (omega arith) in
     let d : room - 0 ≡ room = omega arith in
     rw (t, append-nil, d) refl
 put-nil Full = refl
@@ -79,7 +71,7 @@ pub gives-up : (x : List ℕ) (s t : Printed) (room : ℕ) (fault : PrintFault) 
     → is_stopped s ≡ false → HasRoom s room → (fault ≡ TooLarge → room < length x) → IsPut x s t
 gives-up x (Bytes bs r) t room TooLarge p e h g =
     let n = g refl in
-    let f = false-le (length x) r (omega (arith, n, h)) in
+    let f = lt-leb (length x) r (omega (arith, n, h)) in
     record { state = inr (p ∙ rw f refl) }
 gives-up x (Bytes bs r) t room Memory p e h g = record { state = inl p }
 gives-up x Full t room fault p e h g = cc

@@ -10,6 +10,7 @@ use Rattle.std.proofs.lemmas.Bool.Decides.{eqb_tells}
 use Rattle.std.proofs.lemmas.List.{take-append-drop, take_at, drop_at, length-take}
 use Rattle.std.proofs.lemmas.Option.{none-some, same_Some, cond_some, option_and_then_some}
 use Rattle.std.proofs.lemmas.Slice.Eq.{bytes_eq-Decides}
+use Rattle.std.proofs.lemmas.Bool.{and_parts}
 use Rattle.ot_lines.specs.Pieces.{is_blank, trim_front}
 use Rattle.ot_plain.specs.Names.{Name}
 use Rattle.ot_plain.specs.Reading.{Reading, Done, Unended, Trails, read_from, push, dot, name_read, done_name}
@@ -54,10 +55,6 @@ blanks_before (b ∷ bs) rest e =
     let g = front_blanks bs in
     (b ∷ g.0, (record { some = omega arith; each = rw h.0 g.1.0 }, ap (λ z. b ∷ z) (g.1.1 ∙ ap (λ z. g.0 ++ z) h.1)))
 
-pub both_true : (a b : Bool) → (a && b) ≡ true → (a ≡ true) × (b ≡ true)
-both_true true b e = (refl, e)
-both_true false b e = cc
-
 name_inside : (o : Option Name) → is_some o ≡ true → (name : Name) × (o ≡ Some name)
 name_inside None e = cc
 name_inside (Some name) e = (name, refl)
@@ -66,7 +63,7 @@ named : (text : List ℕ) (len : ℕ) (p : List ℕ × List ℕ) → name_at tex
     → IsQuotedName p.0 × (text ≡ p.0 ++ p.1)
 named text len p e =
     let h = cond_some (nat_le len 65535 && is_some (name_read (take len text))) (take len text, drop len text) p e in
-    let both = both_true (nat_le len 65535) (is_some (name_read (take len text))) h.0 in
+    let both = and_parts (nat_le len 65535) (is_some (name_read (take len text))) h.0 in
     let name = name_inside (name_read (take len text)) both.1 in
     let front : take len text ≡ p.0 = ap (λ z. z.0) h.1 in
     let back : drop len text ≡ p.1 = ap (λ z. z.1) h.1 in
@@ -233,13 +230,13 @@ blanks_dropped : (gap rest : List ℕ) → list_all is_blank gap ≡ true → tr
     → trim_front (gap ++ rest) ≡ rest
 blanks_dropped [] rest all stays = stays
 blanks_dropped (b ∷ bs) rest all stays =
-    let both = both_true (is_blank b) (list_all is_blank bs) all in
+    let both = and_parts (is_blank b) (list_all is_blank bs) all in
     rw both.0 (blanks_dropped bs rest both.1 stays)
 
 blanks_taken : (gap rest : List ℕ) → AreBlanks gap → trim_front rest ≡ rest → after_blanks (gap ++ rest) ≡ Some rest
 blanks_taken [] rest g stays = absurd (omega (arith, g.some))
 blanks_taken (b ∷ bs) rest g stays =
-    let both = both_true (is_blank b) (list_all is_blank bs) g.each in
+    let both = and_parts (is_blank b) (list_all is_blank bs) g.each in
     rw both.0 (ap Some (blanks_dropped bs rest both.1 stays))
 
 -- no blank stands before a quoted name

@@ -7,9 +7,9 @@ use Rattle.std.specs.Str.{is_utf8}
 use Rattle.std.proofs.lemmas.Bool.Decides.{eqb_tells}
 use Rattle.std.proofs.lemmas.List.{take_at, length-take-le, nil_from_length}
 use Rattle.std.proofs.lemmas.Str.{is_utf8-from_IsUtf8, IsUtf8-from_is_utf8}
+use Rattle.std.proofs.lemmas.Bool.{and_parts}
 use Rattle.ot_plain.specs.Lists.{IsMember}
 use Rattle.ot_theory.specs.Values.{is_path, is_quoted_rest, IsPath, TellsPaths}
-use Rattle.ot_theory.proofs.Interpreting.{both_true}
 
 -- how many bytes stand before the first quote
 abbrev plain_len : List ℕ → ℕ
@@ -52,9 +52,9 @@ path_rest bs e = by_test (nat_lt (plain_len bs) (length bs)) refl e where
       ≡ true → IsPath (34 ∷ bs)
   by_test false is e = cc
   by_test true is e =
-      let both = both_true (nat_lt 0 (plain_len bs) && (plain_len bs == length bs - 1))
+      let both = and_parts (nat_lt 0 (plain_len bs) && (plain_len bs == length bs - 1))
       (is_utf8 (take (plain_len bs) bs)) e in
-      let place = both_true (nat_lt 0 (plain_len bs)) (plain_len bs == length bs - 1) both.0 in
+      let place = and_parts (nat_lt 0 (plain_len bs)) (plain_len bs == length bs - 1) both.0 in
       let lt : plain_len bs < length bs = grind (arith, is) in
       let last : plain_len bs ≡ length bs - 1 = grind (arith, place.1) in
       let some : 0 < plain_len bs = grind (arith, place.0) in

@@ -14,6 +14,7 @@ use Rattle.ot_theory.specs.declared.keys.Key.{Key}
 use Rattle.ot_theory.specs.declared.keys.Key.TheVariants.{Interpret}
 use Rattle.ot_theory.specs.declared.fault.Refusal.{Refusal}
 use Rattle.std.proofs.lemmas.Result.{on_ok_weaker}
+use Rattle.std.proofs.lemmas.Bool.{not-true}
 use Rattle.ot_theory.proofs.Steps.{bind_ok}
 use Rattle.ot_theory.specs.declared.symbols.Symbols.{Symbols}
 use Rattle.ot_plain.proofs.Results.{same_Ok}
@@ -58,10 +59,7 @@ pub name_new : (ks : List (Bor (List ℕ))) (blocks : List BlockText) (name : Li
     → has_block blocks name ≡ false
 name_new ks blocks name added holds test is =
     ap (λ z. has_block z name) (sym (append-nil blocks)) ∙ sym (holds name)
-    ∙ negated (list_any (λ k. bytes_eq name k.now) ks) (sym test ∙ is) where
-      negated : (b : Bool) → not b ≡ true → b ≡ false
-      negated true e = cc
-      negated false e = refl
+    ∙ not-true (list_any (λ k. bytes_eq name k.now) ks) (sym test ∙ is)
 
 pub names_more : (old new : List (Bor (List ℕ))) (key : Bor (List ℕ)) (blocks : List BlockText) (b : BlockText)
     → HoldNames old (blocks ++ []) → b.name ≡ key.now

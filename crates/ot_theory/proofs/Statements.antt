@@ -6,6 +6,7 @@ use Rattle.std.specs.List.{AllByRecursion, list_any, filter_map, cons_option}
 use Rattle.std.proofs.lemmas.List.Elements.{filter_map-append}
 use Rattle.std.proofs.lemmas.List.Sums.{sum_by-append}
 use Rattle.std.proofs.lemmas.Option.{none-some, same_Some}
+use Rattle.std.proofs.lemmas.Bool.{not-true}
 use Rattle.ot_plain.specs.Answers.{unless, some_or}
 use Rattle.ot_plain.specs.Lists.{IsMember, AreDistinct}
 use Rattle.ot_plain.specs.Names.{same_name-Decides}
@@ -23,7 +24,7 @@ use Rattle.ot_theory.specs.Theory.{value_allowed, renaming_allowed, source_allow
 use Rattle.ot_theory.specs.Sound.{IsRightValue, IsRightBlock}
 use Rattle.ot_theory.proofs.Interpreting.{bind_some, one_interpretation}
 use Rattle.ot_theory.proofs.Paths.{tells_paths}
-use Rattle.ot_theory.proofs.Steps.{bind_ok, not_false}
+use Rattle.ot_theory.proofs.Steps.{bind_ok}
 use Rattle.ot_plain.proofs.Elements.{AllByRecursion-append}
 use Rattle.ot_plain.proofs.Results.{some_or-ok, unless-ok}
 
@@ -73,7 +74,7 @@ no_source : (k : Key) (earlier : List TagText) → is_source k ≡ false → is_
 no_source k earlier n h = absurd (true≢false (sym h ∙ n))
 
 one_source : (earlier : List TagText) (u : Unit {0}) → source_allowed earlier ≡ Ok u → has_source earlier ≡ false
-one_source earlier u e = not_false (has_source earlier) (unless-ok TwoSources (not (has_source earlier)) u e)
+one_source earlier u e = not-true (has_source earlier) (unless-ok TwoSources (not (has_source earlier)) u e)
 
 pub allowed : (k : Key) (value : List ℕ) (earlier : List TagText) → value_allowed k value earlier ≡ Ok tt
     → Allowed k value earlier
@@ -98,7 +99,7 @@ allowed Interpret value earlier e =
     let h = bind_ok (some_or BadInterpret (symbol_of value)) (renaming_allowed earlier) tt e in
     let symbol : symbol_of value ≡ Some h.0 = some_or-ok BadInterpret (symbol_of value) h.0 h.1.0 in
     let parts = bind_some (split_interpret value) _ h.0 symbol in
-    let new : has_renaming earlier h.0 ≡ false = not_false (has_renaming earlier h.0)
+    let new : has_renaming earlier h.0 ≡ false = not-true (has_renaming earlier h.0)
     (unless-ok DuplicateInterpret (not (has_renaming earlier h.0)) tt h.1.1) in
     record {
       right = record {

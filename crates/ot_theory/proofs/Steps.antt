@@ -1,7 +1,8 @@
 -- The lines that pass: what each of them is, and how the state goes on.
-use Rattle.std.proofs.Common.{◌≡◌, ℕ, List, [], ◌∷◌, ◌++◌, Bool, true, false, refl, sym, ap, ◌∙◌, subst, Some, None}
+use Rattle.std.proofs.Common.{◌≡◌, ℕ, List, [], ◌∷◌, ◌++◌, true, false, refl, sym, ap, ◌∙◌, subst, Some, None}
 use Rattle.std.specs.Prelude.{Option, Result, Ok, Err, not, codes, IfOk}
 use Rattle.std.specs.List.{AllByRecursion}
+use Rattle.std.proofs.lemmas.Bool.{not-true}
 use Rattle.ot_plain.specs.Answers.{◌>>=◌, unless}
 use Rattle.ot_theory.specs.Lines.{LineText}
 use Rattle.ot_theory.specs.Forms.{LineForm, Statement, Opening, Closing, NoForm, form}
@@ -20,10 +21,6 @@ pub bind_ok : {A B E : Type 0} (r : Result A E) (f : A → Result B E) (y : B) �
     → (x : A) × ((r ≡ Ok x) × (f x ≡ Ok y))
 bind_ok (Ok x) f y e = (x, (refl, e))
 bind_ok (Err d) f y e = absurd (err_ok d y e)
-
-pub not_false : (b : Bool) → not b ≡ true → b ≡ false
-not_false true e = cc
-not_false false e = refl
 
 pub at_line_ok : {A : Type 0} (line : ℕ) (r : Result A TheoryFault) (x : A) → at_line line r ≡ Ok x → r ≡ Ok x
 at_line_ok line (Ok y) x e = ap Ok (same_Ok y x e)
@@ -49,7 +46,7 @@ outside_step : (s : State) (line : LineText) (P : State → Type 0) → OnSteps 
 outside_step s line P on o (Statement key value) is after e = subst P (same_Ok _ _ e) (on.tagged key value o is)
 outside_step s line P on o (Opening name) is after e =
     let h = bind_ok (unless DuplicateBlock (not (has_block s.blocks name))) _ after e in
-    subst P (same_Ok _ _ h.1.1) (on.opened name o is (not_false _ (unless-ok DuplicateBlock _ h.0 h.1.0)))
+    subst P (same_Ok _ _ h.1.1) (on.opened name o is (not-true _ (unless-ok DuplicateBlock _ h.0 h.1.0)))
 outside_step s line P on o Closing is after e = absurd (err_ok BadBlock after e)
 outside_step s line P on o NoForm is after e = absurd (err_ok BadLine after e)
 

@@ -5,6 +5,7 @@ use Rattle.std.specs.Prelude.{min, nat_le}
 use Rattle.std.specs.Bool.{Decides}
 use Rattle.std.specs.List.{All, flat_map}
 use Rattle.std.proofs.lemmas.Bool.Decides.{nat_tests}
+use Rattle.std.proofs.lemmas.Bool.{le-leb, lt-leb}
 use Rattle.ot_plain.specs.Names.{Name, same_name-Decides}
 use Rattle.ot_plain.specs.Naming.{names, name_of}
 use Rattle.ot_plain.proofs.Naming.{name_of-injective}
@@ -24,15 +25,14 @@ use Rattle.ot_written.proofs.Same.{same-origin-law}
 use Rattle.ot_write.specs.declared.roots.Roots as code
 use Rattle.ot_write.specs.Bytes.{AreRootsInside, article_bytes, roots_at}
 use Rattle.ot_write.specs.Emitting.{counted_bytes, count_of, given, number_lines, root_steps, same, taken}
-use Rattle.ot_write.proofs.Putting.{true-le, false-le}
 use Rattle.ot_write.proofs.Keys.{same-is, once-at, count-at, count-none}
 use Rattle.ot_write.proofs.Marking.{IsIn, uses-marked, uses-outside, taken-needed}
 
 -- 2 stands for two or more
 told : (n k : ℕ) → n ≤ 2 → nat_le n (min 2 k) ≡ nat_le n k
 told n k small = elim (bool_cases (nat_le n k)) [
-  | inl e ↦ (let h : n ≤ k = grind (arith, nat_tests) in true-le n (min 2 k) (omega arith) ∙ sym e)
-  | inr e ↦ (let h : k < n = grind (arith, nat_tests) in false-le n (min 2 k) (omega arith) ∙ sym e)
+  | inl e ↦ (let h : n ≤ k = grind (arith, nat_tests) in le-leb n (min 2 k) (omega arith) ∙ sym e)
+  | inr e ↦ (let h : k < n = grind (arith, nat_tests) in lt-leb n (min 2 k) (omega arith) ∙ sym e)
 ]
 
 -- an origin is in the table or it isn't

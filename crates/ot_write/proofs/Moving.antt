@@ -1,11 +1,12 @@
 -- The writer's steps, over plain values.
-use Rattle.std.proofs.Common.{◌≡◌, ◌≢◌, inl, inr, ℕ, zero, suc, ◌+◌, ◌-◌, ◌<◌, ◌≤◌, cond, List, [], ◌∷◌}
+use Rattle.std.proofs.Common.{◌≡◌, ◌≢◌, ℕ, zero, suc, ◌+◌, ◌-◌, ◌<◌, ◌≤◌, cond, List, [], ◌∷◌}
 use Rattle.std.proofs.Common.{◌++◌, map, length, reverse, slice_get, slice_index_or, Option, None, Some}
 use Rattle.std.proofs.Common.{Result, Ok, Err, OnOk, refl, sym, ap, subst, ◌∙◌, arith, append-nil}
 use Rattle.std.specs.Prelude.{pos, ℤ, nat_le}
 use Rattle.std.specs.List.{All, AllByRecursion}
 use Rattle.std.proofs.lemmas.List.{reverse-append}
 use Rattle.std.proofs.lemmas.Grind.{flat_map-append}
+use Rattle.std.proofs.lemmas.Bool.{le-leb, lt-leb}
 use Rattle.ot_plain.specs.Names.{Name}
 use Rattle.ot_plain.specs.declared.command.Cmd.{Cmd}
 use Rattle.ot_plain.specs.declared.command.Cmd.TheVariants as words
@@ -15,9 +16,10 @@ use Rattle.ot_written.specs.Written as w
 use Rattle.ot_written.specs.Written.{Text, Line}
 use Rattle.ot_written.specs.Bytes.{line_bytes}
 use Rattle.ot_write.specs.Emitting.{number_line, number_lines}
-use Rattle.ot_plain.specs.Lists.{IsMember, AreDistinct}
+use Rattle.ot_plain.specs.Lists.{AreDistinct}
 use Rattle.ot_plain.specs.Table.{IsInjective}
 use Rattle.ot_plain.proofs.Naming.{name_of-at}
+use Rattle.ot_plain.proofs.Members.{IsMember-place}
 use Rattle.ot_write.specs.Limited as limit
 use Rattle.ot_write.specs.declared.writer.Writer.{Writer}
 use Rattle.ot_write.specs.declared.writer.Task.{Task}
@@ -27,7 +29,7 @@ use Rattle.ot_trace.specs.declared.step.Step.TheVariants as step
 use Rattle.ot_trace.specs.Trace.{IsBelow, IsStepTable, operand_numbers, origin_at, origins_at, origin_of}
 use Rattle.ot_write.specs.Emitting.{same, IsInside, place_of, Given, given, HasKeys, Shows, Moves, Replaces, keep}
 use Rattle.ot_write.specs.Emitting.{used, begin, close, perform, rest, cost, cost_all, task_cost, total, count_of}
-use Rattle.ot_write.proofs.Putting.{put-put, true-le, false-le}
+use Rattle.ot_write.proofs.Putting.{put-put}
 use Rattle.ot_write.proofs.Keys.{get-of, origin-here, once-at, count-at, count-none}
 
 -- ---- one line more
@@ -357,7 +359,7 @@ module _ (ts : List (Origin ℕ)) (table : IsStepTable ts) where
         (λ t. cond (nat_le least (count_of ts cs (origin_at ts id))) (w.store same (origin_at ts id) t) t)
     stored-one least h ns old new m =
         λ max t s. subst (λ b. Shows (given ns ts cs) max new (cond b (w.store same (origin_at ts id) t) t))
-        (sym (ap (nat_le least) count-here ∙ true-le least (slice_index_or cs id 0) (subst (λ z. least ≤ z) at-id h)))
+        (sym (ap (nat_le least) count-here ∙ le-leb least (slice_index_or cs id 0) (subst (λ z. least ≤ z) at-id h)))
         (m max t s)
 
     pub stored-none : (least : ℕ) → slice_index_or cs place 0 < least → (ns : List Name) (old : Writer)
@@ -366,7 +368,7 @@ module _ (ts : List (Origin ℕ)) (table : IsStepTable ts) where
     stored-none least h ns old =
         λ max t s. subst (λ b. Shows (given ns ts cs) max old (cond b (w.store same (origin_at ts id) t) t))
         (sym (ap (nat_le least) count-here
-        ∙ false-le least (slice_index_or cs id 0) (subst (λ z. z < least) at-id h))) s
+        ∙ lt-leb least (slice_index_or cs id 0) (subst (λ z. z < least) at-id h))) s
 
   -- ---- the theorem at a place of a definition
   module _ (cs : List ℕ) (x : Origin ℕ) where
@@ -444,15 +446,10 @@ cheaper-none ts ws x = let h = cost-some x in omega arith
 
 -- ---- names
 
-member-at : {X : Type 0} (xs : List X) (x : X) → IsMember x xs → (i : ℕ) × (slice_get xs i ≡ Some x)
-member-at [] x m = elim m [ ]
-member-at (y ∷ xs) x (inl e) = (0, ap Some e)
-member-at (y ∷ xs) x (inr m) = let r = member-at xs x m in (suc r.0, r.1)
-
 pub injective-distinct : {X : Type 0} (xs : List X) → IsInjective xs → AreDistinct xs
 injective-distinct [] h = tt
 injective-distinct (x ∷ xs) h = (
-  λ m. let r = member-at xs x m in let e : 0 ≡ suc r.0 = h.same 0 (suc r.0) x refl r.1 in absurd (cc),
+  λ m. let r = IsMember-place x xs m in let e : 0 ≡ suc r.0 = h.same 0 (suc r.0) x refl r.1 in absurd (cc),
   injective-distinct xs
       (record { same = λ i j y p q. let e : suc i ≡ suc j = h.same (suc i) (suc j) y p q in omega arith }),
 )

@@ -19,11 +19,7 @@ use Rattle.ot_written.specs.Laws.{roots_with, RenamedArticleLaw}
 use Rattle.ot_trace.specs.Uses.{count}
 use Rattle.ot_written.proofs.Filters.{bool_cases}
 use Rattle.ot_plain.proofs.Elements.{list_any-image}
-use Rattle.std.proofs.lemmas.List.{map-append}
-
-map-length : {X Y : Type 0} (f : X → Y) (xs : List X) → length (map f xs) ≡ length xs
-map-length f [] = refl
-map-length f (x ∷ xs) = ap suc (map-length f xs)
+use Rattle.std.proofs.lemmas.List.{map-append, length-map}
 
 pub filter-map : {X Y : Type 0} (f : X → Y) (p : Y → Bool) (q : X → Bool) → ((x : X) → p (f x) ≡ q x) → (xs : List X)
     → filter p (map f xs) ≡ map f (filter q xs)
@@ -145,7 +141,7 @@ module _ {M N : Type 0} (f : M → N) where
 
     pub definitions-map : (roots ds : List (Origin M)) → n.needed_definitions same (map to roots) (map to ds)
         ≡ map to (n.needed_definitions same_one roots ds)
-    definitions-map roots ds = (λ i. n.rounds same (map-length to ds i) (map to roots) (firsts-map ds i))
+    definitions-map roots ds = (λ i. n.rounds same (length-map ds to i) (map to roots) (firsts-map ds i))
         ∙ rounds-map (length ds) roots (n.firsts same_one ds)
 
     origins-map : (roots ds : List (Origin M)) → n.needed_origins same (map to roots) (map to ds)
@@ -191,7 +187,7 @@ module _ {M N : Type 0} (f : M → N) where
     store-map o t =
         let key : Line M = Numeral (pos (length t.stored)) in
         text-is _ _
-        ((λ i. (map line_to t.lines ++ Numeral (pos (map-length to t.stored i)) ∷ []) ++ Order words.Def ∷ [])
+        ((λ i. (map line_to t.lines ++ Numeral (pos (length-map t.stored to i)) ∷ []) ++ Order words.Def ∷ [])
         ∙ ap (λ l. l ++ Order words.Def ∷ []) (sym (map-append line_to t.lines (key ∷ [])))
         ∙ sym (map-append line_to (t.lines ++ key ∷ []) (Order words.Def ∷ [])))
         (sym (map-append to t.stored (o ∷ []))) refl

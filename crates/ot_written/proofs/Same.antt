@@ -1,9 +1,10 @@
 -- The test of origins decides whether they are one.
-use Rattle.std.proofs.Common.{◌≡◌, ℕ, Bool, true, false, Some, arith, refl, sym, ap, ◌∙◌}
-use Rattle.std.specs.Prelude.{nat_eq, ◌&&◌}
+use Rattle.std.proofs.Common.{◌≡◌, ℕ, Bool, true, Some, arith, refl, sym, ap, ◌∙◌}
+use Rattle.std.specs.Prelude.{nat_eq}
 use Rattle.std.specs.Bool.{Decides}
 use Rattle.std.proofs.lemmas.Bool.Decides.{nat_tests, Decides-int_eq}
 use Rattle.std.proofs.lemmas.Slice.Eq.{bytes_eq-Decides}
+use Rattle.std.proofs.lemmas.Bool.{and_from}
 use Rattle.ot_plain.specs.Commands.{spelling, command_of}
 use Rattle.ot_plain.specs.declared.command.Cmd.{Cmd}
 use Rattle.ot_plain.specs.declared.command.Cmd.TheVariants as words
@@ -22,10 +23,6 @@ word-is c d = (
       ∙ command-back d in cc,
   λ e. (bytes_eq-Decides (spelling c) (spelling d)).1 (ap spelling e),
 )
-
-and-both : (a b : Bool) → a ≡ true → b ≡ true → (a && b) ≡ true
-and-both true b p q = q
-and-both false b p q = absurd (cc)
 
 eq-is : (a b : ℕ) → Decides (nat_eq a b) (a ≡ b)
 eq-is a b = (λ h. grind (arith, nat_tests), λ h. grind (arith, nat_tests))
@@ -61,15 +58,15 @@ module _ {N : Type 0} (same_name : N → N → Bool) (name-is : (a b : N) → De
     origin-self : (a : Origin N) → same_origin same_name a a ≡ true
     origin-self (Number k) = (Decides-int_eq k k).1 refl
     origin-self (Named n) = (name-is n n).1 refl
-    origin-self (Make c os) = and-both (same_word c c) (same_origins same_name os os) ((word-is c c).1 refl)
+    origin-self (Make c os) = and_from (same_word c c) (same_origins same_name os os) ((word-is c c).1 refl)
         (origins-self os)
-    origin-self (Define c os) = and-both (same_word c c) (same_origins same_name os os) ((word-is c c).1 refl)
+    origin-self (Define c os) = and_from (same_word c c) (same_origins same_name os os) ((word-is c c).1 refl)
         (origins-self os)
-    origin-self (Outcome j d) = and-both (nat_eq j j) (same_origin same_name d d) ((eq-is j j).1 refl) (origin-self d)
+    origin-self (Outcome j d) = and_from (nat_eq j j) (same_origin same_name d d) ((eq-is j j).1 refl) (origin-self d)
 
     origins-self : (os : Origins N) → same_origins same_name os os ≡ true
     origins-self NoOrigins = refl
-    origins-self (MoreOrigins o os) = and-both (same_origin same_name o o) (same_origins same_name os os)
+    origins-self (MoreOrigins o os) = and_from (same_origin same_name o o) (same_origins same_name os os)
         (origin-self o) (origins-self os)
 
 pub same-origin-law : {N : Type 0} → SameOriginLaw N

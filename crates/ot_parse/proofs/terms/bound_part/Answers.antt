@@ -1,8 +1,8 @@
 use Rattle.std.proofs.Common.{◌≡◌, ◌∙◌, ◌∷◌, ◌-◌, sym, ap, subst, arith, length, take, Ok}
+use Rattle.std.proofs.lemmas.List.{take_all}
 use Rattle.ot_plain.specs.PlainTrees.{type_of_tree}
 use Rattle.ot_parse.specs.TermFrames.{around}
 use Rattle.ot_parse.specs.TermCode.{frames_of}
-use Rattle.ot_parse.proofs.Components.{take-all}
 use Rattle.ot_parse.proofs.Places.{ArePassed, passed-start, passed-other, passed-found}
 use Rattle.ot_parse.proofs.Places.{passed-type, place-found, passed-frame, passed-all}
 use Rattle.ot_parse.proofs.terms.bound_part.Goals as goal
@@ -12,7 +12,7 @@ frames-init c = (
   omega arith,
   subst
       (λ os. ArePassed (around (frames_of c.args.frames.now)) c.args.name.now 0 (around (frames_of os)))
-      (sym (take-all c.args.frames.now (length c.args.frames.now) (omega arith)))
+      (sym (take_all (length c.args.frames.now) c.args.frames.now (omega arith)))
       (passed-start (around (frames_of c.args.frames.now)) c.args.name.now),
 )
 
