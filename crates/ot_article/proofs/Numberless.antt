@@ -17,12 +17,13 @@ use Rattle.ot_machine.specs.Objects.{Object, Objects, number, name, list, type_o
 use Rattle.ot_machine.specs.Objects.{variable, term, theorem, no_objects, more_objects, nesting}
 use Rattle.ot_machine.specs.Places.{as_name, as_list, as_type_op, as_type, as_constant}
 use Rattle.ot_machine.specs.Places.{as_variable, as_term, as_theorem, as_each}
-use Rattle.ot_machine.specs.Parts.{Reading, or_bad, two_of}
+use Rattle.ot_machine.specs.Parts.{or_bad, two_of}
 use Rattle.ot_kernel.specs.Pairs.{with_type, with_term}
 use Rattle.ot_machine.specs.Substitutions.{type_pair, term_pair, types_onto, terms_onto, maps_of}
 use Rattle.ot_machine.specs.DefinitionLists.{definition_pair, pairs_of}
 use Rattle.ot_machine.specs.Makers.{Read, Maker, of_none, of_top, of_two, no_maker, maker, consed, subst_made}
 use Rattle.ot_machine.specs.Values.{applied, value, values, definition_of, defines, theorem_of}
+use Rattle.ot_machine.proofs.ObjectKinds.{or_bad-is}
 use Rattle.ot_article.proofs.Operands.{made_of, made-of, const_given, list_given, type_given, given_by, given-of}
 use Rattle.ot_plain.proofs.Members.{IsMember-cases}
 use Rattle.ot_plain.proofs.Results.{bind-ok}
@@ -97,10 +98,6 @@ listed-pure : {A : Type 0} (as_one : Object → Result A (Fault Name))
     → (as_list o >>= as_each as_one) ≡ Ok xs → IsPure o
 listed-pure as_one one o xs h = let a = bind-ok (as_list o) (as_each as_one) xs h in
     list-pure o a.0 a.1 (each-pure as_one one a.0 xs a.2)
-
-or_bad-is : {A : Type 0} (bad : Fault Name) (r : Reading A) (a : A) → or_bad bad r ≡ Ok a → r ≡ Ok a
-or_bad-is bad (Ok x) a h = h
-or_bad-is bad (Err f) a h = absurd (cc)
 
 two-pure : (bad : Fault Name) (os : Objects) (p : Object × Object) → two_of bad os ≡ Ok p → IsPure p.0 → IsPure p.1
     → ArePure os

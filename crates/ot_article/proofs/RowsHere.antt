@@ -7,7 +7,7 @@ use Rattle.ot_plain.specs.Answers.{◌>>=◌}
 use Rattle.ot_plain.specs.declared.command.Cmd.{Cmd}
 use Rattle.ot_plain.specs.declared.command.Cmd.TheVariants as words
 use Rattle.ot_trace.specs.Origins.{Named, Make, NoOrigins, MoreOrigins}
-use Rattle.ot_machine.specs.Objects.{Object, Objects, name, list, type_op, constant, theorem, no_objects}
+use Rattle.ot_machine.specs.Objects.{Object, Objects, list, type_op, constant, theorem, no_objects}
 use Rattle.ot_machine.specs.States.{version_6, Entry, State, no_context}
 use Rattle.ot_machine.specs.Places.{as_name, as_list, as_term, as_each, origins_of}
 use Rattle.ot_kernel.specs.Axioms.{axiom_rule}
@@ -17,6 +17,7 @@ use Rattle.ot_machine.specs.Step.{on_stack, word_row}
 use Rattle.ot_machine.specs.Values.{value}
 use Rattle.ot_article.proofs.Operands.{made_of}
 use Rattle.ot_machine.specs.Lawful.{IsAxiom}
+use Rattle.ot_machine.proofs.ObjectKinds.{name-is}
 use Rattle.ot_article.proofs.Frames.{objects_of, entry, entry-here, object-here, dropped-here, top-here, making-here}
 use Rattle.ot_article.proofs.MadeKinds.{value-name}
 use Rattle.ot_plain.proofs.Results.{bind-ok}
@@ -32,10 +33,6 @@ same-stack s st p = λ i. record s { article = record s.article { stack = p i } 
 abbrev pub AreFit : List Entry → Type 0
 AreFit [] = Unit {0}
 AreFit (e ∷ es) = (value e.origin ≡ Ok e.object) × AreFit es
-
-pub name-is : (x : Object) (n : Name) → as_name x ≡ Ok n → x ≡ name n
-name-is (name m) n p = let e : m ≡ n = cc in ap name e
-name-is _ n p = absurd (cc)
 
 pub origin-name : (e : Entry) (n : Name) → as_name e.object ≡ Ok n → value e.origin ≡ Ok e.object → e.origin ≡ Named n
 origin-name e n p q = value-name e.origin n (q ∙ ap Ok (name-is e.object n p))

@@ -1,7 +1,7 @@
 -- Running a text: what each of its moves does.
 use Rattle.std.proofs.Common.{◌≡◌, ℕ, ◌-◌, ◌<◌, inl, inr, Bool, true, false, cond, List, [], ◌∷◌, ◌++◌, length}
-use Rattle.std.proofs.Common.{drop, slice_get, Some, Result, Ok, Err, refl, sym, ap, ◌∙◌, arith, length-append}
-use Rattle.std.proofs.lemmas.List.{append-nil, drop_at}
+use Rattle.std.proofs.Common.{slice_get, Some, Result, Ok, Err, refl, sym, ap, ◌∙◌, arith}
+use Rattle.std.proofs.lemmas.List.{append-nil}
 use Rattle.std.proofs.lemmas.Cmp.{int_cmp_total, eq_by_cmp_equiv}
 use Rattle.std.proofs.lemmas.Map.Lookups.{exact_signed}
 use Rattle.std.proofs.lemmas.Map.Views.{tells_apart}
@@ -30,9 +30,6 @@ use Rattle.ot_written.proofs.Growth.{flat_map-snoc}
 use Rattle.ot_article.proofs.Frames.{entry}
 use Rattle.ot_article.proofs.RowsHere.{with_stack, same-stack}
 use Rattle.ot_article.proofs.Runs.{run-snoc, marks-snoc, moved, step-is, pop-row, def-row, ref-row}
-
-drop-push : {X : Type 0} (xs : List X) (x : X) → drop (length (xs ++ x ∷ []) - 1) (xs ++ x ∷ []) ≡ x ∷ []
-drop-push xs x = drop_at xs (x ∷ []) (length (xs ++ x ∷ []) - 1) (omega (arith, length-append xs (x ∷ [])))
 
 -- what a run assumes by an origin, and what it defines
 abbrev pub taken_by : Origin Name → Result Object (Fault Name) → List Given

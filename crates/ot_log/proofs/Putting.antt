@@ -26,6 +26,7 @@ use Rattle.ot_machine.specs.Makers.{maker}
 use Rattle.ot_machine.specs.Values.{value, values, applied}
 use Rattle.ot_machine.specs.Meaning.{origin_of}
 use Rattle.ot_machine.specs.declared.session.Session.{Session}
+use Rattle.ot_machine.proofs.ObjectKinds.{list-is}
 use Rattle.ot_proof_log.specs.Writing.{listed}
 use Rattle.ot_sheet.specs.declared.sheet.Sheet.{Sheet}
 use Rattle.ot_values.specs.Steps.{Makes, IsNameOf, IsVariableOf, IsTermOf, origins_of}
@@ -42,7 +43,7 @@ use Rattle.ot_log.specs.Keeping.{IsWriter, Puts, PutsDefinition, number_at, numb
 use Rattle.ot_log.specs.declared.writer.Place.{Place}
 use Rattle.ot_log.specs.declared.writer.Writer.{Writer}
 use Rattle.ot_log.proofs.Valued.{has-values, has-applied, has-first, has-rest}
-use Rattle.ot_log.proofs.Valued.{none-are, more-are, its-value, list-is, reads-list}
+use Rattle.ot_log.proofs.Valued.{none-are, more-are, its-value, reads-list}
 use Rattle.ot_log.proofs.Placed.{writer-grown, number-some, number-none}
 use Rattle.ot_plain.proofs.Results.{bind-ok}
 

@@ -55,9 +55,5 @@ reads-list read o x r h =
     let l = list-of read h.0 x (r.is h.0 h.1) in
     (l.0, record { is = λ v p. same_Ok v h.0 (sym p ∙ h.1) ∙ l.1 }, l.2)
 
-pub list-is : (v : Object) (os : Objects) → as_list v ≡ Ok os → v ≡ list os
-list-is (list os) ps h = ap list (same_Ok os ps h)
-list-is _ ps h = absurd (cc)
-
 pub its-value : (o : Origin Name) (v : Object) → value o ≡ Ok v → Makes o v
 its-value o v e = record { is = λ x p. same_Ok x v (sym p ∙ e) }

@@ -13,7 +13,7 @@ use Rattle.ot_plain.specs.Trees.{Tm, Sequent}
 use Rattle.ot_plain.specs.Hol.{same_sequent}
 use Rattle.ot_plain.specs.Faults.{Fault, NoEntry, ExportMismatch}
 use Rattle.ot_plain.specs.Answers.{some_or, unless}
-use Rattle.ot_machine.specs.Objects.{Object, Objects, list, term, theorem}
+use Rattle.ot_machine.specs.Objects.{Objects, list, term, theorem}
 use Rattle.ot_machine.specs.States.{Entry, Export, ArticleState, RunState}
 use Rattle.ot_machine.specs.Places.{entry_at, object_at, dropped, as_list, as_term, as_theorem}
 use Rattle.ot_machine.specs.Places.{as_each, number_on, list_on, term_on, terms_on, theorem_on}
@@ -21,18 +21,10 @@ use Rattle.ot_machine.specs.Rows.{def_row, ref_row, remove_row, thm_row, exporte
 use Rattle.ot_machine.specs.Lawful.{Basis, run_basis, Fits, EntryFits, IsLawfulExport}
 use Rattle.ot_machine.specs.Lawful.{StatesSequent, AreApart, IsLawfulArticle}
 use Rattle.ot_machine.proofs.Tops.{same-ok}
-use Rattle.ot_machine.proofs.ListOrigin.{is-list}
 use Rattle.ot_machine.proofs.StackRows.{AllFit, entry-fits, object-fits, dropped-fits, pushed-fits}
 use Rattle.ot_machine.proofs.Apart.{apart-push, not-exported}
+use Rattle.ot_machine.proofs.ObjectKinds.{list-is, term-is, theorem-is}
 use Rattle.ot_plain.proofs.Results.{bind-ok, some_or-ok, unless-ok}
-
-is-term : (o : Object) (t : Tm Name) → as_term o ≡ Ok t → o ≡ term t
-is-term (term u) t p = ap term (same-ok _ _ _ refl p)
-is-term o t p = absurd (cc)
-
-is-theorem : (o : Object) (q : Sequent Name) → as_theorem o ≡ Ok q → o ≡ theorem q
-is-theorem (theorem r) q p = ap theorem (same-ok _ _ _ refl p)
-is-theorem o q p = absurd (cc)
 
 module _ (b : Basis) where
   -- the theorem, the list and the term at a place fit the origins there
@@ -41,21 +33,21 @@ module _ (b : Basis) where
   theorem-at n stack q all p =
       let a = bind-ok (object_at n stack) as_theorem q p in
       let f = object-fits b n stack a.0 all a.1 in
-      rw f.1 (subst (Fits b f.0) (is-theorem a.0 q a.2) f.2)
+      rw f.1 (subst (Fits b f.0) (theorem-is a.0 q a.2) f.2)
 
   pub term-at : (n : ℕ) (stack : List Entry) (t : Tm Name) → AllFit b stack → term_on n stack ≡ Ok t
       → Fits b (origin_at n stack) (term t)
   term-at n stack t all p =
       let a = bind-ok (object_at n stack) as_term t p in
       let f = object-fits b n stack a.0 all a.1 in
-      rw f.1 (subst (Fits b f.0) (is-term a.0 t a.2) f.2)
+      rw f.1 (subst (Fits b f.0) (term-is a.0 t a.2) f.2)
 
   pub list-at : (n : ℕ) (stack : List Entry) (os : Objects) → AllFit b stack → list_on n stack ≡ Ok os
       → Fits b (origin_at n stack) (list os)
   list-at n stack os all p =
       let a = bind-ok (object_at n stack) as_list os p in
       let f = object-fits b n stack a.0 all a.1 in
-      rw f.1 (subst (Fits b f.0) (is-list a.0 os a.2) f.2)
+      rw f.1 (subst (Fits b f.0) (list-is a.0 os a.2) f.2)
 
   -- what stands in a dictionary fits
   abbrev pub AllHeld : FinMap int_cmp Entry → Type 0

@@ -18,13 +18,14 @@ use Rattle.ot_laws.proofs.Sets.{same_set-self}
 use Rattle.ot_laws.proofs.Hypotheses.{is_in-is, all_in-is, same_sequent-is, IsMember-minus}
 use Rattle.ot_laws.proofs.Hypotheses.{IsMember-minus_back, IsMember-union, same_set-once_each}
 use Rattle.ot_trace.specs.Origins.{Origin, Make}
-use Rattle.ot_machine.specs.Objects.{Object, Objects, term, theorem, no_objects, more_objects}
+use Rattle.ot_machine.specs.Objects.{Objects, term, theorem, no_objects, more_objects}
 use Rattle.ot_machine.specs.States.{Entry, Given, RunState}
 use Rattle.ot_machine.specs.Places.{as_each, as_term, origins_of}
 use Rattle.ot_machine.specs.Rows.{made, given_as, or_assumed, theorem_entry}
 use Rattle.ot_machine.specs.Discharge.{element_entries, adding, weakened, given_for, or_weakened}
 use Rattle.ot_machine.specs.LawfulLaws.{AxiomGivesItsSequent}
 use Rattle.ot_machine.proofs.Tops.{same-ok}
+use Rattle.ot_machine.proofs.ObjectKinds.{term-is}
 use Rattle.ot_plain.proofs.Results.{bind-ok, unless-ok}
 
 abbrev gives : Entry → Result Entry (Fault Name)
@@ -205,10 +206,6 @@ weakened-gives (g ∷ gs) (t ∷ ts) h q o =
     ]
 
 -- ---- the elements of a list of propositions
-is-term : (o : Object) (t : T) → as_term o ≡ Ok t → o ≡ term t
-is-term (term u) t p = ap term (same-ok _ _ _ refl p)
-is-term o t p = absurd (cc)
-
 and-left : (a b : Bool) → (a && b) ≡ true → a ≡ true
 and-left true b h = refl
 and-left false b h = h
@@ -230,7 +227,7 @@ elements-stated (more_objects x xs) o ts p h =
     let all : list_all is_proposition (t.0 ∷ us.0) ≡ true =
     subst (λ l. list_all is_proposition l ≡ true) (sym is) h in
     subst (AreStated (element_entries (more_objects x xs) o)) is (
-      is-term x t.0 t.1,
+      term-is x t.0 t.1,
       and-left (is_proposition t.0) (list_all is_proposition us.0) all,
       elements-stated xs _ us.0
           us.1 (and-right (is_proposition t.0) (list_all is_proposition us.0) all),

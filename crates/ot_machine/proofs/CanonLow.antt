@@ -24,6 +24,7 @@ use Rattle.ot_machine.specs.Version5.{canon_under, canon, numbered, app, lam, ca
 use Rattle.ot_machine.specs.Version5.{crep, ceq, vr, tr, rep_origin, binders}
 use Rattle.ot_machine.proofs.Tops.{same-ok}
 use Rattle.ot_machine.proofs.Operands.{two-operands}
+use Rattle.ot_machine.proofs.ObjectKinds.{term-is}
 use Rattle.ot_plain.proofs.Results.{bind-ok}
 
 -- ---- operands of an origin that has a value
@@ -43,10 +44,6 @@ second-value w o q os v p =
     let y = bind-ok (value q) _ _ ys.1 in
     (y.0, y.1)
 
-is-term : (o : Object) (t : Tm Name) → as_term o ≡ Ok t → o ≡ term t
-is-term (term u) t p = ap term (same-ok _ _ _ refl p)
-is-term o t p = absurd (cc)
-
 same-term : (t u : Tm Name) → term t ≡ term u → t ≡ u
 same-term t u p = cc
 
@@ -65,8 +62,8 @@ app-parts top below o p =
     let low = limit-ok (is_shallow names (App f.0 x.0)) Nesting (App f.0 x.0) t.0 arg.2 in (
       f.0,
       x.0,
-      is-term below f.0 f.1,
-      is-term top x.0 x.1,
+      term-is below f.0 f.1,
+      term-is top x.0 x.1,
       sym
           (ap term low.1 ∙ same-ok (gives (term t.0)) _ o refl t.2),
       low.0,
@@ -80,7 +77,7 @@ abs-parts top below o p =
     let t = bind-ok (abs_rule names v.0 b.0) _ _ v.2 in
     let low = limit-ok (is_shallow names (Abs v.0.ty (close names v.0 b.0))) Nesting
     (Abs v.0.ty (close names v.0 b.0)) t.0 t.1 in
-    (v.0, b.0, is-term top b.0 b.1, sym (ap term low.1 ∙ same-ok (gives (term t.0)) _ o refl t.2))
+    (v.0, b.0, term-is top b.0 b.1, sym (ap term low.1 ∙ same-ok (gives (term t.0)) _ o refl t.2))
 
 first-is : (o q l u : Origin Name) → MoreOrigins o (MoreOrigins q NoOrigins) ≡ MoreOrigins l (MoreOrigins u NoOrigins)
     → (o ≡ l) × (q ≡ u)

@@ -1,6 +1,6 @@
 -- The rows that add a definition keep a state lawful.
 use Rattle.std.specs.Prelude.{◌≡◌, ◌⊎◌, ◌+◌, ℕ, suc, List, [], ◌∷◌, ◌++◌, length}
-use Rattle.std.specs.Prelude.{map, take, Some, Result, Ok, Err, slice_get}
+use Rattle.std.specs.Prelude.{map, take, Some, Result, Ok, slice_get}
 use Rattle.std.specs.List.{All}
 use Rattle.std.proofs.Common.{refl, sym, ap, ◌∙◌, arith, subst, inl, inr}
 use Rattle.std.proofs.lemmas.Option.{slice_get_within}
@@ -38,10 +38,11 @@ use Rattle.ot_machine.proofs.Tops.{same-ok}
 use Rattle.ot_machine.proofs.Growing.{rests-more, entries-more, givens-more}
 use Rattle.ot_machine.proofs.Fewer.{none-fewer, const_definition-fewer, list_definition-fewer, type_definition-fewer}
 use Rattle.ot_machine.proofs.WordKinds.{name-origin}
-use Rattle.ot_machine.proofs.ListOrigin.{list-tree, is-list}
+use Rattle.ot_machine.proofs.ListOrigin.{list-tree}
 use Rattle.ot_machine.proofs.StackRows.{AllFit, dropped-fits, name-held, constant-fits, type_op-fits}
 use Rattle.ot_machine.proofs.ArticleRows.{theorem-at, term-at, list-at}
 use Rattle.ot_machine.proofs.RunRows.{answer, larger-definitions, article-more}
+use Rattle.ot_machine.proofs.ObjectKinds.{name-is, list-is, variable-is, or_bad-is}
 use Rattle.ot_plain.proofs.Results.{bind-ok}
 use Rattle.ot_plain.proofs.Members.{IsMember-last}
 
@@ -87,10 +88,6 @@ list-read : (p o : Origin Name) (os : Objects) (ps : List (Name × Variable Name
 list-read p o os ps q ds e f g =
     (λ i. (e i >>= λ d. (f i >>= λ e. Ok (e ∷ [])) >>= λ z. Ok (d ∷ z)) >>= defines words.DefineConstList ds)
     ∙ (λ i. g i >>= λ ps. list_definition names ds (map (λ p. p.0) ps) (map (λ p. p.1) ps) q)
-
-is-named : (o : Object) (n : Name) → as_name o ≡ Ok n → o ≡ name n
-is-named (name m) n p = ap name (same-ok _ _ _ refl p)
-is-named o n p = absurd (cc)
 
 module _ (P : Name → Type 0) where
   -- a definition more
@@ -259,14 +256,6 @@ module _ (P : Name → Type 0) where
   constants-rest b (n ∷ ns) h =
       ((((All-head b.IsNamed n ns h, tt), tt), (constants-rest b ns (All-tail b.IsNamed n ns h), tt)), tt)
 
-  bad-ok : {A : Type 0} (e : Fault Name) (r : Result A (Fault Name)) (x : A) → or_bad e r ≡ Ok x → r ≡ Ok x
-  bad-ok e (Ok y) x p = p
-  bad-ok e (Err g) x p = absurd (cc)
-
-  is-variable : (o : Object) (v : Variable Name) → as_variable o ≡ Ok v → o ≡ variable v
-  is-variable (variable w) v p = ap variable (same-ok _ _ _ refl p)
-  is-variable o v p = absurd (cc)
-
   two-is : (os : Objects) (q : Object × Object) → two_of BadDefinitionList os ≡ Ok q
       → os ≡ more_objects q.0 (more_objects q.1 no_objects)
   two-is (more_objects x (more_objects y no_objects)) q p =
@@ -280,10 +269,10 @@ module _ (P : Name → Type 0) where
       let q = bind-ok (two_of BadDefinitionList os.0) _ _ os.2 in
       let n = bind-ok (or_bad BadDefinitionList (as_name q.0.0)) _ _ q.2 in
       let v = bind-ok (or_bad BadDefinitionList (as_variable q.0.1)) _ _ n.2 in
-      let a = is-list o os.0 (bad-ok _ _ _ os.1) in
+      let a = list-is o os.0 (or_bad-is _ _ _ os.1) in
       let c = two-is os.0 q.0 q.1 in
-      let x = is-named q.0.0 n.0 (bad-ok _ _ _ n.1) in
-      let y = is-variable q.0.1 v.0 (bad-ok _ _ _ v.1) in
+      let x = name-is q.0.0 n.0 (or_bad-is _ _ _ n.1) in
+      let y = variable-is q.0.1 v.0 (or_bad-is _ _ _ v.1) in
       let same : (n.0, v.0) ≡ p = same-ok _ _ _ refl v.2 in
       a ∙ ap list (c ∙ (λ i. more_objects (x i) (more_objects (y i) no_objects)))
       ∙ ap (λ (z : Name × Variable Name). list (more_objects (name z.0) (more_objects (variable z.1) no_objects)))

@@ -25,6 +25,7 @@ pub mod Strict
 pub mod MadeFits
 pub mod Operands
 pub mod WordKinds
+pub mod ObjectKinds
 pub mod ListOrigin
 pub mod RenamedLists
 pub mod Fewer

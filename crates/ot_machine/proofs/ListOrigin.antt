@@ -8,8 +8,8 @@ use Rattle.ot_plain.specs.Answers.{◌>>=◌}
 use Rattle.ot_plain.specs.declared.command.Cmd.{Cmd}
 use Rattle.ot_plain.specs.declared.command.Cmd.TheVariants as words
 use Rattle.ot_trace.specs.Origins.{Origin, Origins, Number, Named, Make, Define, Outcome, NoOrigins, make_two}
-use Rattle.ot_machine.specs.Objects.{Object, Objects, number, name, list, type_op, a_type, constant}
-use Rattle.ot_machine.specs.Objects.{variable, term, theorem, no_objects, more_objects, nesting}
+use Rattle.ot_machine.specs.Objects.{Object, Objects, list}
+use Rattle.ot_machine.specs.Objects.{no_objects, more_objects, nesting}
 use Rattle.ot_machine.specs.Places.{as_list}
 use Rattle.ot_machine.specs.Makers.{Read, maker, cons_made}
 use Rattle.ot_machine.specs.Values.{value, values, applied}
@@ -17,6 +17,7 @@ use Rattle.ot_plain.specs.declared.kind.Kind.TheVariants as kinds
 use Rattle.ot_machine.proofs.WordKinds.{word_kind, word-kind, outcome-kind}
 use Rattle.ot_machine.proofs.Tops.{same-ok}
 use Rattle.ot_machine.proofs.Operands.{no-operands, two-operands}
+use Rattle.ot_machine.proofs.ObjectKinds.{list-is}
 use Rattle.ot_plain.proofs.Results.{bind-ok}
 
 abbrev made : Object → Read
@@ -87,24 +88,13 @@ within n o q p = by (nat_le n depth_limit) p
 parts-of : (x h : Object) (xs t : Objects) → list (more_objects x xs) ≡ list (more_objects h t) → (x ≡ h) × (xs ≡ t)
 parts-of x h xs t p = (cc, cc)
 
-pub is-list : (o : Object) (os : Objects) → as_list o ≡ Ok os → o ≡ list os
-is-list (number k) os p = absurd (cc)
-is-list (name n) os p = absurd (cc)
-is-list (list qs) os p = ap list (same-ok _ _ _ refl p)
-is-list (type_op n) os p = absurd (cc)
-is-list (a_type t) os p = absurd (cc)
-is-list (constant n) os p = absurd (cc)
-is-list (variable v) os p = absurd (cc)
-is-list (term t) os p = absurd (cc)
-is-list (theorem q) os p = absurd (cc)
-
 cons-parts : (top below : Object) (head : Object) (tail : Objects) → cons_made (Ok top) (Ok below)
     ≡ Ok (list (more_objects head tail)) → (below ≡ head) × (top ≡ list tail)
 cons-parts top below head tail p =
     let a = bind-ok (as_list top) _ _ p in
     let b = parts-of _ _ _ _
     (within (nesting (list (more_objects below a.0))) (list (more_objects below a.0)) _ a.2) in
-    (b.0, is-list top a.0 a.1 ∙ ap list b.1)
+    (b.0, list-is top a.0 a.1 ∙ ap list b.1)
 
 cons-no_empty : (top below : Object) → cons_made (Ok top) (Ok below) ≡ Ok (list no_objects) → ⊥
 cons-no_empty top below p =

@@ -44,6 +44,7 @@ use Rattle.ot_machine.proofs.NamedRules.{TypesNamed, TermsNamed, fun-named, bool
 use Rattle.ot_machine.proofs.NamedRules.{subst-named, op-named, app-named, abs-named, refl-named, assume-named}
 use Rattle.ot_machine.proofs.NamedRules.{eq_mp-named, abs_thm-named, app_thm-named, deduct-named, beta-named}
 use Rattle.ot_machine.proofs.NamedRules.{subst_rule-named, sym-named, trans-named, prove_hyp-named, axiom-named}
+use Rattle.ot_machine.proofs.ObjectKinds.{or_bad-is}
 use Rattle.ot_plain.proofs.Results.{bind-ok, same_Ok, some_or-ok, unless-ok}
 
 module _ (P : Name → Type 0) (has : HasPrimitives P) where
@@ -169,10 +170,6 @@ module _ (P : Name → Type 0) (has : HasPrimitives P) where
   arguments-named (t ∷ ts) h = (h.0, arguments-named ts h.1)
 
   -- ---- the lists that are read as a whole
-  or_bad-ok : {A : Type 0} (f : Fault Name) (r : Result A (Fault Name)) (x : A) → or_bad f r ≡ Ok x → r ≡ Ok x
-  or_bad-ok f (Ok y) x e = e
-  or_bad-ok f (Err g) x e = absurd (cc)
-
   two-held : (f : Fault Name) (os : Objects) (p : Object × Object) → Os os → two_of f os ≡ Ok p → O p.0 × O p.1
   two-held f no_objects p h e = absurd (cc)
   two-held f (more_objects o no_objects) p h e = absurd (cc)
@@ -186,10 +183,10 @@ module _ (P : Name → Type 0) (has : HasPrimitives P) where
       let b = bind-ok (two_of BadSubst a.0) _ _ a.2 in
       let c = bind-ok (or_bad BadSubst (as_name b.0.0)) _ _ b.2 in
       let d = bind-ok (or_bad BadSubst (as_type b.0.1)) _ _ c.2 in
-      let l = list-held o a.0 h (or_bad-ok BadSubst (as_list o) a.0 a.1) in
+      let l = list-held o a.0 h (or_bad-is BadSubst (as_list o) a.0 a.1) in
       let (x, y) = two-held BadSubst a.0 b.0 l b.1 in
-      let n = name-held b.0.0 c.0 x (or_bad-ok BadSubst (as_name b.0.0) c.0 c.1) in
-      let t = type-held b.0.1 d.0 y (or_bad-ok BadSubst (as_type b.0.1) d.0 d.1) in
+      let n = name-held b.0.0 c.0 x (or_bad-is BadSubst (as_name b.0.0) c.0 c.1) in
+      let t = type-held b.0.1 d.0 y (or_bad-is BadSubst (as_type b.0.1) d.0 d.1) in
       subst (λ (z : Name × Ty Name). P z.0 × T z.1) (same_Ok (c.0, d.0) p d.2) (n, t)
 
   term_pair-held : (o : Object) (p : Variable Name × Tm Name) → O o → term_pair o ≡ Ok p → V p.0 × M p.1
@@ -198,10 +195,10 @@ module _ (P : Name → Type 0) (has : HasPrimitives P) where
       let b = bind-ok (two_of BadSubst a.0) _ _ a.2 in
       let c = bind-ok (or_bad BadSubst (as_variable b.0.0)) _ _ b.2 in
       let d = bind-ok (or_bad BadSubst (as_term b.0.1)) _ _ c.2 in
-      let l = list-held o a.0 h (or_bad-ok BadSubst (as_list o) a.0 a.1) in
+      let l = list-held o a.0 h (or_bad-is BadSubst (as_list o) a.0 a.1) in
       let (x, y) = two-held BadSubst a.0 b.0 l b.1 in
-      let v = variable-held b.0.0 c.0 x (or_bad-ok BadSubst (as_variable b.0.0) c.0 c.1) in
-      let t = term-held b.0.1 d.0 y (or_bad-ok BadSubst (as_term b.0.1) d.0 d.1) in
+      let v = variable-held b.0.0 c.0 x (or_bad-is BadSubst (as_variable b.0.0) c.0 c.1) in
+      let t = term-held b.0.1 d.0 y (or_bad-is BadSubst (as_term b.0.1) d.0 d.1) in
       subst (λ (z : Variable Name × Tm Name). V z.0 × M z.1) (same_Ok (c.0, d.0) p d.2) (v, t)
 
   definition_pair-held : (o : Object) (p : Name × Variable Name) → O o → definition_pair o ≡ Ok p → P p.0 × V p.1
@@ -210,10 +207,10 @@ module _ (P : Name → Type 0) (has : HasPrimitives P) where
       let b = bind-ok (two_of BadDefinitionList a.0) _ _ a.2 in
       let c = bind-ok (or_bad BadDefinitionList (as_name b.0.0)) _ _ b.2 in
       let d = bind-ok (or_bad BadDefinitionList (as_variable b.0.1)) _ _ c.2 in
-      let l = list-held o a.0 h (or_bad-ok BadDefinitionList (as_list o) a.0 a.1) in
+      let l = list-held o a.0 h (or_bad-is BadDefinitionList (as_list o) a.0 a.1) in
       let (x, y) = two-held BadDefinitionList a.0 b.0 l b.1 in
-      let n = name-held b.0.0 c.0 x (or_bad-ok BadDefinitionList (as_name b.0.0) c.0 c.1) in
-      let v = variable-held b.0.1 d.0 y (or_bad-ok BadDefinitionList (as_variable b.0.1) d.0 d.1) in
+      let n = name-held b.0.0 c.0 x (or_bad-is BadDefinitionList (as_name b.0.0) c.0 c.1) in
+      let v = variable-held b.0.1 d.0 y (or_bad-is BadDefinitionList (as_variable b.0.1) d.0 d.1) in
       subst (λ (z : Name × Variable Name). P z.0 × V z.1) (same_Ok (c.0, d.0) p d.2) (n, v)
 
   append-held : {A : Type 0} (Q : A → Type 0) (xs ys : List A) → AllByRecursion Q xs → AllByRecursion Q ys
@@ -262,9 +259,9 @@ module _ (P : Name → Type 0) (has : HasPrimitives P) where
       let d = bind-ok (types_onto [] b.0) _ _ c.2 in
       let f = bind-ok (terms_onto [] c.0) _ _ d.2 in
       let (x, y) = two-held BadSubst os a.0 h a.1 in
-      let s = types_onto-held b.0 [] d.0 (list-held a.0.0 b.0 x (or_bad-ok BadSubst (as_list a.0.0) b.0 b.1)) tt
+      let s = types_onto-held b.0 [] d.0 (list-held a.0.0 b.0 x (or_bad-is BadSubst (as_list a.0.0) b.0 b.1)) tt
       d.1 in
-      let m = terms_onto-held c.0 [] f.0 (list-held a.0.1 c.0 y (or_bad-ok BadSubst (as_list a.0.1) c.0 c.1)) tt
+      let m = terms_onto-held c.0 [] f.0 (list-held a.0.1 c.0 y (or_bad-is BadSubst (as_list a.0.1) c.0 c.1)) tt
       f.1 in
       subst (λ (z : TypeMap names × TermMap names). TypesNamed P has z.0 × TermsNamed P has z.1)
       (same_Ok (d.0, f.0) p f.2) (s, m)

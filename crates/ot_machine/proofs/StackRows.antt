@@ -14,8 +14,8 @@ use Rattle.ot_plain.specs.declared.command.Cmd.{Cmd}
 use Rattle.ot_plain.specs.declared.command.Cmd.TheVariants as words
 use Rattle.ot_interp.specs.Interpretation.{renamed}
 use Rattle.ot_trace.specs.Origins.{Origin, Origins, Make, NoOrigins, operand}
-use Rattle.ot_machine.specs.Objects.{Object, Objects, number, name, list, type_op, a_type}
-use Rattle.ot_machine.specs.Objects.{constant, variable, term, theorem, no_objects, more_objects}
+use Rattle.ot_machine.specs.Objects.{Object, Objects, list}
+use Rattle.ot_machine.specs.Objects.{no_objects, more_objects}
 use Rattle.ot_machine.specs.States.{Entry, Context}
 use Rattle.ot_machine.specs.Places.{entry_at, list_entry, object_at, dropped, pushed}
 use Rattle.ot_machine.specs.Places.{replaced, as_list, as_name, as_number, name_on}
@@ -26,7 +26,8 @@ use Rattle.ot_machine.specs.Lawful.{Basis, Fits, EntryFits, RestsOn, IsTaken}
 use Rattle.ot_machine.proofs.Tops.{same-ok, at-place}
 use Rattle.ot_machine.proofs.MadeFits.{made-fits}
 use Rattle.ot_machine.proofs.WordKinds.{name-origin}
-use Rattle.ot_machine.proofs.ListOrigin.{list-tree, is-list}
+use Rattle.ot_machine.proofs.ListOrigin.{list-tree}
+use Rattle.ot_machine.proofs.ObjectKinds.{name-is, list-is}
 use Rattle.ot_plain.proofs.Results.{bind-ok}
 
 module _ (b : Basis) where
@@ -102,22 +103,11 @@ module _ (b : Basis) where
       answered _ after (dropped-fits 1 stack all) c.2
 
   -- the name at a place is one of the basis
-  pub is-name : (o : Object) (n : Name) → as_name o ≡ Ok n → o ≡ name n
-  is-name (number k) n p = absurd (cc)
-  is-name (name m) n p = ap name (same-ok _ _ _ refl p)
-  is-name (list qs) n p = absurd (cc)
-  is-name (type_op m) n p = absurd (cc)
-  is-name (a_type t) n p = absurd (cc)
-  is-name (constant m) n p = absurd (cc)
-  is-name (variable v) n p = absurd (cc)
-  is-name (term t) n p = absurd (cc)
-  is-name (theorem q) n p = absurd (cc)
-
   pub name-held : (i : ℕ) (stack : List Entry) (n : Name) → AllFit stack → name_on i stack ≡ Ok n → b.IsNamed n
   name-held i stack n all p =
       let a = bind-ok (object_at i stack) as_name n p in
       let f = object-fits i stack a.0 all a.1 in
-      let same = name-origin f.0 n (f.2.value_is ∙ ap Ok (is-name a.0 n a.2)) in
+      let same = name-origin f.0 n (f.2.value_is ∙ ap Ok (name-is a.0 n a.2)) in
       subst (RestsOn b) same f.2.rests
 
   pub constant-fits : (n : Name) → b.IsNamed n → EntryFits b (constant_entry n)
@@ -165,7 +155,7 @@ module _ (b : Basis) where
       let os = bind-ok (as_list e.0.object) _ _ e.2 in
       let f : EntryFits b e.0 = entry-fits n stack e.0 all e.1 in
       subst (λ (z : Objects × Origin Name). Fits b z.1 (list z.0)) (same-ok _ _ _ refl os.2)
-      (subst (Fits b e.0.origin) (is-list e.0.object os.0 os.1) f)
+      (subst (Fits b e.0.origin) (list-is e.0.object os.0 os.1) f)
 
   pub hd_tl-keeps : KeepsStack hd_tl_row
   hd_tl-keeps stack after all p =

@@ -23,8 +23,8 @@ use Rattle.ot_machine.specs.declared.context.Context as code_context
 use Rattle.ot_term.specs.declared.term.VarKey.{VarKey}
 use Rattle.ot_machine.specs.Contexts.{context_of}
 use Rattle.ot_machine.specs.declared.session.Session.{Session}
-use Rattle.ot_machine.specs.Objects.{Object, Objects, number, name, list, type_op, a_type}
-use Rattle.ot_machine.specs.Objects.{constant, variable, term, theorem, no_objects, more_objects}
+use Rattle.ot_machine.specs.Objects.{Object, Objects, list}
+use Rattle.ot_machine.specs.Objects.{no_objects, more_objects}
 use Rattle.ot_machine.specs.States.{Entry, Version, ArticleState, RunState, State, Context}
 use Rattle.ot_machine.specs.Places.{as_each, as_term, list_entry, list_on, name_on, names_on, term_on}
 use Rattle.ot_machine.specs.Places.{theorem_on, top, pushed, dropped, replaced, exchanged, origins_of}
@@ -41,6 +41,7 @@ use Rattle.ot_machine.specs.Meaning.{article_of, run_of, state_of, IsOf, Grows, 
 use Rattle.ot_machine.specs.Answers.{Refuses, Moves, Turns}
 use Rattle.ot_machine.proofs.Kept.{at-Extends, keeps-same, trace-same}
 use Rattle.ot_machine.proofs.Tops.{same-ok}
+use Rattle.ot_machine.proofs.ObjectKinds.{term-is}
 use Rattle.ot_plain.proofs.Results.{bind-ok, bind-to}
 
 -- nothing grew
@@ -220,19 +221,8 @@ elements-terms (more_objects x xs) o hyps e =
     let a = bind-ok (as_term x) _ _ e in
     let b = bind-ok (as_each as_term xs) _ _ a.2 in
     let same : a.0 ∷ b.0 ≡ hyps = same-ok _ _ _ refl b.2 in
-    (λ i. record { object = is-term x a.0 a.1 i; origin = operand 0 o } ∷ elements-terms xs (operand 1 o) b.0 b.1 i)
+    (λ i. record { object = term-is x a.0 a.1 i; origin = operand 0 o } ∷ elements-terms xs (operand 1 o) b.0 b.1 i)
     ∙ ap (λ ts. term_entries ts o) same
-  where
-    is-term : (x : Object) (t : Tm Name) → as_term x ≡ Ok t → x ≡ term t
-    is-term (term t) u e = ap term (same-ok _ _ _ refl e)
-    is-term (number k) u e = cc
-    is-term (name n) u e = cc
-    is-term (list l) u e = cc
-    is-term (type_op n) u e = cc
-    is-term (a_type t) u e = cc
-    is-term (constant n) u e = cc
-    is-term (variable v) u e = cc
-    is-term (theorem q) u e = cc
 
 abbrev pub axiom_after : Context → State → List (Tm Name) → Tm Name → Origin Name → Result State (Fault Name)
 axiom_after c s hyps p o = used c hyps p o (origins_of (top 2 s.article.stack)) s.run

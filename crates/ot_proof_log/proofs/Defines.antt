@@ -24,6 +24,7 @@ use Rattle.ot_machine.specs.States.{Made}
 use Rattle.ot_machine.specs.Rows.{definitions_of}
 use Rattle.ot_machine.specs.Writable.{IsWritable}
 use Rattle.ot_machine.specs.NamesIn.{ObjectNamed, ObjectsNamed}
+use Rattle.ot_machine.proofs.ObjectKinds.{name-is}
 use Rattle.ot_entries.specs.Entries.{Entry, AName, ASequent, type_nodes, term_nodes, operand_nodes}
 use Rattle.ot_entries.specs.Making.{IsSame}
 use Rattle.ot_entries.specs.Logged.{Log}
@@ -37,7 +38,6 @@ use Rattle.ot_proof_log.proofs.Kept.{IsKept}
 use Rattle.ot_proof_log.proofs.KeptObjects.{IsKeptObject, IsSound, AreSound, opened, first}
 use Rattle.ot_proof_log.proofs.Read.{each-holds, pairs-hold}
 use Rattle.ot_proof_log.proofs.Read as parts
-use Rattle.ot_proof_log.proofs.Steps.{name-is}
 use Rattle.ot_proof_log.proofs.Values.{Each}
 use Rattle.ot_proof_log.proofs.Defining.{IsDefining, ByConst, ByList, ByType}
 use Rattle.ot_proof_log.proofs.Told.{AreOperands, IsEntry}

@@ -28,10 +28,10 @@ use Rattle.ot_kernel.specs.Defining.{all_defined, all_used, zipped, limited_defi
 use Rattle.ot_machine.specs.Objects.{Object, Objects, name, list, term, theorem}
 use Rattle.ot_machine.specs.Places.{as_name, as_list, as_term, as_theorem, as_each}
 use Rattle.ot_machine.specs.DefinitionLists.{pairs_of}
+use Rattle.ot_machine.proofs.ObjectKinds.{name-is, list-is, term-is, theorem-is}
 use Rattle.ot_article.proofs.Operands.{const_given, list_given, type_given, given_by}
 use Rattle.ot_entries.proofs.Fitting.{Fits, FitsType, HasTypesTo}
 use Rattle.ot_proof_log.proofs.Kept.{IsKeptTerm, IsKept, kept-shallow}
-use Rattle.ot_proof_log.proofs.Steps.{name-is, list-is, term-is, theorem-is}
 use Rattle.ot_proof_log.proofs.KeptObjects.{IsKeptObject}
 use Rattle.ot_plain.proofs.Results.{bind-ok, same_Ok, unless-ok}
 

@@ -22,11 +22,11 @@ use Rattle.ot_machine.specs.DefinitionLists.{definition_pair}
 use Rattle.ot_machine.specs.Makers.{Read, of_top, of_two, maker, cons_made, type_op_made}
 use Rattle.ot_machine.specs.Makers.{op_type_made, var_type_made, var_made, var_term_made}
 use Rattle.ot_machine.specs.Makers.{const_made, const_term_made, app_term_made, abs_term_made}
+use Rattle.ot_machine.proofs.ObjectKinds.{list-is, or_bad-is}
 use Rattle.ot_article.proofs.Operands.{made_of}
 use Rattle.ot_proof_log.specs.Derived.{makes_theorem}
-use Rattle.ot_proof_log.proofs.Steps.{list-is, one-of, two-of, IsStep, ByRefl, ByAssume, ByBeta, ByAbsThm, BySubst}
+use Rattle.ot_proof_log.proofs.Steps.{one-of, two-of, IsStep, ByRefl, ByAssume, ByBeta, ByAbsThm, BySubst}
 use Rattle.ot_proof_log.proofs.Steps.{ByAxiom, BySym, ByEqMp, ByAppThm, ByDeductAntisym, ByTrans, ByProveHyp, step-of}
-use Rattle.ot_proof_log.proofs.Read.{or_bad-is}
 use Rattle.ot_proof_log.proofs.Defining.{IsDefining, ByConst, ByList, ByType}
 use Rattle.ot_plain.proofs.Results.{bind-ok}
 

@@ -9,8 +9,8 @@ use Rattle.ot_machine.specs.Objects.{constant, variable, term, theorem, no_objec
 use Rattle.ot_machine.specs.Places.{as_term, as_each}
 use Rattle.ot_machine.specs.Writable.{IsWritable}
 use Rattle.ot_machine.specs.NamesIn.{ObjectNamed, ObjectsNamed}
+use Rattle.ot_machine.proofs.ObjectKinds.{term-is}
 use Rattle.ot_proof_log.proofs.Kept.{IsKeptTerm, IsKept, AllFit}
-use Rattle.ot_proof_log.proofs.Steps.{term-is}
 use Rattle.ot_proof_log.proofs.Read.{each-holds}
 use Rattle.ot_entries.proofs.Fitting.{Fits}
 

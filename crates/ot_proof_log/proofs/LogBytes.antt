@@ -13,6 +13,7 @@ use Rattle.std.proofs.lemmas.Fmt.{digits_decimal, digits_value-decimal}
 use Rattle.std.proofs.lemmas.Fmt.{first_decimal, decimal_nonempty, decimal_digit}
 use Rattle.std.proofs.lemmas.Int.Digits.{length-digits_of_step}
 use Rattle.std.proofs.lemmas.Bool.Decides.{nat_tests, eqb_tells}
+use Rattle.std.proofs.lemmas.List.{length-map}
 use Rattle.ot_plain.specs.Names.{Name, spelled}
 use Rattle.ot_lines.specs.Pieces.{pieces}
 use Rattle.ot_plain.specs.Naming.{names}
@@ -127,11 +128,7 @@ number-long : (k : ℕ) → 1 ≤ length (number_text k)
 number-long zero = omega arith
 number-long (suc k) =
     let e = length-digits_of_step 10 (suc k) (omega arith) (omega arith) in
-    let m = map-long (digits_of 10 (suc k)) in omega (arith, e, m)
-  where
-    map-long : (ds : List ℕ) → length (map (λ d. 48 + d) ds) ≡ length ds
-    map-long [] = refl
-    map-long (d ∷ ds) = ap suc (map-long ds)
+    let m = length-map (digits_of 10 (suc k)) (λ d. 48 + d) in omega (arith, e, m)
 
 token-long : (n : ℕ) (t : Token Name) → IsTokenTo IsWritable n t → 1 ≤ length (token_text t)
 token-long n (Number k) h = number-long k

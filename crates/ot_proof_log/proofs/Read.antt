@@ -1,7 +1,7 @@
 -- What holds of each part of an object holds of what is read of its lists.
 use Rattle.std.specs.Prelude.{if◌then◌else◌}
 use Rattle.std.specs.List.{AllByRecursion}
-use Rattle.std.proofs.Common.{◌≡◌, Bool, true, false, List, [], ◌∷◌, ◌++◌, Result, Ok, Err, subst}
+use Rattle.std.proofs.Common.{◌≡◌, Bool, true, false, List, [], ◌∷◌, ◌++◌, Result, Ok, subst}
 use Rattle.ot_plain.specs.Names.{Name}
 use Rattle.ot_plain.specs.Naming.{names}
 use Rattle.ot_plain.specs.Trees.{Ty, Variable, Tm}
@@ -16,13 +16,9 @@ use Rattle.ot_machine.specs.Places.{as_name, as_list, as_type, as_variable, as_t
 use Rattle.ot_machine.specs.Parts.{or_bad, two_of}
 use Rattle.ot_machine.specs.Substitutions.{type_pair, term_pair, types_onto, terms_onto, maps_of}
 use Rattle.ot_machine.specs.DefinitionLists.{definition_pair, pairs_of}
-use Rattle.ot_proof_log.proofs.Steps.{name-is, list-is, type-is, variable-is, term-is}
+use Rattle.ot_machine.proofs.ObjectKinds.{name-is, list-is, type-is, variable-is, term-is, or_bad-is}
 use Rattle.ot_plain.proofs.Elements.{AllByRecursion-append}
 use Rattle.ot_plain.proofs.Results.{bind-ok, same_Ok, unless-ok}
-
-pub or_bad-is : {A : Type 0} (bad : Fault Name) (r : Result A (Fault Name)) (a : A) → or_bad bad r ≡ Ok a → r ≡ Ok a
-or_bad-is bad (Ok x) a h = h
-or_bad-is bad (Err f) a h = absurd (cc)
 
 all-if : {A : Type 0} (Q : A → Type 0) (c : Bool) (xs ys : List A) → AllByRecursion Q xs → AllByRecursion Q ys
     → AllByRecursion Q (if c then xs else ys)

@@ -2,7 +2,7 @@
 use Rattle.std.proofs.Common.{◌≡◌, true, List, [], ◌∷◌, Result, Ok, refl, sym, ap, ◌∙◌}
 use Rattle.ot_plain.specs.Names.{Name}
 use Rattle.ot_plain.specs.Naming.{names}
-use Rattle.ot_plain.specs.Trees.{Ty, Variable, Tm, Sequent}
+use Rattle.ot_plain.specs.Trees.{Variable, Tm, Sequent}
 use Rattle.ot_plain.specs.Hol.{TypeMap, TermMap}
 use Rattle.ot_plain.specs.Faults.{Fault}
 use Rattle.ot_plain.specs.Answers.{◌>>=◌}
@@ -11,40 +11,15 @@ use Rattle.ot_plain.specs.Rules.{beta_conv_rule, subst_rule, sym_rule, trans_rul
 use Rattle.ot_plain.specs.declared.command.Cmd.{Cmd}
 use Rattle.ot_plain.specs.declared.command.Cmd.TheVariants as words
 use Rattle.ot_kernel.specs.Axioms.{axiom_rule}
-use Rattle.ot_machine.specs.Objects.{Object, Objects, name, list, a_type, variable, term, theorem}
-use Rattle.ot_machine.specs.Places.{as_name, as_list, as_type, as_variable, as_term, as_theorem, as_each}
+use Rattle.ot_machine.specs.Objects.{Object, Objects, list, variable, term, theorem}
+use Rattle.ot_machine.specs.Places.{as_list, as_variable, as_term, as_theorem, as_each}
 use Rattle.ot_machine.specs.Substitutions.{maps_of}
 use Rattle.ot_machine.specs.Makers.{Read, of_top, of_two, maker, abs_thm_made, subst_made}
 use Rattle.ot_machine.specs.Makers.{axiom_made, one_theorem_made, two_theorems_made}
+use Rattle.ot_machine.proofs.ObjectKinds.{list-is, variable-is, term-is, theorem-is}
 use Rattle.ot_article.proofs.Operands.{made_of}
 use Rattle.ot_proof_log.specs.Derived.{makes_theorem}
 use Rattle.ot_plain.proofs.Results.{bind-ok, same_Ok}
-
--- ---- an object of a kind
-
-pub name-is : (o : Object) (n : Name) → as_name o ≡ Ok n → o ≡ name n
-name-is (name m) n e = ap name (same_Ok m n e)
-name-is _ n e = absurd (cc)
-
-pub list-is : (o : Object) (os : Objects) → as_list o ≡ Ok os → o ≡ list os
-list-is (list ps) os e = ap list (same_Ok ps os e)
-list-is _ os e = absurd (cc)
-
-pub type-is : (o : Object) (t : Ty Name) → as_type o ≡ Ok t → o ≡ a_type t
-type-is (a_type u) t e = ap a_type (same_Ok u t e)
-type-is _ t e = absurd (cc)
-
-pub variable-is : (o : Object) (v : Variable Name) → as_variable o ≡ Ok v → o ≡ variable v
-variable-is (variable w) v e = ap variable (same_Ok w v e)
-variable-is _ v e = absurd (cc)
-
-pub term-is : (o : Object) (t : Tm Name) → as_term o ≡ Ok t → o ≡ term t
-term-is (term u) t e = ap term (same_Ok u t e)
-term-is _ t e = absurd (cc)
-
-pub theorem-is : (o : Object) (q : Sequent Name) → as_theorem o ≡ Ok q → o ≡ theorem q
-theorem-is (theorem r) q e = ap theorem (same_Ok r q e)
-theorem-is _ q e = absurd (cc)
 
 -- ---- exactly as many operands
 

@@ -3,6 +3,7 @@ use Rattle.std.specs.Prelude.{if◌then◌else◌, codes}
 use Rattle.std.specs.List.{AllByRecursion}
 use Rattle.std.proofs.Common.{◌≡◌, ℕ, suc, ◌+◌, ◌≤◌, Bool, true, false, List, [], ◌∷◌, ◌++◌, map, length}
 use Rattle.std.proofs.Common.{refl, sym, ap, subst, ◌∙◌, arith, length-append, append-nil, inl, inr, ◌⊎◌}
+use Rattle.std.proofs.lemmas.List.{length-map}
 use Rattle.ot_plain.specs.Names.{Name}
 use Rattle.ot_plain.specs.Naming.{names}
 use Rattle.ot_plain.specs.Trees.{Ty, Tys, TyVar, TyOp, NoTys, MoreTys, Tm, Free, Con, Bound, App, Abs}
@@ -153,14 +154,10 @@ module _ (P : Name → Type 0) where
   map-told x n [] t h = tt
   map-told x n (o ∷ os) t h = (token-told x n o t h.0, map-told x n os t h.1)
 
-  map-long : (f : Operand → Token Name) (os : List Operand) → length (map f os) ≡ length os
-  map-long f [] = refl
-  map-long f (o ∷ os) = ap suc (map-long f os)
-
   pub put-long : (e : Entry) (x : Log) → length (put e x).tokens ≡ length x.tokens + suc (length e.operands)
   put-long e x =
       length-append x.tokens (Word (spelling e.word) ∷ map (token_of x) e.operands)
-      ∙ ap (λ z. length x.tokens + suc z) (map-long (token_of x) e.operands)
+      ∙ ap (λ z. length x.tokens + suc z) (length-map e.operands (token_of x))
 
   put-told : (e : Entry) (x : Log) → IsTold x → AreOperands x.sequents (length e.operands) e.operands
       → AreTokensTo (log_depth + length (put e x).tokens) (put e x).tokens

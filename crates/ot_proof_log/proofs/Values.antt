@@ -24,6 +24,7 @@ use Rattle.ot_machine.specs.Places.{as_variable, as_term, as_each, arguments}
 use Rattle.ot_machine.specs.Makers.{Read, maker, cons_made, type_op_made, op_type_made, var_type_made, var_made}
 use Rattle.ot_machine.specs.Makers.{var_term_made, const_made, const_term_made, app_term_made, abs_term_made}
 use Rattle.ot_machine.specs.Values.{value, values, applied, definition_of, defines, theorem_of}
+use Rattle.ot_machine.proofs.ObjectKinds.{list-is, type-is, variable-is, term-is}
 use Rattle.ot_article.proofs.Operands.{made_of, made-of, given-of}
 use Rattle.ot_entries.proofs.Fitting.{Fits, fits-shallow}
 use Rattle.ot_proof_log.specs.Derived.{makes_theorem}
@@ -32,7 +33,7 @@ use Rattle.ot_proof_log.proofs.Kept.{app_thm-kept, deduct_antisym-kept, beta-kep
 use Rattle.ot_proof_log.proofs.KeptWords.{trans-kept, prove_hyp-kept, axiom-kept}
 use Rattle.ot_proof_log.proofs.Steps.{IsStep, ByRefl, ByAssume, ByBeta, ByAbsThm, BySubst, ByAxiom}
 use Rattle.ot_proof_log.proofs.Steps.{BySym, ByEqMp, ByAppThm, ByDeductAntisym, ByTrans, ByProveHyp}
-use Rattle.ot_proof_log.proofs.Steps.{step-of, one-of, two-of, list-is, type-is, variable-is, term-is}
+use Rattle.ot_proof_log.proofs.Steps.{step-of, one-of, two-of}
 use Rattle.ot_proof_log.proofs.Read.{maps-typed}
 use Rattle.ot_proof_log.proofs.Defining.{defining-of, defined-kept}
 use Rattle.ot_proof_log.proofs.KeptObjects.{IsKeptObject, each-term}

@@ -18,6 +18,7 @@ use Rattle.ot_machine.specs.Objects.{Object, Objects, list, variable, term, theo
 use Rattle.ot_machine.specs.Places.{as_term, as_each}
 use Rattle.ot_machine.specs.Writable.{IsWritable}
 use Rattle.ot_machine.specs.NamesIn.{TmNamed, ObjectNamed, ObjectsNamed}
+use Rattle.ot_machine.proofs.ObjectKinds.{term-is}
 use Rattle.ot_entries.specs.Expansions.{of_two, subst_entry, assumption_entry}
 use Rattle.ot_entries.specs.Making.{IsSame}
 use Rattle.ot_entries.specs.Logged.{Log}
@@ -31,7 +32,7 @@ use Rattle.ot_proof_log.specs.Derived.{read, theorem_entries}
 use Rattle.ot_proof_log.proofs.Kept.{IsKept}
 use Rattle.ot_proof_log.proofs.KeptObjects.{IsSound, AreSound, opened, first, each-term}
 use Rattle.ot_proof_log.proofs.Steps.{IsStep, ByRefl, ByAssume, ByBeta, ByAbsThm, BySubst, ByAxiom, BySym}
-use Rattle.ot_proof_log.proofs.Steps.{ByEqMp, ByAppThm, ByDeductAntisym, ByTrans, ByProveHyp, term-is}
+use Rattle.ot_proof_log.proofs.Steps.{ByEqMp, ByAppThm, ByDeductAntisym, ByTrans, ByProveHyp}
 use Rattle.ot_proof_log.proofs.Read.{each-holds, maps-hold, maps-typed}
 use Rattle.ot_proof_log.proofs.Read as parts
 use Rattle.ot_proof_log.proofs.Values.{Each}

@@ -1,6 +1,6 @@
 -- Lists of pairs, and the maps of a substitution, as they are read.
 use Rattle.std.specs.Prelude.{◌≡◌, ◌<◌, ◌+◌, ℕ, length, take, Bool, true, false, nat_eq, ◌||◌}
-use Rattle.std.specs.Prelude.{is_some, Option, Some, List, [], ◌∷◌, ◌++◌, map, Ok, Err, if◌then◌else◌}
+use Rattle.std.specs.Prelude.{is_some, Option, Some, List, [], ◌∷◌, ◌++◌, map, Ok, if◌then◌else◌}
 use Rattle.std.specs.Map.{lookup}
 use Rattle.std.specs.List.{All, list_any}
 use Rattle.std.proofs.Common.{refl, sym, ap, subst, ◌∙◌, get_or, add-one}
@@ -12,7 +12,7 @@ use Rattle.ot_plain.specs.Naming.{names}
 use Rattle.ot_plain.specs.Trees.{Ty, Variable, Tm}
 use Rattle.ot_plain.specs.Hol.{TypeMap, TermMap, same_var}
 use Rattle.ot_plain.specs.Rules.{has_type}
-use Rattle.ot_plain.specs.Faults.{Fault, BadSubst}
+use Rattle.ot_plain.specs.Faults.{BadSubst}
 use Rattle.ot_plain.specs.Answers.{◌>>=◌, unless}
 use Rattle.ot_plain.specs.Table.{IsInjective}
 use Rattle.ot_kernel.specs.Pairs.{with_type, with_term}
@@ -28,6 +28,7 @@ use Rattle.ot_machine.specs.Parts.{Reading, or_bad}
 use Rattle.ot_machine.specs.Meaning.{origin_of}
 use Rattle.ot_machine.specs.declared.session.Session.{Session}
 use Rattle.ot_machine.proofs.Tops.{same-ok}
+use Rattle.ot_machine.proofs.ObjectKinds.{or_bad-is}
 use Rattle.ot_values.specs.Steps.{IsNameOf, IsTypeOf, IsVariableOf, IsTermOf}
 use Rattle.ot_values.specs.Lists.{AreElementsOf, AreMapsOf}
 use Rattle.ot_values.specs.Reading.{IsPairOf, IsTypePairOf, IsTermPairOf, AreTypePairsOf}
@@ -209,10 +210,6 @@ terms-read m (more_objects v vs) ps r e h =
     let c = bind-ok (unless BadSubst (has_type names a.0.1 a.0.0.ty)) _ _ g in
     terms-read (with_term m a.0.0 a.0.1) vs b.0 r b.1 c.2 ∙ ap (fold_terms m) (same-ok _ _ _ refl b.2)
 
-not-bad : {A : Type 0} (bad : Fault Name) (r : Reading A) (x : A) → or_bad bad r ≡ Ok x → r ≡ Ok x
-not-bad bad (Ok y) x e = e
-not-bad bad (Err f) x e = absurd (cc)
-
 list-read : {A : Type 0} (read : Objects → Reading A) (v w : Object) (x : A) → v ≡ w → (as_list v >>= read) ≡ Ok x
     → (as_list w >>= read) ≡ Ok x
 list-read read v w x e h = subst (λ u. (as_list u >>= read) ≡ Ok x) e h
@@ -262,8 +259,8 @@ maps-made first second maps e =
     record {
       types = a.0;
       terms = b.0;
-      types_are = not-bad BadSubst (as_list first) a.0 a.1;
-      terms_are = not-bad BadSubst (as_list second) b.0 b.1;
+      types_are = or_bad-is BadSubst (as_list first) a.0 a.1;
+      terms_are = or_bad-is BadSubst (as_list second) b.0 b.1;
       types_made = c.1 ∙ (λ i. Ok (same i).0);
       terms_made = d.1 ∙ (λ i. Ok (same i).1);
     }
