@@ -6,7 +6,6 @@ use Rattle.std.proofs.Common.{◌||◌, cond, List, [], ◌∷◌, ◌++◌, map
 use Rattle.std.proofs.Common.{length, get_or, drop, add-one, refl, sym, ap, subst, ◌∙◌, arith, eq-eqb, eqb-true}
 use Rattle.std.proofs.Common.{true≢false, append-nil, append_assoc}
 use Rattle.std.proofs.lemmas.Bool.Decides.{nat_tests}
-use Rattle.std.proofs.Math.ListN.{drop_of_length-le}
 use Rattle.std.proofs.lemmas.List.Elements.{All-head, All-tail, All-cons, All-nil, All-append}
 use Rattle.std.proofs.lemmas.Grind.{flat_map-append}
 use Rattle.ot_plain.specs.Names.{Name}
@@ -32,7 +31,7 @@ use Rattle.ot_entries.specs.Closed.{IsClosed}
 use Rattle.ot_sheet.specs.Sheets.{operand_at, HasOperand, Shows, Moves}
 use Rattle.ot_sheet.specs.declared.operand.Operand as code
 use Rattle.ot_sheet.specs.declared.sheet.Sheet.{Sheet}
-use Rattle.std.proofs.lemmas.List.{map-append}
+use Rattle.std.proofs.lemmas.List.{map-append, drop_all}
 use Rattle.ot_plain.proofs.Elements.{drop-item, position-bound}
 
 all-push : {X : Type 0} (P : X → Type 0) (xs : List X) (y : X) → All P xs → P y → All P (xs ++ y ∷ [])
@@ -189,9 +188,6 @@ no-place p xs e = by (nat_lt (position_or_len p xs) (length xs)) refl e
     by true h k = cc
     by false h k = let n = position-bound p xs in grind (arith, nat_tests, n, h)
 
-pub nothing-left : {X : Type 0} (xs : List X) (k : ℕ) → length xs ≤ k → drop k xs ≡ []
-nothing-left xs k h = drop_of_length-le xs h
-
 -- what is left of operands
 abbrev pub tokens_at : List Item → List code.Operand → Log → Log
 tokens_at ts os x = add_tokens (map (token_of x) (map (operand_at ts) os)) x
@@ -205,7 +201,7 @@ tokens-next ts os k o y h e = ap (λ l. tokens_at ts l y) (drop-item os k o h e)
 
 pub tokens-end : (ts : List Item) (os : List code.Operand) (k : ℕ) (y : Log) → length os ≤ k
     → tokens_at ts (drop k os) y ≡ y
-tokens-end ts os k y h = ap (λ l. tokens_at ts l y) (nothing-left os k h) ∙ tokens-none y
+tokens-end ts os k y h = ap (λ l. tokens_at ts l y) (drop_all k os h) ∙ tokens-none y
 
 abbrev pub types_tokens : List Item → List ℕ → Log → Log
 types_tokens ts is x = add_tokens (map (token_of x) (type_list (types_at ts is))) x
@@ -218,7 +214,7 @@ types-next ts is k i y h e = ap (λ l. types_tokens ts l y) (drop-item is k i h 
     (map (token_of y) (type_list (types_at ts (drop (k + 1) is)))) y)
 
 pub types-end : (ts : List Item) (is : List ℕ) (k : ℕ) (y : Log) → length is ≤ k → types_tokens ts (drop k is) y ≡ y
-types-end ts is k y h = ap (λ l. types_tokens ts l y) (nothing-left is k h) ∙ tokens-none y
+types-end ts is k y h = ap (λ l. types_tokens ts l y) (drop_all k is h) ∙ tokens-none y
 
 pub type-counted : (ts : List Item) (is : List ℕ) → type_count (types_at ts is) ≡ length is
 type-counted ts [] = refl
@@ -250,7 +246,7 @@ written-next ts is k i y h e = ap (λ l. types_written ts l y) (drop-item is k i
 
 pub written-end : (ts : List Item) (is : List ℕ) (k : ℕ) (y : Log) → length is ≤ k → types_written ts (drop k is) y
     ≡ y
-written-end ts is k y h = ap (λ l. types_written ts l y) (nothing-left is k h)
+written-end ts is k y h = ap (λ l. types_written ts l y) (drop_all k is h)
 
 -- ---- a type and a term behind their parts
 
@@ -359,7 +355,7 @@ operand-next ts os k o y h e = ap (λ l. operands_written ts l y) (drop-item os 
 
 pub operand-end : (ts : List Item) (os : List code.Operand) (k : ℕ) (y : Log) → length os ≤ k
     → operands_written ts (drop k os) y ≡ y
-operand-end ts os k y h = ap (λ l. operands_written ts l y) (nothing-left os k h)
+operand-end ts os k y h = ap (λ l. operands_written ts l y) (drop_all k os h)
 
 pub as-nodes : (ts : List Item) (old new : Sheet) (o p : code.Operand) → o ≡ p
     → Moves ts old new (write_nodes (operand_nodes (operand_at ts p)))

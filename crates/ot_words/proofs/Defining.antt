@@ -1,9 +1,9 @@
 -- Definitions and their theorems.
 use Rattle.std.specs.List.{All, flat_map, list_all}
 use Rattle.std.specs.Prelude.{IsErrAnd, is_some}
-use Rattle.std.proofs.Common.{◌≡◌, ℕ, suc, List, [], ◌∷◌, ◌++◌, map, length}
+use Rattle.std.proofs.Common.{◌≡◌, ℕ, List, [], ◌∷◌, ◌++◌, map, length}
 use Rattle.std.proofs.Common.{Result, Ok, Err, OnOk, refl, sym, ap, subst, ◌∙◌}
-use Rattle.std.proofs.lemmas.List.{map-append}
+use Rattle.std.proofs.lemmas.List.{map-append, length-map}
 use Rattle.std.proofs.lemmas.List.Elements.{All-nil, All-cons, All-head, All-tail, All-append}
 use Rattle.ot_plain.specs.Names.{Name}
 use Rattle.ot_plain.specs.Naming.{names}
@@ -177,10 +177,6 @@ module _ (ts : List Item) where
 
   -- ---- what they stand for
 
-  map-long : {X Y : Type 0} (f : X → Y) (xs : List X) → length (map f xs) ≡ length xs
-  map-long f [] = refl
-  map-long f (x ∷ xs) = ap suc (map-long f xs)
-
   constants-operands : (ps : List (ℕ × VariableNode))
       → map (operand_at ts) (flat_map constant_operands ps) ≡ flat_map constant_pair (pairs_at ts ps)
   constants-operands [] = refl
@@ -200,7 +196,7 @@ module _ (ts : List Item) where
       ∙ (λ j. record { word = records.Constants; operands = Count (long j) ∷ all j })
     where
       long : length ps ≡ length (pairs_at ts ps)
-      long = sym (map-long {Y = Name × Variable Name} (λ p. (name_at ts p.0, variable_at ts p.1)) ps)
+      long = sym (length-map {B = Name × Variable Name} ps (λ p. (name_at ts p.0, variable_at ts p.1)))
 
       all : map (operand_at ts) (flat_map constant_operands ps ++ operand.Sequent i ∷ [])
           ≡ flat_map constant_pair (pairs_at ts ps) ++ ASequent i ∷ []
@@ -217,7 +213,7 @@ module _ (ts : List Item) where
       ∙ (λ j. record {
         word = records.TypeOperator;
         operands = AName (name_at ts n) ∷ AName (name_at ts abs) ∷ AName (name_at ts rep)
-            ∷ Count (sym (map-long (name_at ts) vars) j) ∷ all j;
+            ∷ Count (sym (length-map vars (name_at ts)) j) ∷ all j;
       })
     where
       all : map (operand_at ts) (map operand.Name vars ++ operand.Sequent i ∷ [])

@@ -1,7 +1,7 @@
 -- Records that name lists.
 use Rattle.std.specs.List.{All, flat_map}
-use Rattle.std.proofs.Common.{◌≡◌, ℕ, suc, List, [], ◌∷◌, ◌++◌, map, length, Ok, refl, sym, ap, subst, ◌∙◌}
-use Rattle.std.proofs.lemmas.List.{map-append}
+use Rattle.std.proofs.Common.{◌≡◌, ℕ, List, [], ◌∷◌, ◌++◌, map, length, Ok, refl, sym, ap, subst, ◌∙◌}
+use Rattle.std.proofs.lemmas.List.{map-append, length-map}
 use Rattle.std.proofs.lemmas.List.Elements.{All-nil, All-cons, All-head, All-tail, All-append}
 use Rattle.ot_plain.specs.Names.{Name}
 use Rattle.ot_plain.specs.Naming.{names}
@@ -103,10 +103,6 @@ module _ (ts : List Item) where
       ap (λ l. AName (name_at ts p.0.name) ∷ AType (type_at ts p.0.ty) ∷ ATerm (term_at ts p.1) ∷ l)
       (pairs-operands ps)
 
-  map-long : {X Y : Type 0} (f : X → Y) (xs : List X) → length (map f xs) ≡ length xs
-  map-long f [] = refl
-  map-long f (x ∷ xs) = ap suc (map-long f xs)
-
   pub assumption-is : (p : ℕ) (sorted : List ℕ) (hyps : List (Tm Name)) (ops : List code.Operand)
       → ops ≡ operand.Term p ∷ operand.Count (length sorted) ∷ map operand.Term sorted → map (term_at ts) sorted
       ≡ by_text hyps
@@ -116,7 +112,7 @@ module _ (ts : List Item) where
       ∙ (λ i. record { word = records.Assumption; operands = ATerm (term_at ts p) ∷ Count (long i) ∷ all i })
     where
       long : length sorted ≡ length (by_text hyps)
-      long = sym (map-long (term_at ts) sorted) ∙ ap length s
+      long = sym (length-map sorted (term_at ts)) ∙ ap length s
 
       all : map (operand_at ts) (map operand.Term sorted) ≡ map ATerm (by_text hyps)
       all = terms-operands sorted ∙ ap (map ATerm) s
@@ -130,7 +126,7 @@ module _ (ts : List Item) where
       ∙ (λ j. record { word = records.Subst; operands = ASequent i ∷ Count (long j) ∷ all j })
     where
       long : length types ≡ length (type_map ts types)
-      long = sym (map-long {Y = Name × Ty Name} (λ p. (name_at ts p.0, type_at ts p.1)) types)
+      long = sym (length-map {B = Name × Ty Name} types (λ p. (name_at ts p.0, type_at ts p.1)))
 
       all : map (operand_at ts)
           (flat_map type_operands types ++ operand.Count (length terms) ∷ flat_map term_operands terms)
@@ -138,8 +134,8 @@ module _ (ts : List Item) where
           ∷ flat_map term_pair (term_map ts terms)
       all = map-append (operand_at ts) (flat_map type_operands types)
           (operand.Count (length terms) ∷ flat_map term_operands terms)
-          ∙ (λ j. types-operands types j ++ Count (sym (map-long {Y = Variable Name × Tm Name}
-          (λ p. (variable_at ts p.0, term_at ts p.1)) terms) j) ∷ pairs-operands terms j)
+          ∙ (λ j. types-operands types j ++ Count (sym (length-map {B = Variable Name × Tm Name}
+          terms (λ p. (variable_at ts p.0, term_at ts p.1))) j) ∷ pairs-operands terms j)
 
 -- ---- the records
 
