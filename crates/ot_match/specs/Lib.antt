@@ -4,5 +4,4 @@ pub mod Laws
 pub mod Walk
 pub mod Found
 -- What the parts of the code answer.
-pub mod Binders
 pub mod Steps

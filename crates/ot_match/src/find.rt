@@ -6,11 +6,12 @@ ghost use Rattle.ot_match.specs.Matching.{matched};
 ghost use Rattle.ot_plain.specs.PlainTrees.{term_of_tree};
 ghost use Rattle.ot_match.specs.Found.{maps_of, IsMatchIn};
 
-use crate::terms::{Binders, match_term};
+use crate::terms::match_term;
 use ot_kernel::Kernel;
 use ot_plain::{Memory, Name, Tm};
 use ot_term::TermId;
 use ot_type::TypeId;
+use ot_view::Binders;
 use std::alloc::Global;
 
 /// What stands for the variables of a pattern: a type for each type variable, and a term for each

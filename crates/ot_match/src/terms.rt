@@ -11,7 +11,7 @@ ghost use Rattle.ot_match.specs.Walk.{Maps, put_term, walk_term};
 ghost use Rattle.ot_plain.specs.PlainTrees.{type_of_tree, term_of_tree};
 ghost use Rattle.ot_match.specs.Found.{terms_of, maps_of, AreTermsIn, IsMatchIn};
 ghost use Rattle.ot_view.specs.Nodes.{IsKey, AreKeysIn};
-ghost use Rattle.ot_match.specs.Binders.{binders_at, AreKeys};
+ghost use Rattle.ot_view.specs.Binders.{binders_at, AreKeys};
 ghost use Rattle.ot_match.specs.Steps.{answered, any_bound, Meets};
 
 use crate::find::Match;
@@ -22,17 +22,10 @@ use ot_plain::{Memory, Name, Tm, Ty};
 use ot_term::{TermId, TermNode, VarKey};
 use ot_type::TypeId;
 use ot_view::{
-    abstraction, application, free_vars, same_term, same_type, same_variable, term_node, type_of,
+    Binders, abstraction, application, free_vars, same_term, same_type, same_variable, term_node,
+    type_of,
 };
 use std::alloc::Global;
-
-/// The binders around a term.
-#[derive(Clone, Copy)]
-pub(crate) enum Binders<'a> {
-    Outermost,
-    /// The innermost one, and those around it.
-    Inside(&'a VarKey, &'a Binders<'a>),
-}
 
 /// Whether one of the binders binds a variable.
 fn is_bound(kernel: &Kernel, binders: &Binders<'_>, v: &VarKey) -> bool

@@ -3,13 +3,13 @@ use Rattle.std.specs.Prelude.{◌↔◌, ◌&&◌, IsTrue}
 use Rattle.std.specs.List.{All}
 use mathlib.Core.Path.{PathP}
 use Rattle.std.proofs.Common.{◌≡◌, ℕ, ◌<◌, ◌≤◌, Bool, nat_eq, List, [], ◌∷◌, length, map, get_or, slice_get}
-use Rattle.std.proofs.Common.{slice_index_or, Option, Some, None, inl, inr, refl, sym, ap, ◌∙◌, subst, arith}
+use Rattle.std.proofs.Common.{slice_index_or, Option, Some, inl, inr, refl, sym, ap, ◌∙◌, subst, arith}
 use Rattle.std.proofs.lemmas.List.Elements.{All-head, All-tail}
 use Rattle.std.proofs.lemmas.Option.{slice_get_within, get_or_from_slice_get, slice_get-get_or}
 use Rattle.std.proofs.lemmas.List.{length-map}
 use Rattle.ot_plain.specs.Lists.{IsMember}
 use Rattle.ot_plain.specs.Names.{Name}
-use Rattle.ot_plain.specs.Trees.{Alphabet, Ty, TyVar, TyOp, NoTys, MoreTys, Variable, Tm}
+use Rattle.ot_plain.specs.Trees.{Alphabet, Ty, TyVar, TyOp, MoreTys, Variable, Tm}
 use Rattle.ot_plain.specs.Trees.{Free, Con, Bound, App, Abs, Named, NVar, NConst, NApp, NAbs}
 use Rattle.ot_plain.specs.Hol.{same_ty, same_var, same_tm, nameless, named_type, IsFree, IsFreeIn}
 use Rattle.ot_plain.specs.Renamed.{map_ty, map_tys, map_variable, map_tm, map_named}
@@ -77,10 +77,10 @@ module _ (s : State) (t : TermTable) (k : IsSpelled s t) (table : IsNameTable s.
   pub type_outside : (i : ℕ) → i < length t.types → i < length s.types
   type_outside i h = omega (arith, types-length)
 
-  name_is : (i : ℕ) → i < length s.names → f i ≡ name_at s i
+  pub name_is : (i : ℕ) → i < length s.names → f i ≡ name_at s i
   name_is = name_of-index s.names table
 
-  type_is : (i : ℕ) → i < length t.types → map_ty f (types.type_at t.types i) ≡ type_at s i
+  pub type_is : (i : ℕ) → i < length t.types → map_ty f (types.type_at t.types i) ≡ type_at s i
   type_is i h = sym (index-map (map_ty f) t.types i (TyVar 0) (TyVar []) h)
       ∙ ap (λ ts. slice_index_or ts i (TyVar [])) (sym k.types)
 
@@ -95,7 +95,7 @@ module _ (s : State) (t : TermTable) (k : IsSpelled s t) (table : IsNameTable s.
       → map_variable f (terms.variable_of t.types v) ≡ variable_at s v
   variable_is v h g = let a = name_is v.name h in let b = type_is v.ty g in λ j. record { name = a j; ty = b j }
 
-  term_is : (i : ℕ) → i < length t.terms → map_named f (terms.term_at t.terms i) ≡ named_at s.terms i
+  pub term_is : (i : ℕ) → i < length t.terms → map_named f (terms.term_at t.terms i) ≡ named_at s.terms i
   term_is i h = sym (index-map (map_named f) t.terms i (NConst 0 (TyVar 0)) (NConst [] (TyVar [])) h)
       ∙ ap (λ ts. named_at ts i) (sym k.terms)
 
@@ -153,7 +153,7 @@ module _ (s : State) (t : TermTable) (k : IsSpelled s t) (table : IsNameTable s.
       ∙ named-tree n id (omega arith) (term_node-inside id n p h)
 
   -- ---- from numbers to names
-  abbrev lettered : IsLettering f numbers names
+  abbrev pub lettered : IsLettering f numbers names
   lettered = lettering s.names (table_names s.names table)
 
   abbrev alphabet_at : (i : 𝕀) → Alphabet (Line (naming s.names) i)

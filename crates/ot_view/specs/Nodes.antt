@@ -1,5 +1,5 @@
 -- What the nodes of a kernel's types and terms stand for.
-use Rattle.std.specs.Prelude.{◌≡◌, ◌<◌, ℕ, length, List}
+use Rattle.std.specs.Prelude.{◌<◌, ℕ, length, List}
 use Rattle.std.specs.List.{All}
 use Rattle.ot_plain.specs.Names.{Name}
 use Rattle.ot_plain.specs.Trees.{Ty, TyVar, TyOp, Named, NVar, NConst, NApp, NAbs}

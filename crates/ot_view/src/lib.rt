@@ -1,4 +1,4 @@
-//! What a kernel's numbers stand for, one node at a time.
+//! What a kernel's numbers stand for, one node at a time, and the binders around a term.
 #![tactic(auto)]
 
 ghost use Rattle.std.specs.Prelude.{◌≡◌, ◌<◌, ◌↔◌, length, map, Some, IfOk, MatchOption};
@@ -11,6 +11,9 @@ ghost use Rattle.ot_kernel.specs.State.{type_at, variable_at, named_at, term_at}
 ghost use Rattle.ot_view.specs.Nodes.{type_tree, IsTypeNode, term_tree, IsTermNode};
 ghost use Rattle.ot_view.specs.Nodes.{IsKey, AreKeysIn, IsNoApplication, IsNoAbstraction};
 
+mod binders;
+
+pub use binders::{Binders, place};
 use ot_alpha::alpha_eq;
 use ot_kernel::Kernel;
 use ot_plain::Memory;

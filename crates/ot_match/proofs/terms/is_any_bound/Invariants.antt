@@ -1,6 +1,6 @@
 use Rattle.std.proofs.Common.{◌≡◌, drop, map}
 use Rattle.ot_kernel.specs.State.{variable_at}
-use Rattle.ot_match.specs.Binders.{binders_at}
+use Rattle.ot_view.specs.Binders.{binders_at}
 use Rattle.ot_match.specs.Steps.{any_bound}
 use Rattle.ot_match.proofs.terms.is_any_bound.Given as goal
 

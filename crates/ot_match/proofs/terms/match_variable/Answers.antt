@@ -7,7 +7,7 @@ use Rattle.ot_kernel.specs.State.{type_at, term_at, named_at}
 use Rattle.ot_match.specs.Walk.{put_term, walk_term}
 use Rattle.ot_plain.specs.PlainTrees.{type_of_tree}
 use Rattle.ot_match.specs.Found.{types_of, terms_of, maps_of}
-use Rattle.ot_match.specs.Binders.{binders_at}
+use Rattle.ot_view.specs.Binders.{binders_at}
 use Rattle.ot_match.specs.Steps.{answered, Meets}
 use Rattle.ot_match.proofs.Holding.{variable_untyped, variable_put, if_ok_more}
 use Rattle.ot_match.proofs.terms.match_variable.Goals as goal

@@ -4,7 +4,7 @@ use Rattle.ot_laws.proofs.Tests.{tells_names}
 use Rattle.ot_plain.specs.Hol.{nameless_in}
 use Rattle.ot_plain.specs.Naming.{names}
 use Rattle.ot_kernel.specs.State.{variable_at, named_at}
-use Rattle.ot_match.specs.Binders.{binders_at}
+use Rattle.ot_view.specs.Binders.{binders_at}
 use Rattle.ot_match.specs.Steps.{any_bound}
 use Rattle.ot_match.proofs.Holding.{meets_by}
 use Rattle.ot_match.proofs.terms.meets_binder.Goals as goal

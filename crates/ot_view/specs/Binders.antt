@@ -4,8 +4,8 @@ use Rattle.ot_plain.specs.Names.{Name}
 use Rattle.ot_plain.specs.Trees.{Variable}
 use Rattle.ot_kernel.specs.State.{State, variable_at}
 use Rattle.ot_view.specs.Nodes.{IsKey}
-use Rattle.ot_match.specs.declared.terms.Binders.{Binders}
-use Rattle.ot_match.specs.declared.terms.Binders.TheVariants.{Outermost, Inside'}
+use Rattle.ot_view.specs.declared.binders.Binders.{Binders}
+use Rattle.ot_view.specs.declared.binders.Binders.TheVariants.{Outermost, Inside'}
 
 -- the variables of the binders around a term, the innermost first
 abbrev pub binders_at : State → Binders → List (Variable Name)
