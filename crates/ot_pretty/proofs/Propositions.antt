@@ -23,7 +23,7 @@ use Rattle.ot_kernel.proofs.Carried.{carry-term}
 use Rattle.ot_kernel.proofs.Namings.{bound_named-get}
 use Rattle.ot_forms.specs.Forms.{HasNames, HaveNames, HaveTermNames}
 use Rattle.ot_forms.specs.Laws.{IsProposition, ArePropositions}
-use Rattle.ot_print.proofs.Spelled.{name_is, term_is, term_inside, lettered}
+use Rattle.ot_view.proofs.Spelled.{name_is, term_is, term_inside, lettered}
 use Rattle.ot_plain.proofs.Members.{IsMember-map_back, All-at_member}
 
 module _ (s : State) (t : TermTable) (k : IsSpelled s t) (table : IsNameTable s.names) where

@@ -15,7 +15,7 @@ use Rattle.ot_forms.specs.Forms.{NoMore, More, term_text, terms_text, type_text}
 use Rattle.ot_forms.specs.Printing.{binder_name, is_relation, operator_of, with_last}
 use Rattle.ot_forms.specs.Printing.{with_argument, written, written_argument, applied_to}
 use Rattle.ot_text.specs.Texts.{is_equation}
-use Rattle.ot_print.specs.Nodes.{equation_of}
+use Rattle.ot_print.specs.Equations.{equation_of}
 use Rattle.ot_pretty.specs.Spines.{text_at, spine_text, half_text, front_text, is_relation_constant}
 use Rattle.ot_pretty.proofs.TypePieces.{cond-true, cond-false}
 

@@ -7,8 +7,8 @@ use Rattle.ot_plain.specs.Hol.{nameless_in, at_place, place}
 use Rattle.ot_term.specs.declared.term.VarKey.{VarKey}
 use Rattle.ot_kernel.specs.State.{State, name_at, variable_at, named_at, term_at}
 use Rattle.ot_forms.specs.Printing.{is_relation, readable_term}
-use Rattle.ot_print.specs.declared.terms.Binders.{Binders}
-use Rattle.ot_print.specs.Nodes.{binders_at}
+use Rattle.ot_view.specs.declared.binders.Binders.{Binders}
+use Rattle.ot_view.specs.Binders.{binders_at}
 use Rattle.ot_pretty.specs.Spines.{is_relation_constant}
 
 -- the nameless form of a term under binders

@@ -10,9 +10,10 @@ ghost use Rattle.ot_pretty.specs.Under.{IsRelationName, IsNoRelationName, IsHalf
 use ot_kernel::Kernel;
 use ot_parse::{Notation, WordKind, base_of, is_operator};
 use ot_plain::NameId;
-use ot_print::nodes::{function_parts, term_node, type_node};
+use ot_print::nodes::function_parts;
 use ot_term::{TermId, TermNode};
 use ot_type::{TypeId, TypeNode};
+use ot_view::{term_node, type_node};
 
 /// The constant and the left side of a hidden relation between propositions that is applied to one term.
 pub(crate) fn relation_parts(

@@ -12,9 +12,9 @@ ghost use Rattle.ot_pretty.specs.Found.{AddsType, AddsTerm, AddsTypes, AddsTerms
 use indexmap::IndexSet;
 use ot_kernel::Kernel;
 use ot_plain::{Memory, NameId};
-use ot_print::nodes::{term_node, type_node};
 use ot_term::{Symbol, SymbolKind, TermId, TermNode};
 use ot_type::{TypeId, TypeNode};
+use ot_view::{term_node, type_node};
 use std::alloc::Global;
 use std::collections::BTreeSet;
 

@@ -4,7 +4,8 @@ ghost use Rattle.ot_kernel.specs.State.{name_at, type_at};
 ghost use Rattle.ot_forms.specs.Words.{base};
 ghost use Rattle.ot_forms.specs.Forms.{FreeAs, ConAs, term_text};
 ghost use Rattle.ot_forms.specs.Printing.{binder_name};
-ghost use Rattle.ot_print.specs.Nodes.{IsKey, AreKeys, binders_at};
+ghost use Rattle.ot_view.specs.Nodes.{IsKey};
+ghost use Rattle.ot_view.specs.Binders.{binders_at, AreKeys};
 ghost use Rattle.ot_text.specs.Pages.{IsPut, printed};
 ghost use Rattle.ot_pretty.specs.Spines.{text_at, front_text, spine_text};
 ghost use Rattle.ot_pretty.specs.Under.{bound_term, bound_variable, readable_at};
@@ -15,11 +16,11 @@ use crate::words::{put_symbol, put_variable};
 use ot_kernel::Kernel;
 use ot_parse::{Notation, WordKind, base_of};
 use ot_plain::NameId;
-use ot_print::nodes::{equation_sides, term_node};
-use ot_print::{Binders, place};
+use ot_print::nodes::equation_sides;
 use ot_term::{TermId, TermNode, VarKey};
 use ot_text::Page;
 use ot_type::TypeId;
+use ot_view::{Binders, place, term_node};
 
 /// A term that stands under no binder.
 pub(crate) fn put_whole(page: &mut Page, kernel: &Kernel, notation: &Notation, id: TermId)

@@ -8,9 +8,10 @@ ghost use Rattle.ot_text.specs.Pages.{IsPut, printed};
 use crate::words::{put_symbol, put_variable};
 use ot_kernel::Kernel;
 use ot_parse::{Notation, WordKind};
-use ot_print::nodes::{function_parts, type_node};
+use ot_print::nodes::function_parts;
 use ot_text::Page;
 use ot_type::{TypeId, TypeNode};
+use ot_view::type_node;
 
 /// A type. Nothing is read once the page takes no more, so a type costs no more than the limit.
 #[cycle(types_text)]

@@ -10,7 +10,7 @@ use Rattle.ot_laws.proofs.Typing.{as_fun_ty-fun}
 use Rattle.ot_laws.proofs.Equations.{as_equation-equation}
 use Rattle.ot_kernel.specs.State.{State, type_at, types_at}
 use Rattle.ot_text.specs.Texts.{name_text, is_function, is_equation, ty_text, spaced_text, tm_text}
-use Rattle.ot_print.specs.Nodes.{equation_of}
+use Rattle.ot_print.specs.Equations.{equation_of}
 use Rattle.ot_text.specs.Pages.{Printed, IsPut}
 use Rattle.ot_text.proofs.Putting.{Puts, puts-more, same-text}
 

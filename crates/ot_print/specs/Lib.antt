@@ -1,3 +1,4 @@
--- What a reader has to believe of the texts of definitions and of the summary, and what a kernel's numbers stand for.
+-- What a reader has to believe of the texts of definitions and of the summary.
 pub mod Texts
-pub mod Nodes
+-- What the parts of the code answer.
+pub mod Equations

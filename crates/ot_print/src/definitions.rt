@@ -7,7 +7,7 @@ ghost use Rattle.ot_kernel.specs.Definitions.{IsDefinitionIn, IsHeld, ArePairsIn
 ghost use Rattle.ot_text.specs.Texts.{sequent_text};
 ghost use Rattle.ot_text.specs.Sections.{pair_text, pairs_text, names_text};
 ghost use Rattle.ot_text.specs.Sections.{head_text, theorems_text, definition_text};
-ghost use Rattle.ot_print.specs.Nodes.{IsKey};
+ghost use Rattle.ot_view.specs.Nodes.{IsKey};
 ghost use Rattle.ot_text.specs.Pages.{IsPut, printed};
 
 use crate::nodes::put_name;

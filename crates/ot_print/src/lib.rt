@@ -15,5 +15,5 @@ pub use ot_text::{PrintFault, one_text};
 pub use printable::Printable;
 pub use sequents::sequent_text;
 pub use summary::summary_text;
-pub use terms::{Binders, place, term_text};
+pub use terms::term_text;
 pub use types::type_text;

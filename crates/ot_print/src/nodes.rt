@@ -1,19 +1,19 @@
-//! What a kernel's numbers stand for, one node at a time.
+//! The spelling of a kernel's names, and the parts of its function types and of its equations.
 ghost use Rattle.std.specs.Prelude.{◌≡◌, ◌<◌, List, false, length, IfNone, IfSome};
 ghost use Rattle.ot_plain.specs.Names.{Name};
 ghost use Rattle.ot_plain.specs.Naming.{names};
 ghost use Rattle.ot_plain.specs.Trees.{Ty, Variable};
-ghost use Rattle.ot_plain.specs.Hol.{fun_ty, nameless_in, same_var};
-ghost use Rattle.ot_kernel.specs.State.{name_at, type_at, variable_at, named_at};
+ghost use Rattle.ot_plain.specs.Hol.{fun_ty, nameless_in};
+ghost use Rattle.ot_kernel.specs.State.{name_at, type_at, named_at};
 ghost use Rattle.ot_text.specs.Texts.{name_text, is_function, is_equation};
-ghost use Rattle.ot_print.specs.Nodes.{type_tree, IsTypeNode, term_tree, IsTermNode, IsKey, equation_of};
+ghost use Rattle.ot_print.specs.Equations.{equation_of};
 ghost use Rattle.ot_text.specs.Pages.{IsPut, printed};
 
 use ot_kernel::Kernel;
 use ot_plain::NameId;
-use ot_term::{TermId, TermNode, VarKey};
+use ot_term::TermId;
 use ot_text::Page;
-use ot_type::{TypeId, TypeNode};
+use ot_type::TypeId;
 
 /// The spelling of a name.
 pub(crate) fn put_name(page: &mut Page, kernel: &Kernel, name: NameId)
@@ -23,17 +23,8 @@ pub(crate) fn put_name(page: &mut Page, kernel: &Kernel, name: NameId)
     page.put_name(kernel.names().get(name));
 }
 
-/// The node of a type.
-pub fn type_node(kernel: &Kernel, id: TypeId) -> &TypeNode
-    requires { id < length kernel.now.types }
-    ensures tree { type_at kernel.now id ≡ type_tree kernel.now result.now }
-    ensures inside { IsTypeNode kernel.now id result.now }
-{
-    kernel.sound();
-    kernel.terms().types().node(id)
-}
-
-/// The argument type and the result type of a function type.
+/// The argument type and the result type of a function type of the kernel, which have lower numbers; none exactly
+/// where the type is no function type.
 pub fn function_parts(kernel: &Kernel, id: TypeId) -> Option<(TypeId, TypeId)>
     requires { id < length kernel.now.types }
     ensures none { IfNone result (is_function names (type_at kernel.now id) ≡ false) }
@@ -45,17 +36,7 @@ pub fn function_parts(kernel: &Kernel, id: TypeId) -> Option<(TypeId, TypeId)>
     kernel.terms().types().as_fun(id)
 }
 
-/// The node of a term.
-pub fn term_node(kernel: &Kernel, id: TermId) -> &TermNode
-    requires { id < length kernel.now.terms }
-    ensures tree { named_at kernel.now.terms id ≡ term_tree kernel.now result.now }
-    ensures inside { IsTermNode kernel.now id result.now }
-{
-    kernel.sound();
-    kernel.terms().node(id)
-}
-
-/// The two sides of an equation.
+/// The two sides of an equation of the kernel, which have lower numbers; none exactly where the term is no equation.
 pub fn equation_sides(kernel: &Kernel, id: TermId) -> Option<(TermId, TermId)>
     requires { id < length kernel.now.terms }
     ensures none { IfNone result ((e : List (Variable Name))
@@ -67,15 +48,4 @@ pub fn equation_sides(kernel: &Kernel, id: TermId) -> Option<(TermId, TermId)>
 {
     kernel.sound();
     kernel.terms().as_eq(id)
-}
-
-/// Whether two variables are one.
-pub(crate) fn is_same(kernel: &Kernel, v: &VarKey, w: &VarKey) -> bool
-    requires left { IsKey kernel.now v.now }
-    requires right { IsKey kernel.now w.now }
-    ensures { result ≡ same_var names (variable_at kernel.now v.now) (variable_at kernel.now w.now) }
-{
-    kernel.sound();
-    let _types = kernel.terms().types();
-    v.name == w.name && v.ty == w.ty
 }

@@ -1,13 +1,14 @@
 //! The texts of terms.
-ghost use Rattle.std.specs.Prelude.{◌≡◌, ◌<◌, ◌+◌, ◌^◌, ◌++◌, codes, length, OnOk, OnErr, Err, IfSome};
+ghost use Rattle.std.specs.Prelude.{◌≡◌, ◌<◌, ◌+◌, ◌^◌, ◌++◌, codes, length, OnOk, OnErr, Err};
 ghost use Rattle.ot_plain.specs.Naming.{names};
 ghost use Rattle.ot_plain.specs.Hol.{nameless_in, at_place, place as place_of};
 ghost use Rattle.ot_kernel.specs.State.{name_at, type_at, variable_at, named_at, term_at};
 ghost use Rattle.ot_text.specs.Texts.{name_text, ty_text, tm_text};
-ghost use Rattle.ot_print.specs.Nodes.{IsKey, AreKeys, binders_at};
+ghost use Rattle.ot_view.specs.Nodes.{IsKey};
+ghost use Rattle.ot_view.specs.Binders.{binders_at, AreKeys};
 ghost use Rattle.ot_text.specs.Pages.{IsPut, printed, Appended};
 
-use crate::nodes::{equation_sides, is_same, put_name, term_node};
+use crate::nodes::{equation_sides, put_name};
 use crate::printable::{Printable, append};
 use crate::types::put_type;
 use ot_kernel::Kernel;
@@ -15,14 +16,8 @@ use ot_plain::NameId;
 use ot_term::{TermId, TermNode, VarKey};
 use ot_text::{Page, PrintFault};
 use ot_type::TypeId;
+use ot_view::{Binders, place, term_node};
 use std::alloc::Global;
-
-/// The binders around a term, the innermost first.
-#[derive(Clone, Copy)]
-pub enum Binders<'a> {
-    Outermost,
-    Inside(&'a VarKey, &'a Binders<'a>),
-}
 
 /// Appends the text of a term. `TooLarge` exactly where it has more than `max` bytes. After a refusal `out` is as it
 /// was.
@@ -118,28 +113,6 @@ fn put_variable(page: &mut Page, kernel: &Kernel, binders: &Binders<'_>, v: &Var
             page.put_number(number);
         }
         None => put_typed(page, kernel, v.name, v.ty),
-    }
-}
-
-/// The place of a variable among binders.
-pub fn place(kernel: &Kernel, binders: &Binders<'_>, v: &VarKey) -> Option<usize>
-    requires key { IsKey kernel.now v.now }
-    requires binders { AreKeys kernel.now binders.now }
-    requires fits { length (binders_at kernel.now binders.now) < 2 ^ 64 }
-    ensures place { result ≡ place_of names (binders_at kernel.now binders.now) (variable_at kernel.now v.now) }
-    ensures below { IfSome result (λ k. k < length (binders_at kernel.now binders.now)) }
-{
-    match binders {
-        Binders::Outermost => None,
-        Binders::Inside(w, around) => {
-            if is_same(kernel, v, w) {
-                return Some(0);
-            }
-            match place(kernel, around, v) {
-                Some(number) => Some(number + 1),
-                None => None,
-            }
-        }
     }
 }
 

@@ -5,10 +5,11 @@ ghost use Rattle.ot_kernel.specs.State.{type_at, types_at};
 ghost use Rattle.ot_text.specs.Texts.{ty_text, spaced_text};
 ghost use Rattle.ot_text.specs.Pages.{IsPut, printed, Appended};
 
-use crate::nodes::{function_parts, put_name, type_node};
+use crate::nodes::{function_parts, put_name};
 use ot_kernel::Kernel;
 use ot_text::{Page, PrintFault};
 use ot_type::{TypeId, TypeNode};
+use ot_view::type_node;
 
 /// Appends the text of a type. `TooLarge` exactly where it has more than `max` bytes. After a refusal `out` is as it
 /// was.

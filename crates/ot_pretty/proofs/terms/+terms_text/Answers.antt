@@ -1,7 +1,7 @@
 use Rattle.std.proofs.Common.{◌+◌, arith, sym, ◌∙◌}
 use Rattle.ot_text.specs.Pages.{printed}
 use Rattle.ot_text.proofs.Putting.{then, stays, same-text}
-use Rattle.ot_print.specs.Nodes.{binders_at}
+use Rattle.ot_view.specs.Binders.{binders_at}
 use Rattle.ot_pretty.proofs.TermPieces.{equation-pieces, abstraction-pieces, application-pieces}
 use Rattle.ot_pretty.proofs.TermPieces.{relation-front, spine-front, application-spine}
 use Rattle.ot_pretty.proofs.terms.+terms_text.Goals as goal

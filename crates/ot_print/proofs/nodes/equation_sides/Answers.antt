@@ -9,7 +9,7 @@ use Rattle.ot_term.specs.TermTable.{term_at}
 use Rattle.ot_term.specs.Equality.{named_equation}
 use Rattle.ot_kernel.specs.State as state
 use Rattle.ot_kernel.specs.Spelled.{IsSpelled}
-use Rattle.ot_print.specs.Nodes.{equation_of}
+use Rattle.ot_print.specs.Equations.{equation_of}
 use Rattle.ot_text.specs.Texts.{is_equation}
 use Rattle.ot_print.proofs.Spelled.{equation-none, equation-sides}
 use Rattle.ot_print.proofs.nodes.equation_sides.Goals as goal

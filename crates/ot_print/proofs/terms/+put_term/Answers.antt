@@ -1,7 +1,7 @@
 use Rattle.std.proofs.Common.{sym, ap}
 use Rattle.ot_plain.specs.Hol.{nameless_in}
 use Rattle.ot_plain.specs.Naming.{names}
-use Rattle.ot_print.specs.Nodes.{binders_at}
+use Rattle.ot_view.specs.Binders.{binders_at}
 use Rattle.ot_text.specs.Texts.{tm_text}
 use Rattle.ot_text.proofs.Putting.{then, same-text}
 use Rattle.ot_print.proofs.Pieces.{equation-pieces, application-pieces}
