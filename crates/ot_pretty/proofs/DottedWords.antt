@@ -10,14 +10,11 @@ use Rattle.ot_forms.specs.Words.{is_hidden, is_taken, is_bare, dotted, base, sym
 use Rattle.ot_forms.specs.Reading.{is_spelled}
 use Rattle.ot_text.specs.Separated.{separator}
 use Rattle.ot_parse.specs.declared.notation.WordKind.{WordKind}
-use Rattle.ot_parse.specs.declared.notation.WordKind.TheVariants as kinds
 use Rattle.ot_parse.specs.Symbols.{symbol_of}
+use Rattle.ot_parse.proofs.Lookups.{name-of}
 use Rattle.ot_plain.proofs.Elements.{drop-item}
 
 -- ---- the word of a symbol, by its kind and its name
-name-of : (k : WordKind) (n : Name) → symbol_name (symbol_of (k, n)) ≡ n
-name-of kinds.Con n = refl
-name-of kinds.TyOp n = refl
 
 -- the word, by the two tests
 abbrev word_by : Bool → Bool → Name → List ℕ

@@ -1,6 +1,6 @@
 -- The readable texts of types, piece by piece.
-use Rattle.std.specs.Prelude.{◌≡◌, ℕ, ◌+◌, ◌<◌, true, false, cond, List, [], ◌∷◌, ◌++◌, length, is_some, codes, Bool}
-use Rattle.std.proofs.Common.{refl, sym, ◌∙◌, ap, arith, append_assoc, append-nil, get_or}
+use Rattle.std.specs.Prelude.{◌≡◌, ℕ, ◌+◌, ◌<◌, false, List, [], ◌∷◌, ◌++◌, length, is_some, codes}
+use Rattle.std.proofs.Common.{refl, sym, ◌∙◌, ap, arith, get_or}
 use Rattle.ot_plain.specs.Names.{Name}
 use Rattle.ot_plain.specs.Naming.{names}
 use Rattle.ot_plain.specs.Trees.{Ty, TyOp, NoTys, MoreTys, Symbol, OpSymbol}
@@ -13,23 +13,7 @@ use Rattle.ot_forms.specs.Forms.{type_text, types_text}
 use Rattle.ot_text.specs.Texts.{is_function}
 use Rattle.ot_text.specs.Pages.{Printed, IsPut}
 use Rattle.ot_text.proofs.Putting.{Puts, puts-more, same-text}
-
-pub cond-true : {A : Type 0} (e : Bool) (x y : A) → e ≡ true → x ≡ cond e x y
-cond-true true x y p = refl
-cond-true false x y p = cc
-
-pub cond-false : {A : Type 0} (e : Bool) (x y : A) → e ≡ false → y ≡ cond e x y
-cond-false true x y p = cc
-cond-false false x y p = refl
-
-arrow-pieces : (x y : List ℕ) → codes "(" ++ x ++ codes " -> " ++ y ++ codes ")"
-    ≡ codes "(" ++ x ++ codes " ->" ++ (codes " " ++ y ++ []) ++ codes ")"
-arrow-pieces x y =
-    ap (λ z. z ++ codes ")") (
-    append_assoc (codes "(" ++ x) (codes " -> ") y
-    ∙ ap (λ z. codes "(" ++ x ++ (codes " -> " ++ z)) (sym (append-nil y))
-    ∙ sym (append_assoc (codes "(" ++ x) (codes " ->") (codes " " ++ y ++ []))
-    )
+use Rattle.ot_print.proofs.Pieces.{cond-true, cond-false, arrow-pieces}
 
 module _ (hidden : List (Symbol Name)) where
   pub function-pieces : (t a b : Ty Name) → t ≡ fun_ty names a b

@@ -14,16 +14,16 @@ use Rattle.ot_print.specs.Equations.{equation_of}
 use Rattle.ot_text.specs.Pages.{Printed, IsPut}
 use Rattle.ot_text.proofs.Putting.{Puts, puts-more, same-text}
 
-cond-true : (e : Bool) (x y : List ℕ) → e ≡ true → x ≡ cond e x y
+pub cond-true : {A : Type 0} (e : Bool) (x y : A) → e ≡ true → x ≡ cond e x y
 cond-true true x y p = refl
 cond-true false x y p = cc
 
-cond-false : (e : Bool) (x y : List ℕ) → e ≡ false → y ≡ cond e x y
+pub cond-false : {A : Type 0} (e : Bool) (x y : A) → e ≡ false → y ≡ cond e x y
 cond-false true x y p = cc
 cond-false false x y p = refl
 
 -- ---- types
-arrow-pieces : (x y : List ℕ) → codes "(" ++ x ++ codes " -> " ++ y ++ codes ")"
+pub arrow-pieces : (x y : List ℕ) → codes "(" ++ x ++ codes " -> " ++ y ++ codes ")"
     ≡ codes "(" ++ x ++ codes " ->" ++ (codes " " ++ y ++ []) ++ codes ")"
 arrow-pieces x y =
     ap (λ z. z ++ codes ")") (
