@@ -57,11 +57,11 @@ each-lower is n id h low j d l = let g : slice_index_or is j d < id = h j d l in
 -- by the word and the operands that are read
 pub made-origin : (s : Session) (id : ℕ) (ts : List (Origin ℕ)) (r : Step) (w : Cmd) (ops : _) (is : List ℕ)
     → ts ≡ s.trace
-    → slice_get ts id ≡ Some (step_origin ts r) → r ≡ step.Make w ops → is ≡ ops.items
+    → slice_get ts id ≡ Some (step_origin ts r) → r ≡ step.Make w ops → is ≡ ops
     → origin_of s id ≡ Make w (origins_of s is)
 made-origin s id ts r w ops is t at e l =
     step-origin s id r (step.Make w ops) (subst (λ ts. slice_get ts id ≡ Some (step_origin ts r)) t at) e
-    ∙ ap (Make w) (origins-are s ops.items ∙ ap (origins_of s) (sym l))
+    ∙ ap (Make w) (origins-are s ops ∙ ap (origins_of s) (sym l))
 
 pub defined-origin : (s : Session) (id : ℕ) (ts : List (Origin ℕ)) (r : Step) (w : Cmd) (ops : _) (syms : _)
     (is : List ℕ)
@@ -73,7 +73,7 @@ defined-origin s id ts r w ops syms is t at e l =
 
 pub made-numbered : (s : Session) (id : ℕ) (ts : List (Origin ℕ)) (r : Step) (w : Cmd) (ops : _) (is : List ℕ)
     → ts ≡ s.trace
-    → slice_get ts id ≡ Some (step_origin ts r) → r ≡ step.Make w ops → is ≡ ops.items
+    → slice_get ts id ≡ Some (step_origin ts r) → r ≡ step.Make w ops → is ≡ ops
     → origin_at s.trace id ≡ Make w (origins_at s.trace is)
 made-numbered s id ts r w ops is t at e l =
     get_or_from_slice_get s.trace id (step_origin s.trace r) (Number (pos 0))
@@ -82,10 +82,10 @@ made-numbered s id ts r w ops is t at e l =
 
 -- a step's operands are of the trace
 pub made-inside : (n id : ℕ) (r : Step) (w : Cmd) (ops : _) (is : List ℕ) → IsBelow id r → r ≡ step.Make w ops
-    → is ≡ ops.items
+    → is ≡ ops
     → id < n → All (λ i. i < n) is
 made-inside n id r w ops is below e l low = subst (All (λ i. i < n)) (sym l)
-    (each-lower ops.items n id (subst (IsBelow id) e below) low)
+    (each-lower ops n id (subst (IsBelow id) e below) low)
 
 pub defined-inside : (n id : ℕ) (r : Step) (w : Cmd) (ops : _) (syms : _) (is : List ℕ) → IsBelow id r
     → r ≡ step.Define w ops syms → is ≡ ops.value.items → id < n → All (λ i. i < n) is

@@ -79,7 +79,7 @@ no-two ts (i ∷ j ∷ k ∷ is) other = refl
 
 pub end-step : (ts : List (Origin ℕ)) (s : Step) → (length (cons_numbers s) ≡ 2 → ⊥) → elements (trace.origin_of ts s)
     ≡ []
-end-step ts (steps.Make words.Cons ops) other = no-two ts ops.items other
+end-step ts (steps.Make words.Cons ops) other = no-two ts ops other
 end-step ts s other = refl
 
 -- ---- the begin of a list
@@ -178,9 +178,9 @@ pub record AreBegun (ts : List (Origin ℕ)) (s : Step) (os : Origins ℕ) : Typ
 
 pub begun : (ts : List (Origin ℕ)) (s : Step) (o : Origin ℕ) (os : Origins ℕ)
     → trace.origin_of ts s ≡ Make words.Cons (MoreOrigins o os) → AreBegun ts s os
-begun ts (steps.Make words.Cons ops) o os e = by ops.items refl e
+begun ts (steps.Make words.Cons ops) o os e = by ops refl e
   where
-    by : (is : List ℕ) → ops.items ≡ is → Make words.Cons (origins_at ts is) ≡ Make words.Cons (MoreOrigins o os)
+    by : (is : List ℕ) → ops ≡ is → Make words.Cons (origins_at ts is) ≡ Make words.Cons (MoreOrigins o os)
         → AreBegun ts (steps.Make words.Cons ops) os
     by [] are p = absurd (cc)
     by (i ∷ is) are p = record { first = i; rest = is; are = are; rest_is = cc }

@@ -17,7 +17,7 @@ read_by s c = renamed names (context_of s c).interpretation.constants
 
 -- the numbers of what `cons` made; none of anything else
 abbrev pub cons_numbers : Step → List ℕ
-cons_numbers (steps.Make words.Cons ops) = ops.items
+cons_numbers (steps.Make words.Cons ops) = ops
 cons_numbers _ = []
 
 -- a list that begins with the name of this number

@@ -49,7 +49,7 @@ all-member n (i ∷ is) h j (inr m) = all-member n is (All-tail (λ i. i < n) i 
 part-to : (ts : List (Origin ℕ)) (s : Step) (j : ℕ) → IsPartNumber s j → IsPartOf (origin_at ts j) (origin_of ts s)
 part-to ts (steps.Number k) j m = absurd m
 part-to ts (steps.Name n) j m = absurd m
-part-to ts (steps.Make w ops) j m = inl (listed-at ts ops.items j m)
+part-to ts (steps.Make w ops) j m = inl (listed-at ts ops j m)
 part-to ts (steps.Define w ops syms) j m = inl (listed-at ts ops.value.items j m)
 part-to ts (steps.Outcome i d) j e = inr (i, ap (λ k. Outcome i (origin_at ts k)) (sym e))
 
@@ -59,8 +59,8 @@ part-from ts (steps.Number k) p (inl m) = absurd m
 part-from ts (steps.Number k) p (inr e) = let q : Number k ≡ Outcome e.0 p = e.1 in cc
 part-from ts (steps.Name n) p (inl m) = absurd m
 part-from ts (steps.Name n) p (inr e) = let q : Named n ≡ Outcome e.0 p = e.1 in cc
-part-from ts (steps.Make w ops) p (inl m) = listed-from ts ops.items p m
-part-from ts (steps.Make w ops) p (inr e) = let q : Make w (origins_at ts ops.items) ≡ Outcome e.0 p = e.1 in cc
+part-from ts (steps.Make w ops) p (inl m) = listed-from ts ops p m
+part-from ts (steps.Make w ops) p (inr e) = let q : Make w (origins_at ts ops) ≡ Outcome e.0 p = e.1 in cc
 part-from ts (steps.Define w ops syms) p (inl m) = listed-from ts ops.value.items p m
 part-from ts (steps.Define w ops syms) p (inr e) = let q : Define w (origins_at ts ops.value.items) ≡ Outcome e.0 p = e.1 in
     cc
@@ -73,7 +73,7 @@ part-from ts (steps.Outcome i d) p (inr e) =
 part-below : (n : ℕ) (s : Step) (k : ℕ) → IsBelow n s → IsPartNumber s k → k < n
 part-below n (steps.Number j) k h m = absurd m
 part-below n (steps.Name j) k h m = absurd m
-part-below n (steps.Make w ops) k h m = all-member n ops.items h k m
+part-below n (steps.Make w ops) k h m = all-member n ops h k m
 part-below n (steps.Define w ops syms) k h m = all-member n ops.value.items h.0 k m
 part-below n (steps.Outcome i d) k h e = subst (λ k. k < n) (sym e) h
 

@@ -168,7 +168,7 @@ listed-are ts (i ∷ is) = ap (λ l. origin_at ts i ∷ l) (listed-are ts is)
 operands-are : (ts : List (Origin ℕ)) (s : Step) → operands (origin_of ts s) ≡ map (origin_at ts) (operand_numbers s)
 operands-are ts (steps.Number k) = refl
 operands-are ts (steps.Name n) = refl
-operands-are ts (steps.Make w ops) = listed-are ts ops.items
+operands-are ts (steps.Make w ops) = listed-are ts ops
 operands-are ts (steps.Define w ops syms) = listed-are ts ops.value.items
 operands-are ts (steps.Outcome j d) = refl
 

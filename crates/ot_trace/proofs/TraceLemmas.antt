@@ -47,7 +47,7 @@ pub origin_of-Extends : (ts us : List (Origin ℕ)) → Extends ts us → (s : S
     → origin_of us s ≡ origin_of ts s
 origin_of-Extends ts us e (steps.Number k) h = refl
 origin_of-Extends ts us e (steps.Name n) h = refl
-origin_of-Extends ts us e (steps.Make w ops) h = ap (Make w) (origins_at-Extends ts us e ops.items h)
+origin_of-Extends ts us e (steps.Make w ops) h = ap (Make w) (origins_at-Extends ts us e ops h)
 origin_of-Extends ts us e (steps.Define w ops syms) h = ap (Define w) (origins_at-Extends ts us e ops.value.items h.0)
 origin_of-Extends ts us e (steps.Outcome j d) h = ap (Outcome j) (origin_at-Extends ts us e d h)
 
@@ -163,10 +163,10 @@ same_step ts one (steps.Number j) (steps.Number k) g h a b p = let e : j ≡ k =
 same_step ts one (steps.Name m) (steps.Name n) g h a b p = let e : m ≡ n = cc in eq-eqb m n e
 same_step ts one (steps.Make v xs) (steps.Make w ys) g h a b p =
     let word : v ≡ w = cc in
-    let ops : origins_at ts xs.items ≡ origins_at ts ys.items = cc in
-    both (words_test.ghosts.eq v w) (pointwise nat_eq xs.items ys.items)
+    let ops : origins_at ts xs ≡ origins_at ts ys = cc in
+    both (words_test.ghosts.eq v w) (pointwise nat_eq xs ys)
     (subst (λ w. words_test.ghosts.eq v w ≡ true) word (word-self v))
-    ((bytes_eq-Decides xs.items ys.items).1 (origins_at-injective ts one xs.items ys.items g h ops))
+    ((bytes_eq-Decides xs ys).1 (origins_at-injective ts one xs ys g h ops))
 same_step ts one (steps.Define v xs ss) (steps.Define w ys rs) g h a b p =
     let word : v ≡ w = cc in
     let ops : origins_at ts xs.value.items ≡ origins_at ts ys.value.items = cc in
@@ -208,8 +208,8 @@ pub same_origin : (ts : List (Origin ℕ)) (s t : Step) → step_eq s t ≡ true
 same_origin ts (steps.Number j) (steps.Number k) p = ap Number ((Decides-int_eq j k).0 p)
 same_origin ts (steps.Name m) (steps.Name n) p = ap Named (eqb-true m n p)
 same_origin ts (steps.Make v xs) (steps.Make w ys) p =
-    let q = parts (words_test.ghosts.eq v w) (pointwise nat_eq xs.items ys.items) p in
-    λ j. Make (word-from v w q.0 j) (origins_at ts ((bytes_eq-Decides xs.items ys.items).0 q.1 j))
+    let q = parts (words_test.ghosts.eq v w) (pointwise nat_eq xs ys) p in
+    λ j. Make (word-from v w q.0 j) (origins_at ts ((bytes_eq-Decides xs ys).0 q.1 j))
 same_origin ts (steps.Define v xs ss) (steps.Define w ys rs) p =
     let q = parts (words_test.ghosts.eq v w)
     (pointwise nat_eq xs.value.items ys.value.items && pointwise nat_eq ss.value.items rs.value.items) p in

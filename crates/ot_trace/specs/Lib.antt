@@ -1,6 +1,8 @@
 -- Origins, the table of steps, what roots lead to in it, and how often a step is used.
 pub mod Origins
 pub mod OriginCodes
+pub mod Kept
+pub mod OperandHash
 pub mod Trace
 pub mod StepHash
 pub mod Reach

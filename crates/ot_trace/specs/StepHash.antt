@@ -1,30 +1,24 @@
 -- What the hash of a step is made of.
-use Rattle.std.proofs.Common.{◌≡◌, ℕ, ◌+◌, ◌*◌, Bool, true, false, ◌&&◌, List, [], ◌∷◌, ◌++◌}
+use Rattle.std.proofs.Common.{◌≡◌, Bool, true, false, ◌&&◌, ◌++◌}
 use Rattle.std.proofs.Common.{refl, ap, sym, eqb-true, nat_eq, true≢false}
 use Rattle.std.specs.Hash as fed
 use Rattle.std.specs.Hash.{HashWrites}
 use Rattle.std.specs.Cmp.Lexicographic.{pointwise}
 use Rattle.std.proofs.lemmas.Bool.Decides.{Decides-int_eq}
 use Rattle.std.proofs.lemmas.Slice.Eq.{bytes_eq-Decides}
-use Rattle.ot_plain.specs.declared.command.Cmd.{Cmd}
 use Rattle.ot_plain.specs.contracts.command.CmdPartialEq.TheImpl as words_test
 use Rattle.ot_plain.specs.contracts.command.CmdHash.TheImpl as words_hash
 use Rattle.ot_plain.specs.contracts.command.CmdHash.TheImpl.Laws.{respects_eq-law}
+use Rattle.ot_trace.specs.OperandHash.{same_operands, operand_writes}
 use Rattle.ot_trace.specs.declared.step.Step.{Step}
 use Rattle.ot_trace.specs.declared.step.Step.TheVariants.{Number, Name, Make, Define, Outcome}
 use Rattle.ot_trace.specs.contracts.step.StepPartialEq.TheImpl as derived
-
--- one operand or two are one number, others a list
-abbrev pub operand_writes : List ℕ → HashWrites
-operand_writes (a ∷ []) = fed.u32 a
-operand_writes (a ∷ b ∷ []) = fed.u64 (a + b * 4294967296)
-operand_writes is = fed.slice fed.u32 is
 
 -- no writes of two kinds of step agree
 abbrev pub step_writes : Step → HashWrites
 step_writes (Number k) = fed.u8 0 ++ fed.i64 k
 step_writes (Name n) = fed.u8 1 ++ fed.u32 n
-step_writes (Make w ops) = words_hash.ghosts.hash_input w ++ operand_writes ops.items
+step_writes (Make w ops) = words_hash.ghosts.hash_input w ++ operand_writes ops
 step_writes (Define w ops syms) = fed.u8 2 ++ (words_hash.ghosts.hash_input w ++ operand_writes ops.value.items)
 step_writes (Outcome j d) = fed.u8 3 ++ (fed.u8 j ++ fed.u32 d)
 
@@ -38,9 +32,9 @@ pub step_writes-alike : (s t : Step) → derived.ghosts.eq s t ≡ true → step
 step_writes-alike (Number j) (Number k) p = ap (λ k. step_writes (Number k)) ((Decides-int_eq j k).0 p)
 step_writes-alike (Name m) (Name n) p = ap (λ n. step_writes (Name n)) (eqb-true m n p)
 step_writes-alike (Make v xs) (Make w ys) p =
-    let q = parts (words_test.ghosts.eq v w) (pointwise nat_eq xs.items ys.items) p in
+    let q = parts (words_test.ghosts.eq v w) (same_operands xs ys) p in
     let word = respects_eq-law v w q.0 in
-    let ops = (bytes_eq-Decides xs.items ys.items).0 q.1 in
+    let ops = (bytes_eq-Decides xs ys).0 q.1 in
     λ i. word i ++ operand_writes (ops i)
 step_writes-alike (Define v xs ss) (Define w ys rs) p =
     let q = parts (words_test.ghosts.eq v w)

@@ -22,7 +22,7 @@ origins_at ts (i ∷ is) = MoreOrigins (origin_at ts i) (origins_at ts is)
 abbrev pub origin_of : List (Origin ℕ) → Step → Origin ℕ
 origin_of ts (steps.Number k) = Number k
 origin_of ts (steps.Name n) = Named n
-origin_of ts (steps.Make w ops) = Make w (origins_at ts ops.items)
+origin_of ts (steps.Make w ops) = Make w (origins_at ts ops)
 origin_of ts (steps.Define w ops syms) = Define w (origins_at ts ops.value.items)
 origin_of ts (steps.Outcome j d) = Outcome j (origin_at ts d)
 
@@ -30,7 +30,7 @@ origin_of ts (steps.Outcome j d) = Outcome j (origin_at ts d)
 abbrev pub operand_numbers : Step → List ℕ
 operand_numbers (steps.Number k) = []
 operand_numbers (steps.Name n) = []
-operand_numbers (steps.Make w ops) = ops.items
+operand_numbers (steps.Make w ops) = ops
 operand_numbers (steps.Define w ops syms) = ops.value.items
 operand_numbers (steps.Outcome j d) = []
 
@@ -38,7 +38,7 @@ operand_numbers (steps.Outcome j d) = []
 abbrev pub IsBelow : ℕ → Step → Type 0
 IsBelow k (steps.Number n) = Unit {0}
 IsBelow k (steps.Name n) = Unit {0}
-IsBelow k (steps.Make w ops) = All (λ i. i < k) ops.items
+IsBelow k (steps.Make w ops) = All (λ i. i < k) ops
 IsBelow k (steps.Define w ops syms) = All (λ i. i < k) ops.value.items × All (λ i. i < k) syms.value.items
 IsBelow k (steps.Outcome j d) = d < k
 

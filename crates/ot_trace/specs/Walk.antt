@@ -54,7 +54,7 @@ StepLeadsTo ts ds i j = (j < length ts) × LeadsTo (map (origin_at ts) ds) (orig
 abbrev pub IsPartNumber : Step → ℕ → Type 0
 IsPartNumber (steps.Number k) j = ⊥
 IsPartNumber (steps.Name n) j = ⊥
-IsPartNumber (steps.Make w ops) j = IsMember j ops.items
+IsPartNumber (steps.Make w ops) j = IsMember j ops
 IsPartNumber (steps.Define w ops syms) j = IsMember j ops.value.items
 IsPartNumber (steps.Outcome i d) j = j ≡ d
 

@@ -1,14 +1,14 @@
-ghost use Rattle.std.specs.Prelude.{◌≡◌, fold};
-ghost use Rattle.ot_trace.specs.StepHash.{step_writes, operand_writes, step_writes-alike};
+ghost use Rattle.std.specs.Prelude.{◌≡◌};
+ghost use Rattle.ot_trace.specs.StepHash.{step_writes, step_writes-alike};
 
+use crate::operands::{Operands, hash_operands};
 use crate::trace::StepId;
 use ot_plain::{Cmd, NameId};
-use smallvec::SmallVec;
 use std::hash::{Hash, Hasher};
 
 /// How an object was made, with the parts by number.
-// A trace has many steps: a list holds inside what most of them need, and those of a definition, of which an article has
-// few, stand apart.
+// A trace has many steps: one holds inside what most of them need, and the lists of a definition, of which an article
+// has few, stand apart.
 #[derive(PartialEq, Eq, Drop)]
 pub enum Step {
     /// A number.
@@ -16,7 +16,7 @@ pub enum Step {
     /// A name.
     Name(NameId),
     /// What a word makes of its operands, from the bottom of the stack up.
-    Make(Cmd, SmallVec<StepId, 2>),
+    Make(Cmd, Operands),
     /// A definition by a word and its operands; the steps of its symbols stand last.
     Define(Cmd, Box<Vec<StepId>>, Box<Vec<StepId>>),
     /// The theorem of a definition, by its place from 1 on.
@@ -59,7 +59,7 @@ impl Hash for Step {
             }
             Step::Make(word, operands) => {
                 word.hash(state);
-                hash_operands(operands.as_slice(), state);
+                operands.hash(state);
             }
             Step::Define(word, operands, _) => {
                 state.write_u8(2);
@@ -72,16 +72,5 @@ impl Hash for Step {
                 definition.hash(state);
             }
         }
-    }
-}
-
-// The operands of a word.
-fn hash_operands<H: Hasher>(operands: &[StepId], state: &mut H)
-    ensures { state.new ≡ fold H.write state.old (operand_writes operands.now) }
-{
-    match operands {
-        [one] => one.hash(state),
-        [lower, upper] => state.write_u64(lower.0 as u64 + upper.0 as u64 * (1 << 32)),
-        _ => operands.hash(state),
     }
 }

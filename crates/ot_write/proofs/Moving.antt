@@ -302,7 +302,7 @@ operands-inside n k r s below e low =
     all-below : (s : Step) → IsBelow k s → All (λ i. i < n) (operand_numbers s)
     all-below (step.Number z) h = λ j d l. absurd (omega arith)
     all-below (step.Name z) h = λ j d l. absurd (omega arith)
-    all-below (step.Make c ops) h = more ops.items h
+    all-below (step.Make c ops) h = more ops h
     all-below (step.Define c ops syms) h = more ops.value.items h.0
     all-below (step.Outcome j d) h = λ i e l. absurd (omega arith)
 

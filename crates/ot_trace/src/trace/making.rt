@@ -4,10 +4,10 @@ ghost use Rattle.std.specs.List.{All};
 ghost use Rattle.ot_plain.specs.Table.{IsInjective};
 ghost use Rattle.ot_trace.specs.Origins.{Make, Define, operand, symbols};
 
+use crate::operands::Operands;
 use crate::step::Step;
 use crate::trace::{StepId, Trace};
 use ot_plain::{Cmd, Memory};
-use smallvec::SmallVec;
 
 impl Trace {
     ghost use Rattle.ot_trace.specs.Trace.{origin_at, origins_at};
@@ -23,7 +23,7 @@ impl Trace {
         ensures err { OnErr result (self.new ≡ self.old) }
         ensures once { IsInjective self.new }
     {
-        let operands = SmallVec::from_slice(*self.steps.allocator(), operands)?;
+        let operands = Operands::of(*self.steps.allocator(), operands)?;
         self.add(Step::Make(word, operands))
     }
 

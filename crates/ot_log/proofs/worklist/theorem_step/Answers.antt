@@ -25,7 +25,7 @@ pub returns-else-makes_theorem-clause-none : goal.returns-else-makes_theorem-cla
 returns-else-makes_theorem-clause-none c =
     write-other c.args.session.now _ c.in-Make.word _
     (made-origin c.args.session.now c.args.id c.trace.result.now c.step.result.now c.in-Make.word c.in-Make.operands
-    c.in-Make.operands.items c.trace.ensures c.step.ensures.origin c.in-Make.is refl)
+    c.in-Make.operands c.trace.ensures c.step.ensures.origin c.in-Make.is refl)
     (sym c.makes_theorem.ensures ∙ c.if-makes_theorem.false)
 
 pub returns-in-Number-clause-none : goal.returns-in-Number-clause-none

@@ -9,7 +9,7 @@ returns-in-Make-clause-made c =
     let s = c.args.session.now in
     let at = subst (λ ts. slice_get ts c.args.id ≡ Some (trace.origin_of ts c.step.result.now))
     c.trace.ensures c.step.ensures.origin in
-    let made = made-is s c.args.id (trace.origin_of s.trace c.step.result.now) c.in-Make.word c.in-Make.operands.items
+    let made = made-is s c.args.id (trace.origin_of s.trace c.step.result.now) c.in-Make.word c.in-Make.operands
     at
     (ap (trace.origin_of s.trace) c.in-Make.is) in
     subst (λ is. IsMadeOf s c.in-Make.word is c.args.id) (sym c.as_slice.ensures) made

@@ -51,21 +51,21 @@ returns-in_ok-put_name-in-Name-clause-cheaper c = cheaper-same c.store_from.resu
 
 pub returns-in-Make-clause-moves : goal.returns-in-Make-clause-moves
 returns-in-Make-clause-moves c =
-    let a : OnOk c.ask.result (c.ask.new.work.items ≡ (c.args.work.now.items ++ task.Close c.args.id ∷ []) ++ reverse (map task.Write c.in-Make.operands.items)) = subst (λ l. OnOk c.ask.result (c.ask.new.work.items ≡ (c.args.work.now.items ++ task.Close c.args.id ∷ []) ++ reverse (map task.Write l))) c.as_slice.ensures c.ask.ensures in
+    let a : OnOk c.ask.result (c.ask.new.work.items ≡ (c.args.work.now.items ++ task.Close c.args.id ∷ []) ++ reverse (map task.Write c.in-Make.operands)) = subst (λ l. OnOk c.ask.result (c.ask.new.work.items ≡ (c.args.work.now.items ++ task.Close c.args.id ∷ []) ++ reverse (map task.Write l))) c.as_slice.ensures c.ask.ensures in
     asked (given c.args.names.now c.args.trace.now c.args.counts.now) _ _ c.args.id c.in-Make.field-0
-    c.in-Make.operands.items (tree-is _ c.args.id _ (step.Make c.in-Make.field-0 c.in-Make.operands)
+    c.in-Make.operands (tree-is _ c.args.id _ (step.Make c.in-Make.field-0 c.in-Make.operands)
     c.step.ensures.origin c.in-Make.is) c.ask.result _ a
 
 pub returns-in-Make-clause-cheaper : goal.returns-in-Make-clause-cheaper
 returns-in-Make-clause-cheaper c =
-    let a : OnOk c.ask.result (c.ask.new.work.items ≡ (c.args.work.now.items ++ task.Close c.args.id ∷ []) ++ reverse (map task.Write c.in-Make.operands.items)) = subst (λ l. OnOk c.ask.result (c.ask.new.work.items ≡ (c.args.work.now.items ++ task.Close c.args.id ∷ []) ++ reverse (map task.Write l))) c.as_slice.ensures c.ask.ensures in
+    let a : OnOk c.ask.result (c.ask.new.work.items ≡ (c.args.work.now.items ++ task.Close c.args.id ∷ []) ++ reverse (map task.Write c.in-Make.operands)) = subst (λ l. OnOk c.ask.result (c.ask.new.work.items ≡ (c.args.work.now.items ++ task.Close c.args.id ∷ []) ++ reverse (map task.Write l))) c.as_slice.ensures c.ask.ensures in
     asked-cheaper (given c.args.names.now c.args.trace.now c.args.counts.now) _ _ c.args.id c.in-Make.field-0
-    c.in-Make.operands.items (tree-is _ c.args.id _ (step.Make c.in-Make.field-0 c.in-Make.operands)
+    c.in-Make.operands (tree-is _ c.args.id _ (step.Make c.in-Make.field-0 c.in-Make.operands)
     c.step.ensures.origin c.in-Make.is) c.ask.result a
 
 pub returns-in-Make-clause-work : goal.returns-in-Make-clause-work
 returns-in-Make-clause-work c =
-    let a : OnOk c.ask.result (c.ask.new.work.items ≡ (c.args.work.now.items ++ task.Close c.args.id ∷ []) ++ reverse (map task.Write c.in-Make.operands.items)) = subst (λ l. OnOk c.ask.result (c.ask.new.work.items ≡ (c.args.work.now.items ++ task.Close c.args.id ∷ []) ++ reverse (map task.Write l))) c.as_slice.ensures c.ask.ensures in
+    let a : OnOk c.ask.result (c.ask.new.work.items ≡ (c.args.work.now.items ++ task.Close c.args.id ∷ []) ++ reverse (map task.Write c.in-Make.operands)) = subst (λ l. OnOk c.ask.result (c.ask.new.work.items ≡ (c.args.work.now.items ++ task.Close c.args.id ∷ []) ++ reverse (map task.Write l))) c.as_slice.ensures c.ask.ensures in
     asked-inside _ c.ask.result _ _ c.args.id _ c.requires.work c.requires.inside
     (operands-inside _ c.args.id _ (step.Make c.in-Make.field-0 c.in-Make.operands) c.step.ensures.below
     c.in-Make.is c.requires.inside) a

@@ -13,7 +13,7 @@ returns-in_ok-put_word-in-Make-clause-moves c = λ ns.
     let x = origin_at g.trees c.args.id in
     let e = tree-is _ c.args.id _ (step.Make c.in-Make.word c.in-Make.field-1) c.step.ensures.origin c.in-Make.is in
     moves-same c.store_from.result g _ c.store_from.new.self _ (close g x)
-    (close-make g x c.in-Make.word (origins_at g.trees c.in-Make.field-1.items) e)
+    (close-make g x c.in-Make.word (origins_at g.trees c.in-Make.field-1) e)
     (finished c.store_from.result g _ _ c.store_from.new.self x (w.Order c.in-Make.word)
     c.in_ok-put_word-in-Make.ensures refl (c.store_from.ensures.moves ns))
 

@@ -1,0 +1,20 @@
+-- What the hash of a word's operands is made of.
+use Rattle.std.proofs.Common.{◌≡◌, ◌+◌, ◌*◌, ℕ, Bool, true, List, [], ◌∷◌, ap, nat_eq}
+use Rattle.std.specs.Hash as fed
+use Rattle.std.specs.Hash.{HashWrites}
+use Rattle.std.specs.Cmp.Lexicographic.{pointwise}
+use Rattle.std.proofs.lemmas.Slice.Eq.{bytes_eq-Decides}
+
+-- whether two lists of operands are one
+abbrev pub same_operands : List ℕ → List ℕ → Bool
+same_operands = pointwise nat_eq
+
+-- one operand or two are one number, others a list
+abbrev pub operand_writes : List ℕ → HashWrites
+operand_writes (a ∷ []) = fed.u32 a
+operand_writes (a ∷ b ∷ []) = fed.u64 (a + b * 4294967296)
+operand_writes is = fed.slice fed.u32 is
+
+-- equal lists are hashed alike
+pub operand_writes-alike : (is js : List ℕ) → same_operands is js ≡ true → operand_writes is ≡ operand_writes js
+operand_writes-alike is js h = ap operand_writes ((bytes_eq-Decides is js).0 h)
