@@ -14,7 +14,6 @@ use Rattle.ot_laws.proofs.Terms.{bind-agree}
 use Rattle.ot_laws.proofs.New.{IsOld, old-terms, apart-new}
 use Rattle.ot_type.specs.TypeTable.{type_at}
 use Rattle.ot_type.proofs.TypeTableLemmas.{type_at-Extends}
-use Rattle.ot_type.proofs.SubtypeLemmas.{All-member}
 use Rattle.ot_term.specs.Term.{TermTable}
 use Rattle.ot_term.specs.TermTable.{term_at, variable_of, Grows, IsTermTable}
 use Rattle.ot_term.specs.declared.term.VarKey.{VarKey}
@@ -28,7 +27,7 @@ use Rattle.ot_subst.proofs.Becoming.{AreTyped, deep-abs_type, deep-abs_body}
 use Rattle.ot_subst.proofs.Growing.{Grows-trans, term_at-Grows, variable_of-Grows, type_part-Grows, named_part-Grows}
 use Rattle.ot_subst.proofs.Growing.{renaming_of-Grows, becomes_at-Grows, AreReady-Grows, IsSetUp-Grows}
 use Rattle.ot_subst.proofs.Walked.{IsMemory-Grows}
-use Rattle.ot_plain.proofs.Members.{IsMember-map_back}
+use Rattle.ot_plain.proofs.Members.{IsMember-map_back, All-at_member}
 
 -- the new binders have their types
 pub typed-renaming : (t : TermTable) (s : Substitution) (r : List (VarKey × VarKey))
@@ -162,7 +161,7 @@ module _ (k : ℕ) (t u : TermTable) (s : Substitution) (r : List (VarKey × Var
             let (q, m, e) = IsMember-map_back (λ (z : VarKey × ℕ). (variable_of t.types z.0, term_at t.terms z.1)) p
             s.terms i in
             let within : q.1 < length t.terms =
-            All-member (λ (z : VarKey × ℕ). z.1 < length t.terms) s.terms set.ready.subst.terms q m in
+            All-at_member (λ (z : VarKey × ℕ). z.1 < length t.terms) s.terms q set.ready.subst.terms m in
             let size = ap (λ (z : Variable ℕ × Named ℕ). bound_named z.1) e in
             let most = bound_named-term_at t.terms q.1 within in
             let all = set.names.terms in

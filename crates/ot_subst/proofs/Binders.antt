@@ -17,7 +17,6 @@ use Rattle.ot_laws.proofs.Apply.{term_at-cases}
 use Rattle.ot_type.specs.TypeTable.{images}
 use Rattle.ot_type.proofs.TypeTableLemmas.{type_at-Extends}
 use Rattle.ot_type.proofs.InstLemmas.{images-Extends, inst-nothing}
-use Rattle.ot_type.proofs.SubtypeLemmas.{All-member}
 use Rattle.ot_term.specs.Term.{TermTable}
 use Rattle.ot_term.specs.TermTable.{term_at, variable_of, Grows, IsTermTable}
 use Rattle.ot_term.specs.declared.term.VarKey.{VarKey}
@@ -28,7 +27,7 @@ use Rattle.ot_subst.specs.Clash.{AreFrees, Coincides, MayStay, IsUnclashing, IsP
 use Rattle.ot_subst.proofs.Keys.{same_key-is, variable-injective}
 use Rattle.ot_subst.proofs.Growing.{variable_of-Grows}
 use Rattle.ot_subst.proofs.Variables.{image-other, put-none}
-use Rattle.ot_plain.proofs.Members.{IsMember-cases, IsMember-map, IsMember-map_back}
+use Rattle.ot_plain.proofs.Members.{IsMember-cases, IsMember-map, IsMember-map_back, All-at_member}
 use Rattle.ot_plain.proofs.Results.{none_from}
 
 -- ---- the loop over the free variables of a body
@@ -127,7 +126,7 @@ put_in_tells t s frees free table w within b is = (
       let (y, n, c) = IsMember-map_back (variable_of t.types) (variable_of t.types w) frees
       (free.back p i (variable_of t.types w) f) in
       let same : y ≡ w = variable-injective t.types table.types y w
-      (All-member (λ (z : VarKey). z.ty < length t.types) frees free.inside y n) within c in
+      (All-at_member (λ (z : VarKey). z.ty < length t.types) frees y free.inside n) within c in
       is ∙ member-any w frees (subst (λ z. IsMember z frees) same n),
 )
 
@@ -206,7 +205,7 @@ module _ (t : TermTable) (s : Substitution) (r : List (VarKey × VarKey)) (v w :
         ((free_here (variable_of t.types x)).0 (IsMember-map (variable_of t.types) x xs m)).1 in
         let one = apart.alone (variable_of t.types x) free_x (c.1 ∙ instance) in
         c.0 (variable-injective t.types ready.table.types x v
-        (All-member (λ (y : VarKey). y.ty < length t.types) xs inside x m) binder one)
+        (All-at_member (λ (y : VarKey). y.ty < length t.types) xs x inside m) binder one)
 
     alone_from : ((x : VarKey) → IsMember x xs → ¬ (Coincides t s v w x)) → IsAlone
     alone_from missed x i same =

@@ -5,6 +5,7 @@ use Rattle.std.proofs.Common.{◌≡◌, ℕ, ◌<◌, ◌≤◌, inl, inr, List
 use Rattle.std.proofs.Common.{map, length, refl, sym, ap, subst, ◌∙◌, arith}
 use Rattle.std.specs.List.{All}
 use Rattle.std.proofs.lemmas.List.Elements.{All-head, All-tail}
+use Rattle.ot_plain.proofs.Members.{All-at_member}
 use Rattle.ot_plain.specs.Lists.{IsMember}
 use Rattle.ot_plain.specs.Names.{Name}
 use Rattle.ot_plain.specs.Trees.{TyVar, Variable, Tm, Named, NConst}
@@ -14,7 +15,6 @@ use Rattle.ot_plain.proofs.TableLemmas.{Extends-refl, Extends-trans, get_or-Exte
 use Rattle.ot_laws.specs.Walk.{nameless_map}
 use Rattle.ot_type.proofs.TypeTableLemmas.{type_at-Extends}
 use Rattle.ot_type.proofs.InstLemmas.{images-Extends}
-use Rattle.ot_type.proofs.SubtypeLemmas.{All-member}
 use Rattle.ot_term.specs.Term.{TermTable}
 use Rattle.ot_term.specs.TermTable.{term_at, variable_of, Grows, NamesUpTo, IsTermTable}
 use Rattle.ot_term.specs.declared.term.VarKey.{VarKey}
@@ -114,7 +114,7 @@ module _ (t u : TermTable) (g : Grows t u) where
       inside = λ k d i. omega (arith, h.inside k d i, g.types.longer);
       to = λ y m.
           let (p, i, f) = h.to y m in
-          let within = All-member (λ (z : VarKey). z.ty < length t.types) frees h.inside y m in (
+          let within = All-at_member (λ (z : VarKey). z.ty < length t.types) frees y h.inside m in (
             p,
             subst (λ n. IsMember p (nameless_map numbers n)) (sym named_part-Grows) i,
             subst

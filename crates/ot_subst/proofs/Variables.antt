@@ -15,7 +15,6 @@ use Rattle.ot_laws.specs.Walk.{nameless_map}
 use Rattle.ot_laws.proofs.Tests.{tells_numbers}
 use Rattle.ot_laws.proofs.Apply.{term_at-kept}
 use Rattle.ot_type.specs.TypeTable.{type_at, IsTypeTable}
-use Rattle.ot_type.proofs.SubtypeLemmas.{All-member}
 use Rattle.ot_term.specs.Term.{TermTable}
 use Rattle.ot_term.specs.TermTable.{term_at, variable_of, Grows, IsTermTable}
 use Rattle.ot_term.specs.declared.term.VarKey.{VarKey}
@@ -25,7 +24,7 @@ use Rattle.ot_subst.specs.Walk.{becomes, HasForm, IsRenamed, bound_of, AreReady}
 use Rattle.ot_subst.proofs.Keys.{same_var-key}
 use Rattle.ot_subst.proofs.Shallow.{deep-free}
 use Rattle.ot_subst.proofs.Growing.{named_part-Grows, IsSubstOf-Grows}
-use Rattle.ot_plain.proofs.Members.{IsMember-map_back}
+use Rattle.ot_plain.proofs.Members.{IsMember-map_back, All-at_member}
 
 -- a term that was made
 pub made : (u : TermTable) (id : ℕ) (t : Named ℕ) (x : Tm ℕ) → slice_get u.terms id ≡ Some t → nameless numbers t ≡ x
@@ -164,7 +163,7 @@ module _ (t : TermTable) (s : Substitution) (r : List (VarKey × VarKey)) (v : V
             let (k, l, c) = IsMember-map_back (λ (z : VarKey × ℕ). (variable_of t.types z.0, term_at t.terms z.1)) q
             s.terms j in
             let within : k.0.ty < length t.types =
-            All-member (λ (z : VarKey × ℕ). z.0.ty < length t.types) s.terms ready.subst.variables k l in
+            All-at_member (λ (z : VarKey × ℕ). z.0.ty < length t.types) s.terms k ready.subst.variables l in
             let low = ready.table.types.shallow k.0.ty (type_at t.types k.0.ty)
             (slice_get-get_or t.types k.0.ty (TyVar 0) within) in
             let same : type_at t.types k.0.ty ≡ inst numbers (type_part t s) (type_at t.types v.ty) =

@@ -20,9 +20,6 @@ module _ {X : Type 0} where
   pub member_item : (xs : List X) (i : ℕ) (x : X) → i < length xs → x ≡ get_or xs i x → IsMember x xs
   member_item xs i x h item = subst (λ y. IsMember y xs) (sym item) (IsMember-get_or xs i x h)
 
-  pub All-member : (P : X → Type 0) (xs : List X) → All P xs → (x : X) → IsMember x xs → P x
-  All-member P xs all x h = All-at_member P xs x all h
-
 -- ---- a set of numbers, in order
 equal_is : (x y : ℕ) → nat_cmp x y ≡ Equal → x ≡ y
 equal_is x y = by (nat_lt x y) (nat_eq x y) refl

@@ -4,9 +4,8 @@ use Rattle.ot_term.specs.declared.term.VarKey.{VarKey}
 use Rattle.ot_subst.specs.Clash.{Coincides}
 use Rattle.ot_subst.proofs.Growing.{Grows-trans}
 use Rattle.ot_subst.proofs.Binders.{coincides-before, coincides-later, member-more}
-use Rattle.ot_type.proofs.SubtypeLemmas.{All-member}
 use Rattle.ot_subst.proofs.clash.any_coincides.Goals as goal
-use Rattle.ot_plain.proofs.Members.{IsMember-get_or}
+use Rattle.ot_plain.proofs.Members.{IsMember-get_or, All-at_member}
 
 pub returns-then-branch-clause-ok : goal.returns-then-branch-clause-ok
 returns-then-branch-clause-ok g c =
@@ -14,7 +13,7 @@ returns-then-branch-clause-ok g c =
     let t = g.N.Nodes.table c.args.terms.now in
     let m = subst (λ (z : VarKey). IsMember z c.args.xs.now) (sym c.x-item.is)
     (IsMember-get_or c.args.xs.now c.loop-x.x-index x c.loop-x-test.true) in
-    let inside = All-member (λ (z : VarKey). z.ty < length t.types) c.args.xs.now c.requires.variables x m in (
+    let inside = All-at_member (λ (z : VarKey). z.ty < length t.types) c.args.xs.now x c.requires.variables m in (
       x,
       m,
       coincides-before t (g.N.Nodes.table c.loop-x.terms) c.loop-x.invariant.grows c.args.subst.now
@@ -50,7 +49,7 @@ loop-x-preserved g c = record {
         let t = g.N.Nodes.table c.args.terms.now in
         let m = subst (λ (z : VarKey). IsMember z c.args.xs.now) (sym c.x-item.is)
         (IsMember-get_or c.args.xs.now c.loop-x.x-index x c.loop-x-test.true) in
-        let inside = All-member (λ (z : VarKey). z.ty < length t.types) c.args.xs.now c.requires.variables x m in
+        let inside = All-at_member (λ (z : VarKey). z.ty < length t.types) c.args.xs.now x c.requires.variables m in
         let hit =
         c.in_ok-coincides.ensures.ok.1
         (coincides-later t (g.N.Nodes.table c.loop-x.terms) c.loop-x.invariant.grows c.args.subst.now
