@@ -1,4 +1,4 @@
-use Rattle.std.proofs.Common.{◌++◌, ◌∷◌, [], arith, ap, subst, sym, length}
+use Rattle.std.proofs.Common.{◌<◌, ◌++◌, ◌∷◌, [], arith, ap, subst, sym, length}
 use Rattle.ot_plain.specs.Lists.{IsMember}
 use Rattle.ot_type.specs.TypeTable.{type_at}
 use Rattle.ot_type.specs.Subtypes.{IsSubtype}
@@ -11,7 +11,8 @@ use Rattle.ot_plain.proofs.Members.{IsMember-last, All-at_member}
 
 pub loop-next-init : goal.loop-next-init
 loop-next-init c = rw c.new-found.ensures.items
-    (subtypes_start c.args.self.now.types c.args.pending.keys (λ x m. All-at_member _ _ x c.requires m))
+    (subtypes_start c.args.self.now.types c.args.pending.keys
+    (λ k m. All-at_member (λ i. i < length c.args.self.now.types) c.args.pending.keys k c.requires m))
 
 pub add_arguments-requires : goal.add_arguments-requires
 add_arguments-requires c =
