@@ -4,6 +4,7 @@ use Rattle.ot_plain.specs.Names.{Name}
 use Rattle.ot_plain.specs.Trees.{Ty, TyVar, Variable, Tm, Free}
 use Rattle.ot_text.specs.Texts.{ty_text, tm_text, sequent_text, number_text, ascending}
 use Rattle.ot_text.specs.Pages.{Bytes, is_stopped, IsPut, printed}
+use Rattle.ot_text.specs.Sections.{indented_text}
 use Rattle.ot_find.specs.Matches.{Found}
 use Rattle.ot_find.specs.declared.search.Search.{Search}
 
@@ -14,11 +15,6 @@ type_line q = codes "type " ++ ty_text (TyVar q.0) ++ codes " := " ++ ty_text q.
 -- a free variable of the pattern after the types, and what stands for it
 abbrev pub variable_line : Variable Name × Tm Name → List ℕ
 variable_line q = tm_text (Free q.0) ++ codes " := " ++ tm_text q.1
-
--- each on a line of its own behind four spaces
-abbrev pub indented_text : List (List ℕ) → List ℕ
-indented_text [] = []
-indented_text (x ∷ xs) = codes "    " ++ x ++ 10 ∷ indented_text xs
 
 -- a match: its source and its sequent, then the types and then the variables, both in the order of their bytes
 abbrev pub found_text : Found → List ℕ

@@ -5,7 +5,8 @@ ghost use Rattle.ot_text.specs.Gathered.{bytes_in, texts_of};
 ghost use Rattle.ot_text.specs.Pages.{IsPut, printed};
 ghost use Rattle.ot_text.specs.Texts.{ascending, name_text, ty_text};
 ghost use Rattle.ot_match.specs.Found.{types_of, terms_of, AreTypesIn, AreTermsIn};
-ghost use Rattle.ot_find.specs.Texts.{type_line as type_line_of, variable_line as variable_line_of, indented_text};
+ghost use Rattle.ot_find.specs.Texts.{type_line as type_line_of, variable_line as variable_line_of};
+ghost use Rattle.ot_text.specs.Sections.{indented_text};
 
 use ot_kernel::Kernel;
 use ot_plain::Name;

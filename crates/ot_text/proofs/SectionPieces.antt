@@ -1,8 +1,8 @@
--- The sections of a summary, piece by piece.
+-- The sections of a summary and indented lines, piece by piece.
 use Rattle.std.specs.Prelude.{◌≡◌, ℕ, suc, ◌+◌, ◌<◌, ◌≤◌, Bool, true, false, List, [], ◌∷◌, ◌++◌, map, length, codes}
 use Rattle.std.proofs.Common.{refl, sym, ◌∙◌, ap, append_assoc, arith, length-append, get_or}
 use Rattle.ot_text.specs.Texts.{number_text}
-use Rattle.ot_text.specs.Sections.{items_text, section_text}
+use Rattle.ot_text.specs.Sections.{items_text, section_text, indented_text}
 use Rattle.ot_text.specs.Gathered.{bytes_in}
 use Rattle.ot_text.specs.Pages.{Printed, IsPut}
 use Rattle.ot_text.proofs.Putting.{Puts, puts-more, same-text}
@@ -48,3 +48,25 @@ section-bytes room true title xs p h =
     let n = length-append (title ++ codes ": " ++ number_text (length xs)) (10 ∷ items_text xs) in
     omega arith
 section-bytes room false title xs p h = cc
+
+-- ---- lines behind four spaces
+
+-- they have at least the bytes of the texts
+pub indented-bytes : (xs : List (List ℕ)) → bytes_in xs ≤ length (indented_text xs)
+indented-bytes [] = omega arith
+indented-bytes (x ∷ xs) =
+    let more = indented-bytes xs in
+    let n : length (codes "    " ++ x ++ 10 ∷ indented_text xs)
+    ≡ suc (suc (suc (suc (length x + suc (length (indented_text xs)))))) =
+    ap (λ k. suc (suc (suc (suc k)))) (length-append x (10 ∷ indented_text xs)) in
+    omega arith
+
+pub indented-room : (room : ℕ) (xs : List (List ℕ)) → room < bytes_in xs → room < length (indented_text xs)
+indented-room room xs h = let more = indented-bytes xs in omega arith
+
+-- a line, followed by those of the others
+pub indented-first : (x y : List ℕ) (xs : List (List ℕ)) → y ≡ x
+    → indented_text (x ∷ xs) ≡ codes "    " ++ y ++ codes "\n" ++ indented_text xs
+indented-first x y xs p =
+    ap (λ z. codes "    " ++ z ++ 10 ∷ indented_text xs) (sym p)
+    ∙ sym (append_assoc (codes "    " ++ y) (10 ∷ []) (indented_text xs))

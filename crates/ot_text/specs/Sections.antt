@@ -60,3 +60,8 @@ items_text (x ∷ xs) = codes "  " ++ x ++ 10 ∷ items_text xs
 abbrev pub section_text : Bool → List ℕ → List (List ℕ) → List ℕ
 section_text false title xs = []
 section_text true title xs = title ++ codes ": " ++ number_text (length xs) ++ 10 ∷ items_text xs
+
+-- each on a line of its own behind four spaces
+abbrev pub indented_text : List (List ℕ) → List ℕ
+indented_text [] = []
+indented_text (x ∷ xs) = codes "    " ++ x ++ 10 ∷ indented_text xs

@@ -1,27 +1,13 @@
 -- The lines of what theorems rest on, piece by piece.
-use Rattle.std.specs.Prelude.{◌≡◌, ℕ, suc, ◌+◌, ◌<◌, ◌≤◌, List, [], ◌∷◌, ◌++◌, map, length, codes}
-use Rattle.std.proofs.Common.{refl, sym, ◌∙◌, ap, append_assoc, arith, length-append, get_or}
+use Rattle.std.specs.Prelude.{◌≡◌, ℕ, ◌+◌, ◌<◌, List, [], ◌∷◌, ◌++◌, map, length, codes}
+use Rattle.std.proofs.Common.{refl, ◌∙◌, ap, append_assoc, arith, length-append, get_or}
 use Rattle.ot_text.specs.Texts.{number_text}
 use Rattle.ot_text.specs.Gathered.{bytes_in}
 use Rattle.ot_text.specs.Pages.{Printed, IsPut}
 use Rattle.ot_text.proofs.Putting.{Puts, puts-more, same-text}
-use Rattle.ot_uses.specs.Texts.{indented_text, counted_text}
-
-indented-bytes : (xs : List (List ℕ)) → bytes_in xs ≤ length (indented_text xs)
-indented-bytes [] = omega arith
-indented-bytes (x ∷ xs) =
-    let more = indented-bytes xs in
-    let n : length (codes "    " ++ x ++ 10 ∷ indented_text xs)
-    ≡ suc (suc (suc (suc (length x + suc (length (indented_text xs)))))) =
-    ap (λ k. suc (suc (suc (suc k)))) (length-append x (10 ∷ indented_text xs)) in
-    omega arith
-
--- a line, followed by those of the others
-pub indented-first : (x y : List ℕ) (xs : List (List ℕ)) → y ≡ x
-    → indented_text (x ∷ xs) ≡ codes "    " ++ y ++ codes "\n" ++ indented_text xs
-indented-first x y xs p =
-    ap (λ z. codes "    " ++ z ++ 10 ∷ indented_text xs) (sym p)
-    ∙ sym (append_assoc (codes "    " ++ y) (10 ∷ []) (indented_text xs))
+use Rattle.ot_text.specs.Sections.{indented_text}
+use Rattle.ot_text.proofs.SectionPieces.{indented-bytes, indented-first}
+use Rattle.ot_uses.specs.Texts.{counted_text}
 
 pub indented-more : {X : Type 0} (f : X → List ℕ) (xs : List X) (i : ℕ) (x : X) (s0 s t : Printed) → i < length xs
     → x ≡ get_or xs i x

@@ -8,8 +8,8 @@ use Rattle.std.proofs.lemmas.Grind.{flat_map-append}
 use Rattle.ot_text.specs.Pages.{Printed, IsPut}
 use Rattle.ot_text.proofs.Gathering.{texts-through}
 use Rattle.ot_text.proofs.Putting.{Puts, puts-more, same-text}
+use Rattle.ot_text.specs.Sections.{indented_text}
 use Rattle.ot_uses.specs.Placing.{picked}
-use Rattle.ot_uses.specs.Texts.{indented_text}
 use Rattle.ot_uses.proofs.Numbering.{pick-one}
 
 -- one place more at the end

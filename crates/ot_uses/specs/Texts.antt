@@ -1,14 +1,9 @@
 -- The text of what theorems rest on.
 use Rattle.std.specs.Prelude.{ℕ, suc, List, [], ◌∷◌, ◌++◌, map, length, codes}
 use Rattle.ot_text.specs.Texts.{number_text, ascending, sequent_text}
-use Rattle.ot_text.specs.Sections.{definition_text}
+use Rattle.ot_text.specs.Sections.{definition_text, indented_text}
 use Rattle.ot_machine.specs.States.{Export, RunState}
 use Rattle.ot_uses.specs.Used.{Support, support_of}
-
--- each on a line of its own behind four spaces
-abbrev pub indented_text : List (List ℕ) → List ℕ
-indented_text [] = []
-indented_text (x ∷ xs) = codes "    " ++ x ++ 10 ∷ indented_text xs
 
 -- a line with how many there are, and a line for each
 abbrev pub counted_text : List ℕ → List (List ℕ) → List ℕ

@@ -2,8 +2,8 @@ use Rattle.std.specs.Map.Iter.{deref}
 use Rattle.std.proofs.Common.{map, ap, ◌∙◌}
 use Rattle.std.proofs.lemmas.Map.Iter.{rest_more, rest_all}
 use Rattle.ot_text.proofs.Putting.{then, leaves-more, leaves-all, nothing}
-use Rattle.ot_find.specs.Texts.{indented_text}
-use Rattle.ot_find.proofs.Indented.{indented-first}
+use Rattle.ot_text.specs.Sections.{indented_text}
+use Rattle.ot_text.proofs.SectionPieces.{indented-first}
 use Rattle.ot_find.proofs.lines.put_lines.Goals as goal
 
 pub loop-line-preserved : goal.loop-line-preserved

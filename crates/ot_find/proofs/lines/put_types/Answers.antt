@@ -2,9 +2,10 @@ use Rattle.std.proofs.Common.{sym, ◌∙◌, ap, map}
 use Rattle.std.specs.Prelude.{Err}
 use Rattle.ot_text.specs.Texts.{ascending}
 use Rattle.ot_text.proofs.Putting.{same-text, gives-up}
+use Rattle.ot_text.specs.Sections.{indented_text}
+use Rattle.ot_text.proofs.SectionPieces.{indented-room}
 use Rattle.ot_match.specs.Found.{types_of}
-use Rattle.ot_find.specs.Texts.{type_line, indented_text}
-use Rattle.ot_find.proofs.Indented.{indented-bytes}
+use Rattle.ot_find.specs.Texts.{type_line}
 use Rattle.ot_find.proofs.lines.put_types.Goals as goal
 
 pub returns-in-Ok : goal.returns-in-Ok
@@ -14,5 +15,5 @@ pub returns-in-Err : goal.returns-in-Err
 returns-in-Err c =
     gives-up _ _ _ c.room.result c.in-Err.fault c.stop.ensures (sym c.is_stopped.ensures ∙ c.if-is_stopped.false)
     c.room.ensures
-    (λ p. indented-bytes c.room.result (ascending (map type_line (types_of c.args.kernel.now c.args.types.now)))
+    (λ p. indented-room c.room.result (ascending (map type_line (types_of c.args.kernel.now c.args.types.now)))
     (c.in-Err.ensures.too_large (λ j. Err (p j))))

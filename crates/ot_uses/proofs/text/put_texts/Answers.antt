@@ -3,8 +3,9 @@ use Rattle.std.proofs.Common.{map, ap, sym, ◌∙◌}
 use Rattle.std.proofs.lemmas.Map.Iter.{rest_more, rest_all}
 use Rattle.std.proofs.lemmas.List.{length-map}
 use Rattle.ot_text.proofs.Putting.{then, same-text, leaves-more, leaves-all, nothing}
-use Rattle.ot_uses.specs.Texts.{indented_text}
-use Rattle.ot_uses.proofs.Lines.{indented-first, counted-pieces}
+use Rattle.ot_text.specs.Sections.{indented_text}
+use Rattle.ot_text.proofs.SectionPieces.{indented-first}
+use Rattle.ot_uses.proofs.Lines.{counted-pieces}
 use Rattle.ot_uses.proofs.text.put_texts.Goals as goal
 
 pub loop-text-preserved : goal.loop-text-preserved

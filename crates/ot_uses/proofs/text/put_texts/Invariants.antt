@@ -2,7 +2,7 @@ use Rattle.std.proofs.Common.{map}
 use Rattle.ot_text.specs.Pages.{printed}
 use Rattle.ot_text.specs.Gathered.{texts_of}
 use Rattle.ot_text.proofs.Putting.{Leaves}
-use Rattle.ot_uses.specs.Texts.{indented_text}
+use Rattle.ot_text.specs.Sections.{indented_text}
 use Rattle.ot_uses.proofs.text.put_texts.Given as goal
 
 abbrev pub invariant-loop-text : goal.invariant-loop-text
