@@ -4,10 +4,10 @@ use Rattle.std.specs.List.{All, list_any}
 use Rattle.std.proofs.Common.{◌≡◌, ℕ, ◌+◌, ◌-◌, ◌<◌, ◌≤◌, Bool, true, false, cond, if◌then◌else◌}
 use Rattle.std.proofs.Common.{List, [], ◌∷◌, ◌++◌, length, get_or, take, drop, refl, sym}
 use Rattle.std.proofs.Common.{ap, subst, ◌∙◌, arith, eqb-true, eq-eqb, append_assoc}
-use Rattle.std.proofs.lemmas.List.{drop_all, take_rest, reverse-append}
+use Rattle.std.proofs.lemmas.List.{append-nil, drop_all, take_rest, reverse-append}
 use Rattle.std.proofs.lemmas.List.Elements.{All-push}
 use Rattle.ot_plain.specs.Trees.{Tm}
-use Rattle.ot_plain.specs.Hol.{same_tm, is_in, lacking, once_each}
+use Rattle.ot_plain.specs.Hol.{same_tm, is_in, lacking, union, once_each}
 use Rattle.ot_plain.specs.Naming.{numbers}
 use Rattle.ot_term.specs.Term.{TermTable}
 use Rattle.ot_term.specs.TermTable.{IsTermTable}
@@ -133,6 +133,23 @@ module _ (m : TermTable) where
       turned true rest = refl
       turned false rest = ap (λ l. l ++ rest) (map-push (tm_at m.terms) old t)
           ∙ append_assoc (tms_at m.terms old) (tm_at m.terms t ∷ []) rest
+
+  -- at the end none is left
+  pub union-end : (g us : List (Tm ℕ)) (is all : List ℕ) (k : ℕ) → length is ≤ k
+      → tms_at m.terms all ++ lacking numbers g (tms_at m.terms (drop k is)) ≡ us → tms_at m.terms all ≡ us
+  union-end g us is all k h made =
+      sym (append-nil (tms_at m.terms all))
+      ∙ ap (λ l. tms_at m.terms all ++ lacking numbers g (tms_at m.terms l)) (sym (drop_all k is h))
+      ∙ made
+
+  -- behind an empty list all of the other one stand
+  pub union-none : (g h : List ℕ) → length g ≡ 0 → tms_at m.terms h ≡ union numbers (tms_at m.terms g) (tms_at m.terms h)
+  union-none [] h none = all (tms_at m.terms h)
+    where
+      all : (us : List (Tm ℕ)) → us ≡ lacking numbers [] us
+      all [] = refl
+      all (u ∷ us) = ap (λ l. u ∷ l) (all us)
+  union-none (i ∷ g) h none = absurd (omega (arith, none))
 
 -- what may be put at the end of a list is of the table
 pub put-inside : (n : ℕ) (old new : List ℕ) (t : ℕ) (b : Bool) → new ≡ (if b then old else old ++ t ∷ []) → t < n

@@ -87,7 +87,7 @@ pub(crate) fn sym(alloc: Global, terms: &mut Terms, th: &Theorem) -> Result<Theo
     let _types = terms.types();
     let (t, u) = sides(terms, th.concl)?;
     let concl = equate(terms, u, t)?;
-    let hyps = th.hyps.copied(alloc)?;
+    let hyps = Hypotheses::from_slice(alloc, &th.hyps)?;
     Ok(Theorem { hyps, concl })
 }
 
@@ -132,7 +132,7 @@ pub(crate) fn abs_thm(
     let left = abstract_from(terms, &v, t)?;
     let right = abstract_from(terms, &v, u)?;
     let concl = equate(terms, left, right)?;
-    let hyps = th.hyps.copied(alloc)?;
+    let hyps = Hypotheses::from_slice(alloc, &th.hyps)?;
     Ok(Theorem { hyps, concl })
 }
 

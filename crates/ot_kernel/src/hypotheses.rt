@@ -45,6 +45,13 @@ pub(crate) fn union(
         (tms_at terms.now.terms h.now)) }
     ensures inside { IfOk result (λ v. All (λ i. i < length terms.now.terms) v) }
 {
+    // Most theorems have no hypotheses.
+    if h.is_empty() {
+        return Hypotheses::from_slice(alloc, g);
+    }
+    if g.is_empty() {
+        return Hypotheses::from_slice(alloc, h);
+    }
     let classes = classes_of_many(alloc, terms, g, h.len())?;
     let mut all = Vec::from_slice(alloc, g)?;
     for t in h {

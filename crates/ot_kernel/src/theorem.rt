@@ -62,14 +62,14 @@ impl Hypotheses {
         Ok(Hypotheses { kept })
     }
 
-    // The same hypotheses, for another theorem.
-    pub(crate) fn copied(&self, alloc: Global) -> Result<Hypotheses, Memory>
-        ensures items { IfOk result (λ h. h ≡ self.now) }
+    // Those of a slice, in its order.
+    pub(crate) fn from_slice(alloc: Global, list: &[TermId]) -> Result<Hypotheses, Memory>
+        ensures items { IfOk result (λ h. h ≡ list.now) }
     {
-        match &self.kept {
-            Kept::None => Ok(Hypotheses::none()),
-            Kept::One(t) => Ok(Hypotheses::one(*t)),
-            Kept::Many(list) => Hypotheses::of(alloc, Vec::from_slice(alloc, list)?),
+        match list {
+            [] => Ok(Hypotheses::none()),
+            [t] => Ok(Hypotheses::one(*t)),
+            _ => Hypotheses::of(alloc, Vec::from_slice(alloc, list)?),
         }
     }
 }

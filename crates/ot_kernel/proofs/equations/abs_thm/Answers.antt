@@ -102,7 +102,7 @@ returns-clause-derives c =
     (not_free t c.args.v th _ _ c.in_ok-is_free_in_some.ensures c.if-branch.false c.deref.ensures.value)
     c.abstract_from.ensures.grown.grows c.in_ok-left.ensures.makes w c.in_ok-right.right
     c.abstract_from-2.ensures.grown.grows c.in_ok-right.ensures.makes in
-    let same = c.in_ok-hyps.ensures.items in
+    let same = c.in_ok-hyps.ensures.items ∙ c.deref-2.ensures.value in
     let inside = subst (All (λ i. i < length t.terms)) (sym same) c.requires.inside.hyps in
     let grown = all_grown c.args.v.name _ _ _ _ c.abstract_from.ensures.grown c.abstract_from-2.ensures.grown
     c.equate.ensures.grown in

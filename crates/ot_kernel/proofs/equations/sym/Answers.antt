@@ -21,7 +21,7 @@ returns-clause-derives c =
     let t = c.args.terms.now in
     let q = numbered_sequent t.terms c.args.th.now in
     let (ty, s) = c.in_ok-t.ensures.ok in
-    let same = c.in_ok-hyps.ensures.items in
+    let same = c.in_ok-hyps.ensures.items ∙ c.deref.ensures.value in
     let inside = subst (All (λ i. i < length t.terms)) (sym same) c.requires.hyps in
     equated_derives t c.equate.new.terms c.types-types.ensures.table c.equate.ensures.grown.grows
     (record { hyps = c.in_ok-hyps.hyps; concl = c.in_ok-concl.concl }) q.hyps (tm_at t.terms c.in_ok-t.u)
