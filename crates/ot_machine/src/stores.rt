@@ -1,5 +1,5 @@
 // Changes of the stack and the dictionary of a machine of this session.
-ghost use Rattle.std.specs.Prelude.{◌≡◌, ◌<◌, ◌≤◌, length, map, IfOk, OnOk, OnErr, vec_len};
+ghost use Rattle.std.specs.Prelude.{◌≡◌, ◌<◌, ◌≤◌, length, map, IfOk, IsTrue, OnOk, OnErr, vec_len};
 ghost use Rattle.std.specs.List.{All};
 ghost use Rattle.std.specs.FinMap as dictionaries;
 ghost use Rattle.ot_plain.specs.Faults.{NoEntry};
@@ -99,12 +99,21 @@ impl Session {
     }
 
     /// What is stored under a key.
+    #[inline(always)]
     pub(crate) fn stored(&self, machine: &Machine, key: i64) -> Result<Entry, Fault>
         requires { IsOf self.now machine.now }
         ensures found { Makes self.now.kernel (entry_of self.now (lists_of self.now machine.now)) result
             (some_or (NoEntry key) (dictionaries.get (article_of self.now machine.now).dictionary key)) }
         ensures inside { IfOk result (IsEntryIn self.now (length machine.now.cells.items)) }
     {
+        // Where the keys of an article come in order from 0 on, an entry stands at its key.
+        if let Ok(place) = usize::try_from(key) {
+            if let Some((there, entry)) = machine.dictionary.get_index(place) {
+                if is_key(there, key) {
+                    return Ok(*entry);
+                }
+            }
+        }
         match machine.dictionary.get(&key) {
             Some(entry) => Ok(*entry),
             None => Err(Fault::NoEntry(key)),
@@ -146,4 +155,11 @@ impl Session {
     {
         machine.dictionary.swap_remove(&key);
     }
+}
+
+// Whether a key is this one.
+fn is_key(there: &i64, key: i64) -> bool
+    ensures { IsTrue result → there.now ≡ key }
+{
+    *there == key
 }
