@@ -149,6 +149,7 @@ impl Machine {
     }
 
     /// The text of a line that holds a command.
+    #[inline(always)]
     fn line(&mut self, session: &mut Session, ctx: &Context<'_>, text: &[u8]) -> Result<(), Fault>
         requires of { IsOf session.old self.old }
         requires context { IsContextOf session.old ctx.now }
@@ -164,6 +165,7 @@ impl Machine {
     }
 
     /// The row of a command, in an article of a version.
+    #[inline(always)]
     fn row(
         &mut self,
         session: &mut Session,
@@ -184,7 +186,28 @@ impl Machine {
                 Ok(())
             }
             Command::Named(name) => rows::name(session, self, name),
-            Command::Order(order) => self.order(session, ctx, version, order),
+            Command::Order(order) => self.word(session, ctx, version, order),
+        }
+    }
+
+    /// The row of a word. Of the words most are two, which take the short way.
+    #[inline(always)]
+    fn word(
+        &mut self,
+        session: &mut Session,
+        ctx: &Context<'_>,
+        version: Version,
+        order: Cmd,
+    ) -> Result<(), Fault>
+        requires of { IsOf session.old self.old }
+        requires context { IsContextOf session.old ctx.now }
+        ensures { Turns result (word_row (version_of version) (context_of session.old ctx.now) order) session.old
+            self.old session.new self.new }
+    {
+        match order {
+            Cmd::Ref => rows::refer(session, self),
+            Cmd::Cons => rows::cons(session, self),
+            _ => self.order(session, ctx, version, order),
         }
     }
 

@@ -121,6 +121,7 @@ pub fn def(session: &mut Session, machine: &mut Machine) -> Result<(), Fault>
 }
 
 /// `ref` gives the object under a key.
+#[inline(always)]
 pub fn refer(session: &mut Session, machine: &mut Machine) -> Result<(), Fault>
     requires { IsOf session.old machine.old }
     ensures { Turns result (on_article ref_row) session.old machine.old session.new machine.new }
