@@ -10,6 +10,7 @@ use Rattle.std.specs.Fmt.{decimal}
 use Rattle.std.proofs.lemmas.Fmt.{digits_decimal, decimal_nonempty, length-decimal-le}
 use Rattle.ot_article.proofs.Making.{last_of}
 use Rattle.std.proofs.lemmas.Bool.Decides.{nat_tests, eqb_tells}
+use Rattle.std.proofs.lemmas.Bool.{and_parts}
 use Rattle.ot_plain.specs.Lists.{IsMember}
 use Rattle.ot_plain.specs.Names.{Name, spelled, joined, item_of}
 use Rattle.ot_plain.specs.Commands.{spelling}
@@ -32,7 +33,7 @@ use Rattle.ot_plain.specs.Answers.{◌>>=◌}
 use Rattle.ot_machine.specs.Run as articles
 use Rattle.ot_written.specs.Bytes.{line_text, line_bytes, bytes_of}
 use Rattle.ot_article.proofs.LineRun.{IsReadable, AreReadable}
-use Rattle.ot_article.proofs.LineTexts.{all_digits, digit-range, and-left, and-right, decimal-read}
+use Rattle.ot_article.proofs.LineTexts.{all_digits, digit-range, decimal-read}
 use Rattle.ot_article.proofs.LineTexts.{negative-read, range-pos, range-neg, order-read, name-back, spelled-read}
 use Rattle.ot_plain.proofs.Results.{bind-ok}
 
@@ -162,21 +163,21 @@ digit-solid d h =
     (rw (a, b) refl, grind (arith, nat_tests), grind (arith, nat_tests), grind (arith, nat_tests))
 
 all-last : (f : ℕ → Bool) (xs : List ℕ) (x : ℕ) → list_all f (xs ++ x ∷ []) ≡ true → f x ≡ true
-all-last f [] x h = and-left (f x) true h
-all-last f (y ∷ xs) x h = all-last f xs x (and-right (f y) (list_all f (xs ++ x ∷ [])) h)
+all-last f [] x h = (and_parts (f x) true h).0
+all-last f (y ∷ xs) x h = all-last f xs x (and_parts (f y) (list_all f (xs ++ x ∷ [])) h).1
 
 digits-unbroken : (ds : List ℕ) → list_all is_ascii_digit ds ≡ true → breaks ds ≡ false
 digits-unbroken [] h = refl
 digits-unbroken (d ∷ ds) h =
-    let a = digit-solid d (and-left (is_ascii_digit d) (list_all is_ascii_digit ds) h) in
-    let b = digits-unbroken ds (and-right (is_ascii_digit d) (list_all is_ascii_digit ds) h) in
+    let a = digit-solid d (and_parts (is_ascii_digit d) (list_all is_ascii_digit ds) h).0 in
+    let b = digits-unbroken ds (and_parts (is_ascii_digit d) (list_all is_ascii_digit ds) h).1 in
     rw (a.3, b) refl
 
 digits-tidy : (ds : List ℕ) → list_all is_ascii_digit ds ≡ true → 0 < length ds → IsTidy ds
 digits-tidy [] h some = absurd (omega arith)
 digits-tidy (d ∷ ds) h some =
     let l = last_of (d ∷ ds) (length ds) refl in
-    let first = digit-solid d (and-left (is_ascii_digit d) (list_all is_ascii_digit ds) h) in
+    let first = digit-solid d (and_parts (is_ascii_digit d) (list_all is_ascii_digit ds) h).0 in
     let last = digit-solid l.1 (all-last is_ascii_digit l.0 l.1 (ap (list_all is_ascii_digit) (sym l.2) ∙ h)) in
     record {
       first = d;

@@ -1,7 +1,7 @@
 -- Each line of a written article is read back.
-use Rattle.std.proofs.Common.{rules, ◌≡◌, ◌≢◌, ℕ, suc, ◌<◌, ◌≤◌, ◌^◌, ◌==◌, inl, inr, Bool, true, false}
+use Rattle.std.proofs.Common.{rules, ◌≡◌, ◌≢◌, ℕ, suc, ◌<◌, ◌≤◌, ◌^◌, ◌==◌, inl, inr, true, false}
 use Rattle.std.proofs.Common.{List, [], ◌∷◌, length, get_or, Some, Ok, refl, sym, ap, ◌∙◌, arith}
-use Rattle.std.specs.Prelude.{pos, negsuc, nat_lt, ◌&&◌}
+use Rattle.std.specs.Prelude.{pos, negsuc, nat_lt}
 use Rattle.std.specs.List.{list_all}
 use Rattle.std.specs.Char.{is_ascii_digit}
 use Rattle.std.specs.Str.Parse.{digits_value}
@@ -10,6 +10,7 @@ use Rattle.std.proofs.lemmas.Fmt.{digits_decimal, digits_value-decimal}
 use Rattle.std.proofs.lemmas.Fmt.{first_decimal, decimal_nonempty, decimal_digit}
 use Rattle.std.proofs.lemmas.Str.Parse.{IsNumeralModel, numerals_by_value}
 use Rattle.std.proofs.lemmas.Bool.Decides.{nat_tests, eqb_tells}
+use Rattle.std.proofs.lemmas.Bool.{and_parts}
 use Rattle.ot_plain.specs.Names.{Name, IsName, spelled}
 use Rattle.ot_plain.specs.Reading.{name_read}
 use Rattle.ot_plain.specs.Commands.{spelling}
@@ -24,14 +25,6 @@ use Rattle.ot_plain.proofs.Spelling.{spelled-plain}
 pub digit-range : (d : ℕ) → is_ascii_digit d ≡ true → (48 ≤ d) × (d ≤ 57)
 digit-range d h = (grind (arith, nat_tests), grind (arith, nat_tests))
 
-pub and-left : (a b : Bool) → (a && b) ≡ true → a ≡ true
-and-left true b h = refl
-and-left false b h = h
-
-pub and-right : (a b : Bool) → (a && b) ≡ true → b ≡ true
-and-right true b h = h
-and-right false b h = absurd (cc)
-
 pub all_digits : IsNumeralModel (λ ds. list_all is_ascii_digit ds ≡ true) (digits_value 10)
 all_digits = numerals_by_value (λ ds. list_all is_ascii_digit ds ≡ true) (search rules)
 
@@ -41,8 +34,8 @@ in-range n h = grind (arith, nat_tests)
 positive-read : (d : ℕ) (ds : List ℕ) (n : ℕ) → list_all is_ascii_digit (d ∷ ds) ≡ true → 48 < d
     → digits_value 10 (d ∷ ds) ≡ n → n < 2 ^ 63 → word (d ∷ ds) ≡ Ok (Numeral (pos n))
 positive-read d ds n all low value small =
-    let dig : is_ascii_digit d ≡ true = and-left (is_ascii_digit d) (list_all is_ascii_digit ds) all in
-    let rest : list_all is_ascii_digit ds ≡ true = and-right (is_ascii_digit d) (list_all is_ascii_digit ds) all in
+    let dig : is_ascii_digit d ≡ true = (and_parts (is_ascii_digit d) (list_all is_ascii_digit ds) all).0 in
+    let rest : list_all is_ascii_digit ds ≡ true = (and_parts (is_ascii_digit d) (list_all is_ascii_digit ds) all).1 in
     let range = digit-range d dig in
     let high : d ≤ 57 = range.1 in
     let quote : (d == 34) ≡ false = grind (arith, nat_tests) in
@@ -76,8 +69,8 @@ range-neg n h = grind (arith, nat_tests)
 positive-is : (d : ℕ) (ds : List ℕ) (n : ℕ) → list_all is_ascii_digit (d ∷ ds) ≡ true → 48 < d
     → digits_value 10 (d ∷ ds) ≡ n → positive (d ∷ ds) ≡ Some n
 positive-is d ds n all low value =
-    let dig : is_ascii_digit d ≡ true = and-left (is_ascii_digit d) (list_all is_ascii_digit ds) all in
-    let rest : list_all is_ascii_digit ds ≡ true = and-right (is_ascii_digit d) (list_all is_ascii_digit ds) all in
+    let dig : is_ascii_digit d ≡ true = (and_parts (is_ascii_digit d) (list_all is_ascii_digit ds) all).0 in
+    let rest : list_all is_ascii_digit ds ≡ true = (and_parts (is_ascii_digit d) (list_all is_ascii_digit ds) all).1 in
     let more : nat_lt 48 d ≡ true = grind (arith, nat_tests) in
     rw (more, dig, rest) (ap Some value)
 

@@ -8,6 +8,7 @@ use Rattle.std.proofs.Common.{length, set, replicate, slice_get, get_or, Option}
 use Rattle.std.proofs.Common.{None, Some, Ok, refl, sym, ap, subst, ◌∙◌, arith}
 use Rattle.std.proofs.lemmas.List.{length-set}
 use Rattle.std.proofs.lemmas.List.Elements.{All-weaker, All-push}
+use Rattle.std.proofs.lemmas.Bool.{cases_eq}
 use Rattle.ot_plain.specs.Names.{Name, same_name-Decides}
 use Rattle.ot_plain.specs.Naming.{names, name_of}
 use Rattle.ot_plain.specs.Table.{Extends}
@@ -176,13 +177,6 @@ number-other p o n ps d = number-more p o n ps ∙ ap (λ b. or_number (number_o
     go None = refl
     go (Some k) = refl
 
-same_steps : (i j : ℕ) → (i ≡ j) ⊎ (i ≢ j)
-same_steps zero zero = inl refl
-same_steps zero (suc j) = inr (λ e. absurd (omega arith))
-same_steps (suc i) zero = inr (λ e. absurd (omega arith))
-same_steps (suc i) (suc j) = elim (same_steps i j)
-    [ inl e ↦ inl (ap suc e) | inr n ↦ inr (λ e. n (let f : i ≡ j = omega arith in f)) ]
-
 -- ---- a theorem that gets a place
 
 module _ (s : Session) (num : IsNumbered s) (old new : Writer) (w : IsWriter s old) (id : ℕ) (m : Made)
@@ -193,7 +187,7 @@ module _ (s : Session) (num : IsNumbered s) (old new : Writer) (w : IsWriter s o
 
   marked-places : (i : ℕ) (p : Place) → slice_get (set old.places.items id (Some place)) i ≡ Some (Some p)
       → ((i ≡ id) × (place ≡ p)) ⊎ (slice_get old.places.items i ≡ Some (Some p))
-  marked-places i p h = elim (same_steps i id) [
+  marked-places i p h = elim (cases_eq i id) [
     | inl e ↦ (let low : id < length old.places.items = slice_get-low old.places.items id None k.first in
         let q : Some (Some place) ≡ Some (Some p) = sym (slice_get-set_same old.places.items id (Some place) low)
         ∙ ap (slice_get (set old.places.items id (Some place))) (sym e) ∙ h in
@@ -241,7 +235,7 @@ module _ (s : Session) (num : IsNumbered s) (old new : Writer) (w : IsWriter s o
   marked-holds max x h = record {
     log = subst (λ z. Shows z max new.sheet x.log) (sym k.nodes)
         (subst (λ z. Shows old.nodes max z x.log) (sym k.sheet) h.log);
-    numbers = λ i l. elim (same_steps i id) [
+    numbers = λ i l. elim (cases_eq i id) [
       | inl e ↦ (let none : number_of (origin_of s id) x.theorems ≡ None = h.numbers id inside
           ∙ ap number_in k.first in
           let low : id < length old.places.items = slice_get-low old.places.items id None k.first in

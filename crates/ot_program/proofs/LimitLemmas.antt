@@ -1,8 +1,7 @@
 -- A text that was printed within the limit, or is too large for it.
 use Rattle.std.proofs.Common.{◌≡◌, ℕ, ◌<◌, ◌≤◌, List, [], ◌++◌, length, ap, ◌∙◌, arith}
-use Rattle.std.specs.Prelude.{false, nat_le, MatchBool, Result, Ok, Err, IfOk}
-use Rattle.std.proofs.lemmas.Bool.{le-leb}
-use Rattle.std.proofs.lemmas.Bool.Decides.{nat_tests}
+use Rattle.std.specs.Prelude.{nat_le, MatchBool, Result, Ok, Err, IfOk}
+use Rattle.std.proofs.lemmas.Bool.{le-leb, lt-leb}
 use Rattle.ot_text.specs.Pages.{Appended}
 use Rattle.ot_link.specs.Blocks.{Ran}
 use Rattle.ot_program.specs.Reply.{summary_limit, written_limit, log_text}
@@ -30,12 +29,9 @@ log_written path r max old v limit empty status written =
     rw (le-leb (length (log_text r)) written_limit within)
     (record { status_is = status; text_is = written.0 ∙ ap (λ xs. xs ++ log_text r) empty })
 
-pub too_long : (n limit : ℕ) → limit < n → nat_le n limit ≡ false
-too_long n limit h = grind (arith, nat_tests)
-
 pub text_too_large : {E : Type 0} (text line : List ℕ) (max : ℕ) (r : Result Verdict E) → max ≡ summary_limit
     → max < length text → IfOk r (λ v. IsSaid v Refused line) → IfOk r (IsLimited text line)
 text_too_large text line max (Err e) limit past said = tt
 text_too_large text line max (Ok v) limit past said =
     let large : summary_limit < length text = omega arith in
-    rw (too_long (length text) summary_limit large) said
+    rw (lt-leb (length text) summary_limit large) said

@@ -9,6 +9,7 @@ use Rattle.std.specs.Prelude.{string_bytes}
 use Rattle.std.proofs.lemmas.Slice.Eq.{bytes_eq-Decides}
 use Rattle.std.proofs.lemmas.Simd.{map-map}
 use Rattle.std.proofs.Math.Nat.{min-le_left, min-le_right, le-min}
+use Rattle.std.proofs.lemmas.Bool.{lt-leb}
 use Rattle.ot_plain.specs.Names.{Name}
 use Rattle.ot_plain.specs.Faults.{Fault}
 use Rattle.ot_plain.specs.Trees.{Sequent, Definition}
@@ -42,7 +43,7 @@ use Rattle.ot_program.specs.declared.status.Status.TheVariants.{Accepted, Refuse
 use Rattle.ot_program.specs.declared.task.View.{View}
 use Rattle.ot_program.proofs.InputLemmas.{theory_cause}
 use Rattle.ot_program.proofs.RunLemmas.{assumptions_are, definitions_are, exports_are}
-use Rattle.ot_program.proofs.LimitLemmas.{text_printed, text_too_large, too_long}
+use Rattle.ot_program.proofs.LimitLemmas.{text_printed, text_too_large}
 use Rattle.ot_plain.proofs.Members.{IsMember-left, IsMember-right}
 use Rattle.ot_program.proofs.Options.{untold}
 
@@ -366,7 +367,7 @@ module _ (names : List Name) (s : Session) (seen : State) (es : List Export) (th
         not_both : (n : ℕ) → max < n → nat_le n summary_limit ≡ true → ⊥
         not_both n h fit =
             let k : nat_le n summary_limit ≡ false =
-            too_long n summary_limit (omega arith) in
+            lt-leb n summary_limit (omega arith) in
             let e : true ≡ false = sym fit ∙ k in cc
 
 -- ---- the devices

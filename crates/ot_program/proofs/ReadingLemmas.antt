@@ -4,7 +4,7 @@ use Rattle.std.proofs.Common.{map, take, refl, sym, ap, subst, ◌∙◌, inl, i
 use Rattle.std.specs.Prelude.{Bool, true, false, ◌||◌, nat_le, MatchBool, Option, Some}
 use Rattle.std.specs.Prelude.{None, IfSome, IsSomeAnd, Result, Ok, Err, IfOk, Vec}
 use Rattle.std.specs.Global.{Global}
-use Rattle.std.proofs.lemmas.Bool.{le-leb}
+use Rattle.std.proofs.lemmas.Bool.{le-leb, lt-leb}
 use Rattle.std.specs.Option.{option_map, option_and_then}
 use Rattle.ot_plain.specs.Names.{Name}
 use Rattle.ot_plain.specs.Trees.{Tm, Sequent, Symbol}
@@ -37,7 +37,6 @@ use Rattle.ot_program.specs.declared.report.Verdict.{Verdict}
 use Rattle.ot_program.specs.declared.reading.LinesRead.{LinesRead}
 use Rattle.ot_program.specs.declared.reading.ReadingRefusal.{ReadingRefusal}
 use Rattle.ot_program.specs.declared.reading.ReadingRefusal.TheVariants as readings
-use Rattle.ot_program.proofs.LimitLemmas.{too_long}
 use Rattle.ot_program.proofs.NotedLemmas.{notation_is}
 use Rattle.ot_program.proofs.Options.{untold}
 
@@ -256,7 +255,7 @@ module _ (text : List ℕ) where
       let most = take_within (text_limit + 1) all in
       let size = ap length is in
       let past : nat_le (length all) text_limit ≡ false =
-      too_long (length all) text_limit (omega (arith, most, size, long)) in
+      lt-leb (length all) text_limit (omega (arith, most, size, long)) in
       rw (has, past) refl
 
   -- of a file that was opened

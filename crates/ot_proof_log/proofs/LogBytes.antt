@@ -14,6 +14,7 @@ use Rattle.std.proofs.lemmas.Fmt.{first_decimal, decimal_nonempty, decimal_digit
 use Rattle.std.proofs.lemmas.Int.Digits.{length-digits_of_step}
 use Rattle.std.proofs.lemmas.Bool.Decides.{nat_tests, eqb_tells}
 use Rattle.std.proofs.lemmas.List.{length-map}
+use Rattle.std.proofs.lemmas.Bool.{and_parts}
 use Rattle.ot_plain.specs.Names.{Name, spelled}
 use Rattle.ot_lines.specs.Pieces.{pieces}
 use Rattle.ot_plain.specs.Naming.{names}
@@ -27,7 +28,7 @@ use Rattle.ot_text.specs.Texts.{number_text}
 use Rattle.ot_text.proofs.Decimals.{number-decimal}
 use Rattle.ot_verify.specs.Reading.{token, tokens_of}
 use Rattle.ot_machine.specs.Writable.{IsWritable}
-use Rattle.ot_article.proofs.LineTexts.{all_digits, digit-range, and-left, and-right, in-range, name-back}
+use Rattle.ot_article.proofs.LineTexts.{all_digits, digit-range, in-range, name-back}
 use Rattle.ot_article.proofs.Bytes.{pieces-whole, IsLineText, tidy-line, name-tidy, number-text, unbroken-by, within}
 use Rattle.ot_entries.specs.Bytes.{token_text, token_bytes, bytes_of}
 use Rattle.ot_entries.proofs.Reading.{lined}
@@ -43,8 +44,8 @@ positive-token : (d : ℕ) (ds : List ℕ) (n : ℕ) → list_all is_ascii_digit
     → digits_value 10 (d ∷ ds) ≡ n
     → n < 2 ^ 63 → token (d ∷ ds) ≡ Some (Number n)
 positive-token d ds n all low value small =
-    let dig : is_ascii_digit d ≡ true = and-left (is_ascii_digit d) (list_all is_ascii_digit ds) all in
-    let rest : list_all is_ascii_digit ds ≡ true = and-right (is_ascii_digit d) (list_all is_ascii_digit ds) all in
+    let dig : is_ascii_digit d ≡ true = (and_parts (is_ascii_digit d) (list_all is_ascii_digit ds) all).0 in
+    let rest : list_all is_ascii_digit ds ≡ true = (and_parts (is_ascii_digit d) (list_all is_ascii_digit ds) all).1 in
     let range = digit-range d dig in
     let high : d ≤ 57 = range.1 in
     let quote : (d == 34) ≡ false = grind (arith, nat_tests) in
