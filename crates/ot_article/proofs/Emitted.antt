@@ -13,7 +13,7 @@ use Rattle.ot_machine.specs.Places.{origins_of}
 use Rattle.ot_machine.specs.Makers.{maker}
 use Rattle.ot_machine.specs.Values.{applied, value, values}
 use Rattle.ot_written.specs.Written as w
-use Rattle.ot_written.specs.Written.{Line, Numeral, Spelled, Order, Text}
+use Rattle.ot_written.specs.Written.{Numeral, Spelled, Order, Text}
 use Rattle.ot_written.proofs.Settled.{EachOutcome, EachOutcomes}
 use Rattle.ot_article.proofs.Writable.{AxiomsApart}
 use Rattle.ot_written.proofs.Members.{distinct-front, distinct-fresh}

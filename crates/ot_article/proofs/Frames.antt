@@ -7,7 +7,7 @@ use Rattle.std.specs.Prelude.{nat_lt}
 use Rattle.ot_plain.specs.Names.{Name}
 use Rattle.ot_plain.specs.Faults.{StackEmpty}
 use Rattle.ot_plain.specs.Answers.{some_or}
-use Rattle.ot_trace.specs.Origins.{Origin, Origins}
+use Rattle.ot_trace.specs.Origins.{Origin}
 use Rattle.ot_machine.specs.Objects.{Object}
 use Rattle.ot_machine.specs.States.{Entry}
 use Rattle.ot_machine.specs.Places.{entry_at, object_at, dropped, top, origins_of}

@@ -23,7 +23,7 @@ use Rattle.ot_machine.specs.Step.{order, is_version, row, word_row}
 use Rattle.ot_machine.specs.Makers.{maker}
 use Rattle.ot_machine.specs.Values.{applied, value, values, definition_of, defines}
 use Rattle.ot_written.specs.Written as w
-use Rattle.ot_written.specs.Written.{Line, Numeral, Spelled, Order, Text, theorem_count, symbol_count}
+use Rattle.ot_written.specs.Written.{Order, Text, theorem_count, symbol_count}
 use Rattle.ot_machine.specs.Marks.{mark}
 use Rattle.ot_machine.specs.Marks.{word_mark, top_origin, last_definition}
 use Rattle.ot_machine.specs.Lawful.{IsAxiom}
@@ -34,7 +34,7 @@ use Rattle.ot_article.proofs.Operands.{made_of, made-of, given_by, given-of}
 use Rattle.ot_article.proofs.Frames.{objects_of, entry, top-here}
 use Rattle.ot_article.proofs.MadeKinds.{kind-made}
 use Rattle.ot_article.proofs.RowsHere.{with_stack, AreFit, plain-row, axiom-row}
-use Rattle.ot_article.proofs.DefinitionRows.{with_definition, Defines}
+use Rattle.ot_article.proofs.DefinitionRows.{with_definition}
 use Rattle.ot_article.proofs.DefinitionRows as rows
 use Rattle.ot_article.proofs.Runs.{moved, thm-row}
 use Rattle.ot_article.proofs.Simulated.{taken_by, assumed_by, made_by, defined_by, IsWritten}

@@ -1,6 +1,6 @@
 -- Lemmas on the table of nameless terms.
 use Rattle.std.proofs.Common.{◌≡◌, ℕ, ◌<◌, ◌≤◌, cond, inl, inr, Ordering, Less, Equal, Greater}
-use Rattle.std.proofs.Common.{nat_cmp, is_lt, Bool, true, false, ◌&&◌, Decides, nat_eq, eqb-true, eq-eqb}
+use Rattle.std.proofs.Common.{nat_cmp, is_lt, Bool, true, false, ◌&&◌, Decides, eq-eqb}
 use Rattle.std.proofs.Common.{true≢false, List, length, slice_get, Some, refl, sym, ap, subst, ◌∙◌, arith}
 use Rattle.std.proofs.lemmas.Option.{get_or_from_slice_get}
 use Rattle.std.proofs.lemmas.Map.Keys.{ge_from_not_lt}
@@ -9,7 +9,7 @@ use Rattle.std.specs.Cmp.Derive.{both_true}
 use Rattle.std.specs.Ordering.{ord_max}
 use Rattle.std.proofs.lemmas.Bool.{and_cases}
 use Rattle.ot_type.proofs.SubtypeLemmas.{less_is}
-use Rattle.ot_plain.specs.Trees.{Ty, Variable, Tm, Free, Con, Bound, App, Abs}
+use Rattle.ot_plain.specs.Trees.{Ty, Variable, Tm, Free, Bound, App, Abs}
 use Rattle.ot_plain.specs.Hol.{IsFree, IsClosed}
 use Rattle.ot_plain.specs.Naming.{numbers as alphabet}
 use Rattle.ot_plain.specs.Table.{Extends, IsInjective}

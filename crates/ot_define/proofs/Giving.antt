@@ -1,9 +1,9 @@
 -- The terms that hypotheses give variables.
 use Rattle.std.specs.Prelude.{◌≢◌, is_some}
-use Rattle.std.specs.Option.{option_map, option_and_then}
+use Rattle.std.specs.Option.{option_map}
 use Rattle.std.proofs.Common.{◌≡◌, ℕ, ◌+◌, ◌<◌, Bool, true, false, if◌then◌else◌, List, []}
 use Rattle.std.proofs.Common.{◌∷◌, ◌++◌, map, length, take, drop, get_or, Option, Some}
-use Rattle.std.proofs.Common.{None, refl, sym, ap, ◌∙◌, append_assoc, drop-cons, add-one}
+use Rattle.std.proofs.Common.{None, refl, sym, ap, ◌∙◌, append_assoc}
 use Rattle.std.proofs.lemmas.List.{append-nil, map-append, take-append-drop}
 use Rattle.ot_plain.specs.Trees.{Ty, Variable, Tm, Free, Con, Bound, App as TmApp, Abs as TmAbs, Named, NConst, NApp}
 use Rattle.ot_plain.specs.Hol.{same_tm, nameless, equation, as_equation}
@@ -16,7 +16,7 @@ use Rattle.ot_term.specs.declared.term.VarKey.{VarKey}
 use Rattle.ot_term.specs.declared.term.TermNode.{TermNode}
 use Rattle.ot_term.specs.declared.term.TermNode.TheVariants.{Var, Const, App, Abs}
 use Rattle.ot_term.proofs.Gathering.{take_item}
-use Rattle.ot_laws.specs.Conditions.{given_by, given, only, terms_given}
+use Rattle.ot_laws.specs.Conditions.{given_by, given, only}
 use Rattle.ot_define.specs.Answers.{tm_at, listed}
 
 -- ---- a hypothesis

@@ -1,7 +1,7 @@
 -- Refusals: which comes first, and what carries them from the code's lists to the stated ones.
 use Rattle.std.specs.List.{find, list_all}
 use Rattle.std.specs.Prelude.{◌||◌, ◌&&◌}
-use Rattle.std.proofs.Common.{◌≡◌, ℕ, ◌+◌, ◌<◌, length, get_or, take, drop, drop-cons}
+use Rattle.std.proofs.Common.{◌≡◌, ℕ, ◌+◌, ◌<◌, length, get_or, drop, drop-cons}
 use Rattle.std.proofs.Common.{add-one, Bool, true, false, List, [], ◌∷◌, map, Option, Some}
 use Rattle.std.proofs.Common.{None, Result, Ok, Err, if◌then◌else◌, refl, sym, ap, subst, ◌∙◌}
 use Rattle.std.proofs.lemmas.Option.{same_Some}
@@ -10,7 +10,7 @@ use Rattle.ot_plain.specs.Trees.{Alphabet, Symbol}
 use Rattle.ot_plain.specs.Hol.{primitives}
 use Rattle.ot_plain.specs.Faults.{Fault, Primitive, AlreadyDefined, SymbolInUse}
 use Rattle.ot_plain.specs.Answers.{◌>>=◌, unless, some_or}
-use Rattle.std.proofs.lemmas.List.Folds.{list_all_at, list_all_more}
+use Rattle.std.proofs.lemmas.List.Folds.{list_all_at}
 use Rattle.ot_laws.proofs.Tests.{Tells}
 use Rattle.ot_laws.specs.Conditions.{same_symbol, is_among, refuse_first, refuse_defined, checked_symbols}
 use Rattle.ot_define.specs.Answers.{Checks, define_fault}

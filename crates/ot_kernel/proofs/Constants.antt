@@ -35,7 +35,7 @@ use Rattle.ot_kernel.specs.declared.fault.RuleFault.{RuleFault}
 use Rattle.ot_kernel.specs.declared.fault.RuleFault.TheVariants.{Memory}
 use Rattle.ot_kernel.specs.State.{State, name_at, term_at, terms_at, theorem_at, Keeps, SameTheorems}
 use Rattle.ot_kernel.specs.Spelled as spelled
-use Rattle.ot_kernel.specs.Spelled.{Held, state_of, IsInside}
+use Rattle.ot_kernel.specs.Spelled.{Held, IsInside}
 use Rattle.ot_kernel.specs.Numbered.{tm_at, Derives}
 use Rattle.ot_kernel.specs.Refusals.{of_define}
 use Rattle.ot_kernel.specs.Answers.{RefusesBy, RefusesRule, IsSymbolIn, Defines}

@@ -1,25 +1,22 @@
 -- The records of a theorem whose operands are written, and of definitions.
 use Rattle.std.specs.Prelude.{◌-◌, pos}
-use Rattle.std.specs.List.{All, AllByRecursion}
-use Rattle.std.proofs.Common.{◌≡◌, ℕ, suc, ◌<◌, List, [], ◌∷◌, ◌++◌, map, length}
-use Rattle.std.proofs.Common.{slice_get, slice_index_or, Some, Ok, refl, sym}
+use Rattle.std.specs.List.{All}
+use Rattle.std.proofs.Common.{◌≡◌, ℕ, ◌<◌, List, [], ◌∷◌, ◌++◌, length}
+use Rattle.std.proofs.Common.{slice_get, slice_index_or, Some, refl, sym}
 use Rattle.std.proofs.Common.{ap, subst, ◌∙◌, arith}
 use Rattle.std.proofs.lemmas.Option.{get_or_from_slice_get}
 use Rattle.std.proofs.lemmas.List.Elements.{All-head, All-tail}
-use Rattle.ot_plain.specs.Names.{Name}
 use Rattle.ot_plain.specs.declared.command.Cmd.{Cmd}
 use Rattle.ot_kernel.specs.State.{name_at}
-use Rattle.ot_trace.specs.Origins.{Origin, Origins, Number, Make, Define}
-use Rattle.ot_trace.specs.Origins.{NoOrigins, MoreOrigins, map_origin, map_origins}
+use Rattle.ot_trace.specs.Origins.{Origin, Number, Make, Define}
+use Rattle.ot_trace.specs.Origins.{MoreOrigins, map_origin, map_origins}
 use Rattle.ot_trace.specs.Trace.{IsBelow, origin_at, origins_at, origin_of as step_origin}
 use Rattle.ot_trace.specs.declared.step.Step.{Step}
 use Rattle.ot_trace.specs.declared.step.Step.TheVariants as step
-use Rattle.ot_machine.specs.Objects.{Object}
 use Rattle.ot_machine.specs.Values.{value, values, applied}
 use Rattle.ot_machine.specs.Meaning.{origin_of}
 use Rattle.ot_machine.specs.declared.session.Session.{Session}
-use Rattle.ot_entries.specs.Entries.{Entry}
-use Rattle.ot_entries.specs.Logged.{Log, write_entry, write_sequents}
+use Rattle.ot_entries.specs.Logged.{write_entry, write_sequents}
 use Rattle.ot_log.specs.declared.writer.Place.{Place}
 use Rattle.ot_proof_log.specs.Derived.{theorem_entries, definition_entries, read}
 use Rattle.ot_proof_log.specs.Writing.{Written, listed, number_of, numbers_of, mark}

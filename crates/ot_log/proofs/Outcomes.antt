@@ -6,14 +6,12 @@ use Rattle.std.proofs.Common.{map, length, get_or, slice_get, Option, None}
 use Rattle.std.proofs.Common.{Some, Ok, refl, sym, ap, subst, ◌∙◌, arith}
 use Rattle.ot_plain.specs.Names.{Name}
 use Rattle.ot_plain.specs.Naming.{names, name_of}
-use Rattle.ot_plain.specs.Trees.{Sequent, Definition}
 use Rattle.ot_plain.specs.Hol.{theorems}
 use Rattle.ot_plain.specs.Faults.{StackEmpty}
 use Rattle.ot_plain.specs.Answers.{◌>>=◌, some_or}
 use Rattle.ot_plain.specs.declared.command.Cmd.{Cmd}
 use Rattle.ot_plain.proofs.Naming.{name_of-injective}
 use Rattle.ot_plain.proofs.TableLemmas.{Extends-refl}
-use Rattle.ot_nodes.specs.Items.{Item}
 use Rattle.ot_rules.specs.Statements.{sequent_at, HasStatement}
 use Rattle.ot_rules.specs.declared.statement.Statement.{Statement}
 use Rattle.ot_trace.specs.Origins.{Origin, Origins, Define, Outcome, map_origin}
@@ -22,12 +20,12 @@ use Rattle.ot_trace.specs.declared.step.Step.{Step}
 use Rattle.ot_trace.specs.declared.step.Step.TheVariants as step
 use Rattle.ot_kernel.specs.State.{name_at}
 use Rattle.ot_written.proofs.Renaming.{origin-injective}
-use Rattle.ot_machine.specs.Objects.{Object, theorem}
+use Rattle.ot_machine.specs.Objects.{theorem}
 use Rattle.ot_machine.specs.Values.{value, values, definition_of, defines, theorem_of}
 use Rattle.ot_machine.specs.Meaning.{origin_of}
 use Rattle.ot_machine.specs.declared.session.Session.{Session}
 use Rattle.ot_entries.specs.Logged.{count_sequent}
-use Rattle.ot_proof_log.specs.Writing.{Written, mark, add_outcomes, number_of, outcomes, put_definition, write_all}
+use Rattle.ot_proof_log.specs.Writing.{Written, mark, add_outcomes, outcomes, put_definition, write_all}
 use Rattle.ot_proof_log.specs.Writing.{write_definition}
 use Rattle.ot_sheet.specs.Sheets.{Moves as SheetMoves}
 use Rattle.ot_sheet.specs.declared.sheet.Sheet.{Sheet}
@@ -35,7 +33,7 @@ use Rattle.ot_values.specs.Steps.{Makes, origins_of}
 use Rattle.ot_words.specs.Recording.{HasResult}
 use Rattle.ot_words.specs.declared.words.Made.{Made}
 use Rattle.ot_log.specs.Keeping.{AreTheorems, Holds, IsDefinable, IsNumbered}
-use Rattle.ot_log.specs.Keeping.{IsWriter, Marks, Moves, PutsDefinition, number_at}
+use Rattle.ot_log.specs.Keeping.{IsWriter, Marks, Moves, PutsDefinition}
 use Rattle.ot_log.specs.declared.writer.Writer.{Writer}
 use Rattle.ot_log.proofs.Closed.{defined, step-origin}
 use Rattle.ot_log.proofs.Placed.{naming-is, origin-here, number-other, marked-holds, marked-writer, writer-grown}

@@ -1,11 +1,11 @@
 -- The places of theorems, in tables that grow.
-use Rattle.std.specs.Prelude.{nat_eq, pos}
+use Rattle.std.specs.Prelude.{pos}
 use Rattle.std.specs.Bool.{Decides}
 use Rattle.std.specs.List.{All}
 use Rattle.std.proofs.Common.{◌≡◌, ◌≢◌, ℕ, zero, suc, ◌+◌, ◌<◌, ◌⊎◌, inl, inr}
 use Rattle.std.proofs.Common.{Bool, true, false, cond, List, [], ◌∷◌, ◌++◌}
 use Rattle.std.proofs.Common.{length, set, replicate, slice_get, get_or, Option}
-use Rattle.std.proofs.Common.{None, Some, Ok, refl, sym, ap, subst, ◌∙◌, arith}
+use Rattle.std.proofs.Common.{None, Some, refl, sym, ap, subst, ◌∙◌, arith}
 use Rattle.std.proofs.lemmas.List.{length-set}
 use Rattle.std.proofs.lemmas.List.Elements.{All-weaker, All-push}
 use Rattle.std.proofs.lemmas.Bool.{cases_eq}
@@ -14,12 +14,11 @@ use Rattle.ot_plain.specs.Naming.{names, name_of}
 use Rattle.ot_plain.specs.Table.{Extends}
 use Rattle.ot_plain.specs.Trees.{Sequent}
 use Rattle.ot_plain.proofs.Naming.{name_of-injective}
-use Rattle.ot_plain.proofs.TableLemmas.{Extends-trans, slice_get-append_left}
+use Rattle.ot_plain.proofs.TableLemmas.{slice_get-append_left}
 use Rattle.ot_kernel.specs.State.{name_at}
 use Rattle.ot_kernel.proofs.Namings.{name_of-index}
 use Rattle.ot_nodes.specs.Items.{Item}
 use Rattle.ot_nodes.specs.Typing.{AreTypings}
-use Rattle.ot_nodes.proofs.TypingLemmas.{typings-grown}
 use Rattle.ot_rules.specs.Statements.{sequent_at, HasStatement}
 use Rattle.ot_rules.specs.declared.statement.Statement.{Statement}
 use Rattle.ot_rules.proofs.Staying.{sequent-stays, still-statement}

@@ -2,7 +2,6 @@
 use Rattle.std.proofs.Common.{◌≡◌, ◌≢◌, ℕ, List, [], ◌∷◌, ◌++◌, slice_get, Some}
 use Rattle.std.proofs.Common.{Result, Ok, Err, IfOk, refl, sym, ap, subst, ◌∙◌}
 use Rattle.ot_plain.specs.Names.{Name}
-use Rattle.ot_plain.specs.Naming.{names}
 use Rattle.ot_plain.specs.Table.{Extends}
 use Rattle.ot_plain.specs.Trees.{Tm, Variable, Sequent}
 use Rattle.ot_plain.specs.Answers.{◌>>=◌}
@@ -15,9 +14,9 @@ use Rattle.ot_nodes.specs.Typing.{AreTypings}
 use Rattle.ot_nodes.specs.declared.node.VariableNode.{VariableNode}
 use Rattle.ot_nodes.specs.declared.table.typing.Typings.{Typings}
 use Rattle.ot_nodes.proofs.TypingLemmas.{typings-grown}
-use Rattle.ot_rules.specs.Statements.{terms_at, sequent_at, HasStatement}
+use Rattle.ot_rules.specs.Statements.{terms_at}
 use Rattle.ot_rules.specs.declared.statement.Statement.{Statement}
-use Rattle.ot_trace.specs.Origins.{Origin, Origins, Make, NoOrigins, MoreOrigins}
+use Rattle.ot_trace.specs.Origins.{Make, NoOrigins, MoreOrigins}
 use Rattle.ot_machine.specs.Objects.{Object, Objects, list, name, variable, term, theorem}
 use Rattle.ot_machine.specs.DefinitionLists.{pairs_of}
 use Rattle.ot_machine.specs.Places.{as_each, as_list, as_name, as_term}

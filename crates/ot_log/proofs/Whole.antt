@@ -1,9 +1,9 @@
 -- The log by steps is the log of the run.
-use Rattle.std.specs.Prelude.{nat_eq, pos}
+use Rattle.std.specs.Prelude.{nat_eq}
 use Rattle.std.specs.Bool.{Decides}
 use Rattle.std.specs.List.{All}
-use Rattle.std.proofs.Common.{◌≡◌, ℕ, zero, suc, ◌+◌, ◌<◌, ◌≤◌, ◌^◌, inl, inr}
-use Rattle.std.proofs.Common.{Bool, true, false, List, [], ◌∷◌, ◌++◌, map, take}
+use Rattle.std.proofs.Common.{◌≡◌, ℕ, suc, ◌+◌, ◌<◌, ◌≤◌, ◌^◌, inl, inr}
+use Rattle.std.proofs.Common.{true, false, List, [], ◌∷◌, ◌++◌, map, take}
 use Rattle.std.proofs.Common.{length, slice_get, get_or, Some, Result, Ok}
 use Rattle.std.proofs.Common.{Err, OnOk, refl, sym, ap, subst, ◌∙◌, arith}
 use Rattle.std.proofs.Common.{true≢false}
@@ -15,7 +15,7 @@ use Rattle.ot_plain.specs.Names.{Name}
 use Rattle.ot_plain.specs.Naming.{names, name_of}
 use Rattle.ot_plain.specs.Trees.{Definition}
 use Rattle.ot_plain.proofs.Naming.{name_of-injective}
-use Rattle.ot_trace.specs.Origins.{Origin, Number, map_origin}
+use Rattle.ot_trace.specs.Origins.{Origin, map_origin}
 use Rattle.ot_trace.specs.Trace.{origin_at}
 use Rattle.ot_written.specs.Laws.{roots_with}
 use Rattle.ot_written.specs.Needed.{needed_definitions}
@@ -27,19 +27,17 @@ use Rattle.ot_written.proofs.Same.{same-origin-law}
 use Rattle.ot_write.specs.Bytes.{AreRootsInside, roots_at}
 use Rattle.ot_write.specs.Emitting.{same}
 use Rattle.ot_machine.specs.Objects.{theorem}
-use Rattle.ot_machine.specs.Lawful.{IsLawfulRun, IsLawfulExport, Basis, run_basis}
+use Rattle.ot_machine.specs.Lawful.{IsLawfulRun, IsLawfulExport, Basis}
 use Rattle.ot_machine.specs.Rows.{definitions_of}
 use Rattle.ot_machine.specs.States.{Export, Made, RunState}
-use Rattle.ot_machine.specs.Values.{value}
 use Rattle.ot_machine.specs.Writable.{IsWritable}
 use Rattle.ot_machine.specs.Meaning.{origin_of, export_of, made_of, run_of, IsExportIn}
 use Rattle.ot_machine.specs.declared.session.Session.{Session}
 use Rattle.ot_machine.specs.declared.machine.Export as code
 use Rattle.ot_entries.specs.Bytes.{bytes_of}
-use Rattle.ot_proof_log.specs.Checked.{origins_made, run_log, IsLogOf, RunLogLaw}
+use Rattle.ot_proof_log.specs.Checked.{run_log, IsLogOf, RunLogLaw}
 use Rattle.ot_proof_log.specs.Writing.{Written, log, write, write_definition}
 use Rattle.ot_proof_log.specs.Writing.{write_definitions, write_results, put_result}
-use Rattle.ot_words.specs.Recording.{HasResult}
 use Rattle.ot_log.specs.Keeping.{IsDefinable, IsNumbered}
 use Rattle.ot_log.specs.Logs.{AreLawful, HasProof, Writes, roots_in, steps_log}
 use Rattle.ot_log.specs.declared.writing.LogRefusal.{LogRefusal}

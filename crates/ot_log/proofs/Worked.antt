@@ -2,13 +2,13 @@
 use Rattle.std.specs.List.{All}
 use Rattle.std.proofs.Common.{◌≡◌, ℕ, suc, ◌+◌, ◌<◌, Bool, true, false, cond}
 use Rattle.std.proofs.Common.{List, [], ◌∷◌, ◌++◌, map, length, reverse}
-use Rattle.std.proofs.Common.{slice_get, Option, None, Some, Result, Ok, Err, refl, sym, ap, subst, ◌∙◌, arith}
+use Rattle.std.proofs.Common.{slice_get, None, Some, refl, sym, ap, subst, ◌∙◌, arith}
 use Rattle.std.proofs.lemmas.List.{reverse-append}
 use Rattle.std.proofs.lemmas.List.Elements.{All-head, All-tail}
 use Rattle.ot_plain.specs.Names.{Name}
 use Rattle.ot_plain.specs.declared.command.Cmd.{Cmd}
 use Rattle.ot_trace.specs.Origins.{Origin, Origins, Number, Named, Make, Define}
-use Rattle.ot_trace.specs.Origins.{Outcome, NoOrigins, MoreOrigins, map_origin}
+use Rattle.ot_trace.specs.Origins.{Outcome, map_origin}
 use Rattle.ot_trace.specs.Trace.{origin_at, origins_at, origin_of as step_origin}
 use Rattle.ot_machine.specs.Values.{value, values}
 use Rattle.ot_machine.specs.Meaning.{origin_of}

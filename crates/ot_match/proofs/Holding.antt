@@ -1,6 +1,6 @@
 -- Maps with a pair more, by look-up, and what the matcher's steps give.
 use Rattle.std.specs.Prelude.{◌==◌, ◌↔◌, is_some, Result, Ok, Err, IfOk}
-use Rattle.std.specs.List.{All, list_any}
+use Rattle.std.specs.List.{All}
 use Rattle.std.specs.Map.{lookup}
 use Rattle.std.specs.Option.{option_map}
 use Rattle.std.proofs.Common.{◌≡◌, ℕ, suc, ◌<◌, ◌+◌, Bool, true, false, cond, List, [], ◌∷◌}

@@ -1,13 +1,12 @@
 -- When a bound place leads out of a term that stands under binders: where one of them is free in it.
-use Rattle.std.specs.Prelude.{◌≢◌, ◌<◌}
 use Rattle.std.specs.Option.{option_map}
-use Rattle.std.proofs.Common.{◌≡◌, ℕ, suc, ◌+◌, Bool, true, false, cond, List, [], ◌∷◌, ◌++◌, length}
-use Rattle.std.proofs.Common.{Option, Some, None, refl, sym, ap, subst, ◌∙◌, inl, inr, ◌⊎◌, arith}
-use Rattle.ot_plain.specs.Trees.{Alphabet, Ty, Variable, Tm, Free, Con, Bound}
+use Rattle.std.proofs.Common.{◌≡◌, ℕ, suc, ◌+◌, List, [], ◌∷◌, ◌++◌, length}
+use Rattle.std.proofs.Common.{Option, Some, None, refl, sym, ap, subst, ◌∙◌, inl, inr, arith}
+use Rattle.ot_plain.specs.Trees.{Alphabet, Ty, Variable}
 use Rattle.ot_plain.specs.Trees.{App, Abs, Named, NVar, NConst, NApp, NAbs}
 use Rattle.ot_laws.proofs.Named.{nameless_in-nil}
 use Rattle.ot_laws.proofs.Typing.{within-typed}
-use Rattle.ot_plain.specs.Hol.{nameless, same_var, place, at_place, nameless_in, IsFreeIn, IsWithin, type_in}
+use Rattle.ot_plain.specs.Hol.{nameless, place, at_place, nameless_in, IsFreeIn, IsWithin, type_in}
 use Rattle.ot_laws.proofs.Tests.{Tells, var_cases, same_var-no}
 
 module _ {N : Type 0} (alphabet : Alphabet N) (tells : Tells alphabet) where

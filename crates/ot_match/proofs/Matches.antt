@@ -1,14 +1,13 @@
 -- The computed maps are the ones that match.
-use Rattle.std.specs.Prelude.{◌≢◌, ◌↔◌}
 use Rattle.std.specs.Bool.{Decides}
-use Rattle.std.specs.List.{list_all, AllByRecursion}
-use Rattle.std.proofs.Common.{◌≡◌, Bool, true, false, cond, ◌&&◌, List, [], ◌∷◌, ◌++◌, map}
-use Rattle.std.proofs.Common.{Option, Some, None, refl, sym, ap, subst, ◌∙◌, inl, inr, ◌⊎◌}
-use Rattle.std.proofs.lemmas.Bool.Decides.{Decides-and, Decides-like}
+use Rattle.std.specs.List.{list_all}
+use Rattle.std.proofs.Common.{◌≡◌, true, List, [], ◌∷◌, map}
+use Rattle.std.proofs.Common.{Option, Some, None, refl, sym, ap, subst, ◌∙◌, inl, inr}
+use Rattle.std.proofs.lemmas.Bool.Decides.{Decides-and}
 use Rattle.std.proofs.lemmas.Option.{same_Some}
-use Rattle.ot_plain.specs.Trees.{Alphabet, Ty, Variable, Tm, Free}
-use Rattle.ot_plain.specs.Hol.{TypeMap, TermMap, type_at, term_at, inst, inst_var}
-use Rattle.ot_plain.specs.Hol.{same_var, same_tm, subst_tm, vars_tm, bind, IsFree, IsTyped}
+use Rattle.ot_plain.specs.Trees.{Alphabet, Variable, Tm}
+use Rattle.ot_plain.specs.Hol.{TypeMap, TermMap, type_at, term_at, inst_var}
+use Rattle.ot_plain.specs.Hol.{same_var, same_tm, subst_tm, vars_tm, IsFree, IsTyped}
 use Rattle.ot_plain.specs.Rules.{has_type}
 use Rattle.ot_plain.specs.Lists.{IsMember, AreDistinct}
 use Rattle.ot_laws.proofs.Tests.{Tells, cases_of, same_var-is, same_tm-is, has_type-is}
@@ -16,7 +15,7 @@ use Rattle.ot_laws.proofs.Typed.{term_at-typed}
 use Rattle.ot_match.specs.Matching.{each_once, same_key, keys, frees_tm, IsMatch, type_pairs_tm}
 use Rattle.ot_match.specs.Matching.{term_pairs, type_part, term_part, is_match, matched_by, matched}
 use Rattle.ot_match.specs.Laws.{MatchedIsMatch, NoneMatch, OneMatch, AnySubstitution}
-use Rattle.ot_match.proofs.Once.{each_once-map, each_once-distinct, each_once-member, agree-map, by-keys, at-graph}
+use Rattle.ot_match.proofs.Once.{each_once-map, each_once-distinct, each_once-member, by-keys, at-graph}
 use Rattle.ot_match.proofs.Pairs.{type_pairs_tm-bind, term_pairs-bind, frees-member}
 use Rattle.ot_match.proofs.Pairs.{member-frees, inst-same, bind-same, var-types}
 use Rattle.ot_plain.proofs.Members.{map_agree}

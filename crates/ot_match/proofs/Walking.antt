@@ -1,10 +1,10 @@
 -- The walk gives the maps that match.
 use Rattle.std.specs.Bool.{Decides}
-use Rattle.std.specs.Prelude.{◌≢◌, ◌==◌}
+use Rattle.std.specs.Prelude.{◌==◌}
 use Rattle.std.specs.List.{AllByRecursion}
 use Rattle.std.specs.Option.{option_map}
-use Rattle.std.proofs.Common.{◌≡◌, ℕ, Bool, true, false, cond, List, [], ◌∷◌, ◌++◌, map}
-use Rattle.std.proofs.Common.{Option, Some, None, refl, sym, ap, subst, ◌∙◌, inl, inr, ◌⊎◌}
+use Rattle.std.proofs.Common.{◌≡◌, Bool, true, List, [], ◌∷◌, map}
+use Rattle.std.proofs.Common.{Option, Some, None, refl, sym, ap, subst, ◌∙◌, inl, inr}
 use Rattle.std.proofs.lemmas.Option.{same_Some}
 use Rattle.std.proofs.lemmas.List.{map-append}
 use Rattle.std.proofs.lemmas.Bool.Decides.{Decides-eqb}
@@ -12,11 +12,11 @@ use Rattle.ot_plain.specs.Trees.{Alphabet, Ty, Tys, TyVar, TyOp, NoTys, MoreTys}
 use Rattle.ot_plain.specs.Trees.{Variable, Tm, Free, Con, Bound, App, Abs}
 use Rattle.ot_plain.specs.Hol.{TypeMap, TermMap, type_at, term_at, inst_by, inst_all, inst_var, vars_ty, vars_all}
 use Rattle.ot_plain.specs.Hol.{vars_tm, bind, subst_tm, type_in, HasType, IsTyped, same_ty, same_var, same_tm}
-use Rattle.ot_plain.specs.Lists.{IsMember, AreDistinct}
+use Rattle.ot_plain.specs.Lists.{AreDistinct}
 use Rattle.ot_laws.proofs.Tests.{Tells, cases_of, same_ty-is, same_var-is, same_tm-is}
 use Rattle.ot_laws.proofs.Typed.{term_at-typed}
-use Rattle.ot_match.specs.Matching.{keys, frees_tm, each_once, IsMatch, matched}
-use Rattle.ot_match.specs.Walk.{◌>>=◌, put, put_type, put_term, walk_type, walk_types}
+use Rattle.ot_match.specs.Matching.{keys, frees_tm, IsMatch, matched}
+use Rattle.ot_match.specs.Walk.{◌>>=◌, put, put_term, walk_type, walk_types}
 use Rattle.ot_match.specs.Walk.{walk_var, walk_in_type, walk_term, Maps, WalkMatches}
 use Rattle.ot_match.proofs.Once.{each_once-distinct, by-keys}
 use Rattle.ot_match.proofs.Matches.{any_substitution, matched_is_match}

@@ -1,7 +1,6 @@
 -- What a match of the code stands for, in a kernel.
-use Rattle.std.specs.Prelude.{◌≡◌, ◌<◌, ℕ, List, [], ◌∷◌, map, length, Option, Some, None}
+use Rattle.std.specs.Prelude.{◌<◌, ℕ, List, map, length}
 use Rattle.std.specs.List.{All}
-use Rattle.std.specs.Option.{option_map}
 use Rattle.ot_plain.specs.Names.{Name}
 use Rattle.ot_plain.specs.Hol.{TypeMap, TermMap}
 use Rattle.ot_plain.specs.Naming.{names}

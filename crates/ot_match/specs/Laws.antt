@@ -1,5 +1,5 @@
 -- Laws of matching, for an alphabet of names.
-use Rattle.std.specs.Prelude.{◌≡◌, ◌↔◌, List, Option, Some, None}
+use Rattle.std.specs.Prelude.{◌≡◌, ◌↔◌, Some, None}
 use Rattle.ot_plain.specs.Lists.{IsMember}
 use Rattle.ot_plain.specs.Trees.{Alphabet, Variable, Tm}
 use Rattle.ot_plain.specs.Hol.{TypeMap, TermMap, type_at, term_at, inst_var, subst_tm, IsTyped, IsFree, vars_tm}

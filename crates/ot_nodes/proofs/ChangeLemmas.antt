@@ -1,25 +1,24 @@
 -- A changed term, by its node.
 use Rattle.std.specs.Prelude.{◌==◌, if◌then◌else◌}
 use Rattle.std.specs.Map.{lookup}
-use Rattle.std.proofs.Common.{◌≡◌, ℕ, suc, Bool, true, false, cond, List, Option, None, Some}
+use Rattle.std.proofs.Common.{◌≡◌, ℕ, Bool, true, false, cond, List, None, Some}
 use Rattle.std.proofs.Common.{BuildHasherDefault, FoldHasher, refl, sym, ap, subst, ◌∙◌}
 use Rattle.indexmap.specs.IndexMap.{IndexMap}
 use Rattle.ot_plain.specs.Names.{Name}
 use Rattle.ot_plain.specs.Naming.{names}
 use Rattle.ot_plain.specs.Table.{Extends, IsInjective}
-use Rattle.ot_plain.specs.Trees.{Ty, Variable, Tm, Free, Con, Bound, App, Abs}
-use Rattle.ot_plain.specs.Hol.{TypeMap, TermMap, inst, same_var, term_at as image_at}
-use Rattle.ot_plain.proofs.TableLemmas.{Extends-trans}
-use Rattle.ot_nodes.specs.Items.{Item, TermItem, IsType, IsTerm, HasName, HasType, HasTerm, name_at, type_at, term_at}
+use Rattle.ot_plain.specs.Trees.{Ty, Tm, Free, Con, Bound, App, Abs}
+use Rattle.ot_plain.specs.Hol.{inst, same_var, term_at as image_at}
+use Rattle.ot_nodes.specs.Items.{Item, TermItem, IsType, IsTerm, HasName, HasTerm, name_at, type_at, term_at}
 use Rattle.ot_nodes.specs.Changing.{Changing, Closing, Opening, Putting, changed, retyped, inner, inner_of}
-use Rattle.ot_nodes.specs.Changing.{opened_at, variable_at, type_map, term_map, changing, HasVariable, HasTypes}
+use Rattle.ot_nodes.specs.Changing.{opened_at, variable_at, type_map, term_map, changing, HasVariable}
 use Rattle.ot_nodes.specs.Changing.{HasTerms, HasChange, AreInstances, AreChanged, AreRetyped, IsDone}
 use Rattle.ot_nodes.specs.declared.node.VariableNode.{VariableNode}
 use Rattle.ot_nodes.specs.declared.table.change.Change.{Change}
 use Rattle.ot_nodes.specs.declared.table.change.Change.TheVariants as change
 use Rattle.ot_nodes.specs.declared.table.change.Done.{Done}
 use Rattle.ot_nodes.proofs.ItemLemmas.{name-stays, term-stays, type-is, term-is}
-use Rattle.ot_nodes.proofs.ItemLemmas.{has-term, has-type, still-name, still-type}
+use Rattle.ot_nodes.proofs.ItemLemmas.{has-type, still-name}
 use Rattle.ot_nodes.proofs.MapLemmas.{changing-stays, done-now, term_map-stays, still-terms_of}
 use Rattle.ot_nodes.proofs.MapLemmas.{variable_eq, same-variables, term-none, term-some}
 

@@ -5,17 +5,15 @@ use Rattle.std.specs.Bool.{OnTrue}
 use Rattle.std.proofs.lemmas.Bool.{leb-true, and_parts}
 use Rattle.ot_records.specs.Walks.{loose, has_free}
 use Rattle.ot_records.proofs.Walking.{open-kept, close-kept}
-use Rattle.std.proofs.Common.{◌≡◌, ◌≤◌, ℕ, Bool, true, false, ◌&&◌, cond, nat_eq, eqb-true, eq-eqb, true≢false}
-use Rattle.std.proofs.Common.{List, [], ◌∷◌, map, slice_get, Option, None, Some, refl, sym, ap, subst, ◌∙◌, arith}
-use Rattle.std.specs.List.{All}
-use Rattle.std.specs.Bool.{Decides}
+use Rattle.std.proofs.Common.{◌≡◌, ℕ, Bool, true, false, ◌&&◌, cond, nat_eq, eqb-true, eq-eqb, true≢false}
+use Rattle.std.proofs.Common.{List, [], ◌∷◌, None, Some, refl, sym, ap, subst, ◌∙◌, arith}
 use Rattle.std.proofs.lemmas.List.Elements.{All-head, All-tail}
 use Rattle.std.proofs.lemmas.Option.{same_Some, none-some}
 use Rattle.ot_plain.specs.Names.{Name, same_name, same_name-Decides}
 use Rattle.ot_plain.specs.Naming.{names}
 use Rattle.ot_plain.specs.Table.{Extends, IsInjective}
-use Rattle.ot_plain.specs.Trees.{Ty, TyVar, Variable, Tm, Free}
-use Rattle.ot_plain.specs.Hol.{TypeMap, TermMap, inst, same_ty, same_var, type_at as image_of, term_at as image_at}
+use Rattle.ot_plain.specs.Trees.{TyVar, Tm, Free}
+use Rattle.ot_plain.specs.Hol.{TypeMap, inst, same_ty, same_var, type_at as image_of, term_at as image_at}
 use Rattle.ot_laws.proofs.Tests.{tells_names, same_ty-is}
 use Rattle.ot_nodes.specs.Items.{Item, TypeItem, TermItem, IsType, IsTerm, HasName}
 use Rattle.ot_nodes.specs.Items.{HasType, HasTerm, name_at, type_at, term_at}
@@ -28,7 +26,7 @@ use Rattle.ot_nodes.specs.declared.table.change.Change.TheVariants as change
 use Rattle.ot_nodes.specs.declared.table.change.Place.{Place}
 use Rattle.ot_nodes.specs.declared.table.change.Done.{Done}
 use Rattle.ot_nodes.proofs.ItemLemmas.{name-stays, type-stays, term-stays, still-name}
-use Rattle.ot_nodes.proofs.ItemLemmas.{still-type, still-term, name-one, type-one, has-type}
+use Rattle.ot_nodes.proofs.ItemLemmas.{still-type, still-term, name-one, type-one}
 
 module _ (ts us : List Item) (e : Extends ts us) where
   pub variable-stays : (v : VariableNode) → HasVariable ts v → variable_at us v ≡ variable_at ts v

@@ -8,7 +8,7 @@ use Rattle.ot_plain.specs.Names.{same_name, same_name-Decides}
 use Rattle.ot_plain.specs.Naming.{names}
 use Rattle.ot_plain.specs.Table.{Extends, IsInjective}
 use Rattle.ot_plain.proofs.TableLemmas.{Extends-trans}
-use Rattle.ot_plain.specs.Trees.{Ty, TyOp, Con, App}
+use Rattle.ot_plain.specs.Trees.{TyOp, Con, App}
 use Rattle.ot_plain.specs.Hol.{as_fun_ty, fun_ty, bool_ty, equation}
 use Rattle.ot_nodes.specs.Items.{Item, HasName, HasType, HasTerm, IsName, IsType, IsTerm}
 use Rattle.ot_nodes.specs.Items.{name_at, type_at, term_at, types_at, first_items}

@@ -1,12 +1,12 @@
 -- Types of nameless terms under binders, in a table that grows.
-use Rattle.std.specs.Prelude.{MatchOption, nat_le, ◌-◌, max}
+use Rattle.std.specs.Prelude.{nat_le, ◌-◌}
 use Rattle.std.specs.Map.{lookup}
 use Rattle.std.specs.Option.{option_map, ForSome}
 use Rattle.std.specs.Cmp.Lexicographic.{pointwise}
 use Rattle.std.proofs.lemmas.Slice.Eq.{bytes_eq-Decides}
-use Rattle.std.proofs.Common.{◌≡◌, ℕ, zero, suc, ◌<◌, ◌≤◌, Bool, true, false, ◌&&◌, cond, nat_eq}
-use Rattle.std.proofs.Common.{eqb-true, eq-eqb, List, [], ◌∷◌, map, take, length}
-use Rattle.std.proofs.Common.{slice_get, Option, None, Some, refl, sym, ap, subst, ◌∙◌, arith}
+use Rattle.std.proofs.Common.{◌≡◌, ℕ, zero, suc, Bool, true, false, ◌&&◌, cond, nat_eq}
+use Rattle.std.proofs.Common.{eqb-true, List, [], ◌∷◌, take}
+use Rattle.std.proofs.Common.{Option, None, Some, refl, sym, ap, subst, ◌∙◌, arith}
 use Rattle.std.specs.List.{All}
 use Rattle.std.proofs.lemmas.List.Elements.{All-head, All-tail}
 use Rattle.std.proofs.lemmas.Option.{same_Some, none-some}
@@ -14,13 +14,13 @@ use Rattle.std.proofs.lemmas.Bool.{and_parts}
 use Rattle.ot_plain.specs.Names.{Name, same_name}
 use Rattle.ot_plain.specs.Naming.{names}
 use Rattle.ot_plain.specs.Table.{Extends, IsInjective}
-use Rattle.ot_plain.specs.Trees.{Ty, TyVar, TyOp, NoTys, MoreTys, Tm, Free, Con, Bound, App, Abs}
+use Rattle.ot_plain.specs.Trees.{Ty, TyVar, TyOp, NoTys, MoreTys, Tm, App, Abs}
 use Rattle.ot_plain.specs.Hol.{depth_ty, same_ty, fun_ty, as_fun_ty, result_ty, applied, type_in}
 use Rattle.ot_laws.proofs.Tests.{tells_names, same_ty-is}
 use Rattle.ot_records.specs.Steps.{log_depth, is_within_type, has_types_within}
 use Rattle.ot_records.specs.Walks.{loose}
 use Rattle.ot_records.proofs.Walking.{type-cut, within-cut}
-use Rattle.ot_nodes.specs.Items.{Item, TypeItem, IsType, HasType, HasTerm, type_at, term_at}
+use Rattle.ot_nodes.specs.Items.{Item, IsType, HasType, HasTerm, type_at, term_at}
 use Rattle.ot_nodes.specs.Shapes.{IsFunction}
 use Rattle.ot_nodes.specs.Typing.{binders_at, HasTyping, IsTyping, IsTyped, IsCut, same_scope, AreTypings}
 use Rattle.ot_nodes.specs.declared.table.typing.Typed.{Typed}

@@ -1,24 +1,22 @@
 -- A written term is refused for one of four faults, and what the refusal of a text is.
-use Rattle.std.specs.Prelude.{◌≡◌, ◌<◌, ◌⊎◌, ℕ, ◌+◌, ◌-◌, Bool, true, false, cond, List}
+use Rattle.std.specs.Prelude.{◌≡◌, ℕ, ◌+◌, ◌-◌, Bool, true, false, List}
 use Rattle.std.specs.Prelude.{[], ◌∷◌, length, Option, Some, None, Result, Ok, Err}
-use Rattle.std.proofs.Common.{refl, sym, ◌∙◌, ap, subst, arith, inl, inr}
+use Rattle.std.proofs.Common.{sym, subst, arith}
 use Rattle.ot_plain.specs.Answers.{◌>>=◌, some_or}
 use Rattle.ot_plain.specs.Names.{Name}
-use Rattle.ot_plain.specs.Naming.{names}
-use Rattle.ot_plain.specs.Trees.{Ty, Tm, Con, Bound, App, Abs, Free, Sequent, Symbol}
-use Rattle.ot_plain.specs.Hol.{bool_ty, once_each}
+use Rattle.ot_plain.specs.Trees.{Tm, Con, Bound, App, Abs, Free, Sequent, Symbol}
 use Rattle.ot_forms.specs.declared.fault.TextFault.{TextFault}
 use Rattle.ot_forms.specs.declared.fault.TextFault.TheVariants.{Syntax, TooManyOpen, Unbound}
 use Rattle.ot_forms.specs.declared.fault.TextFault.TheVariants.{UnknownOperator, BadTypes, TooDeep}
 use Rattle.ot_forms.specs.Words.{IsNotation}
 use Rattle.ot_forms.specs.Forms.{Written, Writtens, Place, FreeAs, ConAs, Equal, Infix, Applied}
 use Rattle.ot_forms.specs.Forms.{Binding, NoMore, More, WrittenSequent, type_text, term_text, hyps_text}
-use Rattle.ot_forms.specs.Meaning.{Around, Refusal, place_of, constant_of, is_typed, has_type}
+use Rattle.ot_forms.specs.Meaning.{Around, Refusal, place_of, constant_of, is_typed}
 use Rattle.ot_forms.specs.Meaning.{fits, check, whole, relation_ty, equated, are_alike, meaning}
 use Rattle.ot_forms.specs.Meaning.{meaning_applied, meanings, line_meaning, term_meaning}
-use Rattle.ot_forms.specs.Refusals.{open_limit, WritesLine, WritesTerm, IsNoForm, OpensTooMany}
+use Rattle.ot_forms.specs.Refusals.{open_limit, WritesLine, WritesTerm}
 use Rattle.ot_forms.specs.Refusals.{IsMeantWrong, IsRefused, IsTermRefused, ReadsAs, ReadsAsTerm}
-use Rattle.ot_forms.specs.Reading.{Reading, Got, Halted, NoForm, OneTooMany}
+use Rattle.ot_forms.specs.Reading.{Got, Halted, NoForm, OneTooMany}
 use Rattle.ot_forms.proofs.TermLaw.{term_from, term-grows}
 use Rattle.ot_forms.proofs.LineLaw.{line_from, line_readers, line-grows, line-more, term_readers, term-more}
 use Rattle.ot_forms.proofs.ForTexts as texts

@@ -1,6 +1,6 @@
 -- A type that is read with what is open kept in a list is the one that is read.
 use Rattle.std.specs.Prelude.{◌≡◌, ◌==◌, ℕ, suc, Bool, true, false, ◌-◌, length, cond, not}
-use Rattle.std.specs.Prelude.{◌||◌, Result, Ok, Err, IsErrAnd, List, [], ◌∷◌, ◌++◌, map, codes}
+use Rattle.std.specs.Prelude.{◌||◌, Result, Ok, Err, IsErrAnd, List, [], ◌∷◌, ◌++◌, codes}
 use Rattle.std.proofs.Common.{refl, sym, ◌∙◌, ap, subst}
 use Rattle.ot_plain.specs.Names.{Name}
 use Rattle.ot_plain.specs.Naming.{names}
@@ -9,9 +9,9 @@ use Rattle.ot_plain.specs.Hol.{fun_ty}
 use Rattle.ot_text.specs.Texts.{is_function}
 use Rattle.ot_forms.specs.Words.{IsNotation}
 use Rattle.ot_forms.specs.Reading.{Reason, NoForm, Reading, Got, Halted, next, mapped, kept}
-use Rattle.ot_forms.specs.Reading.{literal_at, operator_at, range_at, further_at, arguments_at}
-use Rattle.ot_forms.specs.Reading.{operands_at, behind_word_at, inside_at, closed_type_at, type_at}
-use Rattle.ot_forms.proofs.Types.{SaysType, more-step}
+use Rattle.ot_forms.specs.Reading.{literal_at, operator_at, range_at, further_at}
+use Rattle.ot_forms.specs.Reading.{operands_at, behind_word_at, closed_type_at, type_at}
+use Rattle.ot_forms.proofs.Types.{more-step}
 use Rattle.ot_forms.proofs.TypeLaw.{reads}
 use Rattle.ot_parse.specs.declared.halt.Halt.{Halt}
 use Rattle.ot_parse.specs.declared.types.Back.{Back}

@@ -1,10 +1,10 @@
 -- Hypotheses that are kept once.
-use Rattle.std.specs.Prelude.{◌≡◌, ◌≤◌, ◌<◌, ◌+◌, ◌-◌, ◌==◌, ◌&&◌, ◌||◌, not, ℕ, zero, suc}
-use Rattle.std.specs.Prelude.{Bool, true, false, cond, length, List, [], ◌∷◌, ◌++◌, map, filter}
-use Rattle.std.proofs.Common.{refl, sym, ◌∙◌, ap, subst, arith}
+use Rattle.std.specs.Prelude.{◌≡◌, ◌+◌, ◌-◌, ◌||◌, not}
+use Rattle.std.specs.Prelude.{Bool, true, false, cond, List, [], ◌∷◌, ◌++◌, map, filter}
+use Rattle.std.proofs.Common.{refl, sym, ◌∙◌, ap}
 use Rattle.ot_plain.specs.Names.{Name}
 use Rattle.ot_plain.specs.Naming.{names}
-use Rattle.ot_plain.specs.Trees.{Tm, Symbol}
+use Rattle.ot_plain.specs.Trees.{Tm}
 use Rattle.ot_plain.specs.Hol.{same_tm, is_in, once_each}
 use Rattle.ot_laws.proofs.Tests.{tells_names, same_tm-is}
 use Rattle.ot_plain.specs.declared.tree.Tm as trees

@@ -1,6 +1,6 @@
 -- How many bytes are read.
-use Rattle.std.specs.Prelude.{◌≡◌, ℕ, zero, suc, ◌+◌, ◌==◌, Bool, true, false}
-use Rattle.std.specs.Prelude.{cond, List, [], ◌∷◌, ◌++◌, length, codes}
+use Rattle.std.specs.Prelude.{◌≡◌, ℕ, suc, ◌+◌, ◌==◌, Bool, true, false}
+use Rattle.std.specs.Prelude.{cond, List, [], ◌∷◌, length, codes}
 use Rattle.std.proofs.Common.{refl, sym, ◌∙◌, ap, subst, arith, length-append}
 use Rattle.ot_plain.specs.Names.{Name}
 use Rattle.ot_plain.specs.Trees.{Ty, Symbol}
@@ -8,7 +8,7 @@ use Rattle.ot_forms.specs.Words.{IsNotation, is_letter, is_inner, is_sign}
 use Rattle.ot_forms.specs.Forms.{Written, type_text, term_text}
 use Rattle.ot_forms.specs.Reading.{Reading, Got, Halted, NoForm, mapped, literal_at, part_at}
 use Rattle.ot_forms.specs.Reading.{part_on, signs_at, signs_on, constant_at, type_at, term_at}
-use Rattle.ot_forms.proofs.Readers.{IsRead, Follows, Reads}
+use Rattle.ot_forms.proofs.Readers.{IsRead, Follows}
 use Rattle.ot_forms.proofs.Types.{SaysType}
 use Rattle.ot_forms.proofs.Terms.{SaysTerm}
 use Rattle.ot_forms.proofs.TypeLaw.{reads}

@@ -1,20 +1,19 @@
 -- Hidden symbols that are looked up by their names and base names.
-use Rattle.std.specs.Prelude.{◌≡◌, ◌<◌, ◌≤◌, ℕ, Bool, true, false, cond, not, ◌&&◌, ◌||◌}
+use Rattle.std.specs.Prelude.{◌≡◌, ◌<◌, ◌≤◌, ℕ, Bool, true, false, cond, ◌&&◌, ◌||◌}
 use Rattle.std.specs.Prelude.{◌==◌, nat_le, List, [], ◌∷◌, ◌++◌, map, length, Option, Some, None}
 use Rattle.std.specs.List.{list_any, list_all}
 use Rattle.std.specs.Option.{unwrap_or}
 use Rattle.std.proofs.Common.{◌+◌, refl, sym, ◌∙◌, ap, arith, get_or, append_assoc}
 use Rattle.std.proofs.lemmas.Bool.{and_parts}
-use Rattle.ot_plain.specs.Names.{Name, same_name}
+use Rattle.ot_plain.specs.Names.{Name}
 use Rattle.ot_plain.specs.Trees.{Symbol, ConSymbol, OpSymbol}
-use Rattle.ot_forms.specs.Words.{IsNotation, is_letter, is_inner, is_sign, is_part, is_operator, is_bare}
-use Rattle.ot_forms.specs.Words.{is_short, dotted, base, symbol_name, same_kind, same_text, is_hidden, is_taken}
+use Rattle.ot_forms.specs.Words.{IsNotation, is_letter, is_inner, is_sign, is_part, is_operator}
+use Rattle.ot_forms.specs.Words.{is_short, dotted, base, symbol_name, same_kind, same_text, is_taken}
 use Rattle.ot_forms.specs.Reading.{with_base, settled, operators, ended}
 use Rattle.ot_forms.proofs.Hiding.{taken-base}
 use Rattle.ot_parse.specs.declared.notation.WordKind.{WordKind}
 use Rattle.ot_parse.specs.declared.notation.WordKind.TheVariants as kinds
 use Rattle.ot_parse.specs.Symbols.{symbol_of, has_base, operator_base}
-use Rattle.ot_plain.proofs.Elements.{drop-item}
 
 -- the kind alone counts
 pub taken-kind : (h : List (Symbol Name)) (k : WordKind) (n m : Name) (x : List ℕ) → is_taken h (symbol_of (k, n)) x

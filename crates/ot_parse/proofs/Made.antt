@@ -1,13 +1,12 @@
 -- What the code makes of values that fit.
-use Rattle.std.specs.Prelude.{◌≡◌, ◌&&◌, ◌||◌, not, ℕ, suc, min, Bool, true, false, cond}
-use Rattle.std.specs.Prelude.{nat_le, List, [], ◌∷◌, Option, Some, None, Result, Ok, Err}
-use Rattle.std.specs.Option.{option_map, unwrap_or}
-use Rattle.std.proofs.Common.{refl, sym, ◌∙◌, ap, subst, arith}
+use Rattle.std.specs.Prelude.{◌≡◌, ◌||◌, not, ℕ, Bool, true, false}
+use Rattle.std.specs.Prelude.{List, Option, Some, None, Result, Ok}
+use Rattle.std.proofs.Common.{refl, sym, ◌∙◌, ap, subst}
 use Rattle.ot_plain.specs.Answers.{◌>>=◌, some_or}
 use Rattle.ot_plain.specs.Names.{Name}
 use Rattle.ot_plain.specs.Naming.{names}
-use Rattle.ot_plain.specs.Trees.{Ty, TyVar, TyOp, NoTys, MoreTys, Tys, Tm, Con, App, Abs, Symbol}
-use Rattle.ot_plain.specs.Hol.{fun_ty, bool_ty, same_ty, type_in, applied, result_ty, depth_limit}
+use Rattle.ot_plain.specs.Trees.{Ty, Tm, Con, App, Symbol}
+use Rattle.ot_plain.specs.Hol.{bool_ty, same_ty, type_in, applied}
 use Rattle.ot_plain.specs.declared.memory.Memory.{Memory}
 use Rattle.ot_forms.specs.declared.fault.TextFault.TheVariants.{BadTypes, TooDeep, UnknownOperator}
 use Rattle.ot_forms.specs.Meaning.{Around, types_around, constant_of, has_type, is_typed}
@@ -16,9 +15,9 @@ use Rattle.ot_parse.specs.declared.values.Value.{Value}
 use Rattle.ot_parse.specs.declared.values.Meant.{Meant as Part}
 use Rattle.ot_parse.specs.declared.values.Meant.TheVariants as parts
 use Rattle.ot_plain.specs.PlainTrees.{type_of_tree, term_of_tree}
-use Rattle.ot_parse.specs.Meant.{Meaning, wholly, equal_of, infix_of, apply_of, abstracted, relation_of, related_at}
-use Rattle.ot_parse.specs.Values.{IsValue, IsMeant, Means, meant_of, IsWholly, IsMade, IsRelated}
-use Rattle.ot_parse.proofs.ValueLaws.{typed-test, fits-test, not-wanted, too-deep, is-whole, applied-right}
+use Rattle.ot_parse.specs.Meant.{equal_of, infix_of, apply_of, relation_of, related_at}
+use Rattle.ot_parse.specs.Values.{IsValue, Means, IsWholly, IsMade, IsRelated}
+use Rattle.ot_parse.proofs.ValueLaws.{typed-test, not-wanted, too-deep, is-whole, applied-right}
 use Rattle.ot_parse.proofs.ValueLaws.{applied-wrong, alike-typed, equated-is, equal-right, equal-wrong}
 
 -- ---- whole parts

@@ -1,14 +1,14 @@
 -- What a written term means is what it means before it is whole, and then the look at the whole.
-use Rattle.std.specs.Prelude.{◌≡◌, ℕ, ◌+◌, Bool, true, false, cond, not, List, []}
+use Rattle.std.specs.Prelude.{◌≡◌, ℕ, ◌+◌, Bool, true, false, List}
 use Rattle.std.specs.Prelude.{◌∷◌, length, Option, Some, None, Result, Ok, Err}
-use Rattle.std.proofs.Common.{refl, sym, ◌∙◌, ap}
+use Rattle.std.proofs.Common.{refl, ◌∙◌, ap}
 use Rattle.ot_plain.specs.Answers.{◌>>=◌, some_or}
 use Rattle.ot_plain.specs.Names.{Name}
 use Rattle.ot_plain.specs.Trees.{Ty, Tm, Con, Bound, App, Abs, Symbol}
 use Rattle.ot_forms.specs.declared.fault.TextFault.TheVariants.{Unbound, UnknownOperator, BadTypes}
 use Rattle.ot_forms.specs.Forms.{Written, Writtens, Place, FreeAs, ConAs, Equal, Infix}
 use Rattle.ot_forms.specs.Forms.{Applied, Binding, NoMore, More, type_text, term_text}
-use Rattle.ot_forms.specs.Meaning.{Around, Refusal, place_of, constant_of, is_typed, check, whole}
+use Rattle.ot_forms.specs.Meaning.{Around, place_of, constant_of, is_typed, check, whole}
 use Rattle.ot_forms.specs.Meaning.{relation_ty, equated, are_alike, meaning, meaning_applied}
 use Rattle.ot_parse.specs.Meant.{Meaning, wholly, equal_of, infix_of, apply_of, abstracted, bound_of, applied_of, raw}
 

@@ -1,6 +1,6 @@
 -- The number of the abstraction that binds a name, looked for from the innermost one on.
-use Rattle.std.specs.Prelude.{◌≡◌, ◌<◌, ◌≤◌, ◌+◌, ℕ, zero, suc, Bool, true, false, cond, length}
-use Rattle.std.specs.Prelude.{List, [], ◌∷◌, ◌++◌, map, take, slice_get, Option, Some, None, Ok, Err}
+use Rattle.std.specs.Prelude.{◌≡◌, ◌<◌, ◌+◌, ℕ, suc, true, false, cond, length}
+use Rattle.std.specs.Prelude.{List, ◌∷◌, map, take, slice_get, Option, Some, None, Ok, Err}
 use Rattle.std.specs.Option.{option_map}
 use Rattle.std.proofs.Common.{refl, sym, ◌∙◌, ap, subst, arith, get_or}
 use Rattle.std.proofs.Math.Seq.{take-suc}
@@ -11,10 +11,10 @@ use Rattle.ot_forms.specs.declared.fault.TextFault.TheVariants.{Unbound}
 use Rattle.ot_forms.specs.Words.{same_text}
 use Rattle.ot_forms.specs.Meaning.{Around, types_around, place_of}
 use Rattle.ot_parse.specs.declared.terms.Open.{Open}
-use Rattle.ot_parse.specs.Meant.{Meaning, bound_of}
+use Rattle.ot_parse.specs.Meant.{bound_of}
 use Rattle.ot_parse.specs.Values.{IsBoundTo}
-use Rattle.ot_parse.specs.TermFrames.{TermFrame, Body, inner_of, around}
-use Rattle.ot_parse.specs.TermCode.{frame_of, reversed, frames_of}
+use Rattle.ot_parse.specs.TermFrames.{inner_of, around}
+use Rattle.ot_parse.specs.TermCode.{frame_of, frames_of}
 use Rattle.ot_parse.proofs.TermLoops.{reversed-push}
 
 -- so many abstractions inside these name something else

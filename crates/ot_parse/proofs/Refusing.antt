@@ -1,13 +1,13 @@
 -- What a text is read as or refused for, by what its reading is.
-use Rattle.std.specs.Prelude.{◌≡◌, ◌<◌, ◌+◌, ◌-◌, ◌⊎◌, ℕ, Bool, true, false}
+use Rattle.std.specs.Prelude.{◌≡◌, ◌+◌, ◌-◌, ℕ, false}
 use Rattle.std.specs.Prelude.{length, List, [], ◌∷◌, Result, Ok, Err, IfOk, IfErr}
-use Rattle.std.proofs.Common.{refl, sym, ◌∙◌, ap, subst, arith, inl, inr}
+use Rattle.std.proofs.Common.{sym, ◌∙◌, ap, subst, arith, inl, inr}
 use Rattle.ot_plain.specs.Names.{Name}
-use Rattle.ot_plain.specs.Trees.{Tm, Symbol}
+use Rattle.ot_plain.specs.Trees.{Symbol}
 use Rattle.ot_forms.specs.declared.fault.TextFault.{TextFault}
 use Rattle.ot_forms.specs.declared.fault.TextFault.TheVariants.{Syntax, TooManyOpen}
 use Rattle.ot_forms.specs.Words.{IsNotation}
-use Rattle.ot_forms.specs.Forms.{Written, WrittenSequent}
+use Rattle.ot_forms.specs.Forms.{Written}
 use Rattle.ot_forms.specs.Meaning.{meaning}
 use Rattle.ot_forms.specs.Refusals.{ReadsAs, ReadsAsTerm}
 use Rattle.ot_forms.specs.Reading.{NoForm, OneTooMany, Got, Halted, line_at}
@@ -16,7 +16,6 @@ use Rattle.ot_parse.specs.declared.halt.Halt.TheVariants as halts
 use Rattle.ot_parse.specs.declared.readable.Readable.{Readable}
 use Rattle.ot_parse.specs.declared.refusal.ReadRefusal.{ReadRefusal}
 use Rattle.ot_parse.specs.declared.refusal.ReadRefusal.TheVariants as refusals
-use Rattle.ot_parse.specs.declared.values.Meant.{Meant as Part}
 use Rattle.ot_parse.specs.declared.values.Meant.TheVariants as parts
 use Rattle.ot_parse.specs.declared.values.Value.{Value}
 use Rattle.ot_plain.specs.PlainTrees.{term_of_tree}
@@ -27,7 +26,7 @@ use Rattle.ot_parse.specs.Values.{meant_of}
 use Rattle.ot_parse.specs.ReadLines.{terms, meant_at, IsStop, IsWholeText, IsMeantLine, IsWholeLine, IsAt, IsHaltedAt}
 use Rattle.ot_parse.proofs.Causes.{line-halts, line-trails, line-opens, line-reads, line-wrong}
 use Rattle.ot_parse.proofs.Causes.{term-halts, term-trails, term-opens, term-reads, term-wrong}
-use Rattle.ot_parse.proofs.WholeLines.{WasRead, was-read, unmapped}
+use Rattle.ot_parse.proofs.WholeLines.{was-read, unmapped}
 
 -- a refusal at the wanted place
 at-place : (P : ReadRefusal → Type 0) (k : ℕ) (f : TextFault) (r : ReadRefusal) → P (refusals.At (k + 1) f)

@@ -1,7 +1,7 @@
 -- What comes of a term that has ended.
-use Rattle.std.specs.Prelude.{◌≡◌, ◌<◌, ◌≤◌, ◌+◌, ◌-◌, ◌==◌, ℕ, suc, Bool, true, false}
-use Rattle.std.specs.Prelude.{cond, length, List, [], ◌∷◌, codes, Result, Ok, Err}
-use Rattle.std.proofs.Common.{refl, sym, ◌∙◌, ap, subst, arith, Bor}
+use Rattle.std.specs.Prelude.{◌≡◌, ◌≤◌, ◌+◌, ◌-◌, ◌==◌, ℕ, true, false}
+use Rattle.std.specs.Prelude.{cond, length, List, [], ◌∷◌, codes}
+use Rattle.std.proofs.Common.{refl, sym, ◌∙◌, ap, arith, Bor}
 use Rattle.std.proofs.lemmas.Bool.Decides.{nat_tests}
 use Rattle.ot_plain.specs.Names.{Name}
 use Rattle.ot_plain.specs.Trees.{Ty, Symbol}
@@ -14,10 +14,9 @@ use Rattle.ot_parse.specs.declared.halt.Halt.{Halt}
 use Rattle.ot_parse.specs.declared.terms.Open.TheVariants as opens
 use Rattle.ot_parse.specs.declared.values.Meant.{Meant as Part}
 use Rattle.ot_parse.specs.Gives.{IsHalt}
-use Rattle.ot_plain.specs.PlainTrees.{type_of_tree}
 use Rattle.ot_parse.specs.Meant.{Meaning, place_at, wholly, raw, apply_of}
 use Rattle.ot_parse.specs.Meant.{abstracted, applied_of, is_relation, sides_of}
-use Rattle.ot_parse.specs.Values.{IsMeant, Means, IsWholly, meant_of}
+use Rattle.ot_parse.specs.Values.{Means, IsWholly, meant_of}
 use Rattle.ot_parse.specs.TermFrames.{First, Right, Argument, Body, closed, reads}
 use Rattle.ot_parse.specs.TermFrames.{begun, operated, applied, behind, after}
 use Rattle.ot_parse.specs.TermCode.{GoesIn, IsWhole}

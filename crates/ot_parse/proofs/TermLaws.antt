@@ -22,7 +22,7 @@ use Rattle.ot_forms.proofs.ConstantWords.{constant-reads}
 use Rattle.ot_forms.proofs.Terms.{more-step}
 use Rattle.ot_parse.specs.Meant.{Meaning, place_at, wholly, equal_of, infix_of, apply_of}
 use Rattle.ot_parse.specs.Meant.{abstracted, bound_of, applied_of, raw, is_relation, sides_of}
-use Rattle.ot_parse.specs.TermFrames.{TermFrame, First, Right, Argument, Body, closed, reads, begun, operated}
+use Rattle.ot_parse.specs.TermFrames.{First, Argument, Body, closed, reads, begun, operated}
 use Rattle.ot_parse.specs.TermFrames.{applied, behind, after, binder_at, binding_reading, named_reading, closed_term}
 use Rattle.ot_parse.specs.TermFrames.{closed_free_at, closed_variable_at, closed_constant_at, is_free_at}
 use Rattle.ot_parse.proofs.FrameLaws.{twice, mapped-same}

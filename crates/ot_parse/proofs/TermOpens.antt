@@ -1,14 +1,14 @@
 -- The front of a term.
-use Rattle.std.specs.Prelude.{◌≡◌, ◌<◌, ◌≤◌, ◌+◌, ◌-◌, ◌==◌, ◌||◌, ℕ, zero, suc, Bool}
+use Rattle.std.specs.Prelude.{◌≡◌, ◌<◌, ◌≤◌, ◌+◌, ◌-◌, ◌==◌, ◌||◌, ℕ, zero, suc}
 use Rattle.std.specs.Prelude.{true, false, length, List, [], ◌∷◌, codes, Result, Ok, Err}
 use Rattle.std.proofs.Common.{refl, sym, ◌∙◌, ap, subst, arith, length-append, Bor}
 use Rattle.ot_plain.specs.Names.{Name}
-use Rattle.ot_plain.specs.Trees.{Ty, Symbol, Free, Con}
+use Rattle.ot_plain.specs.Trees.{Ty, Symbol}
 use Rattle.ot_forms.specs.Words.{IsNotation}
-use Rattle.ot_forms.specs.Forms.{Written, FreeAs, ConAs}
+use Rattle.ot_forms.specs.Forms.{Written}
 use Rattle.ot_forms.specs.Meaning.{Around}
 use Rattle.ot_forms.specs.Reading.{Reading, Got, Halted, NoForm, OneTooMany, next, mapped, literal_at, part_at}
-use Rattle.ot_forms.specs.Reading.{bare_at, variable_at, constant_at, type_at, first_part, behind_bare_at, spaced_at}
+use Rattle.ot_forms.specs.Reading.{bare_at, constant_at, type_at, first_part, behind_bare_at, spaced_at}
 use Rattle.ot_forms.proofs.Readers.{IsRead, Follows}
 use Rattle.ot_forms.proofs.BareWords.{SaysBare, bare-reads}
 use Rattle.ot_parse.specs.declared.halt.Halt.{Halt}
@@ -26,8 +26,6 @@ use Rattle.ot_parse.specs.TermFrames.{binding_reading, named_reading, closed_ter
 use Rattle.ot_parse.specs.TermFrames.{closed_variable_at, closed_constant_at, is_free_at}
 use Rattle.ot_parse.specs.TermCode.{GoesIn, HasHead, IsLeaf, IsInside, IsFront}
 use Rattle.ot_parse.proofs.Halts.{halt-same, halt-next, halt-mapped}
-use Rattle.ot_parse.proofs.Lengths.{space-length, colon-length, point-length}
-use Rattle.ot_parse.proofs.Lengths.{part-length, type-length, term-length, got-rest}
 use Rattle.ot_parse.proofs.TypeFronts.{not-equal}
 use Rattle.ot_parse.proofs.TermLaws.{first-goes, body-goes, binder-first, binder-length, head-goes}
 use Rattle.ot_parse.proofs.TermLaws.{free-goes, inside-first, inside-named, term-empty, term-place, bound_in}

@@ -1,17 +1,16 @@
 -- What values keep of their terms.
-use Rattle.std.specs.Prelude.{◌≡◌, ℕ, suc, zero, ◌+◌, ◌≤◌, ◌<◌, ◌&&◌, ◌||◌, not, max, min}
+use Rattle.std.specs.Prelude.{◌≡◌, ℕ, suc, ◌+◌, ◌≤◌, ◌<◌, ◌&&◌, ◌||◌, not, max, min}
 use Rattle.std.specs.Prelude.{◌==◌, Bool, true, false, cond, nat_le, List, [], ◌∷◌, ◌++◌}
-use Rattle.std.specs.Prelude.{map, length, take, Option, Some, None, Result, Ok, Err}
+use Rattle.std.specs.Prelude.{map, length, take, Some, None, Ok, Err}
 use Rattle.std.specs.Option.{option_map, unwrap_or}
-use Rattle.std.proofs.Common.{refl, sym, ◌∙◌, ap, subst, arith, get_or}
+use Rattle.std.proofs.Common.{refl, sym, ◌∙◌, ap, arith, get_or}
 use Rattle.std.proofs.Math.Seq.{take-suc}
-use Rattle.std.proofs.lemmas.Bool.{and_parts}
 use Rattle.std.proofs.lemmas.Bool.Decides.{nat_tests}
 use Rattle.std.proofs.lemmas.List.{take_all}
-use Rattle.ot_plain.specs.Answers.{◌>>=◌, some_or}
+use Rattle.ot_plain.specs.Answers.{◌>>=◌}
 use Rattle.ot_plain.specs.Names.{Name}
 use Rattle.ot_plain.specs.Naming.{names}
-use Rattle.ot_plain.specs.Trees.{Ty, Tys, TyVar, TyOp, NoTys, MoreTys, Tm, Free}
+use Rattle.ot_plain.specs.Trees.{Ty, TyOp, Tm, Free}
 use Rattle.ot_plain.specs.Trees.{Con, Bound, App, Abs, Symbol, ConSymbol, OpSymbol}
 use Rattle.ot_plain.specs.Hol.{fun_ty, bool_ty, same_ty, type_in, applied, result_ty, depth_tm, depth_ty}
 use Rattle.ot_plain.specs.Hol.{depth_all, depth_limit, has_shallow_types, is_shallow_ty, is_shallow_type}
@@ -19,19 +18,17 @@ use Rattle.ot_plain.specs.declared.tree.Ty as types
 use Rattle.ot_plain.specs.declared.tree.Tm as terms
 use Rattle.ot_laws.proofs.Tests.{tells_names, same_ty-is}
 use Rattle.ot_laws.proofs.Typing.{result_ty-fun}
-use Rattle.ot_forms.specs.declared.fault.TextFault.TheVariants.{BadTypes, TooDeep, UnknownOperator}
-use Rattle.ot_forms.specs.Words.{same_text, base, same_kind, symbol_name}
+use Rattle.ot_forms.specs.declared.fault.TextFault.TheVariants.{BadTypes, TooDeep}
+use Rattle.ot_forms.specs.Words.{same_text, base}
 use Rattle.ot_forms.specs.Reading.{with_base}
 use Rattle.ot_forms.specs.Meaning.{Around, types_around, constant_of, has_type, is_typed}
-use Rattle.ot_forms.specs.Meaning.{fits, check, whole, relation_ty, equated, are_alike}
+use Rattle.ot_forms.specs.Meaning.{fits, check, whole, equated, are_alike}
 use Rattle.ot_parse.specs.declared.values.Value.{Value}
-use Rattle.ot_parse.specs.declared.values.Meant.{Meant as Part}
 use Rattle.ot_parse.specs.declared.values.Meant.TheVariants as parts
 use Rattle.ot_plain.specs.PlainTrees.{type_of_tree, term_of_tree, tys_of}
-use Rattle.ot_parse.specs.Meant.{Meaning, wholly, equal_of, apply_of, relation_of, related_at}
-use Rattle.ot_parse.specs.Values.{IsValue, IsMeant, Means, meant_of, deeper, IsBoundTo}
+use Rattle.ot_parse.specs.Meant.{equal_of, apply_of, relation_of, related_at}
+use Rattle.ot_parse.specs.Values.{IsValue, deeper, IsBoundTo}
 use Rattle.ot_parse.proofs.Components.{map-push}
-use Rattle.ot_plain.proofs.PlainTrees.{term_Free, term_Con, term_Bound, term_App, term_Abs}
 
 -- ---- limits
 pub capped : (d : ℕ) → nat_le (min d (suc depth_limit)) depth_limit ≡ nat_le d depth_limit

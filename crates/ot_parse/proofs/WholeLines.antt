@@ -1,8 +1,7 @@
 -- Whole terms and lines that are read, with what they mean.
-use Rattle.std.specs.Prelude.{◌≡◌, ◌<◌, ◌≤◌, ◌+◌, ◌-◌, ◌==◌, ◌⊎◌, ℕ, suc, Bool, true, false, cond}
+use Rattle.std.specs.Prelude.{◌≡◌, ◌<◌, ◌≤◌, ◌+◌, ◌-◌, ◌==◌, ℕ, suc, Bool, true, false, cond}
 use Rattle.std.specs.Prelude.{length, List, [], ◌∷◌, ◌++◌, codes, Option, Some, None, Result, Ok, Err}
 use Rattle.std.proofs.Common.{refl, sym, ◌∙◌, ap, subst, arith, inl, inr, append_assoc}
-use Rattle.std.proofs.lemmas.Bool.{eqb-true}
 use Rattle.std.proofs.lemmas.Bool.Decides.{nat_tests}
 use Rattle.ot_plain.specs.Answers.{◌>>=◌}
 use Rattle.ot_plain.specs.Names.{Name}
@@ -15,10 +14,10 @@ use Rattle.ot_forms.specs.Forms.{Written, WrittenSequent, term_text, hyps_text}
 use Rattle.ot_forms.specs.Meaning.{Refusal, meaning, meanings, line_meaning}
 use Rattle.ot_forms.specs.Refusals.{open_limit}
 use Rattle.ot_forms.specs.Reading.{Reason, NoForm, OneTooMany, Reading, Got, Halted, next}
-use Rattle.ot_forms.specs.Reading.{mapped, literal_at, constant_at, term_at, further_hyps_at}
+use Rattle.ot_forms.specs.Reading.{mapped, literal_at, further_hyps_at}
 use Rattle.ot_forms.specs.Reading.{first_hyp_at, turnstile_at, hyps_at, line_at}
 use Rattle.ot_forms.proofs.TermLaw.{term_reads}
-use Rattle.ot_forms.proofs.Lines.{comma_at, comma-step, hyps-length}
+use Rattle.ot_forms.proofs.Lines.{comma-step, hyps-length}
 use Rattle.ot_parse.specs.declared.halt.Halt.{Halt}
 use Rattle.ot_parse.specs.declared.halt.Halt.TheVariants as halts
 use Rattle.ot_parse.specs.declared.readable.Readable.{Readable}
@@ -27,11 +26,10 @@ use Rattle.ot_parse.specs.declared.refusal.ReadRefusal.TheVariants as refusals
 use Rattle.ot_parse.specs.declared.values.Meant.{Meant as Part}
 use Rattle.ot_parse.specs.Gives.{IsHalt}
 use Rattle.ot_parse.specs.Symbols.{behind_byte}
-use Rattle.ot_parse.specs.Plain.{sequent_of}
 use Rattle.ot_parse.specs.Meant.{Meaning, place_at, wholly, raw}
 use Rattle.ot_parse.specs.Values.{IsWholly, meant_of}
 use Rattle.ot_parse.specs.TermFrames.{begun}
-use Rattle.ot_parse.specs.ReadLines.{Kept, others, once, one_more, terms, meant_at, hyps_meant, IsStop, IsWholeText}
+use Rattle.ot_parse.specs.ReadLines.{Kept, once, one_more, terms, meant_at, hyps_meant, IsStop, IsWholeText}
 use Rattle.ot_parse.specs.ReadLines.{sequent_meant, IsSequent, IsMeantLine, IsWholeLine, IsAt, separator_at}
 use Rattle.ot_parse.proofs.FrameLaws.{twice, mapped-same}
 use Rattle.ot_parse.proofs.Halts.{halt-same, halt-next, halt-mapped}

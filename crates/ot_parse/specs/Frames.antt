@@ -3,7 +3,7 @@ use Rattle.std.specs.Prelude.{◌≡◌, ◌<◌, ◌≤◌, ◌-◌, ◌+◌, �
 use Rattle.std.specs.Prelude.{not, List, [], ◌∷◌, ◌++◌, map, codes, Result, Ok, Err}
 use Rattle.ot_plain.specs.Names.{Name}
 use Rattle.ot_plain.specs.Naming.{names}
-use Rattle.ot_plain.specs.Trees.{Ty, Tys, TyOp, NoTys, MoreTys, Symbol}
+use Rattle.ot_plain.specs.Trees.{Ty, Tys, TyOp, MoreTys, Symbol}
 use Rattle.ot_plain.specs.Hol.{fun_ty}
 use Rattle.ot_text.specs.Texts.{is_function}
 use Rattle.ot_forms.specs.Reading.{Reading, Got, next, mapped, kept, literal_at, operator_at}

@@ -1,7 +1,7 @@
 -- What plain trees of the code stand for.
-use Rattle.std.specs.Prelude.{ℕ, Bool, false, cond, List, [], ◌∷◌, ◌++◌, map, codes}
+use Rattle.std.specs.Prelude.{ℕ, Bool, false, cond, List, ◌++◌, map, codes}
 use Rattle.ot_plain.specs.Names.{Name}
-use Rattle.ot_plain.specs.Trees.{Ty, Tys, TyVar, TyOp, NoTys, MoreTys, Tm, Free, Con, Bound, App, Abs, Sequent}
+use Rattle.ot_plain.specs.Trees.{Ty, TyOp, NoTys, MoreTys, Tm, App, Sequent}
 use Rattle.ot_plain.specs.Naming.{names}
 use Rattle.ot_plain.specs.Hol.{same_ty, fun_ty, bool_ty}
 use Rattle.ot_plain.specs.PlainTrees.{term_of_tree}

@@ -8,7 +8,7 @@ use Rattle.ot_forms.specs.Meaning.{Around, meaning}
 use Rattle.ot_forms.specs.Reading.{Reading, Got, Halted, NoForm, next, mapped, literal_at, part_at}
 use Rattle.ot_forms.specs.Reading.{signs_at, variable_at, constant_at, type_at, term_at}
 use Rattle.ot_forms.specs.Reading.{further_terms_at, closed_term_at, binding_at, named_at, is_single}
-use Rattle.ot_parse.specs.Meant.{Meaning, place_at, wholly, raw, apply_of}
+use Rattle.ot_parse.specs.Meant.{Meaning, place_at, wholly, raw}
 use Rattle.ot_parse.specs.Meant.{abstracted, applied_of, is_relation, sides_of}
 
 -- what is open around a term, with places from the start of the text

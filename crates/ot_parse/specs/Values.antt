@@ -1,6 +1,6 @@
 -- What the code's values stand for, and what is kept of their types.
-use Rattle.std.specs.Prelude.{◌≡◌, ℕ, suc, max, min, Bool, true, false, cond, nat_le, List}
-use Rattle.std.specs.Prelude.{[], ◌∷◌, slice_get, Option, Some, None, Result, Ok, Err}
+use Rattle.std.specs.Prelude.{◌≡◌, ℕ, suc, max, min, Bool, false}
+use Rattle.std.specs.Prelude.{slice_get, Option, Some, None, Result, Ok, Err}
 use Rattle.ot_plain.specs.Names.{Name}
 use Rattle.ot_plain.specs.Naming.{names}
 use Rattle.ot_plain.specs.Trees.{Ty, Tm, App}

@@ -1,13 +1,11 @@
 -- The text of a line that keeps the limits.
 use Rattle.std.proofs.Common.{◌≡◌, ◌≢◌, ◌<◌, ◌≤◌, ◌-◌, ◌⊎◌, inl, inr, ℕ, suc, Bool, true, false, cond, List}
-use Rattle.std.proofs.Common.{[], ◌∷◌, ◌++◌, length, take, get_or, reverse, sym, ap, subst, ◌∙◌, refl, arith}
-use Rattle.std.specs.Prelude.{Option, Some, None}
+use Rattle.std.proofs.Common.{[], ◌∷◌, ◌++◌, length, take, get_or, reverse, sym, subst, ◌∙◌, arith}
+use Rattle.std.specs.Prelude.{Option, None}
 use Rattle.std.proofs.lemmas.Bool.Decides.{eqb_tells, leb_tells}
 use Rattle.std.proofs.lemmas.List.{reverse-append, length-reverse, length-take, get_or-take}
 use Rattle.ot_plain.specs.Lists.{IsMember}
-use Rattle.ot_plain.specs.Faults.{Fault}
-use Rattle.ot_plain.specs.Names.{Name}
-use Rattle.ot_lines.specs.Pieces.{IsOpenTo, without_last, is_blank, trim_front, trim_back, text_of}
+use Rattle.ot_lines.specs.Pieces.{without_last, is_blank, trim_front, text_of}
 use Rattle.ot_lines.proofs.Trimming.{length-without_last_le}
 use Rattle.ot_scan.specs.Lines.{limit_fault, IsLong, IsLineText}
 use Rattle.ot_scan.specs.Reading.{IsFirst}

@@ -1,5 +1,5 @@
 -- Lemmas on the table of terms.
-use Rattle.std.proofs.Common.{◌≡◌, ℕ, suc, ◌<◌, ◌≤◌, Bool, true, false, ◌&&◌, nat_eq, eqb-true}
+use Rattle.std.proofs.Common.{◌≡◌, ℕ, suc, ◌<◌, ◌≤◌, Bool, true, false, ◌&&◌, nat_eq}
 use Rattle.std.proofs.Common.{eq-eqb, true≢false, position, Option, None, is_some, List, [], ◌∷◌}
 use Rattle.std.proofs.Common.{◌++◌, length, slice_get, get_or, Some, refl, sym, ap, subst, ◌∙◌, arith}
 use Rattle.std.proofs.lemmas.List.{length-map}

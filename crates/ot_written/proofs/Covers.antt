@@ -6,7 +6,7 @@ use Rattle.ot_plain.specs.Lists.{IsMember}
 use Rattle.ot_trace.specs.Origins.{Origin, Origins, Number, Named, Make, Define}
 use Rattle.ot_trace.specs.Origins.{Outcome, NoOrigins, MoreOrigins, parts, parts_all}
 use Rattle.ot_written.specs.Written as w
-use Rattle.ot_written.specs.Written.{Line, Numeral, Spelled, Order, Text, theorem_count, symbol_count}
+use Rattle.ot_written.specs.Written.{Numeral, Spelled, Order, Text, theorem_count, symbol_count}
 use Rattle.ot_plain.specs.declared.command.Cmd.{Cmd}
 use Rattle.ot_plain.specs.declared.command.Cmd.TheVariants as words
 use Rattle.ot_written.proofs.Settled.{IsMark, EachOutcome, EachOutcomes}

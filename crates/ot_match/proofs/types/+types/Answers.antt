@@ -1,4 +1,4 @@
-use Rattle.std.proofs.Common.{◌≡◌, ◌∙◌, ap, refl, map, length, arith}
+use Rattle.std.proofs.Common.{◌∙◌, ap, refl, map, arith}
 use Rattle.std.proofs.lemmas.List.{length-map}
 use Rattle.ot_plain.specs.Naming.{names}
 use Rattle.ot_kernel.specs.State.{type_at}

@@ -1,6 +1,5 @@
 use Rattle.std.proofs.Common.{◌∙◌, sym, ap}
 use Rattle.ot_text.specs.Texts.{tm_text}
-use Rattle.ot_text.specs.Pages.{printed}
 use Rattle.ot_text.proofs.Putting.{then, same-text}
 use Rattle.ot_plain.specs.PlainTrees.{term_of_tree}
 use Rattle.ot_plain.proofs.PlainTrees as trees

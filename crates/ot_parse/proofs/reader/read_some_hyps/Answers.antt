@@ -1,9 +1,9 @@
-use Rattle.std.proofs.Common.{◌∙◌, ap, arith, map, Ok}
+use Rattle.std.proofs.Common.{ap, arith, map, Ok}
 use Rattle.ot_plain.specs.PlainTrees.{term_of_tree}
 use Rattle.ot_parse.specs.Values.{meant_of}
 use Rattle.ot_parse.specs.ReadLines.{kept_of}
 use Rattle.ot_parse.proofs.WholeLines.{far-start, far-halt, far-behind-halt, far-more}
-use Rattle.ot_parse.proofs.WholeLines.{far-end, separator-length, separator-shorter}
+use Rattle.ot_parse.proofs.WholeLines.{far-end, separator-shorter}
 use Rattle.ot_parse.proofs.reader.read_some_hyps.Goals as goal
 
 pub hyps-init : goal.hyps-init

@@ -1,5 +1,4 @@
-use Rattle.std.proofs.Common.{◌∙◌, ap, Ok, map}
-use Rattle.ot_plain.specs.PlainTrees.{term_of_tree}
+use Rattle.std.proofs.Common.{ap}
 use Rattle.ot_parse.specs.Values.{meant_of}
 use Rattle.ot_parse.specs.ReadLines.{kept_of, sequent_meant}
 use Rattle.ot_parse.proofs.WholeLines.{wrong-sequent}

@@ -1,4 +1,3 @@
-use Rattle.std.proofs.Common.{[], ◌∷◌}
 use Rattle.ot_parse.proofs.Gluing.{start, goes, ends, stops}
 use Rattle.ot_parse.proofs.spelling.read_name.Goals as goal
 

@@ -1,4 +1,3 @@
-use Rattle.std.proofs.Common.{subst, sym}
 use Rattle.ot_parse.specs.Values.{meant_of}
 use Rattle.ot_parse.proofs.TypeFronts.{not-equal}
 use Rattle.ot_parse.proofs.TermBacks.{nothing-further, argument-further, argument-halts, argument-whole, is-equal}

@@ -1,4 +1,4 @@
-use Rattle.std.proofs.Common.{◌∙◌, sym, subst, arith}
+use Rattle.std.proofs.Common.{◌∙◌, sym, subst}
 use Rattle.ot_parse.specs.Values.{meant_of}
 use Rattle.ot_parse.specs.TermCode.{IsBack}
 use Rattle.ot_parse.proofs.TermBacks.{nothing-behind, sign-goes, argument-in}

@@ -1,4 +1,4 @@
-use Rattle.std.proofs.Common.{◌≡◌, ◌∙◌, ◌∷◌, ◌-◌, sym, ap, subst, arith, length, take, Ok}
+use Rattle.std.proofs.Common.{◌∙◌, ◌-◌, sym, ap, subst, arith, length, take, Ok}
 use Rattle.std.proofs.lemmas.List.{take_all}
 use Rattle.ot_plain.specs.PlainTrees.{type_of_tree}
 use Rattle.ot_parse.specs.TermFrames.{around}

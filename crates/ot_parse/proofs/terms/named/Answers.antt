@@ -1,7 +1,4 @@
-use Rattle.std.proofs.Common.{◌∙◌, sym, ap, arith}
-use Rattle.ot_forms.specs.Reading.{first_part}
-use Rattle.ot_parse.specs.Meant.{bound_of}
-use Rattle.ot_parse.specs.Values.{Means}
+use Rattle.std.proofs.Common.{◌∙◌, sym}
 use Rattle.ot_parse.specs.TermFrames.{around}
 use Rattle.ot_parse.specs.TermCode.{frames_of}
 use Rattle.ot_parse.proofs.TermOpens.{no-word, no-word-space, free-inside, head-in}

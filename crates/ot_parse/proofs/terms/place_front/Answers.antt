@@ -1,5 +1,4 @@
-use Rattle.std.proofs.Common.{◌≡◌, ◌∙◌, sym, ap}
-use Rattle.ot_forms.specs.Reading.{Got, mapped, part_at}
+use Rattle.ot_forms.specs.Reading.{part_at}
 use Rattle.ot_parse.specs.Meant.{place_at, bound_of}
 use Rattle.ot_parse.specs.TermFrames.{around}
 use Rattle.ot_parse.specs.TermCode.{frames_of}

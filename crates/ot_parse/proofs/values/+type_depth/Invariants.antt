@@ -1,4 +1,4 @@
-use Rattle.std.proofs.Common.{◌≡◌, ◌+◌, map, take, min}
+use Rattle.std.proofs.Common.{◌≡◌, map, take, min}
 use Rattle.ot_plain.specs.Hol.{depth_all}
 use Rattle.ot_plain.specs.Naming.{names}
 use Rattle.ot_plain.specs.PlainTrees.{type_of_tree, tys_of}

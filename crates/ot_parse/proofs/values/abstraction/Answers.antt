@@ -1,4 +1,4 @@
-use Rattle.std.proofs.Common.{◌≡◌, ◌∷◌, sym, subst}
+use Rattle.std.proofs.Common.{◌∷◌, sym, subst}
 use Rattle.ot_plain.specs.PlainTrees.{type_of_tree}
 use Rattle.ot_parse.specs.Meant.{abstracted}
 use Rattle.ot_parse.specs.Values.{IsMeant, meant_of, IsMade}

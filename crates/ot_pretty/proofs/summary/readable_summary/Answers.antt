@@ -1,8 +1,7 @@
 use Rattle.std.specs.Prelude.{OnOk, Err}
-use Rattle.std.proofs.Common.{◌≡◌, ◌<◌, List, ℕ, length, map, subst}
+use Rattle.std.proofs.Common.{◌≡◌, ◌<◌, List, ℕ, length, subst}
 use Rattle.std.specs.List.{All}
 use Rattle.std.proofs.lemmas.Result.{on_ok_weaker}
-use Rattle.ot_kernel.specs.State.{theorem_at}
 use Rattle.ot_text.specs.Pages.{Appended}
 use Rattle.ot_text.specs.declared.fault.PrintFault.TheVariants.{TooLarge}
 use Rattle.ot_pretty.specs.Back.{ReadsBackAs}

@@ -1,4 +1,4 @@
-use Rattle.std.proofs.Common.{◌≡◌, length, take, sym, ap, subst, arith}
+use Rattle.std.proofs.Common.{◌≡◌, take, sym, subst, arith}
 use Rattle.std.proofs.lemmas.List.{take_all}
 use Rattle.ot_subst.specs.Clash.{CollectsFrees}
 use Rattle.ot_subst.proofs.Frees.{collects-more, take-slice_get}

@@ -5,7 +5,7 @@ use Rattle.ot_trace.specs.Reach.{MarksReached}
 use Rattle.ot_trace.specs.Trace.{origin_at}
 use Rattle.ot_written.specs.Needed.{needed_definitions}
 use Rattle.ot_plain.specs.Lists.{IsPart}
-use Rattle.ot_write.specs.Emitting.{root_steps, same, taken}
+use Rattle.ot_write.specs.Emitting.{root_steps, same}
 use Rattle.ot_write.proofs.ByCounts.{all-in, in-all, roots-in, roots-are}
 use Rattle.ot_write.proofs.Marking.{taken-needed}
 use Rattle.ot_written.specs.Written.{roots_of}

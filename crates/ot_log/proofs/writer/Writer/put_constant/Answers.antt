@@ -4,7 +4,7 @@ use Rattle.ot_plain.proofs.TableLemmas.{Extends-trans}
 use Rattle.ot_plain.specs.declared.command.Cmd.TheVariants as words
 use Rattle.ot_nodes.specs.Items.{name_at, term_at}
 use Rattle.ot_nodes.proofs.TypingLemmas.{typings-grown}
-use Rattle.ot_trace.specs.Origins.{Define, NoOrigins, MoreOrigins}
+use Rattle.ot_trace.specs.Origins.{NoOrigins, MoreOrigins}
 use Rattle.ot_machine.specs.Meaning.{origin_of}
 use Rattle.ot_machine.specs.Objects.{name, term}
 use Rattle.ot_values.specs.Steps.{origins_of}

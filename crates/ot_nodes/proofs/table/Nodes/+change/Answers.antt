@@ -1,8 +1,7 @@
-use Rattle.std.proofs.Common.{◌≡◌, ◌∙◌, Some, refl, sym, ap, subst}
+use Rattle.std.proofs.Common.{◌∙◌, Some, sym, ap, subst}
 use Rattle.std.proofs.lemmas.Result.{IfOk-weaker}
-use Rattle.ot_plain.proofs.TableLemmas.{Extends-trans}
 use Rattle.ot_nodes.specs.Items.{TermItem, IsTerm, term_at}
-use Rattle.ot_nodes.specs.Changing.{changed, changing, inner_of}
+use Rattle.ot_nodes.specs.Changing.{changed, changing}
 use Rattle.ot_nodes.specs.Table.{term_tree, HasTermParts}
 use Rattle.ot_nodes.proofs.ItemLemmas.{has-type, has-term, term-stays, still-term}
 use Rattle.ot_nodes.proofs.MapLemmas.{still-change, changing-stays, changed-insert, done-now}

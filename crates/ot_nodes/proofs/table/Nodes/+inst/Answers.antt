@@ -1,6 +1,5 @@
-use Rattle.std.specs.Map.{lookup}
 use Rattle.std.proofs.Common.{◌≡◌, ◌∙◌, ◌<◌, ◌+◌, ◌∷◌, [], ◌++◌, take, length}
-use Rattle.std.proofs.Common.{get_or, Some, sym, ap, subst, arith, add-one}
+use Rattle.std.proofs.Common.{Some, sym, ap, subst, arith, add-one}
 use Rattle.std.proofs.Math.Seq.{take-suc}
 use Rattle.std.proofs.lemmas.Result.{IfOk-weaker}
 use Rattle.ot_plain.specs.Naming.{names}
@@ -8,7 +7,7 @@ use Rattle.ot_plain.specs.Trees.{TyOp}
 use Rattle.ot_plain.specs.Hol.{inst}
 use Rattle.ot_plain.proofs.TableLemmas.{Extends-trans}
 use Rattle.ot_nodes.specs.Items.{TypeItem, IsType, name_at, type_at, types_at}
-use Rattle.ot_nodes.specs.Changing.{type_map, AreInstances, HasInstances}
+use Rattle.ot_nodes.specs.Changing.{type_map, HasInstances}
 use Rattle.ot_nodes.specs.Table.{type_tree, HasTypeParts}
 use Rattle.ot_nodes.proofs.ItemLemmas.{name-stays, type-stays, still-type, still-types}
 use Rattle.ot_nodes.proofs.MapLemmas.{type_map-stays, still-types_of, instances-insert, instances-now}

@@ -1,4 +1,4 @@
-use Rattle.std.proofs.Common.{◌≡◌, ◌+◌, ◌*◌, take}
+use Rattle.std.proofs.Common.{◌+◌, ◌*◌, take}
 use Rattle.std.specs.List.{All}
 use Rattle.ot_plain.specs.Table.{Extends}
 use Rattle.ot_nodes.specs.Items.{HasType}

@@ -1,9 +1,9 @@
-use Rattle.std.proofs.Common.{◌≡◌, ◌∙◌, ◌∷◌, List, Some, refl, sym, ap, subst}
+use Rattle.std.proofs.Common.{◌∙◌, ◌∷◌, List, refl, sym, ap, subst}
 use Rattle.std.specs.List.{All}
 use Rattle.std.proofs.lemmas.Result.{IfOk-weaker}
 use Rattle.ot_plain.specs.Names.{Name}
 use Rattle.ot_plain.specs.Trees.{Ty, Abs}
-use Rattle.ot_nodes.specs.Items.{HasType, type_at, term_at}
+use Rattle.ot_nodes.specs.Items.{HasType, term_at}
 use Rattle.ot_nodes.specs.Table.{term_tree, HasTermParts}
 use Rattle.ot_nodes.specs.Typing.{binders_at, IsTyping}
 use Rattle.ot_nodes.proofs.ItemLemmas.{type-stays, term-stays, still-term, still-types}

@@ -2,7 +2,7 @@ use Rattle.std.proofs.Common.{◌∷◌, subst}
 use Rattle.ot_nodes.specs.Items.{type_at}
 use Rattle.ot_nodes.specs.Typing.{IsTyping}
 use Rattle.ot_nodes.proofs.ItemLemmas.{has-type}
-use Rattle.ot_nodes.proofs.TypingLemmas.{typing-abstraction, typing-no_abstraction}
+use Rattle.ot_nodes.proofs.TypingLemmas.{typing-abstraction}
 use Rattle.ot_nodes.proofs.table.Nodes.abstracted.Goals as goal
 
 pub fun-requires-clause-to : goal.fun-requires-clause-to

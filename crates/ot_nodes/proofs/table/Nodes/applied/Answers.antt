@@ -1,8 +1,6 @@
-use Rattle.std.proofs.Common.{◌≡◌, ◌∙◌, ◌∷◌, nat_eq, true≢false, eq-eqb, eqb-true, Some, refl, sym, ap, subst}
-use Rattle.ot_nodes.specs.Items.{type_at}
-use Rattle.ot_nodes.specs.Typing.{IsTyping, IsTyped}
-use Rattle.ot_nodes.proofs.TypingLemmas.{typing-application, typing-other, typing-no_function}
-use Rattle.ot_nodes.proofs.TypingLemmas.{typing-none_left, typing-none_right}
+use Rattle.std.proofs.Common.{subst}
+use Rattle.ot_nodes.specs.Typing.{IsTyping}
+use Rattle.ot_nodes.proofs.TypingLemmas.{typing-none_left}
 use Rattle.ot_nodes.proofs.table.Nodes.applied.Goals as goal
 
 pub returns-in-Some : goal.returns-in-Some

@@ -1,10 +1,10 @@
-use Rattle.std.proofs.Common.{◌≡◌, ◌∙◌, Some, refl, sym, ap, subst}
+use Rattle.std.proofs.Common.{◌∙◌, Some, refl, sym, ap, subst}
 use Rattle.std.proofs.lemmas.Result.{IfOk-weaker}
 use Rattle.ot_nodes.specs.Items.{TermItem}
-use Rattle.ot_nodes.specs.Changing.{type_map, term_map, changing, AreInstances, HasChange, IsDone}
+use Rattle.ot_nodes.specs.Changing.{changing, HasChange}
 use Rattle.ot_nodes.specs.declared.table.change.Done.{Done}
 use Rattle.ot_nodes.proofs.ItemLemmas.{has-type, still-name}
-use Rattle.ot_nodes.proofs.MapLemmas.{type_map-stays, still-change, changing-stays, done-now}
+use Rattle.ot_nodes.proofs.MapLemmas.{still-change, done-now}
 use Rattle.ot_nodes.proofs.ChangeLemmas.{closed-variable, other-variable, put-variable, free-variable, done-retyped}
 use Rattle.ot_nodes.proofs.table.Nodes.change_free.Goals as goal
 use Rattle.ot_plain.proofs.Results.{on_ok}

@@ -1,4 +1,4 @@
-use Rattle.std.proofs.Common.{sym, subst, refl, take}
+use Rattle.std.proofs.Common.{sym, subst, take}
 use Rattle.ot_nodes.specs.Items.{term_at}
 use Rattle.ot_nodes.specs.Typing.{binders_at, IsCut}
 use Rattle.ot_nodes.proofs.TypingLemmas.{cut-taken}

@@ -1,4 +1,4 @@
-use Rattle.std.proofs.Common.{IsTrue, ◌<◌, length, ap, subst, sym, arith}
+use Rattle.std.proofs.Common.{IsTrue, length, ap, subst, sym, arith}
 use Rattle.std.specs.Prelude.{◌↔◌}
 use Rattle.ot_nodes.specs.Items.{HasName}
 use Rattle.ot_nodes.specs.Below.{is_name_node}

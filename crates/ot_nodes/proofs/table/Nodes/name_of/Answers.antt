@@ -1,5 +1,4 @@
 use Rattle.ot_nodes.proofs.ItemLemmas.{name-within}
-use Rattle.ot_nodes.proofs.NodeLemmas.{entry-name, name-no-type, name-no-term}
 use Rattle.ot_nodes.proofs.table.Nodes.name_of.Goals as goal
 
 pub entry-requires : goal.entry-requires

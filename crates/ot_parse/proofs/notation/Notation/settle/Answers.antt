@@ -1,6 +1,6 @@
-use Rattle.std.specs.Prelude.{IfOk, Some, None}
-use Rattle.std.proofs.Common.{◌≡◌, ◌∙◌, [], sym, ap, subst, arith, map}
-use Rattle.ot_forms.specs.Reading.{with_base, settled}
+use Rattle.std.specs.Prelude.{IfOk}
+use Rattle.std.proofs.Common.{◌≡◌, ◌∙◌, [], sym, ap, subst, map}
+use Rattle.ot_forms.specs.Reading.{with_base}
 use Rattle.ot_parse.specs.Symbols.{symbol_of}
 use Rattle.ot_parse.proofs.Lookups.{one-item, single-settled, single-kept}
 use Rattle.ot_parse.proofs.notation.Notation.settle.Goals as goal

@@ -1,4 +1,4 @@
-use Rattle.std.proofs.Common.{◌∙◌, sym, ap, arith, length}
+use Rattle.std.proofs.Common.{sym, ap, arith, length}
 use Rattle.ot_parse.specs.Symbols.{symbol_of}
 use Rattle.ot_parse.proofs.Lookups.{several-taken}
 use Rattle.ot_parse.proofs.notation.Notation.takes.Goals as goal

@@ -1,13 +1,12 @@
-use Rattle.std.proofs.Common.{◌≡◌, ◌<◌, ◌∙◌, Err, Some, List, ℕ, length, ap, subst, sym, arith}
+use Rattle.std.proofs.Common.{◌<◌, ◌∙◌, Err, Some, ap, subst, sym, arith}
 use Rattle.std.specs.List.{All}
-use Rattle.ot_plain.specs.Trees.{TyOp}
-use Rattle.ot_plain.specs.Hol.{depth_ty, depth_limit, inst}
+use Rattle.ot_plain.specs.Hol.{depth_ty, depth_limit}
 use Rattle.ot_plain.specs.Naming.{numbers}
 use Rattle.ot_plain.proofs.Results.{same_Err}
 use Rattle.ot_plain.proofs.TableLemmas.{Extends-trans}
 use Rattle.ot_plain.proofs.Members.{All-at_member}
 use Rattle.ot_type.specs.Instance.{IsMemo}
-use Rattle.ot_type.specs.TypeTable.{type_at, types_at, images, ArgsBelow}
+use Rattle.ot_type.specs.TypeTable.{images, ArgsBelow}
 use Rattle.ot_type.proofs.SubtypeLemmas.{above-le}
 use Rattle.ot_type.proofs.TypeTableLemmas.{node_op}
 use Rattle.ot_type.proofs.InstLemmas.{ground_put, instance_var, name_within, results_below, instance_op, IsMemo-Extends}

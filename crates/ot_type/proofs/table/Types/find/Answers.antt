@@ -1,4 +1,4 @@
-use Rattle.std.proofs.Common.{rules, sym, subst}
+use Rattle.std.proofs.Common.{sym, subst}
 use Rattle.ot_plain.specs.Interned.{IsSound}
 use Rattle.ot_plain.proofs.InternedLemmas.{found}
 use Rattle.ot_type.specs.TypeTable.{tree_of, ArgsBelow, IsBeside}
