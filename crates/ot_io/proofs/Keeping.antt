@@ -2,7 +2,7 @@
 use Rattle.std.proofs.Common.{◌∙◌, ℕ, List, arith}
 use Rattle.std.specs.Prelude.{Option}
 use Rattle.ot_io.specs.Folder.{Folder}
-use Rattle.ot_io.specs.Keeping.{KeepsSource}
+use Rattle.ot_io.specs.Keeping.{KeepsSource, KeepsFiles}
 
 pub KeepsSource-then : {S : Type 0} {folder : S → Option Folder} {faults misses : S → ℕ}
     {at : S → Option (List ℕ)} {old mid new : S} → KeepsSource folder faults misses at old mid
@@ -12,4 +12,23 @@ KeepsSource-then a b = record {
   same_misses = b.same_misses ∙ a.same_misses;
   same_at = b.same_at ∙ a.same_at;
   later = omega (arith, a.later, b.later);
+}
+
+pub KeepsFiles-then : {F : Type 0} {folder : F → Option Folder} {faults misses : F → ℕ} {old mid new : F}
+    → KeepsFiles folder faults misses old mid → KeepsFiles folder faults misses mid new
+    → KeepsFiles folder faults misses old new
+KeepsFiles-then a b = record {
+  same_folder = b.same_folder ∙ a.same_folder;
+  later = omega (arith, a.later, b.later);
+  later_misses = omega (arith, a.later_misses, b.later_misses);
+}
+
+-- a folder of files is a source too
+pub KeepsSource-files : {F : Type 0} {folder : F → Option Folder} {faults misses : F → ℕ}
+    {at : F → Option (List ℕ)} {old new : F} → KeepsSource folder faults misses at old new
+    → KeepsFiles folder faults misses old new
+KeepsSource-files k = record {
+  same_folder = k.same_folder;
+  later = k.later;
+  later_misses = omega (arith, k.same_misses);
 }

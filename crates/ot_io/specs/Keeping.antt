@@ -1,4 +1,4 @@
--- What reading leaves of a source.
+-- What reading leaves of a source, and of a folder of files.
 use Rattle.std.specs.Prelude.{◌≡◌, ◌≤◌, ℕ, List, Option}
 use Rattle.ot_io.specs.Folder.{Folder}
 
@@ -9,3 +9,9 @@ pub record KeepsSource {S : Type 0} (folder : S → Option Folder) (faults misse
   pub same_misses : misses new ≡ misses old
   pub same_at : at new ≡ at old
   pub later : faults old ≤ faults new
+
+-- the folder stays, and neither the count of failures nor that of missing files ever falls
+pub record KeepsFiles {F : Type 0} (folder : F → Option Folder) (faults misses : F → ℕ) (old new : F) : Type 0 where
+  pub same_folder : folder new ≡ folder old
+  pub later : faults old ≤ faults new
+  pub later_misses : misses old ≤ misses new

@@ -1,7 +1,8 @@
-ghost use Rattle.std.specs.Prelude.{◌≡◌, ◌≤◌, [], Some, IfOk, IfErr, IfSome};
+ghost use Rattle.std.specs.Prelude.{◌≡◌, [], Some, IfOk, IfErr, IfSome};
 ghost use Rattle.std.specs.List.{list_any, filter};
 ghost use Rattle.std.specs.String.{string_bytes};
 ghost use Rattle.ot_io.specs.Folder.{Folder};
+ghost use Rattle.ot_io.specs.Keeping.{KeepsFiles};
 ghost use Rattle.ot_theory.specs.Answers.{tag_of, tags_of};
 ghost use Rattle.ot_repo.specs.Required.{required, required_over, is_requirement, index_path};
 ghost use Rattle.ot_repo.specs.Laws.{IsWalked};
@@ -47,9 +48,7 @@ pub fn required<F: Files>(
     ensures full { IfOk result (λ names. ArePackages (names_of names)) }
     ensures cause { IfErr result (λ e. HasCause e (F.misses files.old) (F.misses files.new)
         (F.faults files.old) (F.faults files.new) (F.at files.new)) }
-    ensures later { (F.faults files.old ≤ F.faults files.new)
-        × (F.misses files.old ≤ F.misses files.new) }
-    ensures folder { F.folder files.new ≡ F.folder files.old }
+    ensures kept { KeepsFiles F.folder F.faults F.misses files.old files.new }
     ensures closed { F.left files.new ≡ Some [] }
     ensures failure { IfSome (F.folder files.old) (λ folder.
         IfErr result (FailsAt (IsWalked folder limits.now.theory_bytes packages.now theory_path.now))) }
@@ -75,9 +74,7 @@ fn required_by<F: Files>(
     ensures full { IfOk result (λ names. ArePackages (names_of names)) }
     ensures cause { IfErr result (λ e. HasCause e (F.misses files.old) (F.misses files.new)
         (F.faults files.old) (F.faults files.new) (F.at files.new)) }
-    ensures later { (F.faults files.old ≤ F.faults files.new)
-        × (F.misses files.old ≤ F.misses files.new) }
-    ensures folder { F.folder files.new ≡ F.folder files.old }
+    ensures kept { KeepsFiles F.folder F.faults F.misses files.old files.new }
     ensures failure { (folder : Folder) → F.folder files.old ≡ Some folder → IfErr result
         (FailsAt (IsWalked folder setting.entry.max_bytes setting.entry.packages.now path.now)) }
 {
@@ -109,9 +106,7 @@ fn required_over<F: Files>(
     ensures full { IfOk result (λ names. ArePackages (names_of names)) }
     ensures cause { IfErr result (λ e. HasCause e (F.misses files.old) (F.misses files.new)
         (F.faults files.old) (F.faults files.new) (F.at files.new)) }
-    ensures later { (F.faults files.old ≤ F.faults files.new)
-        × (F.misses files.old ≤ F.misses files.new) }
-    ensures folder { F.folder files.new ≡ F.folder files.old }
+    ensures kept { KeepsFiles F.folder F.faults F.misses files.old files.new }
     ensures failure { (folder : Folder) → F.folder files.old ≡ Some folder → IfErr result
         (FailsAt (IsTagFile folder setting.entry.max_bytes setting.entry.packages.now
         (filter is_requirement (tags_of tags.now)))) }

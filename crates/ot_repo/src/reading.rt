@@ -1,6 +1,7 @@
 // The files that are read.
-ghost use Rattle.std.specs.Prelude.{◌≡◌, ◌≤◌, List, Some, IfErr};
+ghost use Rattle.std.specs.Prelude.{◌≡◌, List, Some, IfErr};
 ghost use Rattle.ot_io.specs.Folder.{Folder};
+ghost use Rattle.ot_io.specs.Keeping.{KeepsFiles};
 ghost use Rattle.ot_theory.specs.Theory.{theory};
 ghost use Rattle.ot_theory.specs.Answers.{theory_of};
 ghost use Rattle.ot_repo.specs.Required.{TheoryTooLarge, IndexTooLarge, text_at, in_file, index_limit};
@@ -28,9 +29,7 @@ pub(crate) fn theory_text<F: Files>(
         (text_at folder max_bytes (TheoryTooLarge path.now) path.now) }
     ensures cause { IfErr result (λ e. HasCause e (F.misses files.old) (F.misses files.new)
         (F.faults files.old) (F.faults files.new) (F.at files.new)) }
-    ensures later { (F.faults files.old ≤ F.faults files.new)
-        × (F.misses files.old ≤ F.misses files.new) }
-    ensures folder { F.folder files.new ≡ F.folder files.old }
+    ensures kept { KeepsFiles F.folder F.faults F.misses files.old files.new }
     ensures failure { IfErr result (FailsAt (λ failed. failed ≡ path.now)) }
 {
     match file_text(alloc, files, path, max_bytes)? {
@@ -53,9 +52,7 @@ pub(crate) fn index_text<F: Files>(
         (text_at folder index_limit (IndexTooLarge path.now) path.now) }
     ensures cause { IfErr result (λ e. HasCause e (F.misses files.old) (F.misses files.new)
         (F.faults files.old) (F.faults files.new) (F.at files.new)) }
-    ensures later { (F.faults files.old ≤ F.faults files.new)
-        × (F.misses files.old ≤ F.misses files.new) }
-    ensures folder { F.folder files.new ≡ F.folder files.old }
+    ensures kept { KeepsFiles F.folder F.faults F.misses files.old files.new }
     ensures failure { IfErr result (FailsAt (λ failed. failed ≡ path.now)) }
 {
     match file_text(alloc, files, path, INDEX_LIMIT)? {
@@ -78,9 +75,7 @@ fn file_text<F: Files>(
         Gives (option_map (λ text. text.items)) result (sized_at folder max_bytes path.now) }
     ensures cause { IfErr result (λ e. HasCause e (F.misses files.old) (F.misses files.new)
         (F.faults files.old) (F.faults files.new) (F.at files.new)) }
-    ensures later { (F.faults files.old ≤ F.faults files.new)
-        × (F.misses files.old ≤ F.misses files.new) }
-    ensures folder { F.folder files.new ≡ F.folder files.old }
+    ensures kept { KeepsFiles F.folder F.faults F.misses files.old files.new }
     ensures failure { IfErr result (FailsAt (λ failed. failed ≡ path.now)) }
 {
     match files.open_file(path) {

@@ -1,8 +1,9 @@
 // The tags of a theory file that name packages.
-ghost use Rattle.std.specs.Prelude.{◌≡◌, ◌≤◌, ℕ, List, Some, true, map, codes, reverse, IfOk, IfErr, string_bytes};
+ghost use Rattle.std.specs.Prelude.{◌≡◌, ℕ, List, Some, true, map, codes, reverse, IfOk, IfErr, string_bytes};
 ghost use Rattle.std.specs.List.{filter};
 ghost use Rattle.std.specs.Str.{bytes_eq};
 ghost use Rattle.ot_io.specs.Folder.{Folder};
+ghost use Rattle.ot_io.specs.Keeping.{KeepsFiles};
 ghost use Rattle.ot_theory.specs.Answers.{tag_of, tags_of};
 ghost use Rattle.ot_blocks.specs.Paths.{is_package, package_path};
 ghost use Rattle.ot_plain.specs.Lists.{IsMember};
@@ -93,9 +94,7 @@ pub(crate) fn package_file<'a, F: Files>(
     ensures listed { IfOk result (λ file. AreListed (listed_in index.now) file.left.items) }
     ensures cause { IfErr result (λ e. HasCause e (F.misses files.old) (F.misses files.new)
         (F.faults files.old) (F.faults files.new) (F.at files.new)) }
-    ensures later { (F.faults files.old ≤ F.faults files.new)
-        × (F.misses files.old ≤ F.misses files.new) }
-    ensures folder { F.folder files.new ≡ F.folder files.old }
+    ensures kept { KeepsFiles F.folder F.faults F.misses files.old files.new }
     ensures failure { IfErr result (FailsAt (λ failed. failed ≡ package_path setting.entry.packages.now full.now)) }
 {
     let alloc = setting.alloc;

@@ -1,9 +1,10 @@
 // The walk over required packages.
-ghost use Rattle.std.specs.Prelude.{◌≡◌, ◌≤◌, ℕ, List, Some, length, IfOk, IfErr, IfSome};
+ghost use Rattle.std.specs.Prelude.{◌≡◌, ℕ, List, Some, length, IfOk, IfErr, IfSome};
 ghost use Rattle.std.specs.Option.{option_map};
 ghost use Rattle.std.specs.Str.{bytes_eq};
 ghost use Rattle.std.specs.String.{string_bytes};
 ghost use Rattle.ot_io.specs.Folder.{Folder};
+ghost use Rattle.ot_io.specs.Keeping.{KeepsFiles};
 ghost use Rattle.ot_repo.specs.Walk.{walk_from};
 ghost use Rattle.ot_repo.specs.Required.{edges_of, walked};
 ghost use Rattle.ot_repo.specs.Answers.{ArePackages, FailsAt, Gives, names_of, HasCause, IsInside};
@@ -49,9 +50,7 @@ pub(crate) fn walk<'a, F: Files>(
     ensures full { IfOk result (λ names. ArePackages (names_of names)) }
     ensures cause { IfErr result (λ e. HasCause e (F.misses files.old) (F.misses files.new)
         (F.faults files.old) (F.faults files.new) (F.at files.new)) }
-    ensures later { (F.faults files.old ≤ F.faults files.new)
-        × (F.misses files.old ≤ F.misses files.new) }
-    ensures folder { F.folder files.new ≡ F.folder files.old }
+    ensures kept { KeepsFiles F.folder F.faults F.misses files.old files.new }
     ensures failure { (folder : Folder) → F.folder files.old ≡ Some folder → IfErr result (FailsAt (IsReachedFile
         (edges_of folder setting.entry.max_bytes setting.entry.packages.now (listed_in index.now))
         (edges_left first.entry) setting.entry.packages.now)) }

@@ -15,7 +15,7 @@ returns-then-has_requirement-clause-required g c = λ folder told.
     let parsed = rw c.deref.ensures.value at c.in_ok-theory.ensures.theory in
     let some = rw c.deref-2.ensures.value at c.if-has_requirement.ensures in
     let over = rw c.deref-then-has_requirement.ensures.value at
-    (c.required_over.ensures.required folder (c.in_ok-text.ensures.folder ∙ told)) in
+    (c.required_over.ensures.required folder (c.in_ok-text.ensures.kept.same_folder ∙ told)) in
     subst (Gives names_of c.required_over.result)
     (with_tags folder c.args.setting.max_bytes c.args.setting.packages.now c.args.path.now c.in_ok-text.text.items
     c.in_ok-theory.theory (c.in_ok-text.ensures.text folder told) parsed (sym some))
@@ -53,7 +53,7 @@ returns-then-has_requirement-clause-failure g c = λ folder told.
     let parsed = rw c.deref.ensures.value at c.in_ok-theory.ensures.theory in
     let some = rw c.deref-2.ensures.value at c.if-has_requirement.ensures in
     let over = rw c.deref-then-has_requirement.ensures.value at
-    (c.required_over.ensures.failure folder (c.in_ok-text.ensures.folder ∙ told)) in
+    (c.required_over.ensures.failure folder (c.in_ok-text.ensures.kept.same_folder ∙ told)) in
     if_fails (IsTagFile folder max packages (filter is_requirement (tags_of theory.tags.items)))
     (IsWalked folder max packages path) c.required_over.result
     (walked_file folder max packages path c.in_ok-text.text.items theory (c.in_ok-text.ensures.text folder told)

@@ -40,4 +40,4 @@ returns-clause-failure g c = λ folder told.
     if_fails (IsReachedFile (edges_of folder max packages listed) (edges_left first) packages)
     (IsTagFile folder max packages tags) c.walk.result
     (reached_file folder max packages listed path tags (edges_left first) (c.in_ok-left.ensures.edges path) index)
-    (c.walk.ensures.failure folder (c.in_ok-text.ensures.folder ∙ told))
+    (c.walk.ensures.failure folder (c.in_ok-text.ensures.kept.same_folder ∙ told))

@@ -5,6 +5,7 @@ use Rattle.std.proofs.lemmas.Grind.{common_steps}
 use Rattle.std.proofs.lemmas.List.{map-append}
 use Rattle.std.proofs.lemmas.Result.{err_from_is_err_and}
 use Rattle.ot_plain.specs.Lists.{IsMember}
+use Rattle.ot_io.proofs.Keeping.{KeepsFiles-then}
 use Rattle.ot_repo.specs.Walk.{walk_from}
 use Rattle.ot_repo.specs.Required.{edges_of, walked}
 use Rattle.ot_repo.specs.Answers.{ArePackages, names_of}
@@ -36,9 +37,7 @@ walk-init g c =
           };
       full = λ full m. absurd m;
       reached = λ folder told. record { here = λ e m. inl m; below = λ w m. absurd m };
-      folder = refl;
-      later_faults = omega arith;
-      later_misses = omega arith;
+      kept = record { same_folder = refl; later = omega arith; later_misses = omega arith };
     })
 
 pub returns-in_err-full-in-Some-clause-order : goal.returns-in_err-full-in-Some-clause-order
@@ -88,7 +87,7 @@ returns-in_err-above-in-Some-clause-order g c = λ folder told.
     (λ fault are. rests_stopped edges whole marked (reverse c.walk.below.items) c.walk.file left
     (names_of c.walk.done) c.walk.invariant.so_far.marks edge cut deep full.now next
     (c.walk.invariant.rests folder told) fault are)
-    (c.in_err-above-in-Some.ensures.edges folder (c.walk.invariant.folder ∙ told)))
+    (c.in_err-above-in-Some.ensures.edges folder (c.walk.invariant.kept.same_folder ∙ told)))
 
 pub walk-smaller-in-Some-2 : goal.walk-smaller-in-Some-2
 walk-smaller-in-Some-2 g c =
@@ -134,17 +133,15 @@ walk-preserved-in-Some-2 g c =
           (walk_ends folder c.args.setting.max_bytes c.args.setting.packages.now listed c.args.first c.requires.first)
           full.now next
           (c.walk.invariant.rests folder told) (record { file = left; full = full }) above refl
-          (c.in_ok-above-in-Some.ensures.edges folder (c.walk.invariant.folder ∙ told));
+          (c.in_ok-above-in-Some.ensures.edges folder (c.walk.invariant.kept.same_folder ∙ told));
       full = c.walk.invariant.full;
       reached = λ folder told.
           reached_opened (edges_of folder c.args.setting.max_bytes c.args.setting.packages.now listed)
           (edges_left c.args.first) marked (reverse c.walk.below.items)
           c.walk.file above (record { file = left; full = full }) edge full.now cut next
-          (c.in_ok-above-in-Some.ensures.edges folder (c.walk.invariant.folder ∙ told))
+          (c.in_ok-above-in-Some.ensures.edges folder (c.walk.invariant.kept.same_folder ∙ told))
           (c.walk.invariant.reached folder told);
-      folder = c.in_ok-above-in-Some.ensures.folder ∙ c.walk.invariant.folder;
-      later_faults = omega (arith, c.in_ok-above-in-Some.ensures.later.0, c.walk.invariant.later_faults);
-      later_misses = omega (arith, c.in_ok-above-in-Some.ensures.later.1, c.walk.invariant.later_misses);
+      kept = KeepsFiles-then c.walk.invariant.kept c.in_ok-above-in-Some.ensures.kept;
     })
 
 pub walk-preserved-in_default : goal.walk-preserved-in_default
@@ -170,9 +167,7 @@ walk-preserved-in_default g c =
           reached_left (edges_of folder c.args.setting.max_bytes c.args.setting.packages.now listed)
           (edges_left c.args.first) (reverse c.walk.below.items) c.walk.file left edge cut
           (c.walk.invariant.reached folder told);
-      folder = c.walk.invariant.folder;
-      later_faults = c.walk.invariant.later_faults;
-      later_misses = c.walk.invariant.later_misses;
+      kept = c.walk.invariant.kept;
     }
 
 pub name_text-requires : goal.name_text-requires
@@ -225,9 +220,7 @@ walk-preserved g c =
           reached_finished edges (edges_left c.args.first) below c.walk.file w
           (subst (λ ws. ReachedSoFar edges (edges_left c.args.first) ws c.walk.file) stack
           (c.walk.invariant.reached folder told));
-      folder = c.walk.invariant.folder;
-      later_faults = c.walk.invariant.later_faults;
-      later_misses = c.walk.invariant.later_misses;
+      kept = c.walk.invariant.kept;
     }
 
 pub returns-in_err-full-in-Some-clause-failure : goal.returns-in_err-full-in-Some-clause-failure

@@ -1,6 +1,7 @@
-use Rattle.std.proofs.Common.{◌≡◌, ◌≤◌, Some, reverse, length}
+use Rattle.std.proofs.Common.{◌≡◌, Some, reverse, length}
 use Rattle.std.specs.Str.{bytes_eq}
 use Rattle.ot_io.specs.Folder.{Folder}
+use Rattle.ot_io.specs.Keeping.{KeepsFiles}
 use Rattle.ot_repo.specs.Walk.{walk_from}
 use Rattle.ot_repo.specs.Required.{edges_of}
 use Rattle.ot_repo.specs.Answers.{ArePackages, names_of}
@@ -21,9 +22,7 @@ invariant-walk g l = record {
   reached : (folder : Folder) → g.F.Source.folder l.fn.files ≡ Some folder → ReachedSoFar
       (edges_of folder l.setting.max_bytes l.setting.packages.now (listed_in l.index)) (edges_left l.fn.first)
       (reverse l.below.items) l.file;
-  folder : g.F.Source.folder l.files ≡ g.F.Source.folder l.fn.files;
-  later_faults : g.F.Source.faults l.fn.files ≤ g.F.Source.faults l.files;
-  later_misses : g.F.Source.misses l.fn.files ≤ g.F.Source.misses l.files;
+  kept : KeepsFiles g.F.Source.folder g.F.Source.faults g.F.Source.misses l.fn.files l.files;
 }
 
 abbrev pub decreases-walk : goal.decreases-walk
