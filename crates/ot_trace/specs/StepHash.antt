@@ -9,16 +9,16 @@ use Rattle.std.proofs.lemmas.Slice.Eq.{bytes_eq-Decides}
 use Rattle.ot_plain.specs.contracts.command.CmdPartialEq.TheImpl as words_test
 use Rattle.ot_plain.specs.contracts.command.CmdHash.TheImpl as words_hash
 use Rattle.ot_plain.specs.contracts.command.CmdHash.TheImpl.Laws.{respects_eq-law}
-use Rattle.ot_trace.specs.OperandHash.{same_operands, operand_writes}
+use Rattle.ot_trace.specs.OperandHash.{same_operands, operand_writes, operand_writes-alike}
 use Rattle.ot_trace.specs.declared.step.Step.{Step}
 use Rattle.ot_trace.specs.declared.step.Step.TheVariants.{Number, Name, Make, Define, Outcome}
 use Rattle.ot_trace.specs.contracts.step.StepPartialEq.TheImpl as derived
 
--- no writes of two kinds of step agree
+-- what a word makes is told by its operands, since few words take the same ones; another step by its kind too
 abbrev pub step_writes : Step → HashWrites
 step_writes (Number k) = fed.u8 0 ++ fed.i64 k
 step_writes (Name n) = fed.u8 1 ++ fed.u32 n
-step_writes (Make w ops) = words_hash.ghosts.hash_input w ++ operand_writes ops
+step_writes (Make w ops) = operand_writes ops
 step_writes (Define w ops syms) = fed.u8 2 ++ (words_hash.ghosts.hash_input w ++ operand_writes ops.value.items)
 step_writes (Outcome j d) = fed.u8 3 ++ (fed.u8 j ++ fed.u32 d)
 
@@ -33,9 +33,7 @@ step_writes-alike (Number j) (Number k) p = ap (λ k. step_writes (Number k)) ((
 step_writes-alike (Name m) (Name n) p = ap (λ n. step_writes (Name n)) (eqb-true m n p)
 step_writes-alike (Make v xs) (Make w ys) p =
     let q = parts (words_test.ghosts.eq v w) (same_operands xs ys) p in
-    let word = respects_eq-law v w q.0 in
-    let ops = (bytes_eq-Decides xs ys).0 q.1 in
-    λ i. word i ++ operand_writes (ops i)
+    operand_writes-alike xs ys q.1
 step_writes-alike (Define v xs ss) (Define w ys rs) p =
     let q = parts (words_test.ghosts.eq v w)
     (pointwise nat_eq xs.value.items ys.value.items && pointwise nat_eq ss.value.items rs.value.items) p in

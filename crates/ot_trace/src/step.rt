@@ -40,8 +40,8 @@ impl Step {
     }
 }
 
-// One or two operands, as most words have, are one write: a trace hashes a step at each call. A definition's symbols
-// come with its operands.
+// One or two operands, as most words have, are one write: a trace hashes a step at each call. Few words take the same
+// operands, so their word isn't hashed; a definition's symbols come with its operands.
 impl Hash for Step {
     ghost hash_input = { step_writes };
 
@@ -57,10 +57,7 @@ impl Hash for Step {
                 state.write_u8(1);
                 name.hash(state);
             }
-            Step::Make(word, operands) => {
-                word.hash(state);
-                operands.hash(state);
-            }
+            Step::Make(_, operands) => operands.hash(state),
             Step::Define(word, operands, _) => {
                 state.write_u8(2);
                 word.hash(state);
