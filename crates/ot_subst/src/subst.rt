@@ -13,6 +13,7 @@ use indexmap::IndexMap;
 use ot_plain::Memory;
 use ot_term::{TermId, Terms, VarKey};
 use ot_type::TypeSubst;
+use smallvec::SmallVec;
 use std::alloc::Global;
 use std::marker::Model;
 
@@ -24,8 +25,8 @@ const FEW: usize = 8;
 #[derive(Drop)]
 pub struct Subst {
     types: TypeSubst,
-    // The first pairs. Most substitutions have few, and no more than few are here.
-    first: Vec<(VarKey, TermId)>,
+    // The first pairs. Most substitutions have one or two, for which nothing is allocated, and no more than few are here.
+    first: SmallVec<(VarKey, TermId), 2>,
     // Those that come after, by hash.
     others: IndexMap<VarKey, TermId>,
 }
@@ -51,7 +52,7 @@ impl Subst {
     {
         Subst {
             types,
-            first: Vec::new(alloc),
+            first: SmallVec::new(alloc),
             others: IndexMap::new(alloc),
         }
     }
@@ -91,7 +92,7 @@ impl Subst {
     pub(crate) fn get(&self, v: &VarKey) -> Option<TermId>
         ensures { result ≡ term_for self.now v.now }
     {
-        match term_among(&self.first, v) {
+        match term_among(self.first.as_slice(), v) {
             Some(t) => Some(t),
             None => self.others.get(v).copied(),
         }
@@ -108,7 +109,7 @@ impl Subst {
     pub(crate) fn terms(&self) -> (&[(VarKey, TermId)], &IndexMap<VarKey, TermId>)
         ensures { self.now.terms ≡ result.0.now ++ result.1.now.entries }
     {
-        (&self.first, &self.others)
+        (self.first.as_slice(), &self.others)
     }
 }
 

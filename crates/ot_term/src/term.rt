@@ -8,7 +8,7 @@ use std::hash::{Hash, Hasher};
 use std::marker::Model;
 
 /// The number of a term in its table.
-#[derive(Clone, Copy, PartialEq, Eq, PartialOrd, Ord, Hash)]
+#[derive(Clone, Copy, Default, PartialEq, Eq, PartialOrd, Ord, Hash)]
 pub struct TermId(pub(crate) u32);
 
 impl Model for TermId {
@@ -35,6 +35,16 @@ impl TermId {
 pub struct VarKey {
     pub name: NameId,
     pub ty: TypeId,
+}
+
+// What stands in the places of a list that nothing takes yet.
+impl Default for VarKey {
+    fn default() -> VarKey {
+        VarKey {
+            name: NameId::ARROW,
+            ty: TypeId::default(),
+        }
+    }
 }
 
 /// A term, its parts by number.
