@@ -89,6 +89,10 @@ pub(crate) fn once_each(alloc: Global, terms: &Terms, g: &[TermId]) -> Result<Hy
         (λ v. tms_at terms.now.terms v ≡ once_each numbers (tms_at terms.now.terms g.now)) }
     ensures inside { IfOk result (λ v. All (λ i. i < length terms.now.terms) v) }
 {
+    // Fewer than two are each there once.
+    if g.len() < 2 {
+        return Hypotheses::from_slice(alloc, g);
+    }
     let mut later = classes_of_none(alloc, g.len());
     let mut once = Vec::new(alloc);
     for i in (0..g.len()).rev() {

@@ -17,6 +17,7 @@ use crate::theorem::{Hypotheses, Theorem};
 use ot_plain::Names;
 use ot_subst::{Results, Subst, apply, beta};
 use ot_term::{Steps, TermId, Terms};
+use smallvec::SmallVec;
 use std::alloc::Global;
 
 // What a count of steps is over: here nothing asks for the count.
@@ -65,7 +66,7 @@ pub(crate) fn subst(
 {
     let mut steps = Steps::new(Ledger);
     let hyps = images(alloc, terms, names, results, s, &th.hyps, &mut steps)?;
-    let hyps = once_each(alloc, terms, &hyps)?;
+    let hyps = once_each(alloc, terms, hyps.as_slice())?;
     let concl = apply(alloc, terms, names, results, s, th.concl, &mut steps)?;
     Ok(Theorem { hyps, concl })
 }
@@ -79,7 +80,7 @@ fn images(
     s: &Subst,
     ids: &[TermId],
     steps: &mut Steps<Ledger>,
-) -> Result<Vec<TermId>, RuleFault>
+) -> Result<SmallVec<TermId, 2>, RuleFault>
     requires inside { All (λ i. i < length terms.old.terms) ids.now }
     requires subst { IsSubstOf terms.old s.now }
     requires below { NamesBelow (length names.old) terms.old }
@@ -95,7 +96,7 @@ fn images(
 {
     let _types = terms.types();
     let _count = names.count();
-    let mut images = Vec::new(alloc);
+    let mut images = SmallVec::new(alloc);
     for id in ids {
         images.push(apply(alloc, terms, names, results, s, *id, steps)?)?;
     }

@@ -5,6 +5,7 @@ use Rattle.ot_kernel.specs.Refusals.{of_subst}
 use Rattle.ot_kernel.proofs.Refusals.{handed_on}
 use Rattle.ot_kernel.proofs.PutConstants.{later_names, only_memory, new_sequent}
 use Rattle.ot_kernel.proofs.defining.list_theorem.Goals as goal
+use Rattle.ot_subst.proofs.Growing.{Grows-trans}
 
 pub returns-in_err-s-clause-later : goal.returns-in_err-s-clause-later
 returns-in_err-s-clause-later c = later_names c.args.names.now c.args.cs.now c.args.terms.now c.constants.new.terms
@@ -23,6 +24,32 @@ returns-in_err-concl-clause-err c =
     (λ e. c.in_err-concl.ensures.nesting (ap Err e)) (λ e. c.in_err-concl.ensures.redex (ap Err e)) in
     handed_on c.from_residual-in_err-concl.result (of_subst c.in_err-concl.field-0.0) (λ e. e ≡ Memory)
     c.from_residual-in_err-concl.ensures.1 why
+
+pub returns-in_err-concl-clause-later : goal.returns-in_err-concl-clause-later
+returns-in_err-concl-clause-later c =
+    let first = later_names c.args.names.now c.args.cs.now c.args.terms.now c.constants.new.terms c.requires.cs
+    c.requires.below c.constants.ensures.grown in
+    let was = c.in_err-concl.ensures in
+    record {
+      extends = was.extends;
+      name_table = λ _. was.name_table;
+      grows = Grows-trans first.grows was.grows;
+      table = was.table;
+      names = was.below;
+    }
+
+pub returns-clause-later : goal.returns-clause-later
+returns-clause-later c =
+    let first = later_names c.args.names.now c.args.cs.now c.args.terms.now c.constants.new.terms c.requires.cs
+    c.requires.below c.constants.ensures.grown in
+    let was = c.in_ok-concl.ensures in
+    record {
+      extends = was.extends;
+      name_table = λ _. was.name_table;
+      grows = Grows-trans first.grows was.grows;
+      table = was.table;
+      names = was.below;
+    }
 
 pub returns-clause-ok : goal.returns-clause-ok
 returns-clause-ok c =

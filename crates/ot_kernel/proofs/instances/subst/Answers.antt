@@ -32,5 +32,5 @@ returns-clause-derives c =
     c.in_ok-concl.ensures.table c.in_ok-hyps.hyps.items
     (record { hyps = c.in_ok-hyps-2.hyps; concl = c.in_ok-concl.concl })
     (rw c.deref.ensures.value at c.in_ok-hyps.ensures.images)
-    (rw c.deref-2.ensures.value at c.in_ok-hyps-2.ensures.once) c.in_ok-hyps-2.ensures.inside
+    (rw c.as_slice.ensures at c.in_ok-hyps-2.ensures.once) c.in_ok-hyps-2.ensures.inside
     c.in_ok-concl.ensures.ok
