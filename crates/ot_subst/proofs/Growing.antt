@@ -148,6 +148,10 @@ below-UpTo j k t u h up le = record {
   terms = omega (arith, h.types, h.terms, up.terms);
 }
 
+-- where a table grew twice
+pub below-twice : (k : ℕ) (t u w : TermTable) → NamesBelow k t → NamesUpTo 0 t u → NamesUpTo 0 u w → NamesBelow k w
+below-twice k t u w h up more = below-UpTo 0 k u w (below-UpTo 0 k t u h up (omega arith)) more (omega arith)
+
 pub IsLater-trans : (ns ms ls : List Name) (t u v : TermTable) → IsLater ns ms t u → IsLater ms ls u v
     → IsLater ns ls t v
 IsLater-trans ns ms ls t u v a b = record {

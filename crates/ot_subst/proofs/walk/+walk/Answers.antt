@@ -10,7 +10,7 @@ use Rattle.ot_subst.specs.Memory.{above, IsWalked}
 use Rattle.ot_subst.proofs.Abstraction.{deep-type, ready-then, instance-in, instance-then, instance-later}
 use Rattle.ot_subst.proofs.Abstraction.{stays-before, clash-before, set_up-then, memory-then, body-then}
 use Rattle.ot_subst.proofs.Abstraction.{deep-kept, deep-new, set_up-new, typed-new, apart_new, IsMemory-nil}
-use Rattle.ot_subst.proofs.Growing.{AreKnown-Grows, known-later, below-UpTo, Grows-refl, Grows-trans}
+use Rattle.ot_subst.proofs.Growing.{AreKnown-Grows, known-later, below-UpTo, below-twice, Grows-refl, Grows-trans}
 use Rattle.ot_subst.proofs.Growing.{AreReady-Grows, IsSetUp-Grows, becomes_at-Grows, IsLater-table, IsLater-trans}
 use Rattle.ot_subst.proofs.Shallow.{deep-right}
 use Rattle.ot_subst.proofs.Unchanged.{walked-unchanged}
@@ -64,20 +64,18 @@ abstraction-walk-requires g t c κs h = (
             c.in_ok-ty.ty c.args.body c.requires.set_up c.requires.v c.requires.body c.in_ok-ty.ensures.grows
             c.in_ok-ty.ensures.table (rw c.types.ensures at c.in_ok-ty.ensures.ok) (g.N.Nodes.table c.clashes.new.terms)
             c.in_ok-clashes.ensures.grows c.in_ok-clashes.ensures.table
-            (below-UpTo 0 (length c.args.names.now) (g.N.Nodes.table c.type_inst.new.self)
-            (g.N.Nodes.table c.clashes.new.terms)
-            (below-UpTo 0 (length c.args.names.now) (g.N.Nodes.table c.args.terms.now) (g.N.Nodes.table c.type_inst.new.self)
-            c.requires.set_up.names c.in_ok-ty.ensures.names (omega arith)) c.in_ok-clashes.ensures.names (omega arith)),
+            (below-twice (length c.args.names.now) (g.N.Nodes.table c.args.terms.now)
+            (g.N.Nodes.table c.type_inst.new.self) (g.N.Nodes.table c.clashes.new.terms) c.requires.set_up.names
+            c.in_ok-ty.ensures.names c.in_ok-clashes.ensures.names),
         (
           memory-then (length c.args.names.now) (g.N.Nodes.table c.args.terms.now) (g.N.Nodes.table c.type_inst.new.self)
               c.args.work.now.subst.now (pairs_of c.args.work.now.renamed.now) c.args.v c.in_ok-ty.ty c.args.body
               c.requires.set_up c.requires.v c.requires.body c.in_ok-ty.ensures.grows c.in_ok-ty.ensures.table
               (rw c.types.ensures at c.in_ok-ty.ensures.ok) (g.N.Nodes.table c.clashes.new.terms) c.in_ok-clashes.ensures.grows
               c.in_ok-clashes.ensures.table
-              (below-UpTo 0 (length c.args.names.now) (g.N.Nodes.table c.type_inst.new.self)
-              (g.N.Nodes.table c.clashes.new.terms)
-              (below-UpTo 0 (length c.args.names.now) (g.N.Nodes.table c.args.terms.now) (g.N.Nodes.table c.type_inst.new.self)
-              c.requires.set_up.names c.in_ok-ty.ensures.names (omega arith)) c.in_ok-clashes.ensures.names (omega arith))
+              (below-twice (length c.args.names.now) (g.N.Nodes.table c.args.terms.now)
+              (g.N.Nodes.table c.type_inst.new.self) (g.N.Nodes.table c.clashes.new.terms) c.requires.set_up.names
+              c.in_ok-ty.ensures.names c.in_ok-clashes.ensures.names)
               c.args.memory.now c.requires.remembered,
           (
             c.in_ok-clashes.ensures.frees,
@@ -86,10 +84,9 @@ abstraction-walk-requires g t c κs h = (
                 c.in_ok-ty.ty c.args.body c.requires.set_up c.requires.v c.requires.body c.in_ok-ty.ensures.grows
                 c.in_ok-ty.ensures.table (rw c.types.ensures at c.in_ok-ty.ensures.ok) (g.N.Nodes.table c.clashes.new.terms)
                 c.in_ok-clashes.ensures.grows c.in_ok-clashes.ensures.table
-                (below-UpTo 0 (length c.args.names.now) (g.N.Nodes.table c.type_inst.new.self)
-                (g.N.Nodes.table c.clashes.new.terms)
-                (below-UpTo 0 (length c.args.names.now) (g.N.Nodes.table c.args.terms.now) (g.N.Nodes.table c.type_inst.new.self)
-                c.requires.set_up.names c.in_ok-ty.ensures.names (omega arith)) c.in_ok-clashes.ensures.names (omega arith)),
+                (below-twice (length c.args.names.now) (g.N.Nodes.table c.args.terms.now)
+                (g.N.Nodes.table c.type_inst.new.self) (g.N.Nodes.table c.clashes.new.terms) c.requires.set_up.names
+                c.in_ok-ty.ensures.names c.in_ok-clashes.ensures.names),
           ),
         ),
       ),
@@ -104,10 +101,9 @@ abstraction-returns-in_err-body-clause-nesting g t c p =
     c.requires.set_up c.requires.v c.requires.body c.in_ok-ty.ensures.grows c.in_ok-ty.ensures.table
     (rw c.types.ensures at c.in_ok-ty.ensures.ok) (g.N.Nodes.table c.clashes.new.terms) c.in_ok-clashes.ensures.grows
     c.in_ok-clashes.ensures.table
-    (below-UpTo 0 (length c.args.names.now) (g.N.Nodes.table c.type_inst.new.self)
-    (g.N.Nodes.table c.clashes.new.terms)
-    (below-UpTo 0 (length c.args.names.now) (g.N.Nodes.table c.args.terms.now) (g.N.Nodes.table c.type_inst.new.self)
-    c.requires.set_up.names c.in_ok-ty.ensures.names (omega arith)) c.in_ok-clashes.ensures.names (omega arith))
+    (below-twice (length c.args.names.now) (g.N.Nodes.table c.args.terms.now)
+    (g.N.Nodes.table c.type_inst.new.self) (g.N.Nodes.table c.clashes.new.terms) c.requires.set_up.names
+    c.in_ok-ty.ensures.names c.in_ok-clashes.ensures.names)
     (stays-before (length c.args.names.now) (g.N.Nodes.table c.args.terms.now) (g.N.Nodes.table c.type_inst.new.self)
     c.args.work.now.subst.now (pairs_of c.args.work.now.renamed.now) c.args.v c.in_ok-ty.ty c.args.body
     c.requires.set_up c.requires.v c.requires.body c.in_ok-ty.ensures.grows c.in_ok-ty.ensures.table
@@ -212,10 +208,9 @@ abstraction-walk-requires-2 g t c κs h = (
             c.in_ok-ty.ty c.args.body c.requires.set_up c.requires.v c.requires.body c.in_ok-ty.ensures.grows
             c.in_ok-ty.ensures.table (rw c.types.ensures at c.in_ok-ty.ensures.ok) (g.N.Nodes.table c.clashes.new.terms)
             c.in_ok-clashes.ensures.grows c.in_ok-clashes.ensures.table
-            (below-UpTo 0 (length c.args.names.now) (g.N.Nodes.table c.type_inst.new.self)
-            (g.N.Nodes.table c.clashes.new.terms)
-            (below-UpTo 0 (length c.args.names.now) (g.N.Nodes.table c.args.terms.now) (g.N.Nodes.table c.type_inst.new.self)
-            c.requires.set_up.names c.in_ok-ty.ensures.names (omega arith)) c.in_ok-clashes.ensures.names (omega arith))
+            (below-twice (length c.args.names.now) (g.N.Nodes.table c.args.terms.now)
+            (g.N.Nodes.table c.type_inst.new.self) (g.N.Nodes.table c.clashes.new.terms) c.requires.set_up.names
+            c.in_ok-ty.ensures.names c.in_ok-clashes.ensures.names)
             c.in_ok-name.name c.in_ok-name.ensures.ok.0 (omega (arith, c.requires.bound)) (length c.add_new.new.self)
             c.in_ok-name.ensures.extends.longer c.in_ok-name.ensures.ok.1,
         (
@@ -229,10 +224,9 @@ abstraction-walk-requires-2 g t c κs h = (
                 c.in_ok-ty.ty c.args.body c.requires.set_up c.requires.v c.requires.body c.in_ok-ty.ensures.grows
                 c.in_ok-ty.ensures.table (rw c.types.ensures at c.in_ok-ty.ensures.ok) (g.N.Nodes.table c.clashes.new.terms)
                 c.in_ok-clashes.ensures.grows c.in_ok-clashes.ensures.table
-                (below-UpTo 0 (length c.args.names.now) (g.N.Nodes.table c.type_inst.new.self)
-                (g.N.Nodes.table c.clashes.new.terms)
-                (below-UpTo 0 (length c.args.names.now) (g.N.Nodes.table c.args.terms.now) (g.N.Nodes.table c.type_inst.new.self)
-                c.requires.set_up.names c.in_ok-ty.ensures.names (omega arith)) c.in_ok-clashes.ensures.names (omega arith)),
+                (below-twice (length c.args.names.now) (g.N.Nodes.table c.args.terms.now)
+                (g.N.Nodes.table c.type_inst.new.self) (g.N.Nodes.table c.clashes.new.terms) c.requires.set_up.names
+                c.in_ok-ty.ensures.names c.in_ok-clashes.ensures.names),
           ),
         ),
       ),
@@ -247,10 +241,9 @@ abstraction-returns-in_err-body-2-clause-nesting g t c p =
     c.requires.set_up c.requires.v c.requires.body c.in_ok-ty.ensures.grows c.in_ok-ty.ensures.table
     (rw c.types.ensures at c.in_ok-ty.ensures.ok) (g.N.Nodes.table c.clashes.new.terms) c.in_ok-clashes.ensures.grows
     c.in_ok-clashes.ensures.table
-    (below-UpTo 0 (length c.args.names.now) (g.N.Nodes.table c.type_inst.new.self)
-    (g.N.Nodes.table c.clashes.new.terms)
-    (below-UpTo 0 (length c.args.names.now) (g.N.Nodes.table c.args.terms.now) (g.N.Nodes.table c.type_inst.new.self)
-    c.requires.set_up.names c.in_ok-ty.ensures.names (omega arith)) c.in_ok-clashes.ensures.names (omega arith))
+    (below-twice (length c.args.names.now) (g.N.Nodes.table c.args.terms.now)
+    (g.N.Nodes.table c.type_inst.new.self) (g.N.Nodes.table c.clashes.new.terms) c.requires.set_up.names
+    c.in_ok-ty.ensures.names c.in_ok-clashes.ensures.names)
     c.in_ok-name.name c.in_ok-name.ensures.ok.0 (omega (arith, c.requires.bound))
     (c.in_err-body-2.ensures.nesting
     (ap Err (same_Err c.from_residual-in_err-body-2.result _ _ c.from_residual-in_err-body-2.ensures.1 p)))
@@ -271,10 +264,9 @@ abstraction-returns-in_err-body-2-clause-later g t c =
     c.in_ok-clashes.ensures.table c.in_ok-clashes.ensures.names (omega arith)))
     (later-name c.args.names.now c.add_new.new.self (g.N.Nodes.table c.clashes.new.terms) c.in_ok-name.ensures.extends
     c.in_ok-name.ensures.table c.in_ok-clashes.ensures.table
-    (below-UpTo 0 (length c.args.names.now) (g.N.Nodes.table c.type_inst.new.self)
-    (g.N.Nodes.table c.clashes.new.terms)
-    (below-UpTo 0 (length c.args.names.now) (g.N.Nodes.table c.args.terms.now) (g.N.Nodes.table c.type_inst.new.self)
-    c.requires.set_up.names c.in_ok-ty.ensures.names (omega arith)) c.in_ok-clashes.ensures.names (omega arith))))
+    (below-twice (length c.args.names.now) (g.N.Nodes.table c.args.terms.now)
+    (g.N.Nodes.table c.type_inst.new.self) (g.N.Nodes.table c.clashes.new.terms) c.requires.set_up.names
+    c.in_ok-ty.ensures.names c.in_ok-clashes.ensures.names)))
     c.in_err-body-2.ensures.later
 
 pub abstraction-abs-requires-2-clause-ty : goal.abstraction-abs-requires-2-clause-ty
@@ -320,22 +312,18 @@ abstraction-returns-clause-ok g t c =
     c.requires.set_up c.requires.v c.requires.body c.in_ok-ty.ensures.grows c.in_ok-ty.ensures.table
     (rw c.types.ensures at c.in_ok-ty.ensures.ok) (g.N.Nodes.table c.clashes.new.terms)
     c.in_ok-clashes.ensures.grows c.in_ok-clashes.ensures.table
-    (below-UpTo 0 (length c.args.names.now) (g.N.Nodes.table c.type_inst.new.self)
-    (g.N.Nodes.table c.clashes.new.terms)
-    (below-UpTo 0 (length c.args.names.now) (g.N.Nodes.table c.args.terms.now)
-    (g.N.Nodes.table c.type_inst.new.self) c.requires.set_up.names c.in_ok-ty.ensures.names (omega arith))
-    c.in_ok-clashes.ensures.names (omega arith)) c.in_ok-name.name c.in_ok-name.ensures.ok.0
+    (below-twice (length c.args.names.now) (g.N.Nodes.table c.args.terms.now)
+    (g.N.Nodes.table c.type_inst.new.self) (g.N.Nodes.table c.clashes.new.terms) c.requires.set_up.names
+    c.in_ok-ty.ensures.names c.in_ok-clashes.ensures.names) c.in_ok-name.name c.in_ok-name.ensures.ok.0
     (omega (arith, c.requires.bound)))
     (apart_new (length c.args.names.now) (g.N.Nodes.table c.args.terms.now) (g.N.Nodes.table c.type_inst.new.self)
     c.args.work.now.subst.now (pairs_of c.args.work.now.renamed.now) c.args.v c.in_ok-ty.ty c.args.body
     c.requires.set_up c.requires.v c.requires.body c.in_ok-ty.ensures.grows c.in_ok-ty.ensures.table
     (rw c.types.ensures at c.in_ok-ty.ensures.ok) (g.N.Nodes.table c.clashes.new.terms)
     c.in_ok-clashes.ensures.grows c.in_ok-clashes.ensures.table
-    (below-UpTo 0 (length c.args.names.now) (g.N.Nodes.table c.type_inst.new.self)
-    (g.N.Nodes.table c.clashes.new.terms)
-    (below-UpTo 0 (length c.args.names.now) (g.N.Nodes.table c.args.terms.now)
-    (g.N.Nodes.table c.type_inst.new.self) c.requires.set_up.names c.in_ok-ty.ensures.names (omega arith))
-    c.in_ok-clashes.ensures.names (omega arith)) c.in_ok-name.name c.in_ok-name.ensures.ok.0
+    (below-twice (length c.args.names.now) (g.N.Nodes.table c.args.terms.now)
+    (g.N.Nodes.table c.type_inst.new.self) (g.N.Nodes.table c.clashes.new.terms) c.requires.set_up.names
+    c.in_ok-ty.ensures.names c.in_ok-clashes.ensures.names) c.in_ok-name.name c.in_ok-name.ensures.ok.0
     (omega (arith, c.requires.bound)))
     (clash-before (length c.args.names.now) (g.N.Nodes.table c.args.terms.now)
     (g.N.Nodes.table c.type_inst.new.self) c.args.work.now.subst.now (pairs_of c.args.work.now.renamed.now)
@@ -370,22 +358,18 @@ abstraction-returns-clause-nesting g t c p =
     c.requires.set_up c.requires.v c.requires.body c.in_ok-ty.ensures.grows c.in_ok-ty.ensures.table
     (rw c.types.ensures at c.in_ok-ty.ensures.ok) (g.N.Nodes.table c.clashes.new.terms)
     c.in_ok-clashes.ensures.grows c.in_ok-clashes.ensures.table
-    (below-UpTo 0 (length c.args.names.now) (g.N.Nodes.table c.type_inst.new.self)
-    (g.N.Nodes.table c.clashes.new.terms)
-    (below-UpTo 0 (length c.args.names.now) (g.N.Nodes.table c.args.terms.now)
-    (g.N.Nodes.table c.type_inst.new.self) c.requires.set_up.names c.in_ok-ty.ensures.names (omega arith))
-    c.in_ok-clashes.ensures.names (omega arith)) c.in_ok-name.name c.in_ok-name.ensures.ok.0
+    (below-twice (length c.args.names.now) (g.N.Nodes.table c.args.terms.now)
+    (g.N.Nodes.table c.type_inst.new.self) (g.N.Nodes.table c.clashes.new.terms) c.requires.set_up.names
+    c.in_ok-ty.ensures.names c.in_ok-clashes.ensures.names) c.in_ok-name.name c.in_ok-name.ensures.ok.0
     (omega (arith, c.requires.bound)))
     (apart_new (length c.args.names.now) (g.N.Nodes.table c.args.terms.now) (g.N.Nodes.table c.type_inst.new.self)
     c.args.work.now.subst.now (pairs_of c.args.work.now.renamed.now) c.args.v c.in_ok-ty.ty c.args.body
     c.requires.set_up c.requires.v c.requires.body c.in_ok-ty.ensures.grows c.in_ok-ty.ensures.table
     (rw c.types.ensures at c.in_ok-ty.ensures.ok) (g.N.Nodes.table c.clashes.new.terms)
     c.in_ok-clashes.ensures.grows c.in_ok-clashes.ensures.table
-    (below-UpTo 0 (length c.args.names.now) (g.N.Nodes.table c.type_inst.new.self)
-    (g.N.Nodes.table c.clashes.new.terms)
-    (below-UpTo 0 (length c.args.names.now) (g.N.Nodes.table c.args.terms.now)
-    (g.N.Nodes.table c.type_inst.new.self) c.requires.set_up.names c.in_ok-ty.ensures.names (omega arith))
-    c.in_ok-clashes.ensures.names (omega arith)) c.in_ok-name.name c.in_ok-name.ensures.ok.0
+    (below-twice (length c.args.names.now) (g.N.Nodes.table c.args.terms.now)
+    (g.N.Nodes.table c.type_inst.new.self) (g.N.Nodes.table c.clashes.new.terms) c.requires.set_up.names
+    c.in_ok-ty.ensures.names c.in_ok-clashes.ensures.names) c.in_ok-name.name c.in_ok-name.ensures.ok.0
     (omega (arith, c.requires.bound))))) ∙ c.abs-2.ensures.nesting p
 
 pub abstraction-returns-clause-later : goal.abstraction-returns-clause-later
@@ -407,11 +391,9 @@ abstraction-returns-clause-later g t c =
     c.in_ok-clashes.ensures.grows c.in_ok-clashes.ensures.table c.in_ok-clashes.ensures.names (omega arith)))
     (later-name c.args.names.now c.add_new.new.self (g.N.Nodes.table c.clashes.new.terms)
     c.in_ok-name.ensures.extends c.in_ok-name.ensures.table c.in_ok-clashes.ensures.table
-    (below-UpTo 0 (length c.args.names.now) (g.N.Nodes.table c.type_inst.new.self)
-    (g.N.Nodes.table c.clashes.new.terms)
-    (below-UpTo 0 (length c.args.names.now) (g.N.Nodes.table c.args.terms.now)
-    (g.N.Nodes.table c.type_inst.new.self) c.requires.set_up.names c.in_ok-ty.ensures.names (omega arith))
-    c.in_ok-clashes.ensures.names (omega arith)))) c.in_ok-body-2.ensures.later)
+    (below-twice (length c.args.names.now) (g.N.Nodes.table c.args.terms.now)
+    (g.N.Nodes.table c.type_inst.new.self) (g.N.Nodes.table c.clashes.new.terms) c.requires.set_up.names
+    c.in_ok-ty.ensures.names c.in_ok-clashes.ensures.names))) c.in_ok-body-2.ensures.later)
     (IsLater-table (max (c.in_ok-name.name + 1) 1) c.walk-2.new.names (g.N.Nodes.table c.walk-2.new.terms)
     (g.N.Nodes.table c.abs-2.new.self) c.in_ok-body-2.ensures.later.names c.abs-2.ensures.grows
     c.abs-2.ensures.table c.abs-2.ensures.names
