@@ -174,6 +174,7 @@ impl Classes {
     }
 
     // The number of a node, which is added where it is new.
+    #[inline(always)]
     fn intern(&mut self, node: ClassNode) -> Result<ClassId, Memory>
         requires { AreBelow (length self.old) node }
         ensures ok { IfOk result (λ id. slice_get self.new id ≡ Some (tree_of self.old node)) }

@@ -22,6 +22,7 @@ use std::alloc::Global;
 
 impl Session {
     /// The list of a head and a tail.
+    #[inline(always)]
     pub(crate) fn cons(
         &self,
         machine: &mut Machine,

@@ -85,6 +85,8 @@ impl Machine {
 
     /// One command. The first fault of the stated machine counts; after it, and after want of memory, the state is as
     /// before. The machine's numbers, and the context's names and theorems, have to be of this session.
+    // Once a line: the reader of an article is to have it inline, and what stands in its way.
+    #[inline(always)]
     pub fn step(
         &mut self,
         session: &mut Session,
@@ -186,32 +188,17 @@ impl Machine {
                 Ok(())
             }
             Command::Named(name) => rows::name(session, self, name),
-            Command::Order(order) => self.word(session, ctx, version, order),
-        }
-    }
-
-    /// The row of a word. Of the words most are two, which take the short way.
-    #[inline(always)]
-    fn word(
-        &mut self,
-        session: &mut Session,
-        ctx: &Context<'_>,
-        version: Version,
-        order: Cmd,
-    ) -> Result<(), Fault>
-        requires of { IsOf session.old self.old }
-        requires context { IsContextOf session.old ctx.now }
-        ensures { Turns result (word_row (version_of version) (context_of session.old ctx.now) order) session.old
-            self.old session.new self.new }
-    {
-        match order {
-            Cmd::Ref => rows::refer(session, self),
-            Cmd::Cons => rows::cons(session, self),
-            _ => self.order(session, ctx, version, order),
+            // Two of three words are these, and the way through the table of all costs as much as their rows.
+            Command::Order(order) => match order {
+                Cmd::Ref => rows::refer(session, self),
+                Cmd::Cons => rows::cons(session, self),
+                _ => self.order(session, ctx, version, order),
+            },
         }
     }
 
     /// The row of a word, in an article of a version.
+    #[inline(always)]
     fn order(
         &mut self,
         session: &mut Session,

@@ -21,6 +21,7 @@ use ot_type::TypeId;
 
 impl Session {
     /// What stands at a place.
+    #[inline(always)]
     pub(crate) fn entry_at(&self, machine: &Machine, place: usize) -> Result<Entry, Fault>
         requires { IsOf self.now machine.now }
         ensures found { Makes self.now.kernel (entry_of self.now (lists_of self.now machine.now)) result
@@ -46,6 +47,7 @@ impl Session {
     }
 
     /// The object at a place.
+    #[inline(always)]
     pub(crate) fn object_at(&self, machine: &Machine, place: usize) -> Result<Object, Fault>
         requires { IsOf self.now machine.now }
         ensures found { Makes self.now.kernel (object_of self.now.kernel (lists_of self.now machine.now)) result
@@ -60,6 +62,7 @@ impl Session {
     }
 
     /// The number at a place.
+    #[inline(always)]
     pub(crate) fn number_on(&self, machine: &Machine, place: usize) -> Result<i64, Fault>
         requires { IsOf self.now machine.now }
         ensures { Makes self.now.kernel (λ n. n) result (number_on place (article_of self.now machine.now).stack) }
@@ -84,6 +87,7 @@ impl Session {
     }
 
     /// The list at a place.
+    #[inline(always)]
     pub(crate) fn list_on(&self, machine: &Machine, place: usize) -> Result<List, Fault>
         requires { IsOf self.now machine.now }
         ensures found { Makes self.now.kernel (list_at (lists_of self.now machine.now)) result

@@ -40,6 +40,7 @@ impl Session {
     }
 
     /// The step of what stands at a place; a number that has none gets one.
+    #[inline(always)]
     pub(crate) fn operand_at(&mut self, machine: &Machine, place: usize) -> Result<StepId, Memory>
         requires of { IsOf self.old machine.now }
         requires there { place < vec_len machine.now.stack }
@@ -55,6 +56,7 @@ impl Session {
     }
 
     /// The step of what stands at a place; of a number that has none, the number.
+    #[inline(always)]
     fn step_on(&self, machine: &Machine, place: usize) -> Result<StepId, i64>
         requires of { IsOf self.now machine.now }
         requires there { place < vec_len machine.now.stack }
@@ -112,6 +114,7 @@ impl Session {
     }
 
     /// The step of what a word makes of the objects of these steps, the lowest first.
+    #[inline(always)]
     pub(crate) fn made_of(
         &mut self,
         machine: &Machine,
@@ -182,6 +185,7 @@ impl Session {
     }
 
     /// What a word makes of the top one, in its place.
+    #[inline(always)]
     pub(crate) fn make_one(
         &mut self,
         machine: &mut Machine,
@@ -215,6 +219,7 @@ impl Session {
     }
 
     /// What a word makes of the top two, in their place.
+    #[inline(always)]
     pub(crate) fn make_two(
         &mut self,
         machine: &mut Machine,
@@ -249,6 +254,7 @@ impl Session {
     }
 
     /// What a rule made of the top one, in its place.
+    #[inline(always)]
     pub(crate) fn conclude_one(
         &mut self,
         machine: &mut Machine,
@@ -268,6 +274,7 @@ impl Session {
     }
 
     /// What a rule made of the top two, in their place.
+    #[inline(always)]
     pub(crate) fn conclude_two(
         &mut self,
         machine: &mut Machine,

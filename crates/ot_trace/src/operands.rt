@@ -36,6 +36,7 @@ impl Model for Operands {
 
 impl Operands {
     // Those of a list, in its order.
+    #[inline(always)]
     pub(crate) fn of(alloc: Global, operands: &[StepId]) -> Result<Operands, Memory>
         ensures items { IfOk result (λ o. o ≡ operands.now) }
     {

@@ -45,6 +45,7 @@ pub fn nil(session: &mut Session, machine: &mut Machine) -> Result<(), Fault>
 }
 
 /// `cons` makes a list of a head and a tail.
+#[inline(always)]
 pub fn cons(session: &mut Session, machine: &mut Machine) -> Result<(), Fault>
     requires { IsOf session.old machine.old }
     ensures { Turns result (on_stack (making words.Cons)) session.old machine.old session.new machine.new }
@@ -109,6 +110,7 @@ pub fn version(session: &mut Session, machine: &mut Machine) -> Result<(), Fault
 }
 
 /// `def` stores the object below the key, which stays.
+#[inline(always)]
 pub fn def(session: &mut Session, machine: &mut Machine) -> Result<(), Fault>
     requires { IsOf session.old machine.old }
     ensures { Turns result (on_article def_row) session.old machine.old session.new machine.new }

@@ -15,6 +15,7 @@ impl Trace {
     /// The number of what a word makes of these operands, from the bottom of the stack up.
     ///
     /// The operands are of this trace. After want of memory the trace is as before.
+    #[inline(always)]
     pub fn make(&mut self, word: Cmd, operands: &[StepId]) -> Result<StepId, Memory>
         requires { All (λ i. i < length self.old) operands.now }
         ensures ok { IfOk result (λ id. slice_get self.new id ≡ Some (Make word (origins_at self.old operands.now))) }
