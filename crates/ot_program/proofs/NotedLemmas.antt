@@ -35,7 +35,7 @@ use Rattle.ot_program.specs.Texts.{large_line}
 use Rattle.ot_program.specs.Reply.{RunInput, ShowReadable, Noted, limits, theory_shown, shown_at, noted_told}
 use Rattle.ot_program.specs.Reply.{opened_first, opened_at, is_standard, readable, notation, assumptions_of}
 use Rattle.ot_program.specs.Reply.{definitions_of, exports_of, run_lists, summary_limit, stop_status}
-use Rattle.ot_program.specs.Answer.{IsProved, IsInputStop, FailedAt, LastInput, LeavesOther, KeepsFiles, AreReadBack}
+use Rattle.ot_program.specs.Answer.{IsProved, IsInputStop, FailedAt, LastInput, LeavesOther, ClosesFiles, AreReadBack}
 use Rattle.ot_program.specs.Verdicts.{End, Finished, Stopped, Failed, ran_from, noted_from, noted_end, end_at}
 use Rattle.ot_program.specs.Verdicts.{IsAnswer, IsPlace, HasCause, IsSaid, IsStopVerdict, IsVerdictOf, ReadableEndsAs}
 use Rattle.ot_program.specs.declared.report.Verdict.{Verdict}
@@ -386,8 +386,8 @@ closes left f g h (inr a) (inl b) = inr (ap left b ∙ a)
 closes left f g h first (inr b) = inr b
 
 pub keeps : {F : Type 0} (folder : F → Option Folder) (faults misses : F → ℕ) (left : F → Option (List ℕ)) (f g h : F)
-    → KeepsFiles folder faults misses left f g → KeepsFiles folder faults misses left g h
-    → KeepsFiles folder faults misses left f h
+    → ClosesFiles folder faults misses left f g → ClosesFiles folder faults misses left g h
+    → ClosesFiles folder faults misses left f h
 keeps folder faults misses left f g h a b = record {
   same_folder = b.same_folder ∙ a.same_folder;
   later_faults = later (faults f) (faults g) (faults h) a.later_faults b.later_faults;

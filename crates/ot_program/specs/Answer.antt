@@ -336,7 +336,7 @@ LastPath (ReadLines packages path text) folder at = LastOf path text folder at
 LastPath (FindPattern packages pattern path) folder at = LastInput path folder at
 
 -- the files stay what they are, their counts never fall, and none stays open
-pub record KeepsFiles {F : Type 0} (folder : F → Option Folder) (faults misses : F → ℕ)
+pub record ClosesFiles {F : Type 0} (folder : F → Option Folder) (faults misses : F → ℕ)
     (left : F → Option (List ℕ)) (old new : F) : Type 0 where
   pub same_folder : folder new ≡ folder old
   pub later_faults : faults old ≤ faults new

@@ -15,7 +15,7 @@ ghost use Rattle.ot_text.specs.Laws.{OneSequent, OneSequentInFront};
 ghost use Rattle.ot_program.specs.Reply.{FindPattern, exports_of, noted_at, run_lists, pattern_path};
 ghost use Rattle.ot_program.specs.Texts.{column_line};
 ghost use Rattle.ot_program.specs.Answer.{FailedAt, FailedIn, IsProved, LeavesOther};
-ghost use Rattle.ot_program.specs.Answer.{LastInput, KeepsFiles};
+ghost use Rattle.ot_program.specs.Answer.{LastInput, ClosesFiles};
 ghost use Rattle.ot_program.specs.Verdicts.{noted_of, ran_from, ending_of, IfEnded, AreRequired, AreSearched};
 ghost use Rattle.ot_program.specs.Verdicts.{FoundEndsAs, HasMatches, HasSearched, IsPattern, IsSaid};
 ghost use Rattle.ot_program.specs.Verdicts.{IsWalkVerdict, HasEndedWalk, HasEndedInput, HasEndedPattern};
@@ -96,7 +96,7 @@ pub fn run_finding<F: Files, S: Source>(
         IfOk result (IsTaskVerdict t (F.folder files.old) (S.left input.old) (F.at files.new)
         (FailedIn t (S.faults input.old) (S.faults input.new) (F.faults files.old) (F.faults files.new))
         (Rose (F.misses files.old) (F.misses files.new))) }
-    ensures files { KeepsFiles F.folder F.faults F.misses F.left files.old files.new }
+    ensures files { ClosesFiles F.folder F.faults F.misses F.left files.old files.new }
     ensures source { KeepsSource S.folder S.faults S.misses S.at input.old input.new }
     ensures other { LeavesOther query.entry.path.now files.old files.new input.old input.new }
 {
@@ -121,7 +121,7 @@ fn searched<F: Files, S: Source>(
         (Rose (F.misses files.old) (F.misses files.new)))) }
     ensures searched { IfOk result (HasSearched query.entry.packages.now query.entry.pattern.now
         query.entry.path.now (F.folder files.old) (S.left input.old)) }
-    ensures files { KeepsFiles F.folder F.faults F.misses F.left files.old files.new }
+    ensures files { ClosesFiles F.folder F.faults F.misses F.left files.old files.new }
     ensures source { KeepsSource S.folder S.faults S.misses S.at input.old input.new }
     ensures other { LeavesOther query.entry.path.now files.old files.new input.old input.new }
     ensures at { OnOk result (LastInput query.entry.path.now (F.folder files.old) (F.at files.new)) }
@@ -153,7 +153,7 @@ fn search_input<F: Files, S: Source>(
         (Rose (F.misses files.old) (F.misses files.new)))) }
     ensures searched { IfOk result (HasSearched query.entry.packages.now query.entry.pattern.now
         query.entry.path.now (F.folder files.old) (S.left input.old)) }
-    ensures files { KeepsFiles F.folder F.faults F.misses F.left files.old files.new }
+    ensures files { ClosesFiles F.folder F.faults F.misses F.left files.old files.new }
     ensures source { KeepsSource S.folder S.faults S.misses S.at input.old input.new }
     ensures other { LeavesOther query.entry.path.now files.old files.new input.old input.new }
     ensures at { OnOk result (LastInput query.entry.path.now (F.folder files.old) (F.at files.new)) }
@@ -190,7 +190,7 @@ fn search_run<F: Files>(
         (λ answer. answer ≡ Ok (noted_of session.now run.now))
         → IfOk result (HasSearched query.entry.packages.now
         query.entry.pattern.now query.entry.path.now (F.folder files.old) input) }
-    ensures files { KeepsFiles F.folder F.faults F.misses F.left files.old files.new }
+    ensures files { ClosesFiles F.folder F.faults F.misses F.left files.old files.new }
     ensures none { map string_bytes fulls.now ≡ [] → files.new ≡ files.old }
 {
     find_law();
@@ -212,7 +212,7 @@ fn required_packages<F: Files>(
         (Rose (F.faults files.old) (F.faults files.new)) (Rose (F.misses files.old) (F.misses files.new)))) }
     ensures required { IfOk result (λ fulls. AreRequired packages.now path.now (F.folder files.old) (names_of fulls)) }
     ensures full { IfOk result (λ fulls. ArePackages (names_of fulls)) }
-    ensures files { KeepsFiles F.folder F.faults F.misses F.left files.old files.new }
+    ensures files { ClosesFiles F.folder F.faults F.misses F.left files.old files.new }
     ensures other { (is_theory path.now ≡ true) ⊎ (files.new ≡ files.old) }
 {
     if !is_theory(path) {
@@ -285,7 +285,7 @@ fn input_run<F: Files, S: Source>(
         (λ answer. answer ≡ Ok (noted_of session.new run))) }
     ensures session { IsRun session.new }
     ensures exports { IfOk result (λ run. All (IsExportIn session.new) run.exports.items) }
-    ensures files { KeepsFiles F.folder F.faults F.misses F.left files.old files.new }
+    ensures files { ClosesFiles F.folder F.faults F.misses F.left files.old files.new }
     ensures source { KeepsSource S.folder S.faults S.misses S.at input.old input.new }
     ensures other { LeavesOther path.now files.old files.new input.old input.new }
     ensures at { OnOk result (LastInput path.now (F.folder files.old) (F.at files.new)) }
@@ -344,7 +344,7 @@ fn search_packages<F: Files>(
         (Rose (F.faults files.old) (F.faults files.new)) (Rose (F.misses files.old) (F.misses files.new)))) }
     ensures searched { OnOk result (AreSearched packages.now (map string_bytes fulls.now)
         (F.folder files.old) (term_of_tree pattern.now) search.old search.new) }
-    ensures files { KeepsFiles F.folder F.faults F.misses F.left files.old files.new }
+    ensures files { ClosesFiles F.folder F.faults F.misses F.left files.old files.new }
     ensures none { map string_bytes fulls.now ≡ [] → files.new ≡ files.old }
 {
     find_law();
@@ -368,7 +368,7 @@ fn search_package<F: Files>(
         (Rose (F.faults files.old) (F.faults files.new)) (Rose (F.misses files.old) (F.misses files.new)))) }
     ensures searched { OnOk result (IsSearched packages.now full.now
         (F.folder files.old) (term_of_tree pattern.now) search.old search.new) }
-    ensures files { KeepsFiles F.folder F.faults F.misses F.left files.old files.new }
+    ensures files { ClosesFiles F.folder F.faults F.misses F.left files.old files.new }
 {
     let path = package_path(alloc, packages, full.as_bytes())?;
     let mut session = Session::new(alloc)?;

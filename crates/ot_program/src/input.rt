@@ -8,7 +8,7 @@ ghost use Rattle.ot_link.specs.Answers.{AreExportsIn, NamesSymbolIn};
 ghost use Rattle.ot_machine.specs.States.{fresh_run};
 ghost use Rattle.ot_machine.specs.Meaning.{run_of, IsRun};
 ghost use Rattle.ot_program.specs.Reply.{outcome, article_run, theory_run, stop_status};
-ghost use Rattle.ot_program.specs.Answer.{FailedAt, LeavesOther, LastPath, KeepsFiles};
+ghost use Rattle.ot_program.specs.Answer.{FailedAt, LeavesOther, LastPath, ClosesFiles};
 ghost use Rattle.ot_program.specs.Verdicts.{job_task, end_of, IsAnswer, IsEnd, IsPlace};
 ghost use Rattle.ot_program.specs.Verdicts.{IsOwnEnd, IsNeeded, HasCause, IsLawfulEnd};
 
@@ -45,7 +45,7 @@ pub fn run_input<F: Files, S: Source>(
         (HasCause stop_status (FailedAt job.entry.path.now (S.faults input.old)
         (S.faults input.new) (F.faults files.old) (F.faults files.new))
         (Rose (F.misses files.old) (F.misses files.new))) }
-    ensures files { KeepsFiles F.folder F.faults F.misses F.left files.old files.new }
+    ensures files { ClosesFiles F.folder F.faults F.misses F.left files.old files.new }
     ensures source { KeepsSource S.folder S.faults S.misses S.at input.old input.new }
     ensures other { LeavesOther job.entry.path.now files.old files.new input.old input.new }
     ensures at { IfSome (end_of session.new result)
@@ -107,7 +107,7 @@ pub fn run_theory<F: Files>(
     ensures cause { IfSome (end_of session.new result)
         (HasCause stop_status (Rose (F.faults files.old) (F.faults files.new))
         (Rose (F.misses files.old) (F.misses files.new))) }
-    ensures files { KeepsFiles F.folder F.faults F.misses F.left files.old files.new }
+    ensures files { ClosesFiles F.folder F.faults F.misses F.left files.old files.new }
     ensures closed { F.left files.new ≡ Some [] }
 {
     let limits = Limits::standard();
@@ -133,7 +133,7 @@ fn run_file<F: Files>(
     ensures cause { IfSome (end_of session.new result)
         (HasCause stop_status (Rose (F.faults files.old) (F.faults files.new))
         (Rose (F.misses files.old) (F.misses files.new))) }
-    ensures files { KeepsFiles F.folder F.faults F.misses F.left files.old files.new }
+    ensures files { ClosesFiles F.folder F.faults F.misses F.left files.old files.new }
     ensures at { IfSome (end_of session.new result) (λ _. F.at files.new ≡ path_asked (F.folder files.old) path.now) }
 {
     let name = String::from_str(alloc, path)?;

@@ -5,7 +5,7 @@ ghost use Rattle.ot_io.specs.Folder.{path_asked};
 ghost use Rattle.ot_io.specs.Keeping.{KeepsSource};
 ghost use Rattle.ot_verify.specs.Verifying.{AreProved};
 ghost use Rattle.ot_program.specs.Reply.{CheckLog, check_bytes, check_file, log_status};
-ghost use Rattle.ot_program.specs.Answer.{FailedAt, LeavesOther, LastPath, KeepsFiles};
+ghost use Rattle.ot_program.specs.Answer.{FailedAt, LeavesOther, LastPath, ClosesFiles};
 ghost use Rattle.ot_program.specs.Verdicts.{log_end_of, IsAnswer, IsEnd, IsPlace, HasCause};
 
 use crate::input::STANDARD;
@@ -41,7 +41,7 @@ pub fn check_log<F: Files, S: Source>(
     ensures cause { IfSome (log_end_of path.now result) (HasCause log_status
         (FailedAt path.now (S.faults input.old) (S.faults input.new) (F.faults files.old) (F.faults files.new))
         (Rose (F.misses files.old) (F.misses files.new))) }
-    ensures files { KeepsFiles F.folder F.faults F.misses F.left files.old files.new }
+    ensures files { ClosesFiles F.folder F.faults F.misses F.left files.old files.new }
     ensures source { KeepsSource S.folder S.faults S.misses S.at input.old input.new }
     ensures other { LeavesOther path.now files.old files.new input.old input.new }
     ensures at { IfSome (log_end_of path.now result)
@@ -62,7 +62,7 @@ fn check_file<F: Files>(alloc: Global, path: &str, files: &mut F) -> Result<Veri
     ensures cause { IfSome (log_end_of path.now result)
         (HasCause log_status (Rose (F.faults files.old) (F.faults files.new))
         (Rose (F.misses files.old) (F.misses files.new))) }
-    ensures files { KeepsFiles F.folder F.faults F.misses F.left files.old files.new }
+    ensures files { ClosesFiles F.folder F.faults F.misses F.left files.old files.new }
     ensures at { F.at files.new ≡ path_asked (F.folder files.old) path.now }
 {
     match files.open_file(path) {

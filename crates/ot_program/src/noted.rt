@@ -9,7 +9,7 @@ ghost use Rattle.ot_machine.specs.Meaning.{run_of, IsRun, IsExportIn};
 ghost use Rattle.ot_machine.specs.States.{fresh_run};
 ghost use Rattle.ot_args.specs.Grammar.{is_theory};
 ghost use Rattle.ot_program.specs.Reply.{ShowReadable, shown_at, stop_status};
-ghost use Rattle.ot_program.specs.Answer.{FailedAt, LeavesOther, LastInput, KeepsFiles};
+ghost use Rattle.ot_program.specs.Answer.{FailedAt, LeavesOther, LastInput, ClosesFiles};
 ghost use Rattle.ot_program.specs.Verdicts.{noted_end_of, IsEnd, IsPlace, HasCause, IsLawfulEnds};
 
 use crate::input::run_input;
@@ -51,7 +51,7 @@ pub fn run_noted<F: Files, S: Source>(
         (HasCause stop_status (FailedAt path.now (S.faults input.old)
         (S.faults input.new) (F.faults files.old) (F.faults files.new))
         (Rose (F.misses files.old) (F.misses files.new))) }
-    ensures files { KeepsFiles F.folder F.faults F.misses F.left files.old files.new }
+    ensures files { ClosesFiles F.folder F.faults F.misses F.left files.old files.new }
     ensures source { KeepsSource S.folder S.faults S.misses S.at input.old input.new }
     ensures other { LeavesOther path.now files.old files.new input.old input.new }
     ensures at { IfSome (noted_end_of session.new result)
@@ -81,7 +81,7 @@ fn shown_names<F: Files>(alloc: Global, path: &str, files: &mut F) -> Result<Vec
     ensures symbols { IfErr result (λ e. (k : State) → NamesSymbolIn k e) }
     ensures cause { IfErr result (λ e. HasLinkCause e (F.misses files.old)
         (F.misses files.new) (F.faults files.old) (F.faults files.new) (F.at files.new)) }
-    ensures files { KeepsFiles F.folder F.faults F.misses F.left files.old files.new }
+    ensures files { ClosesFiles F.folder F.faults F.misses F.left files.old files.new }
     ensures other { (is_theory path.now ≡ true) ⊎ (files.new ≡ files.old) }
 {
     if is_theory(path) {

@@ -6,7 +6,7 @@ ghost use Rattle.ot_io.specs.Sinks.{FlushesAll, AppendsFront};
 ghost use Rattle.ot_args.specs.Grammar.{texts_of, command_of};
 ghost use Rattle.ot_program.specs.Reply.{task_of, result_of, answer};
 ghost use Rattle.ot_program.specs.Answer.{MatchesReply, IsSilent, IsVerdict, IsLine, Prints, Writes, WritesLine};
-ghost use Rattle.ot_program.specs.Answer.{WritesSome, FailedIn, LeavesAlone, LastPath, KeepsFiles};
+ghost use Rattle.ot_program.specs.Answer.{WritesSome, FailedIn, LeavesAlone, LastPath, ClosesFiles};
 ghost use Rattle.ot_program.specs.Verdicts.{task_value, IsSized, IsTaskVerdict, Ends, error_line};
 
 use crate::finding::{Query, run_finding};
@@ -94,7 +94,7 @@ pub fn run<F: Files, S: Source, O: Sink, E: Sink>(
         → (result ≡ Status.Memory) ⊎ (result ≡ reply.status)) }
 
     // What becomes of the devices: counts never fall, the input that isn't asked for is left alone, no file stays open.
-    ensures files { KeepsFiles F.folder F.faults F.misses F.left files.old files.new }
+    ensures files { ClosesFiles F.folder F.faults F.misses F.left files.old files.new }
     ensures source { KeepsSource S.folder S.faults S.misses S.at input.old input.new }
     ensures sinks { (O.faults out.old ≤ O.faults out.new) × (E.faults err.old ≤ E.faults err.new) }
     ensures other { IfSome (task_of (texts_of words.now)) (λ t. LeavesAlone t files.old files.new input.old input.new) }
@@ -129,7 +129,7 @@ fn run_task<F: Files, S: Source>(
         (FailedIn (task_value task.entry) (S.faults input.old) (S.faults input.new) (F.faults files.old)
         (F.faults files.new))
         (Rose (F.misses files.old) (F.misses files.new))) }
-    ensures files { KeepsFiles F.folder F.faults F.misses F.left files.old files.new }
+    ensures files { ClosesFiles F.folder F.faults F.misses F.left files.old files.new }
     ensures source { KeepsSource S.folder S.faults S.misses S.at input.old input.new }
     ensures other { LeavesAlone (task_value task.entry) files.old files.new input.old input.new }
 {

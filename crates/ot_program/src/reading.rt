@@ -10,7 +10,7 @@ ghost use Rattle.ot_theory.specs.Lines.{lines_of};
 ghost use Rattle.ot_read.specs.Laws.{StandFor};
 ghost use Rattle.ot_read.specs.Lines.{lines_read, IsLineRefusal};
 ghost use Rattle.ot_program.specs.Reply.{ReadLines, notation, read_in, read_status, text_in};
-ghost use Rattle.ot_program.specs.Answer.{FailedIn, LeavesAlone, KeepsFiles};
+ghost use Rattle.ot_program.specs.Answer.{FailedIn, LeavesAlone, ClosesFiles};
 ghost use Rattle.ot_program.specs.Verdicts.{noted_of, read_end_of, IsAnswer, HasCause, IsVerdictOf};
 ghost use Rattle.ot_program.specs.Verdicts.{IsTextRefusal, IsTextCause, IsPrintedAs, IsTaskVerdict};
 
@@ -70,7 +70,7 @@ pub fn run_reading<F: Files, S: Source>(
         IfOk result (IsTaskVerdict t (F.folder files.old) (S.left input.old) (F.at files.new)
         (FailedIn t (S.faults input.old) (S.faults input.new) (F.faults files.old) (F.faults files.new))
         (Rose (F.misses files.old) (F.misses files.new))) }
-    ensures files { KeepsFiles F.folder F.faults F.misses F.left files.old files.new }
+    ensures files { ClosesFiles F.folder F.faults F.misses F.left files.old files.new }
     ensures source { KeepsSource S.folder S.faults S.misses S.at input.old input.new }
     ensures other { LeavesAlone (ReadLines packages.now path.now text.now) files.old files.new input.old input.new }
 {
@@ -102,7 +102,7 @@ fn read_text<F: Files>(
     ensures cause { IfSome (read_end_of text.now (noted_of session.now run.now) result)
         (HasCause read_status (Rose (F.faults files.old) (F.faults files.new))
         (Rose (F.misses files.old) (F.misses files.new))) }
-    ensures files { KeepsFiles F.folder F.faults F.misses F.left files.old files.new }
+    ensures files { ClosesFiles F.folder F.faults F.misses F.left files.old files.new }
     ensures at { F.at files.new ≡ path_asked (F.folder files.old) text.now }
 {
     match bytes_of(alloc, text, files) {
@@ -133,7 +133,7 @@ fn bytes_of<F: Files>(alloc: Global, text: &str, files: &mut F) -> Result<Vec<u8
     ensures cause { IfErr result
         (λ e. IsTextCause e (Rose (F.faults files.old) (F.faults files.new))
         (Rose (F.misses files.old) (F.misses files.new))) }
-    ensures files { KeepsFiles F.folder F.faults F.misses F.left files.old files.new }
+    ensures files { ClosesFiles F.folder F.faults F.misses F.left files.old files.new }
     ensures at { F.at files.new ≡ path_asked (F.folder files.old) text.now }
 {
     match files.open_file(text) {

@@ -1,7 +1,7 @@
 use Rattle.std.proofs.Common.{◌≡◌, [], map, take}
 use Rattle.std.specs.Prelude.{string_bytes}
 use Rattle.ot_plain.specs.PlainTrees.{term_of_tree}
-use Rattle.ot_program.specs.Answer.{KeepsFiles}
+use Rattle.ot_program.specs.Answer.{ClosesFiles}
 use Rattle.ot_program.specs.Verdicts.{AreSearched}
 use Rattle.ot_program.proofs.finding.search_packages.Given as goal
 
@@ -9,6 +9,6 @@ abbrev pub invariant-each : goal.invariant-each
 invariant-each g l = record {
   searched : AreSearched l.packages (map string_bytes (take l.full-index l.fulls))
       (g.F.Source.folder l.initial.files) (term_of_tree l.pattern) l.initial.search l.search;
-  files : KeepsFiles g.F.Source.folder g.F.Source.faults g.F.Source.misses g.F.Source.left l.initial.files l.files;
+  files : ClosesFiles g.F.Source.folder g.F.Source.faults g.F.Source.misses g.F.Source.left l.initial.files l.files;
   none : map string_bytes l.fulls ≡ [] → l.files ≡ l.initial.files;
 }
