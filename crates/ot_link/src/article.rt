@@ -2,7 +2,7 @@
 ghost use Rattle.std.specs.Prelude.{◌≡◌, ◌≢◌, ◌≤◌, ◌^◌, ℕ, List, Some, Err, IfOk, IfErr, IfSome, string_bytes};
 ghost use Rattle.ot_io.specs.Causes.{Rose};
 ghost use Rattle.ot_io.specs.Folder.{Folder};
-ghost use Rattle.ot_io.specs.Keeping.{KeepsSource};
+ghost use Rattle.ot_io.specs.Keeping.{KeepsSource, KeepsFiles};
 ghost use Rattle.ot_scan.specs.Lines.{lines_of};
 ghost use Rattle.ot_machine.specs.States.{fresh_article, fresh_run, no_context};
 ghost use Rattle.ot_machine.specs.Meaning.{run_of, IsRun, Grows};
@@ -49,8 +49,7 @@ pub(crate) fn run_article<F: Files>(
     ensures lawful_exports { IfOk result (λ exports. AreLawfulOnce session.new exports.items) }
     ensures cause { IfErr result (λ e. HasCause e (F.misses files.old) (F.misses files.new) (F.faults files.old)
         (F.faults files.new) (F.at files.new)) }
-    ensures later { (F.faults files.old ≤ F.faults files.new) × (F.misses files.old ≤ F.misses files.new) }
-    ensures folder { F.folder files.new ≡ F.folder files.old }
+    ensures kept { KeepsFiles F.folder F.faults F.misses files.old files.new }
 {
     match files.open_file(&path) {
         Ok(()) => run_named(setting, session, files, context, path),

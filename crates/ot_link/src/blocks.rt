@@ -1,9 +1,10 @@
 // Blocks, theory files and packages as they are run.
-ghost use Rattle.std.specs.Prelude.{◌≡◌, ◌≤◌, ◌<◌, ◌++◌, ◌∷◌, ℕ, [], Some, true, map, codes, length};
+ghost use Rattle.std.specs.Prelude.{◌≡◌, ◌<◌, ◌++◌, ◌∷◌, ℕ, [], Some, true, map, codes, length};
 ghost use Rattle.std.specs.Prelude.{position, slice_get, slice_index_or, IfOk, IfErr, string_bytes};
 ghost use Rattle.std.specs.List.{All, list_any};
 ghost use Rattle.std.specs.Str.{bytes_eq};
 ghost use Rattle.ot_io.specs.Folder.{Folder};
+ghost use Rattle.ot_io.specs.Keeping.{KeepsFiles};
 ghost use Rattle.ot_theory.specs.Answers.{block_of, blocks_of, tags_of};
 ghost use Rattle.ot_blocks.specs.Paths.{is_package};
 ghost use Rattle.ot_blocks.specs.Answers.{plan_of};
@@ -155,8 +156,7 @@ fn run_source<'x, F: Files>(
     ensures lawful_exports { IfOk result (λ exports. AreLawfulOnce session.new exports.items) }
     ensures cause { IfErr result (λ e. HasCause e (F.misses files.old) (F.misses files.new) (F.faults files.old)
         (F.faults files.new) (F.at files.new)) }
-    ensures later { (F.faults files.old ≤ F.faults files.new) × (F.misses files.old ≤ F.misses files.new) }
-    ensures folder { F.folder files.new ≡ F.folder files.old }
+    ensures kept { KeepsFiles F.folder F.faults F.misses files.old files.new }
 {
     match source {
         Source::Article(value) => {
@@ -202,8 +202,7 @@ fn open_package<'x, F: Files>(
     ensures lawful_exports { IfOk result (λ exports. AreLawfulOnce session.new exports.items) }
     ensures cause { IfErr result (λ e. HasCause e (F.misses files.old) (F.misses files.new) (F.faults files.old)
         (F.faults files.new) (F.at files.new)) }
-    ensures later { (F.faults files.old ≤ F.faults files.new) × (F.misses files.old ≤ F.misses files.new) }
-    ensures folder { F.folder files.new ≡ F.folder files.old }
+    ensures kept { KeepsFiles F.folder F.faults F.misses files.old files.new }
 {
     let alloc = setting.alloc;
     if is_open(&file.chain, full) {
@@ -259,8 +258,7 @@ fn run_block<F: Files>(
     ensures lawful_exports { IfOk result (λ exports. AreLawfulOnce session.new exports.items) }
     ensures cause { IfErr result (λ e. HasCause e (F.misses files.old) (F.misses files.new) (F.faults files.old)
         (F.faults files.new) (F.at files.new)) }
-    ensures later { (F.faults files.old ≤ F.faults files.new) × (F.misses files.old ≤ F.misses files.new) }
-    ensures folder { F.folder files.new ≡ F.folder files.old }
+    ensures kept { KeepsFiles F.folder F.faults F.misses files.old files.new }
 {
     let alloc = setting.alloc;
     let own = interpretation_of(alloc, session, &block.statements)?;
@@ -320,8 +318,7 @@ fn run_next<F: Files>(
     ensures lawful_exports { IfOk result (λ exports. AreLawfulOnce session.new exports.items) }
     ensures cause { IfErr result (λ e. HasCause e (F.misses files.old) (F.misses files.new) (F.faults files.old)
         (F.faults files.new) (F.at files.new)) }
-    ensures later { (F.faults files.old ≤ F.faults files.new) × (F.misses files.old ≤ F.misses files.new) }
-    ensures folder { F.folder files.new ≡ F.folder files.old }
+    ensures kept { KeepsFiles F.folder F.faults F.misses files.old files.new }
 {
     let imports = imported(setting.alloc, done, imports_at(plan, place))?;
     match blocks.get(place) {
@@ -360,8 +357,7 @@ fn run_blocks<F: Files>(
     ensures lawful_exports { IfOk result (λ exports. AreLawfulOnce session.new exports.items) }
     ensures cause { IfErr result (λ e. HasCause e (F.misses files.old) (F.misses files.new) (F.faults files.old)
         (F.faults files.new) (F.at files.new)) }
-    ensures later { (F.faults files.old ≤ F.faults files.new) × (F.misses files.old ≤ F.misses files.new) }
-    ensures folder { F.folder files.new ≡ F.folder files.old }
+    ensures kept { KeepsFiles F.folder F.faults F.misses files.old files.new }
 {
     stays_law();
     let mut done: HashMap<usize, Vec<Export>> = HashMap::new(setting.alloc);
@@ -399,8 +395,7 @@ pub(crate) fn link_file<F: Files>(
     ensures lawful_exports { IfOk result (λ exports. AreLawfulOnce session.new exports.items) }
     ensures cause { IfErr result (λ e. HasCause e (F.misses files.old) (F.misses files.new) (F.faults files.old)
         (F.faults files.new) (F.at files.new)) }
-    ensures later { (F.faults files.old ≤ F.faults files.new) × (F.misses files.old ≤ F.misses files.new) }
-    ensures folder { F.folder files.new ≡ F.folder files.old }
+    ensures kept { KeepsFiles F.folder F.faults F.misses files.old files.new }
 {
     let alloc = setting.alloc;
     let text = theory_text(setting, files, &file.path)?;

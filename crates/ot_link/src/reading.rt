@@ -1,6 +1,7 @@
 // Theory files as they are read and planned.
 ghost use Rattle.std.specs.Prelude.{◌≡◌, ◌≤◌, ℕ, List, Option, Some, IfOk, IfErr, codes, true};
 ghost use Rattle.ot_io.specs.Folder.{Folder};
+ghost use Rattle.ot_io.specs.Keeping.{KeepsFiles};
 ghost use Rattle.ot_kernel.specs.State.{State};
 ghost use Rattle.ot_theory.specs.Theory.{theory, has_block};
 ghost use Rattle.ot_theory.specs.Sound.{IsSound};
@@ -31,8 +32,7 @@ pub(crate) fn theory_text<F: Files>(
     ensures symbols { IfErr result (λ e. (k : State) → NamesSymbolIn k e) }
     ensures cause { IfErr result (λ e. HasCause e (F.misses files.old) (F.misses files.new) (F.faults files.old)
         (F.faults files.new) (F.at files.new)) }
-    ensures later { (F.faults files.old ≤ F.faults files.new) × (F.misses files.old ≤ F.misses files.new) }
-    ensures folder { F.folder files.new ≡ F.folder files.old }
+    ensures kept { KeepsFiles F.folder F.faults F.misses files.old files.new }
 {
     let alloc = setting.alloc;
     let limit = setting.limits.theory_bytes;

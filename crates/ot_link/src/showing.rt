@@ -1,6 +1,7 @@
 //! The namespaces that a theory file shows.
-ghost use Rattle.std.specs.Prelude.{◌≡◌, ◌≤◌, ◌++◌, [], Some, IfOk, IfErr, IfSome, OnOk};
+ghost use Rattle.std.specs.Prelude.{◌≡◌, ◌++◌, [], Some, IfOk, IfErr, IfSome, OnOk};
 ghost use Rattle.ot_io.specs.Folder.{Folder};
+ghost use Rattle.ot_io.specs.Keeping.{KeepsFiles};
 ghost use Rattle.ot_kernel.specs.State.{State};
 ghost use Rattle.ot_theory.specs.Answers.{tag_of, tags_of};
 ghost use Rattle.ot_link.specs.Answers.{AreWithin, setting_of, Comes, NamesSymbolIn, HasCause};
@@ -36,8 +37,7 @@ pub fn shown<F: Files>(
     ensures symbols { IfErr result (λ e. (k : State) → NamesSymbolIn k e) }
     ensures cause { IfErr result (λ e. HasCause e (F.misses files.old) (F.misses files.new) (F.faults files.old)
         (F.faults files.new) (F.at files.new)) }
-    ensures later { (F.faults files.old ≤ F.faults files.new) × (F.misses files.old ≤ F.misses files.new) }
-    ensures folder { F.folder files.new ≡ F.folder files.old }
+    ensures kept { KeepsFiles F.folder F.faults F.misses files.old files.new }
     ensures closed { F.left files.new ≡ Some [] }
 {
     let setting = Setting {
@@ -62,8 +62,7 @@ fn shown_at<F: Files>(
     ensures symbols { IfErr result (λ e. (k : State) → NamesSymbolIn k e) }
     ensures cause { IfErr result (λ e. HasCause e (F.misses files.old) (F.misses files.new) (F.faults files.old)
         (F.faults files.new) (F.at files.new)) }
-    ensures later { (F.faults files.old ≤ F.faults files.new) × (F.misses files.old ≤ F.misses files.new) }
-    ensures folder { F.folder files.new ≡ F.folder files.old }
+    ensures kept { KeepsFiles F.folder F.faults F.misses files.old files.new }
 {
     let text = theory_text(setting, files, path)?;
     let theory = theory_at(setting.alloc, path, &text)?;

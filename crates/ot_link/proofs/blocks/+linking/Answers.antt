@@ -7,6 +7,7 @@ use Rattle.std.specs.Str.{bytes_eq}
 use Rattle.std.proofs.lemmas.List.{drop_all, get_or_default}
 use Rattle.std.proofs.lemmas.Result.{err_from_is_err_and}
 use Rattle.ot_plain.specs.Naming.{IsNameTable}
+use Rattle.ot_io.proofs.Keeping.{KeepsFiles-then}
 use Rattle.ot_interp.specs.Interpretation.{map_interpretation}
 use Rattle.ot_kernel.specs.State.{name_at}
 use Rattle.ot_kernel.specs.Alike.{AreFirstPlaces}
@@ -146,7 +147,7 @@ link_file-returns-clause-comes g t c =
     (theory_of c.in_ok-theory.theory) (plan_of c.in_ok-plan.plan) (ran_of mid) c.run_blocks.result
     (rw (c.deref-2.ensures, c.deref-3.ensures.value) at (c.in_ok-theory.ensures.comes old.kernel))
     (rw (c.deref-4.ensures, c.deref-5.ensures.value) at (c.in_ok-plan.ensures.comes old.kernel))
-    (rw c.deref-6.ensures.value at (c.run_blocks.ensures.comes folder (c.theory_text.ensures.folder ∙ e)))
+    (rw c.deref-6.ensures.value at (c.run_blocks.ensures.comes folder (c.theory_text.ensures.kept.same_folder ∙ e)))
 
 -- ---- a package, further on
 
@@ -366,7 +367,7 @@ run_blocks-returns-in_err-exports-clause-comes g t c =
     c.each.place-index b (done_of mid c.each.done) (run_of mid) lt is (c.each.invariant.left folder e)
     (context_of mid outer) (context-kept old mid c.requires.session c.each.invariant.grown outer c.requires.context)
     new.kernel c.in_err-exports.field-0.0
-    (c.in_err-exports.ensures.comes folder (c.each.invariant.folder ∙ e)))
+    (c.in_err-exports.ensures.comes folder (c.each.invariant.kept.same_folder ∙ e)))
 
 pub run_blocks-each-init : goal.run_blocks-each-init
 run_blocks-each-init g t c = record {
@@ -375,8 +376,7 @@ run_blocks-each-init g t c = record {
   inside = search rules;
   lawful = stays-as c.args.session.now c.args.session.now refl c.requires.lawful;
   exports = search rules;
-  later = (omega arith, omega arith);
-  folder = refl;
+  kept = record { same_folder = refl; later = omega arith; later_misses = omega arith };
   left = λ folder e.
       let s = setting_of folder c.args.setting in
       let old = c.args.session.now in
@@ -397,8 +397,6 @@ run_blocks-each-preserved g t c =
     let new = c.run_next.new.session in
     let outer = c.args.file.now.outer.now in
     let kept = c.in_ok-exports.ensures.grown in
-    let before = c.each.invariant.later in
-    let now = c.in_ok-exports.ensures.later in
     let order = c.args.plan.now.order.items in
     let b = get_or c.deref-place-items.result.now c.each.place-index 0 in
     let lt : c.each.place-index < length order =
@@ -416,8 +414,7 @@ run_blocks-each-preserved g t c =
           c.in_ok-exports.ensures.lawful.larger c.each.done c.insert.new.self b c.in_ok-exports.exports
           c.in_ok-insert.ensures.updates.0
           c.each.invariant.inside c.each.invariant.exports c.in_ok-exports.ensures.lawful_exports;
-      later = (omega (arith, before.0, now.0), omega (arith, before.1, now.1));
-      folder = c.in_ok-exports.ensures.folder ∙ c.each.invariant.folder;
+      kept = KeepsFiles-then c.each.invariant.kept c.in_ok-exports.ensures.kept;
       left = λ folder e.
           let s = setting_of folder c.args.setting in
           let f : Planned = record { blocks = blocks_of c.args.blocks.now; plan = plan_of c.args.plan.now } in
@@ -431,7 +428,7 @@ run_blocks-each-preserved g t c =
           (context_of mid outer)
           (context-kept old mid c.requires.session c.each.invariant.grown outer c.requires.context)
           (ran_of new c.in_ok-exports.exports)
-          (c.in_ok-exports.ensures.comes folder (c.each.invariant.folder ∙ e)));
+          (c.in_ok-exports.ensures.comes folder (c.each.invariant.kept.same_folder ∙ e)));
     }
 
 pub run_blocks-returns-clause-comes : goal.run_blocks-returns-clause-comes

@@ -1,7 +1,8 @@
-use Rattle.std.proofs.Common.{◌≡◌, ◌≤◌, ◌+◌, ◌*◌, ℕ, Some}
+use Rattle.std.proofs.Common.{◌≡◌, ◌+◌, ◌*◌, ℕ, Some}
 use Rattle.std.specs.Prelude.{string_bytes}
 use Rattle.std.specs.List.{All}
 use Rattle.ot_io.specs.Folder.{Folder}
+use Rattle.ot_io.specs.Keeping.{KeepsFiles}
 use Rattle.ot_theory.specs.Answers.{blocks_of}
 use Rattle.ot_blocks.specs.Answers.{plan_of}
 use Rattle.ot_machine.specs.Meaning.{run_of, IsRun, IsExportIn, Grows}
@@ -20,9 +21,7 @@ invariant-run_blocks-each g l = record {
   inside : (b : ℕ) → All (IsExportIn l.session) (held_at l.done b);
   lawful : StaysLawful l.fn.session l.session;
   exports : (b : ℕ) → AreLawfulOnce l.session (held_at l.done b);
-  later : (g.F.Source.faults l.fn.files ≤ g.F.Source.faults l.files)
-      × (g.F.Source.misses l.fn.files ≤ g.F.Source.misses l.files);
-  folder : g.F.Source.folder l.files ≡ g.F.Source.folder l.fn.files;
+  kept : KeepsFiles g.F.Source.folder g.F.Source.faults g.F.Source.misses l.fn.files l.files;
   left : (folder : Folder) → g.F.Source.folder l.fn.files ≡ Some folder →
       IsLeft (setting_of folder l.setting) (opener_of (setting_of folder l.setting) l.file) (string_bytes l.file.path)
       (context_of l.fn.session l.file.outer.now)
