@@ -256,6 +256,7 @@ impl Kernel {
     }
 
     // The number of the theorem that a rule gives, which follows. A refusal stays.
+    #[inline(always)]
     pub(crate) fn derived(
         &mut self,
         theorem: Result<Theorem, RuleFault>,

@@ -198,7 +198,7 @@ impl Machine {
     }
 
     /// The row of a word, in an article of a version.
-    #[inline(always)]
+    // Without a mark: taken in here, it would make the way of a line too large to be taken in itself.
     fn order(
         &mut self,
         session: &mut Session,

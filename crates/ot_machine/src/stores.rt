@@ -18,6 +18,7 @@ use ot_trace::StepId;
 
 impl Session {
     /// Puts an object on the stack, with its step.
+    #[inline(always)]
     pub(crate) fn push(
         &self,
         machine: &mut Machine,

@@ -54,6 +54,7 @@ impl Terms {
 
     /// The two sides of an equation; None exactly where the term is none. The constant `=` counts only at a type
     /// `a -> (a -> bool)`.
+    #[inline(always)]
     pub fn as_eq(&self, id: TermId) -> Option<(TermId, TermId)>
         requires { id < length self.now.terms }
         ensures none { IfNone result
