@@ -22,13 +22,3 @@ KeepsFiles-then a b = record {
   later = omega (arith, a.later, b.later);
   later_misses = omega (arith, a.later_misses, b.later_misses);
 }
-
--- a folder of files is a source too
-pub KeepsSource-files : {F : Type 0} {folder : F → Option Folder} {faults misses : F → ℕ}
-    {at : F → Option (List ℕ)} {old new : F} → KeepsSource folder faults misses at old new
-    → KeepsFiles folder faults misses old new
-KeepsSource-files k = record {
-  same_folder = k.same_folder;
-  later = k.later;
-  later_misses = omega (arith, k.same_misses);
-}
