@@ -16,13 +16,13 @@ use std::alloc::Global;
 use std::marker::Model;
 
 /// What stands beside a node. No free variable has a name with a greater number than `newest`, and the tree is `closed`
-/// exactly where none is free. `size` is how many nodes the tree has, as far as a `u32` goes; how long a call takes
+/// exactly where none is free. `size` is how many nodes the tree has, as far as a `u16` goes; how long a call takes
 /// depends on it, and no answer does.
 #[derive(Clone, Copy)]
 struct Beside {
     newest: NameId,
     closed: bool,
-    size: u32,
+    size: u16,
 }
 
 /// Nameless terms, each with a number that it keeps. Types are taken by number, so contracts see the type with the

@@ -10,7 +10,7 @@ use indexmap::IndexMap;
 use ot_plain::Memory;
 
 // A tree with more nodes than this is worked on once in a call, at each depth.
-pub(super) const SMALL: u32 = 32;
+pub(super) const SMALL: u16 = 32;
 
 // A number under some abstractions.
 #[derive(Clone, Copy, PartialEq, Eq, Hash)]
