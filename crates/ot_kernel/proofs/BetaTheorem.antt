@@ -101,7 +101,7 @@ module _ (t : TermTable) (key : VarKey) (p : ℕ) (below : key.ty < length t.typ
 
       function_rule : abs_rule numbers (variable_of n.types key) (tm_at n.terms h) ≡ limited numbers function
       function_rule =
-          let binder = variable_of-Grows t n (Grows-trans t m n first second) key below in
+          let binder = variable_of-Grows t n (Grows-trans first second) key below in
           (λ i. abs_rule numbers (binder i) (holds_is i)) ∙ ap (limited numbers) function_is
 
       pub beta_function_refused : (e : RuleFault)
@@ -119,10 +119,10 @@ module _ (t : TermTable) (key : VarKey) (p : ℕ) (below : key.ty < length t.typ
             (sym function_rule ∙ made_f.1)).1
 
         x_is : tm_at o.terms x ≡ Free var
-        x_is = tm_at-Grows m o (Grows-trans m n o second third) x x_below ∙ var_is
+        x_is = tm_at-Grows m o (Grows-trans second third) x x_below ∙ var_is
 
         pub x_there : x < length o.terms
-        x_there = let l = (Grows-trans m n o second third).terms.longer in let b = x_below in omega (arith, l, b)
+        x_there = let l = (Grows-trans second third).terms.longer in let b = x_below in omega (arith, l, b)
 
         redex_rule : app_rule numbers (tm_at o.terms f) (tm_at o.terms x) ≡ limited numbers redex
         redex_rule =
@@ -147,7 +147,7 @@ module _ (t : TermTable) (key : VarKey) (p : ℕ) (below : key.ty < length t.typ
               (limit-ok (is_shallow numbers redex) Nesting redex (tm_at q.terms r) (sym redex_rule ∙ made_r.1)).1
 
           h_is : tm_at q.terms h ≡ holds
-          h_is = tm_at-Grows n q (Grows-trans n o q third fourth) h made_h.0 ∙ holds_is
+          h_is = tm_at-Grows n q (Grows-trans third fourth) h made_h.0 ∙ holds_is
 
           pub beta_sides : type_in numbers [] (tm_at q.terms r) ≡ type_in numbers [] (tm_at q.terms h)
           beta_sides = ap (type_in numbers []) r_is ∙ redex_typed ∙ sym (ap (type_in numbers []) h_is ∙ holds_typed)

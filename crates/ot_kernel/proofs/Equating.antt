@@ -16,7 +16,7 @@ use Rattle.ot_laws.proofs.Equations.{as_equation-some, as_equation-equation, equ
 use Rattle.ot_term.specs.Term.{TermTable}
 use Rattle.ot_term.specs.TermTable.{term_at, Grows, IsTermTable}
 use Rattle.ot_term.specs.Equality.{equality_ty, named_equation}
-use Rattle.ot_term.proofs.Growing.{Grows-trans, term_at-Grows}
+use Rattle.ot_term.proofs.Growing.{grown_within, grown_further, term_at-Grows}
 use Rattle.ot_kernel.specs.declared.theorem.Theorem.{Theorem}
 use Rattle.ot_kernel.specs.declared.fault.RuleFault.{RuleFault}
 use Rattle.ot_kernel.specs.Answers.{RefusesRule}
@@ -100,22 +100,10 @@ module _ (t u : TermTable) (g : Grows t u) where
       λ j. first j ∷ rest j
 
 pub grown_more : (n : ℕ) (t u : TermTable) → IsGrown t u → IsGrownBy n t u
-grown_more n t u g =
-    record {
-      grows = g.grows;
-      names = record { types = omega (arith, g.names.types); terms = omega (arith, g.names.terms) };
-      table = g.table;
-    }
+grown_more n t u g = grown_within _ _ t u g (omega arith)
 
 pub grown_then : (n : ℕ) (s t u : TermTable) → IsGrownBy n s t → IsGrownBy n t u → IsGrownBy n s u
-grown_then n s t u g h = record {
-  grows = Grows-trans s t u g.grows h.grows;
-  names = record {
-    types = omega (arith, g.names.types, h.names.types);
-    terms = omega (arith, g.names.types, g.names.terms, h.names.terms);
-  };
-  table = h.table;
-}
+grown_then n s t u g h = grown_further _ _ _ s t u g (omega arith) h (omega arith)
 
 -- ---- a theorem whose conclusion is made over the table, under hypotheses that were there
 pub derives_within : (t u : TermTable) → IsTermTable t → Grows t u

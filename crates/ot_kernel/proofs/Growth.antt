@@ -14,7 +14,7 @@ use Rattle.ot_plain.specs.Bounds.{names_in, names_in_terms}
 use Rattle.ot_plain.specs.Table.{Extends}
 use Rattle.ot_plain.proofs.TableLemmas.{Extends-refl}
 use Rattle.ot_term.specs.Term.{TermTable}
-use Rattle.ot_term.specs.TermTable.{Grows, NamesUpTo, IsTermTable}
+use Rattle.ot_term.specs.TermTable.{Grows, IsTermTable, IsGrownTo}
 use Rattle.ot_kernel.specs.declared.theorem.Theorem.{Theorem}
 use Rattle.ot_kernel.specs.State.{State, named_at, Keeps, SameTheorems, AreApart}
 use Rattle.ot_laws.specs.Theorem.{IsTheorem}
@@ -161,15 +161,15 @@ names_grown ns ms t held now view k more first =
 
 -- new types or terms, of names of the table
 pub terms_grown : (j : ℕ) (ns : List Name) (t u : TermTable) (held : Held) (now : State) → state_of ns t held ≡ now
-    → IsKernel ns t held → Grows t u → IsTermTable u → NamesUpTo j t u → j ≤ length now.names → Grown now ns u held
-terms_grown j ns t u held now view k g table up h =
+    → IsKernel ns t held → IsGrownTo j t u → j ≤ length now.names → Grown now ns u held
+terms_grown j ns t u held now view k g h =
     let e = ap (λ (s : State). length s.names) view in
-    grown ns ns t u held now view k (Extends-refl ns) k.names g table (omega (arith, e, up.types, k.types))
-    (omega (arith, e, up.terms, k.types, k.terms))
+    grown ns ns t u held now view k (Extends-refl ns) k.names g.grows g.table
+    (omega (arith, e, g.names.types, k.types)) (omega (arith, e, g.names.terms, k.types, k.terms))
 
 -- the type of propositions, whose name is a first one
 pub bool_grown : (ns : List Name) (t u : TermTable) (held : Held) (now : State) → state_of ns t held ≡ now
-    → IsKernel ns t held → Grows t u → IsTermTable u → NamesUpTo 2 t u → Grown now ns u held
-bool_grown ns t u held now view k g table up =
+    → IsKernel ns t held → IsGrownTo 2 t u → Grown now ns u held
+bool_grown ns t u held now view k g =
     let e = ap (λ (s : State). length s.names) view in
-    terms_grown 2 ns t u held now view k g table up (omega (arith, e, k.names.first.longer))
+    terms_grown 2 ns t u held now view k g (omega (arith, e, k.names.first.longer))

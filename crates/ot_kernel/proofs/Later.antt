@@ -33,7 +33,6 @@ use Rattle.ot_kernel.specs.State.{State, name_at, type_at, variable_at, term_at}
 use Rattle.ot_kernel.specs.State.{terms_at, theorem_at, Keeps, SameTheorems}
 use Rattle.ot_kernel.specs.Spelled.{Held, sequent_of, state_of, IsInside, IsKernel}
 use Rattle.ot_kernel.specs.Numbered.{tm_at, tms_at, numbered_sequent, IsGrownBy}
-use Rattle.ot_kernel.specs.Proved.{IsGrownTo}
 use Rattle.ot_kernel.specs.Pairs.{type_pairs, term_pairs, AreTypePairs, IsSubstIn}
 use Rattle.ot_kernel.proofs.Growth.{Grown, grown, terms_grown, names_grown}
 use Rattle.ot_kernel.proofs.Namings.{table_names}
@@ -68,11 +67,12 @@ later_from ns ms t u held now view k g w =
 
 -- terms may be new, of names below a bound
 pub later_to : (k : ℕ) (ns : List Name) (t u : TermTable) (held : Held) (now : State) → state_of ns t held ≡ now
-    → IsKernel ns t held → k ≤ length now.names → IsGrownTo k t u → Later ns ns t u held now (state_of ns u held)
+    → IsKernel ns t held → k ≤ length now.names → terms.IsGrownTo k t u
+    → Later ns ns t u held now (state_of ns u held)
 later_to k ns t u held now view kernel within g =
     let e = ap (λ (s : State). length s.names) view in
     later_from ns ns t u held now view kernel g.grows
-    (terms_grown k ns t u held now view kernel g.grows g.table g.names (omega (arith, within, e)))
+    (terms_grown k ns t u held now view kernel g (omega (arith, within, e)))
 
 -- terms may be new, of names of the table
 pub later_terms : (n : ℕ) (ns : List Name) (t u : TermTable) (held : Held) (now : State) → state_of ns t held ≡ now
@@ -81,7 +81,7 @@ later_terms n ns t u held now view k within g =
     let e = ap (λ (s : State). length s.names) view in
     let first = k.names.first.longer in
     later_from ns ns t u held now view k g.grows
-    (terms_grown (max (suc n) 3) ns t u held now view k g.grows g.table g.names (omega (arith, within, e, first)))
+    (terms_grown (max (suc n) 3) ns t u held now view k g (omega (arith, within, e, first)))
 
 -- the same of no name but those of equations
 pub later_equations : (ns : List Name) (t u : TermTable) (held : Held) (now : State) → state_of ns t held ≡ now

@@ -2,7 +2,7 @@
 use Rattle.std.specs.Prelude.{◌&&◌, IfErr}
 use Rattle.std.specs.Result.{IsErrAnd}
 use Rattle.std.specs.List.{All, list_all}
-use Rattle.std.proofs.Common.{◌≡◌, ℕ, zero, suc, ◌+◌, ◌<◌, ◌≤◌, max, Bool, true, false, if◌then◌else◌}
+use Rattle.std.proofs.Common.{◌≡◌, ℕ, zero, suc, ◌+◌, ◌<◌, ◌≤◌, Bool, true, false, if◌then◌else◌}
 use Rattle.std.proofs.Common.{List, [], ◌∷◌, ◌++◌, map, length, get_or, drop, slice_get, append_assoc}
 use Rattle.std.proofs.Common.{Some, Result, Ok, Err, refl, sym, ap, subst, ◌∙◌, arith}
 use Rattle.std.proofs.lemmas.List.{map-append}
@@ -21,16 +21,16 @@ use Rattle.ot_laws.proofs.Terms.{close_at_fresh}
 use Rattle.ot_laws.proofs.Steps.{within_limit-ok}
 use Rattle.ot_type.specs.TypeTable.{type_at, types_at}
 use Rattle.ot_term.specs.Term.{TermTable}
-use Rattle.ot_term.specs.TermTable.{Grows, NamesUpTo, IsTermTable}
-use Rattle.ot_term.proofs.Growing.{Grows-trans, type_at-Grows}
+use Rattle.ot_term.specs.TermTable.{Grows, IsTermTable, IsGrownTo}
+use Rattle.ot_term.proofs.Growing.{grown_further, type_at-Grows}
 use Rattle.ot_term.proofs.Equations.{type_is}
 use Rattle.ot_kernel.specs.declared.theorem.Theorem.{Theorem}
 use Rattle.ot_kernel.specs.declared.fault.RuleFault.{RuleFault}
 use Rattle.ot_kernel.specs.Answers.{RefusesRule}
-use Rattle.ot_kernel.specs.Numbered.{numbered_sequent, Derives, IsGrownBy}
+use Rattle.ot_kernel.specs.Numbered.{numbered_sequent, Derives}
 use Rattle.ot_kernel.specs.Spelled.{IsInside}
 use Rattle.ot_kernel.specs.Equating.{limited, Makes}
-use Rattle.ot_kernel.specs.Proved.{bound_of_names, IsGrownTo, IsNumberOf, equal_functions, trip, DerivesBoth}
+use Rattle.ot_kernel.specs.Proved.{bound_of_names, IsNumberOf, equal_functions, trip, DerivesBoth}
 use Rattle.ot_type.specs.declared.fault.TableFault.{TableFault}
 use Rattle.ot_type.specs.declared.fault.TableFault.TheVariants as of_types
 use Rattle.ot_kernel.specs.declared.fault.RuleFault.TheVariants as rules
@@ -52,32 +52,6 @@ bound-below k [] h = omega arith
 bound-below k (n ∷ ns) h = let first = h 0 n (omega arith) in
     let rest = bound-below k ns (λ i d q. h (suc i) d (omega arith)) in omega (arith, first, rest)
 
--- a table that grows, and then grows by names below j
-pub grown_to : (j k : ℕ) (s t u : TermTable) → IsGrownTo k s t → j ≤ k → Grows t u → NamesUpTo j t u → IsTermTable u
-    → IsGrownTo k s u
-grown_to j k s t u h less g names table = record {
-  grows = Grows-trans s t u h.grows g;
-  names = record {
-    types = omega (arith, h.names.types, names.types);
-    terms = omega (arith, h.names.types, h.names.terms, names.terms);
-  };
-  table = table;
-}
-
-pub grown_further : (i j k : ℕ) (s t u : TermTable) → IsGrownTo i s t → i ≤ k → IsGrownTo j t u → j ≤ k
-    → IsGrownTo k s u
-grown_further i j k s t u g p h q =
-    grown_to j k s t u
-    (record {
-      grows = g.grows;
-      names = record { types = omega (arith, g.names.types); terms = omega (arith, g.names.terms) };
-      table = g.table;
-    })
-    q h.grows h.names h.table
-
-pub grown_by : (n : ℕ) (t u : TermTable) → IsGrownBy n t u → IsGrownTo (max (suc n) 3) t u
-grown_by n t u g = record { grows = g.grows; names = g.names; table = g.table }
-
 -- ---- the type variables of the names before the k-th
 pub record AreVariables (t u : TermTable) (vars : List ℕ) (k : ℕ) (is : List ℕ) : Type 0 where
   pub grown : IsGrownTo (bound_of_names vars) t u
@@ -94,22 +68,22 @@ types_kept t u g (i ∷ is) h =
 
 pub variable_added : (t u v : TermTable) (vars : List ℕ) (k : ℕ) (is js : List ℕ) (name id : ℕ)
     → AreVariables t u vars k is → k < length vars → name ≡ get_or vars k name
-    → Grows u v → NamesUpTo (name + 1) u v → IsTermTable v → slice_get v.types id ≡ Some (TyVar name)
+    → IsGrownTo (name + 1) u v → slice_get v.types id ≡ Some (TyVar name)
     → js ≡ is ++ id ∷ [] → AreVariables t v vars (k + 1) js
-variable_added t u v vars k is js name id a h e g names table at pushed =
+variable_added t u v vars k is js name id a h e g at pushed =
     let less : name + 1 ≤ bound_of_names vars = omega (arith, name-below vars k name h e) in
-    let kept = types_kept u v g is a.within in
+    let kept = types_kept u v g.grows is a.within in
     let new : type_at v.types id ≡ TyVar name = type_is v id (TyVar name) at in
     let ended = map TyVar (drop (k + 1) vars) in
     subst (AreVariables t v vars (k + 1)) (sym pushed) (record {
-      grown = grown_to (name + 1) (bound_of_names vars) t u v a.grown less g names table;
+      grown = grown_further _ (name + 1) (bound_of_names vars) t u v a.grown (omega arith) g less;
       made =
           ap (λ xs. xs ++ ended) (map-append (type_at v.types) is (id ∷ []))
           ∙ append_assoc (map (type_at v.types) is) (type_at v.types id ∷ []) ended
           ∙ (λ j. kept j ++ new j ∷ ended)
           ∙ ap (λ xs. map (type_at u.types) is ++ xs) (sym (map-drop TyVar vars k name h e))
           ∙ a.made;
-      within = All-push (λ i. i < length v.types) is id (λ n d q. omega (arith, a.within n d q, g.types.longer))
+      within = All-push (λ i. i < length v.types) is id (λ n d q. omega (arith, a.within n d q, g.grows.types.longer))
           (slice_get_within v.types id (TyVar name) at);
     })
 

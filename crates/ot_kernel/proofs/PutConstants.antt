@@ -16,9 +16,9 @@ use Rattle.ot_laws.specs.Walk.{nameless_map}
 use Rattle.ot_laws.proofs.Tests.{tells_numbers}
 use Rattle.ot_type.specs.TypeTable.{type_at}
 use Rattle.ot_term.specs.Term.{TermTable}
-use Rattle.ot_term.specs.TermTable.{term_at, variable_of, Grows, NamesUpTo, IsTermTable}
+use Rattle.ot_term.specs.TermTable.{term_at, variable_of, IsGrownTo}
 use Rattle.ot_term.specs.declared.term.VarKey.{VarKey}
-use Rattle.ot_term.proofs.Growing.{type_at-Grows, variable_of-Grows}
+use Rattle.ot_term.proofs.Growing.{grown_further, type_at-Grows, variable_of-Grows}
 use Rattle.ot_subst.specs.Substitution.{Substitution, term_for, with_pair, named_part}
 use Rattle.ot_subst.specs.Substitution.{variable_part, substituted, IsSubstOf}
 use Rattle.ot_subst.specs.Walk.{HasForm, NamesBelow, IsLater}
@@ -32,11 +32,11 @@ use Rattle.ot_kernel.specs.Defining.{zipped}
 use Rattle.ot_kernel.specs.declared.theorem.Theorem.{Theorem}
 use Rattle.ot_kernel.specs.Spelled.{IsInside}
 use Rattle.ot_kernel.specs.Numbered.{tm_at, numbered_sequent}
-use Rattle.ot_kernel.specs.Proved.{bound_of_names, IsGrownTo}
+use Rattle.ot_kernel.specs.Proved.{bound_of_names}
 use Rattle.ot_kernel.proofs.Equating.{tm_at-Grows, limit_at}
 use Rattle.ot_kernel.proofs.Namings.{map-drop}
 use Rattle.ot_kernel.proofs.NewTerms.{new_at}
-use Rattle.ot_kernel.proofs.NewTypes.{name-below, bound-below, grown_to}
+use Rattle.ot_kernel.proofs.NewTypes.{name-below, bound-below}
 use Rattle.ot_kernel.proofs.Leaves.{shallow-constants}
 use Rattle.ot_plain.proofs.Members.{IsMember-get_or, IsMember-map}
 
@@ -82,20 +82,20 @@ module _ (t u : TermTable) (cs : List ℕ) (vars : List VarKey) (k : ℕ) (s : S
   pub now_below : v.ty < length u.types
   now_below = let h = old in omega (arith, h, a.grown.grows.types.longer)
 
-  module _ (w : TermTable) (id : ℕ) (g : Grows u w) (names : NamesUpTo (name + 1) u w) (table : IsTermTable w)
+  module _ (w : TermTable) (id : ℕ) (g : IsGrownTo (name + 1) u w)
       (same_types : w.types ≡ u.types) (made : slice_get w.terms id ≡ Some (NConst name (type_at u.types v.ty))) where
     pub fits_then : IsSubstOf w s
-    fits_then = IsSubstOf-Grows u w g s a.fits
+    fits_then = IsSubstOf-Grows u w g.grows s a.fits
 
     pub grown_then : IsGrownTo (bound_of_names cs) t w
     grown_then = let h = name-below cs k name hc is_name in
-        grown_to (name + 1) (bound_of_names cs) t u w a.grown (omega (arith, h)) g names table
+        grown_further _ (name + 1) (bound_of_names cs) t u w a.grown (omega arith) g (omega (arith, h))
 
     -- the pair that is added
     pair_is : ◌≡◌ {A = Variable ℕ × Tm ℕ} (variable_of w.types v, nameless numbers (term_at w.terms id))
         (variable_of t.types v, Con name (type_at t.types v.ty))
     pair_is =
-        let key = variable_of-Grows u w g v now_below ∙ variable_of-Grows t u a.grown.grows v old in
+        let key = variable_of-Grows u w g.grows v now_below ∙ variable_of-Grows t u a.grown.grows v old in
         let term = ap (nameless numbers) (new_at w id (NConst name (type_at u.types v.ty)) made).1
         ∙ ap (Con name) (type_at-Grows t u a.grown.grows v.ty old) in
         λ i. (key i, term i)
@@ -106,7 +106,7 @@ module _ (t u : TermTable) (cs : List ℕ) (vars : List VarKey) (k : ℕ) (s : S
         let named : VarKey × ℕ → Variable ℕ × Named ℕ = λ p. (variable_of w.types p.0, term_at w.terms p.1) in
         ap (nameless_map numbers) (map-append named s.terms ((v, id) ∷ []))
         ∙ map-append _ (named_part w s) (named (v, id) ∷ [])
-        ∙ (λ i. nameless_map numbers (named_part-Grows u w g s a.fits i) ++ pair_is i ∷ [])
+        ∙ (λ i. nameless_map numbers (named_part-Grows u w g.grows s a.fits i) ++ pair_is i ∷ [])
 
     rest : zipped numbers (drop k cs) (map (variable_of t.types) (drop k vars)) ≡ (name, variable_of t.types v)
         ∷ zipped numbers (drop (k + 1) cs) (map (variable_of t.types) (drop (k + 1) vars))

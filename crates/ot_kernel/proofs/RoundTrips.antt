@@ -87,7 +87,7 @@ module _ (t : TermTable) (key : VarKey) (f g : ℕ) (hf : f < length t.terms) (h
 
       back_rule : app_rule numbers (tm_at n.terms g) (tm_at n.terms there) ≡ limited numbers (trip F G var)
       back_rule =
-          let function = tm_at-Grows t n (Grows-trans t m n first second) g hg in
+          let function = tm_at-Grows t n (Grows-trans first second) g hg in
           (λ i. app_rule numbers (function i) (there_is i))
           ∙ app_rule-is numbers tells_numbers G (App F (Free var)) turns.other var.ty turns.back
           (app-typed numbers tells_numbers [] F (Free var) var.ty turns.other turns.there refl)
@@ -100,9 +100,9 @@ module _ (t : TermTable) (key : VarKey) (f g : ℕ) (hf : f < length t.terms) (h
           → Makes (Ok back) (app_rule numbers (tm_at n.terms g) (tm_at n.terms there)) o.terms
           → MakesTrip (Ok (x, back)) F G var o.terms
       trip_made o third back made_back =
-          let function = tm_at-Grows t n (Grows-trans t m n first second) g hg in
+          let function = tm_at-Grows t n (Grows-trans first second) g hg in
           let within = (new_at m x (NVar var) is_var).0 in
-          let later = Grows-trans m n o second third in (
+          let later = Grows-trans second third in (
             omega (arith, within, later.terms.longer),
             made_back.0,
             tm_at-Grows m o later x within ∙ var_is,
@@ -182,7 +182,7 @@ module _ (t : TermTable) (key : VarKey) (f g : ℕ) (hf : f < length t.terms) (h
             sym (limit-ok (is_shallow numbers test) Nesting test (tm_at n.terms same) (sym test_rule ∙ made_same.1)).1
 
         predicate_is : tm_at n.terms p ≡ tm_at t.terms p
-        predicate_is = tm_at-Grows t n (Grows-trans t m n first second) p hp
+        predicate_is = tm_at-Grows t n (Grows-trans first second) p hp
 
         argument_is : tm_at n.terms x ≡ Free var
         argument_is = tm_at-Grows m n second x made.0 ∙ made.2
@@ -218,7 +218,7 @@ module _ (t : TermTable) (key : VarKey) (f g : ℕ) (hf : f < length t.terms) (h
               (equal_functions (variable_of o.types key) (type_of numbers (tm_at o.terms same)) (tm_at o.terms same)
               (tm_at o.terms holds)) ≡ stated
           tests_rule =
-              let binder = variable_of-Grows t o (Grows-trans t n o (Grows-trans t m n first second) third) key
+              let binder = variable_of-Grows t o (Grows-trans (Grows-trans first second) third) key
               below in
               let at = type_of-is numbers (tm_at o.terms same) (bool_ty numbers) test_typed in
               λ i. within_limit numbers (equal_functions (binder i) (at i) (same_later i) (holds_is i))

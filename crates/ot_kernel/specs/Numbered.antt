@@ -5,7 +5,7 @@ use Rattle.ot_plain.specs.Faults.{Fault}
 use Rattle.ot_plain.specs.Hol.{nameless}
 use Rattle.ot_plain.specs.Naming.{numbers}
 use Rattle.ot_term.specs.Term.{TermTable}
-use Rattle.ot_term.specs.TermTable.{term_at, Grows, NamesUpTo, IsTermTable}
+use Rattle.ot_term.specs.TermTable.{term_at, IsGrownTo}
 use Rattle.ot_kernel.specs.declared.theorem.Theorem.{Theorem}
 use Rattle.ot_kernel.specs.declared.fault.RuleFault.{RuleFault}
 use Rattle.ot_kernel.specs.Spelled.{IsInside}
@@ -28,10 +28,8 @@ Derives (Ok th) stated ts = IsInside (length ts) th × (stated ≡ Ok (numbered_
 Derives (Err e) stated ts = RefusesRule e stated
 
 -- what a rule leaves of the table: it has grown, by the names of equations and the name n alone
-pub record IsGrownBy (n : ℕ) (old new : TermTable) : Type 0 where
-  pub grows : Grows old new
-  pub names : NamesUpTo (max (suc n) 3) old new
-  pub table : IsTermTable new
+abbrev pub IsGrownBy : ℕ → TermTable → TermTable → Type 0
+IsGrownBy n = IsGrownTo (max (suc n) 3)
 
 abbrev pub IsGrown : TermTable → TermTable → Type 0
 IsGrown = IsGrownBy 2

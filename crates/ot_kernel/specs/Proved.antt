@@ -9,7 +9,6 @@ use Rattle.ot_plain.specs.Hol.{sequent_of, is_shallow, is_shallow_sequent, IsClo
 use Rattle.ot_plain.specs.Naming.{numbers}
 use Rattle.ot_type.specs.TypeTable.{type_at}
 use Rattle.ot_term.specs.Term.{TermTable}
-use Rattle.ot_term.specs.TermTable.{Grows, NamesUpTo, IsTermTable}
 use Rattle.ot_kernel.specs.declared.theorem.Theorem.{Theorem}
 use Rattle.ot_kernel.specs.declared.fault.RuleFault.{RuleFault}
 use Rattle.ot_kernel.specs.Answers.{RefusesRule}
@@ -21,12 +20,6 @@ use Rattle.ot_kernel.specs.Equating.{limited}
 abbrev pub bound_of_names : List ℕ → ℕ
 bound_of_names [] = 0
 bound_of_names (n ∷ ns) = max (suc n) (bound_of_names ns)
-
--- the table has grown, by names below k alone
-pub record IsGrownTo (k : ℕ) (old new : TermTable) : Type 0 where
-  pub grows : Grows old new
-  pub names : NamesUpTo k old new
-  pub table : IsTermTable new
 
 -- the number is that of the type
 pub record IsNumberOf (tys : List (Ty ℕ)) (ty : Ty ℕ) (id : ℕ) : Type 0 where

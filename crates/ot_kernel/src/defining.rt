@@ -8,7 +8,7 @@ ghost use Rattle.ot_plain.specs.Hol.{IsClosed, tys_of_vars, type_theorems, subst
 ghost use Rattle.ot_plain.specs.Naming.{numbers, IsNameTable};
 ghost use Rattle.ot_plain.specs.Rules.{within_limit};
 ghost use Rattle.ot_type.specs.TypeTable.{type_at, types_at};
-ghost use Rattle.ot_term.specs.TermTable.{variable_of, IsTermTable};
+ghost use Rattle.ot_term.specs.TermTable.{variable_of, IsGrownTo};
 ghost use Rattle.ot_subst.specs.Substitution.{variable_part, IsSubstOf};
 ghost use Rattle.ot_subst.specs.Walk.{NamesBelow, IsLater};
 ghost use Rattle.ot_kernel.specs.declared.fault.RuleFault.TheVariants.{Memory as OutOfMemory};
@@ -17,7 +17,7 @@ ghost use Rattle.ot_kernel.specs.Equating.{limited, Makes};
 ghost use Rattle.ot_kernel.specs.Spelled.{IsInside};
 ghost use Rattle.ot_kernel.specs.Defining.{zipped};
 ghost use Rattle.ot_kernel.specs.Opening.{beta_over};
-ghost use Rattle.ot_kernel.specs.Proved.{bound_of_names, IsGrownTo, IsNumberOf, equal_functions};
+ghost use Rattle.ot_kernel.specs.Proved.{bound_of_names, IsNumberOf, equal_functions};
 ghost use Rattle.ot_kernel.specs.Proved.{trip, TurnsBack, MakesTrip, DerivesBoth};
 
 use crate::equations::{abstract_from, apply, equate};

@@ -8,10 +8,10 @@ ghost use Rattle.ot_plain.specs.Hol.{tys_of_vars, type_theorems, theorems_at, is
 ghost use Rattle.ot_plain.specs.Naming.{names as name_alphabet, numbers};
 ghost use Rattle.ot_plain.specs.Rules.{within_limit};
 ghost use Rattle.ot_type.specs.TypeTable.{type_at};
-ghost use Rattle.ot_term.specs.TermTable.{variable_of};
+ghost use Rattle.ot_term.specs.TermTable.{variable_of, IsGrownTo};
 ghost use Rattle.ot_kernel.specs.State.{name_at, theorem_at, Keeps};
 ghost use Rattle.ot_kernel.specs.Numbered.{tm_at, Derives, IsGrownBy};
-ghost use Rattle.ot_kernel.specs.Proved.{bound_of_names, IsGrownTo, trip, TurnsBack, IsPremise, DerivesOpen};
+ghost use Rattle.ot_kernel.specs.Proved.{bound_of_names, trip, TurnsBack, IsPremise, DerivesOpen};
 ghost use Rattle.ot_kernel.specs.Answers.{IsSymbolIn};
 ghost use Rattle.ot_kernel.specs.Opening.{var_r, open_theorems, open_theorems_at, beta_over};
 ghost use Rattle.ot_kernel.specs.Opening.{beta_at, open_type_definition, DefinesOpenType};

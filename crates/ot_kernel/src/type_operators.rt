@@ -5,6 +5,7 @@ ghost use Rattle.ot_plain.specs.Trees.{TyDef};
 ghost use Rattle.ot_plain.specs.Hol.{theorems, theorems_at, IsNext};
 ghost use Rattle.ot_plain.specs.Naming.{names as name_alphabet, numbers};
 ghost use Rattle.ot_laws.specs.Theorem.{IsTheorem};
+ghost use Rattle.ot_term.specs.TermTable.{IsGrownTo};
 ghost use Rattle.ot_term.specs.declared.term.SymbolKind.TheVariants.{TyOp};
 ghost use Rattle.ot_laws.specs.Conditions.{checked_type};
 ghost use Rattle.ot_kernel.specs.State.{name_at, theorem_at, Keeps};
@@ -12,7 +13,7 @@ ghost use Rattle.ot_kernel.specs.Spelled.{sequent_of, IsInside};
 ghost use Rattle.ot_kernel.specs.Numbered.{tm_at};
 ghost use Rattle.ot_kernel.specs.Accepting.{defining_more};
 ghost use Rattle.ot_kernel.specs.Defining.{all_defined, all_used, type_definition};
-ghost use Rattle.ot_kernel.specs.Proved.{bound_of_names, IsGrownTo, DerivesBoth, IsPremise, ArePartsOf};
+ghost use Rattle.ot_kernel.specs.Proved.{bound_of_names, DerivesBoth, IsPremise, ArePartsOf};
 ghost use Rattle.ot_kernel.specs.Answers.{RefusesBy, IsSymbolIn, DefinesType};
 
 use crate::defining::type_theorems;

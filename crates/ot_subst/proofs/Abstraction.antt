@@ -15,17 +15,18 @@ use Rattle.ot_laws.proofs.New.{IsOld, old-terms, apart-new}
 use Rattle.ot_type.specs.TypeTable.{type_at}
 use Rattle.ot_type.proofs.TypeTableLemmas.{type_at-Extends}
 use Rattle.ot_term.specs.Term.{TermTable}
-use Rattle.ot_term.specs.TermTable.{term_at, variable_of, Grows, IsTermTable}
+use Rattle.ot_term.specs.TermTable.{term_at, variable_of, Grows, IsGrownTo}
 use Rattle.ot_term.specs.declared.term.VarKey.{VarKey}
 use Rattle.ot_term.proofs.NamesIn.{bound_named-term_at}
+use Rattle.ot_term.proofs.Growing.{Grows-trans, term_at-Grows, variable_of-Grows}
 use Rattle.ot_subst.specs.Substitution.{Substitution, type_part, named_part, variable_part}
 use Rattle.ot_subst.specs.Renamed.{renaming_of}
 use Rattle.ot_subst.specs.Walk.{carried, becomes, IsRenamed, AreReady, NamesBelow, IsSetUp, bound_of}
 use Rattle.ot_subst.specs.Clash.{MayStay, IsUnclashing}
 use Rattle.ot_subst.specs.Memory.{IsMemory}
 use Rattle.ot_subst.proofs.Becoming.{AreTyped, deep-abs_type, deep-abs_body}
-use Rattle.ot_subst.proofs.Growing.{Grows-trans, term_at-Grows, variable_of-Grows, type_part-Grows, named_part-Grows}
-use Rattle.ot_subst.proofs.Growing.{renaming_of-Grows, becomes_at-Grows, AreReady-Grows, IsSetUp-Grows}
+use Rattle.ot_subst.proofs.Growing.{type_part-Grows, named_part-Grows}
+use Rattle.ot_subst.proofs.Growing.{renaming_of-Grows, becomes_at-Grows, AreReady-Grows, IsSetUp-Grows, below-twice}
 use Rattle.ot_subst.proofs.Walked.{IsMemory-Grows}
 use Rattle.ot_plain.proofs.Members.{IsMember-map_back, All-at_member}
 
@@ -53,11 +54,10 @@ kept-agree s m r v w b k = bind-agree numbers (type_for numbers s)
 
 -- the type was instantiated, and t became u; ty is the number of the instance
 module _ (k : ℕ) (t u : TermTable) (s : Substitution) (r : List (VarKey × VarKey)) (v : VarKey) (ty body : ℕ)
-    (set : IsSetUp k t s r) (vin : v.ty < length t.types) (bin : body < length t.terms) (tu : Grows t u)
-    (utable : IsTermTable u)
+    (set : IsSetUp k t s r) (vin : v.ty < length t.types) (bin : body < length t.terms) (tu : IsGrownTo 0 t u)
     (instance : slice_get u.types ty ≡ Some (inst numbers (type_part t s) (type_at t.types v.ty))) where
   pub ready-then : AreReady u s r
-  ready-then = AreReady-Grows t u tu s set.ready.subst r set.ready utable
+  ready-then = AreReady-Grows t u tu.grows s set.ready.subst r set.ready tu.table
 
   pub instance-in : ty < length u.types
   instance-in = slice_get_within u.types ty _ instance
@@ -66,10 +66,10 @@ module _ (k : ℕ) (t u : TermTable) (s : Substitution) (r : List (VarKey × Var
   instance-type = get_or_from_slice_get u.types ty _ (TyVar 0) instance
 
   same_types : type_part u s ≡ type_part t s
-  same_types = type_part-Grows t u tu s set.ready.subst
+  same_types = type_part-Grows t u tu.grows s set.ready.subst
 
   same_binder : variable_of u.types v ≡ variable_of t.types v
-  same_binder = variable_of-Grows t u tu v vin
+  same_binder = variable_of-Grows t u tu.grows v vin
 
   -- a variable with the instance as its type, in a later table
   module _ (name : ℕ) (x : TermTable) (ux : Grows u x) where
@@ -85,13 +85,13 @@ module _ (k : ℕ) (t u : TermTable) (s : Substitution) (r : List (VarKey × Var
 
   -- what was found in u holds in t
   same_renaming : renaming_of u.types r ≡ renaming_of t.types r
-  same_renaming = renaming_of-Grows t u tu s set.ready.subst r set.ready.binders
+  same_renaming = renaming_of-Grows t u tu.grows s set.ready.subst r set.ready.binders
 
   same_terms : named_part u s ≡ named_part t s
-  same_terms = named_part-Grows t u tu s set.ready.subst
+  same_terms = named_part-Grows t u tu.grows s set.ready.subst
 
   same_body : term_at u.terms body ≡ term_at t.terms body
-  same_body = term_at-Grows t u tu body bin
+  same_body = term_at-Grows t u tu.grows body bin
 
   pub stays-before : MayStay u s r v body → MayStay t s r v body
   stays-before h = record {
@@ -120,12 +120,15 @@ module _ (k : ℕ) (t u : TermTable) (s : Substitution) (r : List (VarKey × Var
       h nil (subst (λ (P : Type 0). P) p apart)
 
   -- the test was made, and u became w
-  module _ (w : TermTable) (uw : Grows u w) (wtable : IsTermTable w) (low : NamesBelow k w) where
+  module _ (w : TermTable) (uw : IsGrownTo 0 u w) where
     tw : Grows t w
-    tw = Grows-trans tu uw
+    tw = Grows-trans tu.grows uw.grows
+
+    low : NamesBelow k w
+    low = below-twice k t u w set.names tu.names uw.names
 
     pub set_up-then : IsSetUp k w s r
-    set_up-then = IsSetUp-Grows t w tw s set.ready.subst k k r set (omega arith) wtable low
+    set_up-then = IsSetUp-Grows t w tw s set.ready.subst k k r set (omega arith) uw.table low
 
     pub memory-then : (es : List (ℕ × ℕ)) → IsMemory t s r es → IsMemory w s r es
     memory-then es h = IsMemory-Grows t w tw s set.ready.subst r set.ready.binders es h
@@ -170,7 +173,7 @@ module _ (k : ℕ) (t u : TermTable) (s : Substitution) (r : List (VarKey × Var
 
       pub typed-new : (variable_of w.types (record { name = name; ty = ty })).ty ≡ inst numbers (type_part t s)
           (variable_of t.types v).ty
-      typed-new = ap (λ (z : Variable ℕ). z.ty) (instance-later name w uw)
+      typed-new = ap (λ (z : Variable ℕ). z.ty) (instance-later name w uw.grows)
 
       pub apart_new : (y : Variable ℕ) → IsFreeIn numbers y (term_at t.terms body) → (y ≡ variable_of t.types v → ⊥)
           → ¬ (IsFree numbers (variable_of w.types (record { name = name; ty = ty }))
@@ -181,7 +184,7 @@ module _ (k : ℕ) (t u : TermTable) (s : Substitution) (r : List (VarKey × Var
       new-binder : IsRenamed w s (v, record { name = name; ty = ty })
       new-binder = record {
         from = omega (arith, vin, tw.types.longer);
-        to = omega (arith, instance-in, uw.types.longer);
+        to = omega (arith, instance-in, uw.grows.types.longer);
         typed = typed-new
             ∙ (λ i. inst numbers (sym (type_part-Grows t w tw s set.ready.subst) i)
             (sym (type_at-Extends t.types w.types tw.types v.ty vin) i));
@@ -192,12 +195,12 @@ module _ (k : ℕ) (t u : TermTable) (s : Substitution) (r : List (VarKey × Var
           let before = set_up-then in
           record {
             ready = record {
-              table = wtable;
+              table = uw.table;
               subst = before.ready.subst;
               binders =
                   λ p i. elim i [ inl e ↦ subst (IsRenamed w s) e new-binder | inr m ↦ before.ready.binders p m ];
             };
-            names = record { types = omega (arith, low.types); terms = omega (arith, low.terms) };
+            names = let l = low in record { types = omega (arith, l.types); terms = omega (arith, l.terms) };
             bound = let b = set.bound in omega arith;
           }
 

@@ -20,12 +20,12 @@ use Rattle.ot_type.proofs.InstLemmas.{images-Extends, inst-nothing}
 use Rattle.ot_term.specs.Term.{TermTable}
 use Rattle.ot_term.specs.TermTable.{term_at, variable_of, Grows, IsTermTable}
 use Rattle.ot_term.specs.declared.term.VarKey.{VarKey}
+use Rattle.ot_term.proofs.Growing.{variable_of-Grows}
 use Rattle.ot_subst.specs.Substitution.{Substitution, same_key, type_part, named_part, variable_part, term_for}
 use Rattle.ot_subst.specs.Renamed.{Meets, renaming_of}
 use Rattle.ot_subst.specs.Walk.{AreReady}
 use Rattle.ot_subst.specs.Clash.{AreFrees, Coincides, MayStay, IsUnclashing, IsPutIn}
 use Rattle.ot_subst.proofs.Keys.{same_key-is, variable-injective}
-use Rattle.ot_subst.proofs.Growing.{variable_of-Grows}
 use Rattle.ot_subst.proofs.Variables.{image-other, put-none}
 use Rattle.ot_plain.proofs.Members.{IsMember-cases, IsMember-map, IsMember-map_back, All-at_member}
 use Rattle.ot_plain.proofs.Results.{none_from}

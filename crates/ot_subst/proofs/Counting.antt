@@ -15,10 +15,10 @@ use Rattle.ot_laws.proofs.Size.{part-self, remembered-size}
 use Rattle.ot_term.specs.Term.{TermTable}
 use Rattle.ot_term.specs.TermTable.{term_at, variable_of, Grows}
 use Rattle.ot_term.specs.declared.term.VarKey.{VarKey}
+use Rattle.ot_term.proofs.Growing.{term_at-Grows}
 use Rattle.ot_subst.specs.Substitution.{Substitution, type_part, variable_part}
 use Rattle.ot_subst.specs.Walk.{AreReady}
 use Rattle.ot_subst.specs.Memory.{keys, IsPartBelow, IsWalked, CountsParts, IsCounted}
-use Rattle.ot_subst.proofs.Growing.{term_at-Grows}
 use Rattle.ot_subst.proofs.Walked.{no_clash-Grows}
 use Rattle.ot_plain.proofs.Members.{IsMember-cases, IsMember-left, IsMember-map, IsMember-map_back, IsMember-right}
 

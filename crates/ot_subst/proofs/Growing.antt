@@ -8,38 +8,21 @@ use Rattle.std.proofs.lemmas.List.Elements.{All-head, All-tail}
 use Rattle.ot_plain.proofs.Members.{All-at_member}
 use Rattle.ot_plain.specs.Lists.{IsMember}
 use Rattle.ot_plain.specs.Names.{Name}
-use Rattle.ot_plain.specs.Trees.{TyVar, Variable, Tm, Named, NConst}
+use Rattle.ot_plain.specs.Trees.{Variable, Tm, Named}
 use Rattle.ot_plain.specs.Hol.{inst, nameless, IsTyped, IsFree}
 use Rattle.ot_plain.specs.Naming.{numbers}
-use Rattle.ot_plain.proofs.TableLemmas.{Extends-refl, Extends-trans, get_or-Extends}
+use Rattle.ot_plain.proofs.TableLemmas.{Extends-refl, Extends-trans}
 use Rattle.ot_laws.specs.Walk.{nameless_map}
 use Rattle.ot_type.proofs.TypeTableLemmas.{type_at-Extends}
 use Rattle.ot_type.proofs.InstLemmas.{images-Extends}
 use Rattle.ot_term.specs.Term.{TermTable}
-use Rattle.ot_term.specs.TermTable.{term_at, variable_of, Grows, NamesUpTo, IsTermTable}
+use Rattle.ot_term.specs.TermTable.{term_at, variable_of, Grows, NamesUpTo, IsTermTable, IsGrownTo}
 use Rattle.ot_term.specs.declared.term.VarKey.{VarKey}
+use Rattle.ot_term.proofs.Growing.{Grows-refl, Grows-trans, term_at-Grows, variable_of-Grows}
 use Rattle.ot_subst.specs.Substitution.{Substitution, type_part, named_part, IsSubstOf}
 use Rattle.ot_subst.specs.Renamed.{renaming_of}
 use Rattle.ot_subst.specs.Clash.{AreFrees, AreKnown}
 use Rattle.ot_subst.specs.Walk.{carried, becomes, HasForm, IsRenamed, AreReady, NamesBelow, IsSetUp, IsLater}
-
-pub Grows-refl : (t : TermTable) → Grows t t
-Grows-refl t = record { types = Extends-refl t.types; terms = Extends-refl t.terms; classes = Extends-refl t.classes }
-
-pub Grows-trans : {t u v : TermTable} → Grows t u → Grows u v → Grows t v
-Grows-trans g h = record {
-  types = Extends-trans g.types h.types;
-  terms = Extends-trans g.terms h.terms;
-  classes = Extends-trans g.classes h.classes;
-}
-
-pub term_at-Grows : (t u : TermTable) → Grows t u → (i : ℕ) → i < length t.terms
-    → term_at u.terms i ≡ term_at t.terms i
-term_at-Grows t u g i h = get_or-Extends t.terms u.terms g.terms i (NConst 0 (TyVar 0)) h
-
-pub variable_of-Grows : (t u : TermTable) → Grows t u → (v : VarKey) → v.ty < length t.types
-    → variable_of u.types v ≡ variable_of t.types v
-variable_of-Grows t u g v h = λ i. record { name = v.name; ty = type_at-Extends t.types u.types g.types v.ty h i }
 
 module _ (t u : TermTable) (g : Grows t u) where
   named_pairs : (ps : List (VarKey × ℕ)) → All (λ p. p.0.ty < length t.types) ps → All (λ p. p.1 < length t.terms) ps
@@ -152,6 +135,15 @@ below-UpTo j k t u h up le = record {
 pub below-twice : (k : ℕ) (t u w : TermTable) → NamesBelow k t → NamesUpTo 0 t u → NamesUpTo 0 u w → NamesBelow k w
 below-twice k t u w h up more = below-UpTo 0 k u w (below-UpTo 0 k t u h up (omega arith)) more (omega arith)
 
+pub IsLater-refl : (ns : List Name) (t : TermTable) → NamesBelow (length ns) t → IsTermTable t → IsLater ns ns t t
+IsLater-refl ns t below table = record {
+  extends = Extends-refl ns;
+  name_table = λ h. h;
+  grows = Grows-refl t;
+  table = table;
+  names = below;
+}
+
 pub IsLater-trans : (ns ms ls : List Name) (t u v : TermTable) → IsLater ns ms t u → IsLater ms ls u v
     → IsLater ns ls t v
 IsLater-trans ns ms ls t u v a b = record {
@@ -163,16 +155,15 @@ IsLater-trans ns ms ls t u v a b = record {
 }
 
 -- a call that leaves the names as they are
-pub IsLater-table : (j : ℕ) (ns : List Name) (t u : TermTable) → NamesBelow (length ns) t → Grows t u → IsTermTable u
-    → NamesUpTo j t u → j ≤ length ns → IsLater ns ns t u
-IsLater-table j ns t u h g table up le =
-    record {
-      extends = Extends-refl ns;
-      name_table = λ h. h;
-      grows = g;
-      table = table;
-      names = below-UpTo j (length ns) t u h up le;
-    }
+pub IsLater-table : (j : ℕ) (ns : List Name) (t u : TermTable) → NamesBelow (length ns) t → IsGrownTo j t u
+    → j ≤ length ns → IsLater ns ns t u
+IsLater-table j ns t u h g le = record {
+  extends = Extends-refl ns;
+  name_table = λ h. h;
+  grows = g.grows;
+  table = g.table;
+  names = below-UpTo j (length ns) t u h g.names le;
+}
 
 -- what was found in u holds in v too
 pub known-later : (t u v : TermTable) → Grows t u → Grows u v → (s : Substitution) (r : List (VarKey × VarKey))

@@ -19,13 +19,13 @@ use Rattle.ot_term.specs.declared.term.VarKey.{VarKey}
 use Rattle.ot_term.specs.declared.term.TermNode.{TermNode}
 use Rattle.ot_term.specs.declared.term.TermNode.TheVariants.{Var, Const, App, Abs}
 use Rattle.ot_term.proofs.NamesIn.{bound_named-term_at}
+use Rattle.ot_term.proofs.Growing.{Grows-refl}
 use Rattle.ot_subst.specs.Substitution.{Substitution, type_part, named_part}
 use Rattle.ot_subst.specs.Renamed.{renaming_of}
 use Rattle.ot_subst.specs.Walk.{becomes, AreReady, NamesBelow, IsLater}
 use Rattle.ot_subst.specs.Memory.{above, keys}
 use Rattle.ot_subst.proofs.Becoming.{result-typed}
 use Rattle.ot_subst.proofs.Abstraction.{typed-renaming}
-use Rattle.ot_subst.proofs.Growing.{Grows-refl}
 
 pub if_ok : {X E : Type 0} (res : Result X E) (P Q : X → Type 0) → ((x : X) → P x → Q x) → IfOk res P → IfOk res Q
 if_ok (Ok x) P Q f h = f x h

@@ -16,7 +16,7 @@ use Rattle.ot_laws.proofs.Tests.{tells_numbers}
 use Rattle.ot_laws.proofs.Apply.{term_at-kept}
 use Rattle.ot_type.specs.TypeTable.{type_at, IsTypeTable}
 use Rattle.ot_term.specs.Term.{TermTable}
-use Rattle.ot_term.specs.TermTable.{term_at, variable_of, Grows, IsTermTable}
+use Rattle.ot_term.specs.TermTable.{term_at, variable_of, IsGrownTo}
 use Rattle.ot_term.specs.declared.term.VarKey.{VarKey}
 use Rattle.ot_subst.specs.Substitution.{Substitution, same_key, type_part, named_part, variable_part, IsSubstOf}
 use Rattle.ot_subst.specs.Renamed.{renaming_of}
@@ -173,7 +173,7 @@ module _ (t : TermTable) (s : Substitution) (r : List (VarKey × VarKey)) (v : V
             omega (arith, deep, low, depth)
 
     -- u is the table after the type was instantiated, and ty the number of the instance
-    module _ (u : TermTable) (ty : ℕ) (g : Grows t u) (table : IsTermTable u)
+    module _ (u : TermTable) (ty : ℕ) (grown : IsGrownTo 0 t u)
         (instance : slice_get u.types ty ≡ Some (inst numbers (type_part t s) (type_at t.types v.ty))) where
       key : VarKey
       key = record { name = v.name; ty = ty }
@@ -185,17 +185,19 @@ module _ (t : TermTable) (s : Substitution) (r : List (VarKey × VarKey)) (v : V
       now : becomes t s r (Free (variable_of t.types v)) ≡ term_for_variable numbers (variable_part u s)
           (variable_of u.types key)
       now = other
-          ∙ (λ i. term_for_variable numbers (nameless_map numbers (sym (named_part-Grows t u g s ready.subst) i))
+          ∙ (λ i. term_for_variable numbers
+          (nameless_map numbers (sym (named_part-Grows t u grown.grows s ready.subst) i))
           (sym same_variable i))
 
       later : IsSubstOf u s
-      later = IsSubstOf-Grows t u g s ready.subst
+      later = IsSubstOf-Grows t u grown.grows s ready.subst
 
       pub becomes-found : (id : ℕ) → lookup (same_key (record { name = v.name; ty = ty })) s.terms ≡ Some id
           → HasForm u id (becomes t s r (Free (variable_of t.types v)))
       unfolding key
       becomes-found id e =
-          subst (HasForm u id) (sym now) (put-found u table.types key (slice_get_within u.types ty _ instance) s.terms
+          subst (HasForm u id) (sym now)
+          (put-found u grown.table.types key (slice_get_within u.types ty _ instance) s.terms
           later.variables later.terms id e)
 
       pub becomes-kept : (w : TermTable) (id : ℕ) → lookup (same_key (record { name = v.name; ty = ty })) s.terms
@@ -204,4 +206,5 @@ module _ (t : TermTable) (s : Substitution) (r : List (VarKey × VarKey)) (v : V
       unfolding key
       becomes-kept w id e at =
           made w id (NVar (variable_of u.types key)) (becomes t s r (Free (variable_of t.types v))) at
-          (sym (now ∙ put-none u table.types key (slice_get_within u.types ty _ instance) s.terms later.variables e))
+          (sym (now ∙ put-none u grown.table.types key (slice_get_within u.types ty _ instance) s.terms
+          later.variables e))

@@ -13,13 +13,14 @@ use Rattle.ot_laws.proofs.Apply.{abs-kept, abs-renamed}
 use Rattle.ot_term.specs.Term.{TermTable}
 use Rattle.ot_term.specs.TermTable.{term_at, variable_of, Grows}
 use Rattle.ot_term.specs.declared.term.VarKey.{VarKey}
+use Rattle.ot_term.proofs.Growing.{Grows-trans, term_at-Grows, variable_of-Grows}
 use Rattle.ot_subst.specs.Substitution.{Substitution, type_part, named_part, variable_part, IsSubstOf}
 use Rattle.ot_subst.specs.Renamed.{renaming_of}
 use Rattle.ot_subst.specs.Walk.{carried, becomes, HasForm, IsRenamed, AreReady}
 use Rattle.ot_subst.specs.Clash.{MayStay, IsUnclashing}
 use Rattle.ot_subst.specs.Memory.{keys, IsEntry, IsMemory, IsPartBelow, IsWalked}
 use Rattle.ot_subst.proofs.Variables.{made}
-use Rattle.ot_subst.proofs.Growing.{Grows-trans, renaming_of-Grows, term_at-Grows, variable_of-Grows}
+use Rattle.ot_subst.proofs.Growing.{renaming_of-Grows}
 use Rattle.ot_subst.proofs.Growing.{type_part-Grows, named_part-Grows, becomes_at-Grows, HasForm-Grows}
 use Rattle.ot_plain.proofs.Members.{IsMember-cases, IsMember-left, IsMember-map, IsMember-map_back, IsMember-right}
 

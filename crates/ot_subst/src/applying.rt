@@ -1,10 +1,9 @@
 //! Substitution and beta.
 ghost use Rattle.std.specs.Prelude.{◌≡◌, ◌≢◌, ◌<◌, ◌≤◌, ◌+◌, [], suc, Some, None, Err, IfOk, length, false};
-ghost use Rattle.ot_plain.specs.Table.{Extends};
 ghost use Rattle.ot_plain.specs.Trees.{Tm};
 ghost use Rattle.ot_plain.specs.Hol.{is_shallow, nameless, size, HasNoClash};
 ghost use Rattle.ot_plain.specs.Naming.{numbers, IsNameTable};
-ghost use Rattle.ot_term.specs.TermTable.{term_at, Grows, IsTermTable};
+ghost use Rattle.ot_term.specs.TermTable.{term_at};
 ghost use Rattle.ot_subst.specs.Substitution.{type_part, variable_part, substituted, IsSubstOf};
 ghost use Rattle.ot_subst.specs.Walk.{HasForm, NamesBelow, IsLater};
 ghost use Rattle.ot_subst.specs.Memory.{CountsParts};
@@ -122,11 +121,8 @@ pub fn apply<N: Nodes<L>, L>(
         (term_at (N.table terms.old).terms t)
         → steps.new ≤ steps.old + size numbers (term_at (N.table terms.old).terms t) }
 
-    ensures grows { Grows (N.table terms.old) (N.table terms.new) }
-    ensures table { IsTermTable (N.table terms.new) }
-    ensures extends { Extends names.old names.new }
+    ensures later { IsLater names.old names.new (N.table terms.old) (N.table terms.new) }
     ensures name_table { IsNameTable names.new }
-    ensures below { NamesBelow (length names.new) (N.table terms.new) }
     ensures fits { IsSubstOf (N.table terms.new) s.now }
 {
     Ok(put_in(alloc, terms, names, results, s, t, steps)?)
@@ -160,11 +156,8 @@ pub fn beta<N: Nodes<L>, L>(
     ensures steps { HasNoBetaClash (term_at (N.table terms.old).terms t) → steps.new ≤ steps.old
         + size numbers (term_at (N.table terms.old).terms t) }
 
-    ensures grows { Grows (N.table terms.old) (N.table terms.new) }
-    ensures table { IsTermTable (N.table terms.new) }
-    ensures extends { Extends names.old names.new }
+    ensures later { IsLater names.old names.new (N.table terms.old) (N.table terms.new) }
     ensures name_table { IsNameTable names.new }
-    ensures below { NamesBelow (length names.new) (N.table terms.new) }
 {
     // What holds of each table of names.
     let _count = names.count();

@@ -4,7 +4,7 @@ ghost use Rattle.std.specs.List.{All};
 ghost use Rattle.ot_plain.specs.Lists.{IsMember};
 ghost use Rattle.ot_plain.specs.Hol.{inst_var};
 ghost use Rattle.ot_plain.specs.Naming.{numbers};
-ghost use Rattle.ot_term.specs.TermTable.{variable_of, Grows, NamesUpTo, IsTermTable};
+ghost use Rattle.ot_term.specs.TermTable.{variable_of, IsGrownTo, IsTermTable};
 ghost use Rattle.ot_subst.specs.Substitution.{type_part, IsSubstOf};
 ghost use Rattle.ot_subst.specs.Renamed.{pairs_of};
 ghost use Rattle.ot_subst.specs.Walk.{AreReady};
@@ -39,9 +39,7 @@ fn coincides<N: Nodes<L>, L>(
     requires binder { w.now.ty < length (N.table terms.old).types }
     requires variable { x.now.ty < length (N.table terms.old).types }
     ensures ok { IfOk result (λ b. IsTrue b ↔ Coincides (N.table terms.old) subst.now v.now w.now x.now) }
-    ensures grows { Grows (N.table terms.old) (N.table terms.new) }
-    ensures names { NamesUpTo 0 (N.table terms.old) (N.table terms.new) }
-    ensures table { IsTermTable (N.table terms.new) }
+    ensures grown { IsGrownTo 0 (N.table terms.old) (N.table terms.new) }
 {
     if *x == *v || x.name != w.name {
         return Ok(false);
@@ -68,9 +66,7 @@ fn any_coincides<N: Nodes<L>, L>(
     ensures ok { IfOk result
         (λ b. MatchBool b ((x : _) × IsMember x xs.now × Coincides (N.table terms.old) subst.now v.now w.now x)
         ((x : _) → IsMember x xs.now → ¬ (Coincides (N.table terms.old) subst.now v.now w.now x))) }
-    ensures grows { Grows (N.table terms.old) (N.table terms.new) }
-    ensures names { NamesUpTo 0 (N.table terms.old) (N.table terms.new) }
-    ensures table { IsTermTable (N.table terms.new) }
+    ensures grown { IsGrownTo 0 (N.table terms.old) (N.table terms.new) }
 {
     for x in xs {
         if coincides(terms, subst, v, w, x)? {
@@ -102,9 +98,7 @@ pub(crate) fn clashes<N: Nodes<L>, L>(
         (pairs_of work.now.renamed.now ≡ [] → ¬ (IsUnclashing (N.table terms.old) work.now.subst.now v.now body))
         (MayStay (N.table terms.old) work.now.subst.now (pairs_of work.now.renamed.now) v.now body)) }
     ensures frees { OnOk result (AreKnown (N.table terms.new) work.now.subst.now frees.new) }
-    ensures grows { Grows (N.table terms.old) (N.table terms.new) }
-    ensures names { NamesUpTo 0 (N.table terms.old) (N.table terms.new) }
-    ensures table { IsTermTable (N.table terms.new) }
+    ensures grown { IsGrownTo 0 (N.table terms.old) (N.table terms.new) }
 {
     if meets(work.renamed, v, w) || work.subst.get(w).is_some() {
         return Ok(true);

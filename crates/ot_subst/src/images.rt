@@ -4,7 +4,7 @@ ghost use Rattle.ot_plain.specs.Trees.{Free, Con};
 ghost use Rattle.ot_plain.specs.Hol.{is_shallow};
 ghost use Rattle.ot_plain.specs.Naming.{numbers};
 ghost use Rattle.ot_type.specs.TypeTable.{type_at};
-ghost use Rattle.ot_term.specs.TermTable.{variable_of, Grows, NamesUpTo, IsTermTable};
+ghost use Rattle.ot_term.specs.TermTable.{variable_of, IsGrownTo};
 ghost use Rattle.ot_subst.specs.Renamed.{pairs_of};
 ghost use Rattle.ot_subst.specs.Walk.{becomes, bound_of, HasForm, AreReady};
 
@@ -29,9 +29,7 @@ pub(crate) fn image_of<N: Nodes<L>, L>(
     ensures nesting { result ≡ Err TableFault.Nesting
         → is_shallow numbers (becomes (N.table terms.old) subst.now (pairs_of renamed.now)
         (Free (variable_of (N.table terms.old).types v))) ≡ false }
-    ensures grows { Grows (N.table terms.old) (N.table terms.new) }
-    ensures names { NamesUpTo (max (v.name + 1) (bound_of (pairs_of renamed.now))) (N.table terms.old) (N.table terms.new) }
-    ensures table { IsTermTable (N.table terms.new) }
+    ensures grown { IsGrownTo (max (v.name + 1) (bound_of (pairs_of renamed.now))) (N.table terms.old) (N.table terms.new) }
 {
     if let Some(new) = new_binder(renamed, &v) {
         return Ok(terms.var(new)?);
@@ -61,9 +59,7 @@ pub(crate) fn constant_of<N: Nodes<L>, L>(
     ensures nesting { result ≡ Err TableFault.Nesting
         → is_shallow numbers (becomes (N.table terms.old) subst.now (pairs_of renamed.now)
         (Con name (type_at (N.table terms.old).types ty))) ≡ false }
-    ensures grows { Grows (N.table terms.old) (N.table terms.new) }
-    ensures names { NamesUpTo (name + 1) (N.table terms.old) (N.table terms.new) }
-    ensures table { IsTermTable (N.table terms.new) }
+    ensures grown { IsGrownTo (name + 1) (N.table terms.old) (N.table terms.new) }
 {
     let ty = terms.type_inst(subst.types(), ty)?;
     Ok(terms.constant(name, ty)?)

@@ -5,8 +5,8 @@ ghost use Rattle.ot_plain.specs.Trees.{Ty, NApp, NAbs};
 ghost use Rattle.ot_plain.specs.Hol.{is_shallow, nameless, named_type, fun_ty};
 ghost use Rattle.ot_plain.specs.Naming.{numbers};
 ghost use Rattle.ot_plain.specs.Bounds.{bound_named};
-ghost use Rattle.ot_term.specs.TermTable.{term_at, term_of, variable_of, is_within_limit};
-ghost use Rattle.ot_term.specs.TermTable.{AreBelow, Grows, NamesUpTo, IsTermTable};
+ghost use Rattle.ot_term.specs.TermTable.{term_at, term_of, variable_of, is_within_limit, IsGrownTo};
+ghost use Rattle.ot_term.specs.TermTable.{AreBelow};
 ghost use Rattle.ot_subst.specs.Renamed.{pairs_of};
 ghost use Rattle.ot_subst.specs.Walk.{becomes, IsSetUp, IsLater};
 ghost use Rattle.ot_subst.specs.Clash.{AreKnown};
@@ -30,9 +30,7 @@ fn join<N: Nodes<L>, L>(terms: &mut N, f: TermId, x: TermId) -> Result<TermId, T
         ≡ Some (NApp (term_at (N.table terms.old).terms f) (term_at (N.table terms.old).terms x))) }
     ensures nesting { result ≡ Err TableFault.Nesting
         → is_within_limit (NApp (term_at (N.table terms.old).terms f) (term_at (N.table terms.old).terms x)) ≡ false }
-    ensures grows { Grows (N.table terms.old) (N.table terms.new) }
-    ensures names { NamesUpTo 0 (N.table terms.old) (N.table terms.new) }
-    ensures table { IsTermTable (N.table terms.new) }
+    ensures grown { IsGrownTo 0 (N.table terms.old) (N.table terms.new) }
 {
     match terms.app(f, x) {
         Ok(id) => Ok(id),

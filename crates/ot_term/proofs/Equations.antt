@@ -29,7 +29,7 @@ pub made-equality : (s t u v w : TermTable) (ty truth test relation constant : �
     → IsEquality w (type_at s.types ty) (record { constant = constant; test = test; truth = truth })
 made-equality s t u v w ty truth test relation constant g h k same below p q r e =
     let first = type_at-Grows s t g ty below in
-    let second = type_at-Grows s u (Grows-trans s t u g h) ty below in
+    let second = type_at-Grows s u (Grows-trans g h) ty below in
     let truth_is = type_is t truth _ p in
     let test_tree : fun_ty numbers (type_at t.types ty) (type_at t.types truth) ≡ fun_ty numbers (type_at s.types ty) (bool_ty numbers) = λ i. fun_ty numbers (first i) (truth_is i) in
     let test_is = type_is u test _ q ∙ test_tree in
@@ -68,7 +68,7 @@ module _ (t u : TermTable) (g : Grows t u) (ty a : ℕ) (e : Equality) (below : 
         (term_at t.terms a) (term_at t.terms b)
     equation_tree =
         let function = term_is w left _ is_left ∙ left_tree in
-        let argument = term_at-Grows t w (Grows-trans t u w g h) b below_b in
+        let argument = term_at-Grows t w (Grows-trans g h) b below_b in
         λ i. NApp (function i) (argument i)
 
     pub equation_typed : named_type numbers (term_at t.terms b) ≡ Some (type_at t.types ty)
@@ -79,6 +79,6 @@ module _ (t u : TermTable) (g : Grows t u) (ty a : ℕ) (e : Equality) (below : 
         (bool_ty numbers)
         (ap (named_type numbers) (term_is w left _ is_left) ∙ left_typed ∙ ap Some (type_is u e.test _ made.test))
         refl
-        (ap (named_type numbers) (term_at-Grows t w (Grows-trans t u w g h) b below_b) ∙ typed_b)
+        (ap (named_type numbers) (term_at-Grows t w (Grows-trans g h) b below_b) ∙ typed_b)
         refl
         ∙ ap Some (sym (type_is w e.truth _ (h.types.keeps e.truth _ made.truth)))

@@ -1,17 +1,39 @@
 -- Tables that grow: trees stay at their numbers.
-use Rattle.std.proofs.Common.{◌≡◌, ℕ, ◌<◌, length}
+use Rattle.std.proofs.Common.{◌≡◌, ℕ, ◌<◌, ◌≤◌, length, arith}
 use Rattle.ot_plain.specs.Trees.{TyVar, NConst, NAbs}
-use Rattle.ot_plain.proofs.TableLemmas.{Extends-trans, get_or-Extends}
+use Rattle.ot_plain.proofs.TableLemmas.{Extends-refl, Extends-trans, get_or-Extends}
 use Rattle.ot_type.specs.TypeTable.{type_at}
 use Rattle.ot_term.specs.Term.{TermTable}
-use Rattle.ot_term.specs.TermTable.{term_at, variable_of, Grows}
+use Rattle.ot_term.specs.TermTable.{term_at, variable_of, Grows, IsGrownTo}
 use Rattle.ot_term.specs.declared.term.VarKey.{VarKey}
 
-pub Grows-trans : (s t u : TermTable) → Grows s t → Grows t u → Grows s u
-Grows-trans s t u g h = record {
+pub Grows-refl : (t : TermTable) → Grows t t
+Grows-refl t = record { types = Extends-refl t.types; terms = Extends-refl t.terms; classes = Extends-refl t.classes }
+
+pub Grows-trans : {s t u : TermTable} → Grows s t → Grows t u → Grows s u
+Grows-trans g h = record {
   types = Extends-trans g.types h.types;
   terms = Extends-trans g.terms h.terms;
   classes = Extends-trans g.classes h.classes;
+}
+
+pub grown_within : (j k : ℕ) (t u : TermTable) → IsGrownTo j t u → j ≤ k → IsGrownTo k t u
+grown_within j k t u g h = record {
+  grows = g.grows;
+  names = record { types = omega (arith, g.names.types, h); terms = omega (arith, g.names.terms, h) };
+  table = g.table;
+}
+
+-- a table that grows twice, by names below a bound
+pub grown_further : (i j k : ℕ) (s t u : TermTable) → IsGrownTo i s t → i ≤ k → IsGrownTo j t u → j ≤ k
+    → IsGrownTo k s u
+grown_further i j k s t u g p h q = record {
+  grows = Grows-trans g.grows h.grows;
+  names = record {
+    types = omega (arith, g.names.types, h.names.types, p, q);
+    terms = omega (arith, g.names.types, g.names.terms, h.names.terms, p, q);
+  };
+  table = h.table;
 }
 
 module _ (t u : TermTable) (g : Grows t u) where

@@ -7,7 +7,7 @@ use Rattle.ot_plain.specs.Bounds.{names_in}
 use Rattle.ot_plain.proofs.TableLemmas.{Extends-refl}
 use Rattle.ot_type.specs.TypeTable.{IsTypeTable}
 use Rattle.ot_term.specs.Term.{TermTable}
-use Rattle.ot_term.specs.TermTable.{terms_of, classes_of, IsTermTable, IsTermSound, Grows, NamesUpTo}
+use Rattle.ot_term.specs.TermTable.{terms_of, classes_of, IsTermSound, IsGrownTo}
 use Rattle.ot_term.specs.declared.term.TermNode.{TermNode}
 use Rattle.ot_term.specs.declared.table.Beside.{Beside}
 use Rattle.ot_term.proofs.TermTableLemmas.{terms_of-types, sound-types, table_of}
@@ -18,9 +18,7 @@ pub record TypesGrown (tys : List (Ty ℕ)) (cs : List (Tm ℕ)) (es : List (Ter
     (us : List (Ty ℕ)) : Type 0 where
   pub sound : IsTermSound us cs es (terms_of us es)
   pub terms : terms_of us es ≡ old.terms
-  pub grows : Grows old (table_of us es)
-  pub table : IsTermTable (table_of us es)
-  pub names : (k : ℕ) → names_in us ≤ max (names_in tys) k → NamesUpTo k old (table_of us es)
+  pub grown : (k : ℕ) → names_in us ≤ max (names_in tys) k → IsGrownTo k old (table_of us es)
 
 pub types_grown : (tys us : List (Ty ℕ)) (cs : List (Tm ℕ)) (es : List (TermNode × Beside)) (old : TermTable)
     → table_of tys es ≡ old → IsTermSound tys cs es (terms_of tys es) → Extends tys us → IsTypeTable us
@@ -32,13 +30,14 @@ types_grown tys us cs es old view sound e types =
     record {
       sound = now;
       terms = kept;
-      grows = record {
-        types = e;
-        terms = subst (Extends (terms_of tys es)) (sym kept)
-            (Extends-refl (terms_of tys es));
-        classes = Extends-refl (classes_of es);
+      grown = λ k h. record {
+        grows = record {
+          types = e;
+          terms = subst (Extends (terms_of tys es)) (sym kept)
+              (Extends-refl (terms_of tys es));
+          classes = Extends-refl (classes_of es);
+        };
+        names = names-types k tys us (terms_of tys es) (terms_of us es) (classes_of es) (table_of tys es) refl h kept;
+        table = now.table;
       };
-      table = now.table;
-      names = λ k h. names-types k tys us (terms_of tys es) (terms_of us es) (classes_of es) (table_of tys es) refl h
-          kept;
     })

@@ -91,6 +91,12 @@ pub record IsTermTable (t : TermTable) : Type 0 where
   pub alike : (i j c d : ℕ) → slice_get t.classes i ≡ Some c → slice_get t.classes j ≡ Some d
       → (c ≡ d) ↔ (nameless numbers (term_at t.terms i) ≡ nameless numbers (term_at t.terms j))
 
+-- the table has grown, by names below k alone
+pub record IsGrownTo (k : ℕ) (old new : TermTable) : Type 0 where
+  pub grows : Grows old new
+  pub names : NamesUpTo k old new
+  pub table : IsTermTable new
+
 -- what the nodes keep, over the trees of the types and the nameless terms
 abbrev pub AreTermNodes : List (Ty ℕ) → List (Tm ℕ) → List (TermNode × Beside) → List (Named ℕ) → Type 0
 AreTermNodes tys cs es ts = IsSound (term_of tys) (AreBelow (length tys)) (IsBeside tys cs) es ts

@@ -9,7 +9,7 @@ ghost use Rattle.ot_plain.specs.Naming.{numbers};
 ghost use Rattle.ot_type.specs.TypeTable.{type_at, images};
 ghost use Rattle.ot_term.specs.Term.{TermTable};
 ghost use Rattle.ot_term.specs.TermTable.{term_at, term_of, variable_of, is_within_limit};
-ghost use Rattle.ot_term.specs.TermTable.{AreBelow, Grows, NamesUpTo, IsTermTable};
+ghost use Rattle.ot_term.specs.TermTable.{AreBelow, IsGrownTo, IsTermTable};
 
 use crate::steps::Steps;
 use crate::table::Terms;
@@ -79,9 +79,7 @@ pub trait Nodes<L> {
         ensures nesting { result ≡ Err TableFault.Nesting → depth_limit < depth_ty numbers
             (inst numbers (images (table self.old).types s.now) (type_at (table self.old).types id)) }
         ensures terms { (table self.new).terms ≡ (table self.old).terms }
-        ensures grows { Grows (table self.old) (table self.new) }
-        ensures names { NamesUpTo 0 (table self.old) (table self.new) }
-        ensures table { IsTermTable (table self.new) };
+        ensures grown { IsGrownTo 0 (table self.old) (table self.new) };
 
     /// A variable.
     fn var(&mut self, v: VarKey) -> Result<TermId, Memory>
@@ -89,10 +87,8 @@ pub trait Nodes<L> {
         ensures ok { IfOk result
             (λ id. slice_get (table self.new).terms id ≡ Some (NVar (variable_of (table self.old).types v))) }
         ensures types { (table self.new).types ≡ (table self.old).types }
-        ensures grows { Grows (table self.old) (table self.new) }
-        ensures names { NamesUpTo (v.name + 1) (table self.old) (table self.new) }
-        ensures err { OnErr result (table self.new ≡ table self.old) }
-        ensures table { IsTermTable (table self.new) };
+        ensures grown { IsGrownTo (v.name + 1) (table self.old) (table self.new) }
+        ensures err { OnErr result (table self.new ≡ table self.old) };
 
     /// A constant at a type.
     fn constant(&mut self, name: NameId, ty: TypeId) -> Result<TermId, Memory>
@@ -100,10 +96,8 @@ pub trait Nodes<L> {
         ensures ok { IfOk result
             (λ id. slice_get (table self.new).terms id ≡ Some (NConst name (type_at (table self.old).types ty))) }
         ensures types { (table self.new).types ≡ (table self.old).types }
-        ensures grows { Grows (table self.old) (table self.new) }
-        ensures names { NamesUpTo (name + 1) (table self.old) (table self.new) }
-        ensures err { OnErr result (table self.new ≡ table self.old) }
-        ensures table { IsTermTable (table self.new) };
+        ensures grown { IsGrownTo (name + 1) (table self.old) (table self.new) }
+        ensures err { OnErr result (table self.new ≡ table self.old) };
 
     /// The application of a function to an argument.
     fn app(&mut self, f: TermId, x: TermId) -> Result<TermId, TermFault>
@@ -121,10 +115,8 @@ pub trait Nodes<L> {
             ≡ Some b)
             × (is_within_limit (NApp (term_at (table self.old).terms f) (term_at (table self.old).terms x)) ≡ false) }
         ensures types { (table self.new).types ≡ (table self.old).types }
-        ensures grows { Grows (table self.old) (table self.new) }
-        ensures names { NamesUpTo 0 (table self.old) (table self.new) }
-        ensures err { OnErr result (table self.new ≡ table self.old) }
-        ensures table { IsTermTable (table self.new) };
+        ensures grown { IsGrownTo 0 (table self.old) (table self.new) }
+        ensures err { OnErr result (table self.new ≡ table self.old) };
 
     /// The abstraction of a variable from a body.
     fn abs(&mut self, v: VarKey, body: TermId) -> Result<TermId, TableFault>
@@ -134,10 +126,8 @@ pub trait Nodes<L> {
             ≡ Some (NAbs (variable_of (table self.old).types v) (term_at (table self.old).terms body))) }
         ensures nesting { result ≡ Err TableFault.Nesting → is_within_limit
             (NAbs (variable_of (table self.old).types v) (term_at (table self.old).terms body)) ≡ false }
-        ensures grows { Grows (table self.old) (table self.new) }
-        ensures names { NamesUpTo (max (v.name + 1) 1) (table self.old) (table self.new) }
-        ensures err { OnErr result ((table self.new).terms ≡ (table self.old).terms) }
-        ensures table { IsTermTable (table self.new) };
+        ensures grown { IsGrownTo (max (v.name + 1) 1) (table self.old) (table self.new) }
+        ensures err { OnErr result ((table self.new).terms ≡ (table self.old).terms) };
 }
 
 impl<L> Nodes<L> for Terms {

@@ -11,17 +11,15 @@ use ot_plain::{DEPTH_LIMIT, Memory, NameId};
 use ot_type::{TableFault, TypeId};
 
 impl Terms {
-    ghost use Rattle.ot_term.specs.TermTable.{term_at, variable_of, is_within_limit, Grows, NamesUpTo, IsTermTable};
+    ghost use Rattle.ot_term.specs.TermTable.{term_at, variable_of, is_within_limit, IsGrownTo, IsTermTable};
 
     /// A variable. `Memory` leaves the table as it was.
     pub fn var(&mut self, v: VarKey) -> Result<TermId, Memory>
         requires { v.ty < length self.old.types }
         ensures ok { IfOk result (λ id. slice_get self.new.terms id ≡ Some (NVar (variable_of self.old.types v))) }
         ensures types { self.new.types ≡ self.old.types }
-        ensures grows { Grows self.old self.new }
-        ensures names { NamesUpTo (v.name + 1) self.old self.new }
+        ensures grown { IsGrownTo (v.name + 1) self.old self.new }
         ensures err { OnErr result (self.new ≡ self.old) }
-        ensures table { IsTermTable self.new }
     {
         // The table's types are within the limit.
         let _types = &self.types;
@@ -35,10 +33,8 @@ impl Terms {
         ensures ok { IfOk result
             (λ id. slice_get self.new.terms id ≡ Some (NConst name (type_at self.old.types ty))) }
         ensures types { self.new.types ≡ self.old.types }
-        ensures grows { Grows self.old self.new }
-        ensures names { NamesUpTo (name + 1) self.old self.new }
+        ensures grown { IsGrownTo (name + 1) self.old self.new }
         ensures err { OnErr result (self.new ≡ self.old) }
-        ensures table { IsTermTable self.new }
     {
         // The table's types are within the limit.
         let _types = &self.types;
@@ -57,10 +53,8 @@ impl Terms {
         ensures nesting { result ≡ Err TableFault.Nesting
             → is_within_limit (NApp (term_at self.old.terms f) (term_at self.old.terms x)) ≡ false }
         ensures types { self.new.types ≡ self.old.types }
-        ensures grows { Grows self.old self.new }
-        ensures names { NamesUpTo 0 self.old self.new }
+        ensures grown { IsGrownTo 0 self.old self.new }
         ensures err { OnErr result (self.new ≡ self.old) }
-        ensures table { IsTermTable self.new }
     {
         let deepest = self.depth(f).max(self.depth(x));
         if deepest >= DEPTH_LIMIT {
@@ -89,10 +83,8 @@ impl Terms {
             × (named_type numbers (NApp (term_at self.old.terms f) (term_at self.old.terms x)) ≡ Some b)
             × (is_within_limit (NApp (term_at self.old.terms f) (term_at self.old.terms x)) ≡ false) }
         ensures types { self.new.types ≡ self.old.types }
-        ensures grows { Grows self.old self.new }
-        ensures names { NamesUpTo 0 self.old self.new }
+        ensures grown { IsGrownTo 0 self.old self.new }
         ensures err { OnErr result (self.new ≡ self.old) }
-        ensures table { IsTermTable self.new }
     {
         let ty = self.app_type(f, x)?;
         Ok(self.apply(f, x, ty)?)
@@ -134,10 +126,8 @@ impl Terms {
             ≡ Some (NAbs (variable_of self.old.types v) (term_at self.old.terms body))) }
         ensures nesting { result ≡ Err TableFault.Nesting
             → is_within_limit (NAbs (variable_of self.old.types v) (term_at self.old.terms body)) ≡ false }
-        ensures grows { Grows self.old self.new }
-        ensures names { NamesUpTo (max (v.name + 1) 1) self.old self.new }
+        ensures grown { IsGrownTo (max (v.name + 1) 1) self.old self.new }
         ensures err { OnErr result (self.new.terms ≡ self.old.terms) }
-        ensures table { IsTermTable self.new }
     {
         // What is there is within the limit, and its type is there.
         if let Some(id) = self.find(&TermNode::Abs(v, body)) {
@@ -163,9 +153,7 @@ impl Terms {
         ensures nesting { result ≡ Err TableFault.Nesting
             → is_within_limit (NAbs (variable_of self.old.types v) (term_at self.old.terms body)) ≡ false }
         ensures terms { self.new.terms ≡ self.old.terms }
-        ensures grows { Grows self.old self.new }
-        ensures names { NamesUpTo 1 self.old self.new }
-        ensures table { IsTermTable self.new }
+        ensures grown { IsGrownTo 1 self.old self.new }
     {
         let of_body = self.type_of(body);
         self.type_fun(v.ty, of_body)

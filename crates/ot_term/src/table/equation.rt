@@ -21,7 +21,7 @@ struct Equality {
 
 impl Terms {
     ghost use Rattle.ot_term.specs.TermTable.{term_at, term_of, AreBelow, is_within_limit};
-    ghost use Rattle.ot_term.specs.TermTable.{Grows, NamesUpTo, IsTermTable};
+    ghost use Rattle.ot_term.specs.TermTable.{IsGrownTo};
     ghost use Rattle.ot_term.specs.Equality.{named_equation, equality_ty, IsEquality};
 
     /// The equation of two terms of one type.
@@ -41,9 +41,7 @@ impl Terms {
             × (named_type numbers (term_at self.old.terms a) ≡ Some ty)
             × (named_type numbers (term_at self.old.terms b) ≡ Some ty)
             × (is_within_limit (named_equation ty (term_at self.old.terms a) (term_at self.old.terms b)) ≡ false) }
-        ensures grows { Grows self.old self.new }
-        ensures names { NamesUpTo 3 self.old self.new }
-        ensures table { IsTermTable self.new }
+        ensures grown { IsGrownTo 3 self.old self.new }
     {
         let ty = self.type_of(a);
         if ty != self.type_of(b) {
@@ -126,9 +124,7 @@ impl Terms {
         ensures nesting { result ≡ Err TableFault.Nesting
             → is_within_limit (named_equation (type_at self.old.types ty) (term_at self.old.terms a)
             (term_at self.old.terms b)) ≡ false }
-        ensures grows { Grows self.old self.new }
-        ensures names { NamesUpTo 3 self.old self.new }
-        ensures table { IsTermTable self.new }
+        ensures grown { IsGrownTo 3 self.old self.new }
     {
         let equality = self.equality(ty)?;
         let left = self.apply(equality.constant, a, equality.test)?;
@@ -141,9 +137,7 @@ impl Terms {
         ensures ok { IfOk result (IsEquality self.new (type_at self.old.types ty)) }
         ensures nesting { result ≡ Err TableFault.Nesting → depth_limit
             < depth_ty numbers (equality_ty (type_at self.old.types ty)) }
-        ensures grows { Grows self.old self.new }
-        ensures names { NamesUpTo 3 self.old self.new }
-        ensures table { IsTermTable self.new }
+        ensures grown { IsGrownTo 3 self.old self.new }
     {
         // What holds of each table.
         let _types = self.types();
@@ -205,9 +199,7 @@ impl Terms {
         ensures ok { IfOk result (IsEquality self.new (type_at self.old.types ty)) }
         ensures nesting { result ≡ Err TableFault.Nesting → depth_limit
             < depth_ty numbers (equality_ty (type_at self.old.types ty)) }
-        ensures grows { Grows self.old self.new }
-        ensures names { NamesUpTo 3 self.old self.new }
-        ensures table { IsTermTable self.new }
+        ensures grown { IsGrownTo 3 self.old self.new }
     {
         let truth = self.type_bool()?;
         let test = self.type_fun(ty, truth)?;

@@ -11,16 +11,14 @@ use ot_plain::{Memory, NameId};
 use ot_type::{TableFault, TypeId, TypeSubst};
 
 impl Terms {
-    ghost use Rattle.ot_term.specs.TermTable.{Grows, NamesUpTo, IsTermTable};
+    ghost use Rattle.ot_term.specs.TermTable.{IsGrownTo};
 
     /// The type variable of a name. `Memory` leaves the table as it was.
     pub fn type_var(&mut self, name: NameId) -> Result<TypeId, Memory>
         ensures ok { IfOk result (λ id. slice_get self.new.types id ≡ Some (TyVar name)) }
         ensures terms { self.new.terms ≡ self.old.terms }
-        ensures grows { Grows self.old self.new }
-        ensures names { NamesUpTo (name + 1) self.old self.new }
+        ensures grown { IsGrownTo (name + 1) self.old self.new }
         ensures err { OnErr result (self.new ≡ self.old) }
-        ensures table { IsTermTable self.new }
     {
         self.types.var(name)
     }
@@ -34,10 +32,8 @@ impl Terms {
         ensures nesting { result ≡ Err TableFault.Nesting → depth_limit
             < depth_ty numbers (TyOp name (types_at self.old.types args.now)) }
         ensures terms { self.new.terms ≡ self.old.terms }
-        ensures grows { Grows self.old self.new }
-        ensures names { NamesUpTo (name + 1) self.old self.new }
+        ensures grown { IsGrownTo (name + 1) self.old self.new }
         ensures err { OnErr result (self.new ≡ self.old) }
-        ensures table { IsTermTable self.new }
     {
         self.types.op(name, args)
     }
@@ -51,10 +47,8 @@ impl Terms {
         ensures nesting { result ≡ Err TableFault.Nesting → depth_limit
             < depth_ty numbers (fun_ty numbers (type_at self.old.types a) (type_at self.old.types b)) }
         ensures terms { self.new.terms ≡ self.old.terms }
-        ensures grows { Grows self.old self.new }
-        ensures names { NamesUpTo 1 self.old self.new }
+        ensures grown { IsGrownTo 1 self.old self.new }
         ensures err { OnErr result (self.new ≡ self.old) }
-        ensures table { IsTermTable self.new }
     {
         self.types.fun(a, b)
     }
@@ -63,10 +57,8 @@ impl Terms {
     pub fn type_bool(&mut self) -> Result<TypeId, Memory>
         ensures ok { IfOk result (λ id. slice_get self.new.types id ≡ Some (bool_ty numbers)) }
         ensures terms { self.new.terms ≡ self.old.terms }
-        ensures grows { Grows self.old self.new }
-        ensures names { NamesUpTo 2 self.old self.new }
+        ensures grown { IsGrownTo 2 self.old self.new }
         ensures err { OnErr result (self.new ≡ self.old) }
-        ensures table { IsTermTable self.new }
     {
         self.types.boolean()
     }
@@ -82,9 +74,7 @@ impl Terms {
         ensures nesting { result ≡ Err TableFault.Nesting → depth_limit
             < depth_ty numbers (inst numbers (images self.old.types s.now) (type_at self.old.types id)) }
         ensures terms { self.new.terms ≡ self.old.terms }
-        ensures grows { Grows self.old self.new }
-        ensures names { NamesUpTo 0 self.old self.new }
-        ensures table { IsTermTable self.new }
+        ensures grown { IsGrownTo 0 self.old self.new }
     {
         self.types.inst(s, id)
     }

@@ -14,7 +14,7 @@ pub equate-requires-clause-typed : goal.equate-requires-clause-typed
 equate-requires-clause-typed c =
     let t = c.args.terms.now in
     let typed = type-nameless numbers tells_numbers (term_at t.terms c.args.t) ∙ c.type_of-ty.ensures.typed in
-    constant_sides t c.constant.new.self c.constant.ensures.grows c.args.t c.args.name c.in_ok-constant.constant
+    constant_sides t c.constant.new.self c.constant.ensures.grown.grows c.args.t c.args.name c.in_ok-constant.constant
     c.type_of-ty.result c.requires.inside c.in_ok-constant.ensures.ok typed
 
 pub returns-in_err-concl-clause-derives : goal.returns-in_err-concl-clause-derives
@@ -26,10 +26,10 @@ returns-in_err-concl-clause-derives c =
     let ty = c.type_of-ty.result in
     let typed = type-nameless numbers tells_numbers (term_at t.terms c.args.t) ∙ c.type_of-ty.ensures.typed in
     rw (p.1, p.2) (equated_refused _ [] (tm_at m.terms k) (tm_at m.terms c.args.t) (type_at t.types ty) _
-    (constant_typed t m c.constant.ensures.grows c.args.t c.args.name k ty c.requires.inside
+    (constant_typed t m c.constant.ensures.grown.grows c.args.t c.args.name k ty c.requires.inside
     c.in_ok-constant.ensures.ok)
     c.in_err-concl.ensures.makes
-    (constant_rule t m c.constant.ensures.grows c.args.t c.args.name k ty c.requires.inside
+    (constant_rule t m c.constant.ensures.grown.grows c.args.t c.args.name k ty c.requires.inside
     c.in_ok-constant.ensures.ok typed))
 
 pub returns-clause-derives : goal.returns-clause-derives
@@ -39,12 +39,12 @@ returns-clause-derives c =
     let k = c.in_ok-constant.constant in
     let ty = c.type_of-ty.result in
     let typed = type-nameless numbers tells_numbers (term_at t.terms c.args.t) ∙ c.type_of-ty.ensures.typed in
-    bare_derives m c.equate.new.terms c.constant.ensures.table c.equate.ensures.grown.grows
+    bare_derives m c.equate.new.terms c.constant.ensures.grown.table c.equate.ensures.grown.grows
     (record { hyps = c.none.result; concl = c.in_ok-concl.concl }) (tm_at m.terms k) (tm_at m.terms c.args.t)
     (type_at t.types ty) _
     c.none.ensures.items
-    (constant_typed t m c.constant.ensures.grows c.args.t c.args.name k ty c.requires.inside
+    (constant_typed t m c.constant.ensures.grown.grows c.args.t c.args.name k ty c.requires.inside
     c.in_ok-constant.ensures.ok)
     c.in_ok-concl.ensures.makes
-    (constant_rule t m c.constant.ensures.grows c.args.t c.args.name k ty c.requires.inside
+    (constant_rule t m c.constant.ensures.grown.grows c.args.t c.args.name k ty c.requires.inside
     c.in_ok-constant.ensures.ok typed)

@@ -9,4 +9,4 @@ returns-clause-makes c =
     let ts = c.args.terms.now.types in
     constant_made c.type_fun.new.self c.constant.new.self c.in_ok-constant.field-0 c.args.name c.in_ok-ty.ty
     (fun_ty numbers (type_at ts c.args.from) (type_at ts c.args.to)) c.in_ok-ty.ensures.ok
-    c.constant.ensures.table c.in_ok-constant.ensures.ok
+    c.constant.ensures.grown.table c.in_ok-constant.ensures.ok

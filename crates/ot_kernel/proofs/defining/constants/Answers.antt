@@ -17,15 +17,15 @@ loop-name-preserved c =
     let fits = fits_then c.args.terms.now c.loop-name.terms c.args.cs.now c.args.vars.now k c.loop-name.s
     c.loop-name.invariant c.in-Some.name.now c.in-Some.v.now hc hv (name c.in-Some.name.now) (var c.in-Some.v.now)
     c.requires.vars
-    c.constant.new.self c.in_ok-constant.constant c.constant.ensures.grows c.constant.ensures.names
-    c.constant.ensures.table c.constant.ensures.types c.in_ok-constant.ensures.ok in
+    c.constant.new.self c.in_ok-constant.constant c.constant.ensures.grown c.constant.ensures.types
+    c.in_ok-constant.ensures.ok in
     subst (λ n. PutsConstants c.args.terms.now c.constant.new.self c.args.cs.now c.args.vars.now n c.add.new.self)
     (sym (length-append c.loop-name.yielded ((c.in-Some.name, c.in-Some.v) ∷ [])))
     (constant_added c.args.terms.now c.loop-name.terms c.args.cs.now c.args.vars.now k c.loop-name.s
     c.loop-name.invariant c.in-Some.name.now c.in-Some.v.now hc hv (name c.in-Some.name.now) (var c.in-Some.v.now)
     c.requires.vars
-    c.constant.new.self c.in_ok-constant.constant c.constant.ensures.grows c.constant.ensures.names
-    c.constant.ensures.table c.constant.ensures.types c.in_ok-constant.ensures.ok
+    c.constant.new.self c.in_ok-constant.constant c.constant.ensures.grown c.constant.ensures.types
+    c.in_ok-constant.ensures.ok
     c.add.new.self c.in_ok-add.ensures.ok (c.in_ok-add.ensures.fits fits) c.requires.distinct)
 
 pub returns-in_err-add-clause-grown : goal.returns-in_err-add-clause-grown
@@ -39,5 +39,5 @@ returns-in_err-add-clause-grown c =
     grown_then c.args.terms.now c.loop-name.terms c.args.cs.now c.args.vars.now (length c.loop-name.yielded)
     c.loop-name.s c.loop-name.invariant c.in-Some.name.now c.in-Some.v.now hc hv (name c.in-Some.name.now)
     (var c.in-Some.v.now) c.requires.vars
-    c.constant.new.self c.in_ok-constant.constant c.constant.ensures.grows c.constant.ensures.names
-    c.constant.ensures.table c.constant.ensures.types c.in_ok-constant.ensures.ok
+    c.constant.new.self c.in_ok-constant.constant c.constant.ensures.grown c.constant.ensures.types
+    c.in_ok-constant.ensures.ok

@@ -1,11 +1,11 @@
 use Rattle.std.specs.Prelude.{Err}
 use Rattle.std.proofs.Common.{◌≡◌, ap}
+use Rattle.ot_subst.proofs.Growing.{IsLater-trans}
 use Rattle.ot_kernel.specs.declared.fault.RuleFault.TheVariants.{Memory}
 use Rattle.ot_kernel.specs.Refusals.{of_subst}
 use Rattle.ot_kernel.proofs.Refusals.{handed_on}
 use Rattle.ot_kernel.proofs.PutConstants.{later_names, only_memory, new_sequent}
 use Rattle.ot_kernel.proofs.defining.list_theorem.Goals as goal
-use Rattle.ot_subst.proofs.Growing.{Grows-trans}
 
 pub returns-in_err-s-clause-later : goal.returns-in_err-s-clause-later
 returns-in_err-s-clause-later c = later_names c.args.names.now c.args.cs.now c.args.terms.now c.constants.new.terms
@@ -29,27 +29,13 @@ pub returns-in_err-concl-clause-later : goal.returns-in_err-concl-clause-later
 returns-in_err-concl-clause-later c =
     let first = later_names c.args.names.now c.args.cs.now c.args.terms.now c.constants.new.terms c.requires.cs
     c.requires.below c.constants.ensures.grown in
-    let was = c.in_err-concl.ensures in
-    record {
-      extends = was.extends;
-      name_table = λ _. was.name_table;
-      grows = Grows-trans first.grows was.grows;
-      table = was.table;
-      names = was.below;
-    }
+    IsLater-trans _ _ _ _ _ _ first c.in_err-concl.ensures.later
 
 pub returns-clause-later : goal.returns-clause-later
 returns-clause-later c =
     let first = later_names c.args.names.now c.args.cs.now c.args.terms.now c.constants.new.terms c.requires.cs
     c.requires.below c.constants.ensures.grown in
-    let was = c.in_ok-concl.ensures in
-    record {
-      extends = was.extends;
-      name_table = λ _. was.name_table;
-      grows = Grows-trans first.grows was.grows;
-      table = was.table;
-      names = was.below;
-    }
+    IsLater-trans _ _ _ _ _ _ first c.in_ok-concl.ensures.later
 
 pub returns-clause-ok : goal.returns-clause-ok
 returns-clause-ok c =

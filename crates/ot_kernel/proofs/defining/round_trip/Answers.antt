@@ -2,24 +2,17 @@ use Rattle.std.specs.Prelude.{Err}
 use Rattle.std.proofs.Common.{ℕ, ◌+◌, ap, arith}
 use Rattle.std.proofs.lemmas.Result.{err_from_is_err_and}
 use Rattle.ot_term.specs.Term.{TermTable}
-use Rattle.ot_term.specs.TermTable.{term_at, Grows, NamesUpTo, IsTermTable}
-use Rattle.ot_term.proofs.Growing.{Grows-trans}
+use Rattle.ot_term.specs.TermTable.{term_at, IsGrownTo}
+use Rattle.ot_term.proofs.Growing.{grown_further}
 use Rattle.ot_kernel.specs.Numbered.{IsGrownBy}
 use Rattle.ot_kernel.proofs.NewTerms.{makes_application, application_refused}
 use Rattle.ot_kernel.proofs.RoundTrips.{there_refused, back_refused, trip_made}
 use Rattle.ot_kernel.proofs.defining.round_trip.Goals as goal
 
 -- a name, and then two steps
-grown : (n : ℕ) (s t u w : TermTable) → Grows s t → NamesUpTo (n + 1) s t → Grows t u → NamesUpTo 0 t u → Grows u w
-    → NamesUpTo 0 u w → IsTermTable w → IsGrownBy n s w
-grown n s t u w f a g b h c table = record {
-  grows = Grows-trans s t w f (Grows-trans t u w g h);
-  names = record {
-    types = omega (arith, a.types, b.types, c.types);
-    terms = omega (arith, a.types, b.types, a.terms, b.terms, c.terms);
-  };
-  table = table;
-}
+grown : (n : ℕ) (s t u w : TermTable) → IsGrownTo (n + 1) s t → IsGrownTo 0 t u → IsGrownTo 0 u w → IsGrownBy n s w
+grown n s t u w f g h = grown_further _ _ _ s u w (grown_further _ _ (n + 1) s t u f (omega arith) g (omega arith))
+    (omega arith) h (omega arith)
 
 pub returns-in_err-there-clause-makes : goal.returns-in_err-there-clause-makes
 returns-in_err-there-clause-makes c =
@@ -29,7 +22,7 @@ returns-in_err-there-clause-makes c =
     let refused = application_refused (term_at ts c.args.f) (term_at ts c.in_ok-x.x) _
     (λ e. why.not_function (ap Err e)) (λ e. why.argument_type (ap Err e)) (λ e. why.nesting (ap Err e)) in
     rw (p.1, p.2) (there_refused c.args.terms.now c.args.v.now c.args.f c.args.g c.requires.f c.requires.g
-    c.requires.typed c.var.new.self c.var.ensures.grows c.in_ok-x.x c.in_ok-x.ensures.ok _ refused)
+    c.requires.typed c.var.new.self c.var.ensures.grown.grows c.in_ok-x.x c.in_ok-x.ensures.ok _ refused)
 
 pub returns-in_err-back-clause-makes : goal.returns-in_err-back-clause-makes
 returns-in_err-back-clause-makes c =
@@ -37,32 +30,31 @@ returns-in_err-back-clause-makes c =
     let ts = c.var.new.self.terms in
     let us = c.app.new.self.terms in
     let made = makes_application c.app.new.self (term_at ts c.args.f) (term_at ts c.in_ok-x.x) c.in_ok-there.there
-    c.app.ensures.table c.in_ok-there.ensures.ok in
+    c.app.ensures.grown.table c.in_ok-there.ensures.ok in
     let why = c.in_err-back.ensures in
     let refused = application_refused (term_at us c.args.g) (term_at us c.in_ok-there.there) _
     (λ e. why.not_function (ap Err e)) (λ e. why.argument_type (ap Err e)) (λ e. why.nesting (ap Err e)) in
     rw (p.1, p.2)
     (back_refused c.args.terms.now c.args.v.now c.args.f c.args.g c.requires.f c.requires.g c.requires.typed
-    c.var.new.self c.var.ensures.grows c.in_ok-x.x c.in_ok-x.ensures.ok c.app.new.self c.app.ensures.grows
+    c.var.new.self c.var.ensures.grown.grows c.in_ok-x.x c.in_ok-x.ensures.ok c.app.new.self c.app.ensures.grown.grows
     c.in_ok-there.there made _ refused)
 
 pub returns-in_err-back-clause-grown : goal.returns-in_err-back-clause-grown
-returns-in_err-back-clause-grown c = grown c.args.v.now.name _ _ _ _ c.var.ensures.grows c.var.ensures.names
-    c.app.ensures.grows c.app.ensures.names c.app-2.ensures.grows c.app-2.ensures.names c.app-2.ensures.table
+returns-in_err-back-clause-grown c =
+    grown c.args.v.now.name _ _ _ _ c.var.ensures.grown c.app.ensures.grown c.app-2.ensures.grown
 
 pub returns-clause-makes : goal.returns-clause-makes
 returns-clause-makes c =
     let ts = c.var.new.self.terms in
     let us = c.app.new.self.terms in
     let made = makes_application c.app.new.self (term_at ts c.args.f) (term_at ts c.in_ok-x.x) c.in_ok-there.there
-    c.app.ensures.table c.in_ok-there.ensures.ok in
+    c.app.ensures.grown.table c.in_ok-there.ensures.ok in
     let made_back = makes_application c.app-2.new.self (term_at us c.args.g) (term_at us c.in_ok-there.there)
-    c.in_ok-back.back c.app-2.ensures.table c.in_ok-back.ensures.ok in
+    c.in_ok-back.back c.app-2.ensures.grown.table c.in_ok-back.ensures.ok in
     trip_made c.args.terms.now c.args.v.now c.args.f c.args.g c.requires.f c.requires.g c.requires.typed
-    c.var.new.self c.var.ensures.grows c.in_ok-x.x c.in_ok-x.ensures.ok c.app.new.self c.app.ensures.grows
+    c.var.new.self c.var.ensures.grown.grows c.in_ok-x.x c.in_ok-x.ensures.ok c.app.new.self c.app.ensures.grown.grows
     c.in_ok-there.there made
-    c.app-2.new.self c.app-2.ensures.grows c.in_ok-back.back made_back
+    c.app-2.new.self c.app-2.ensures.grown.grows c.in_ok-back.back made_back
 
 pub returns-clause-grown : goal.returns-clause-grown
-returns-clause-grown c = grown c.args.v.now.name _ _ _ _ c.var.ensures.grows c.var.ensures.names c.app.ensures.grows
-    c.app.ensures.names c.app-2.ensures.grows c.app-2.ensures.names c.app-2.ensures.table
+returns-clause-grown c = grown c.args.v.now.name _ _ _ _ c.var.ensures.grown c.app.ensures.grown c.app-2.ensures.grown

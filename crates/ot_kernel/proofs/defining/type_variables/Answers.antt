@@ -2,24 +2,24 @@ use Rattle.std.proofs.Common.{◌≤◌, ◌++◌, map, length, sym, ap, ◌∙�
 use Rattle.std.proofs.lemmas.List.{append-nil, drop_all}
 use Rattle.ot_plain.specs.Trees.{TyVar}
 use Rattle.ot_type.specs.TypeTable.{type_at}
+use Rattle.ot_term.proofs.Growing.{grown_further}
 use Rattle.ot_kernel.specs.Proved.{bound_of_names}
-use Rattle.ot_kernel.proofs.NewTypes.{name-below, grown_to, variable_added, all_variables}
+use Rattle.ot_kernel.proofs.NewTypes.{name-below, variable_added, all_variables}
 use Rattle.ot_kernel.proofs.defining.type_variables.Goals as goal
 
 pub returns-in_err-push-clause-grown : goal.returns-in_err-push-clause-grown
 returns-in_err-push-clause-grown c =
     let less = name-below c.args.vars.now c.loop-name.name-index c.name-item.result c.loop-name-test.true
     c.name-item.is in
-    grown_to _ (bound_of_names c.args.vars.now) c.args.terms.now c.loop-name.terms c.type_var.new.self
-    c.loop-name.invariant.grown (omega (arith, less)) c.type_var.ensures.grows c.type_var.ensures.names
-    c.type_var.ensures.table
+    grown_further _ _ (bound_of_names c.args.vars.now) c.args.terms.now c.loop-name.terms c.type_var.new.self
+    c.loop-name.invariant.grown (omega arith) c.type_var.ensures.grown (omega (arith, less))
 
 pub loop-name-preserved : goal.loop-name-preserved
 loop-name-preserved c =
     variable_added c.args.terms.now c.loop-name.terms c.type_var.new.self c.args.vars.now c.loop-name.name-index
     c.loop-name.types.items c.push.new.self.items c.name-item.result c.in_ok-type_var.field-0
     c.loop-name.invariant c.loop-name-test.true c.name-item.is
-    c.type_var.ensures.grows c.type_var.ensures.names c.type_var.ensures.table c.in_ok-type_var.ensures.ok
+    c.type_var.ensures.grown c.in_ok-type_var.ensures.ok
     c.in_ok-push.ensures.items
 
 pub returns-clause-types : goal.returns-clause-types

@@ -17,4 +17,4 @@ pub returns-clause-makes : goal.returns-clause-makes
 returns-clause-makes c =
     let ts = c.args.terms.now.terms in
     makes_application c.app.new.self (term_at ts c.args.f) (term_at ts c.args.x) c.in_ok-app.field-0
-    c.app.ensures.table c.in_ok-app.ensures.ok
+    c.app.ensures.grown.table c.in_ok-app.ensures.ok

@@ -17,5 +17,5 @@ pub returns-clause-makes : goal.returns-clause-makes
 returns-clause-makes c =
     let ts = c.args.terms.now.terms in
     let (ty, typed, made) = c.in_ok-eq.ensures.ok in
-    makes_equation c.eq.new.self (term_at ts c.args.a) (term_at ts c.args.b) ty c.in_ok-eq.field-0 c.eq.ensures.table
-    typed made
+    makes_equation c.eq.new.self (term_at ts c.args.a) (term_at ts c.args.b) ty c.in_ok-eq.field-0
+    c.eq.ensures.grown.table typed made

@@ -16,14 +16,7 @@ loop-id-preserved c =
     image_added c.args.names.now c.loop-id.names c.args.terms.now c.loop-id.terms c.args.s.now c.args.ids.now
     c.loop-id.id-index c.loop-id.images.items c.loop-id.invariant c.requires.subst c.id-item.result
     c.loop-id-test.true c.id-item.is c.requires.inside c.apply.new.names c.apply.new.terms c.in_ok-apply.field-0
-    c.push.new.self.items c.in_ok-push.ensures.ok
-    (record {
-      extends = was.extends;
-      name_table = λ _. was.name_table;
-      grows = was.grows;
-      table = was.table;
-      names = was.below;
-    }) was.name_table was.fits was.ok
+    c.push.new.self.items c.in_ok-push.ensures.ok was.later was.name_table was.fits was.ok
 
 pub returns-in_err-apply-clause-refuses : goal.returns-in_err-apply-clause-refuses
 returns-in_err-apply-clause-refuses c =

@@ -28,8 +28,8 @@ returns-in_err-concl-clause-derives c =
 pub returns-clause-derives : goal.returns-clause-derives
 returns-clause-derives c =
     theorem_substituted c.args.terms.now c.images.new.terms c.in_ok-hyps.ensures.later.grows c.args.s.now
-    c.requires.subst c.args.th.now c.requires.inside c.apply.new.terms c.in_ok-concl.ensures.grows
-    c.in_ok-concl.ensures.table c.in_ok-hyps.hyps.items
+    c.requires.subst c.args.th.now c.requires.inside c.apply.new.terms c.in_ok-concl.ensures.later.grows
+    c.in_ok-concl.ensures.later.table c.in_ok-hyps.hyps.items
     (record { hyps = c.in_ok-hyps-2.hyps; concl = c.in_ok-concl.concl })
     (rw c.deref.ensures.value at c.in_ok-hyps.ensures.images)
     (rw c.as_slice.ensures at c.in_ok-hyps-2.ensures.once) c.in_ok-hyps-2.ensures.inside

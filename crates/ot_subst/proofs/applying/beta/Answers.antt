@@ -2,8 +2,7 @@ use Rattle.std.proofs.Common.{◌≡◌, Result, Err, refl, ap, arith}
 use Rattle.ot_subst.proofs.Faults.{nesting-from}
 use Rattle.ot_subst.specs.declared.fault.SubstFault.{SubstFault}
 use Rattle.ot_subst.specs.declared.fault.SubstFault.TheVariants.{NotRedex, Nesting}
-use Rattle.ot_subst.proofs.Growing.{Grows-refl}
-use Rattle.ot_plain.proofs.TableLemmas.{Extends-refl}
+use Rattle.ot_subst.proofs.Growing.{IsLater-refl}
 use Rattle.ot_subst.proofs.Redex.{one_pair, not-app, one_step, not-abs, two_steps}
 use Rattle.ot_subst.proofs.Redex.{is_redex, same-redex, redex-subst, redex-steps}
 use Rattle.ot_subst.proofs.applying.beta.Goals as goal
@@ -20,11 +19,8 @@ returns-in_default g c = record {
   nesting = λ e. absurd (differ e);
   steps = λ _. one_step (g.N.Nodes.table c.args.terms.now) c.take.ensures.table c.args.t c.requires.inside
       c.args.steps.now c.take.new.steps (omega (arith, c.take.ensures.counted));
-  grows = Grows-refl (g.N.Nodes.table c.args.terms.now);
-  table = c.take.ensures.table;
-  extends = Extends-refl c.args.names.now;
+  later = IsLater-refl _ _ c.requires.below c.take.ensures.table;
   name_table = c.count-count.ensures.table;
-  below = c.requires.below;
 }
 
 pub returns-in_default-take : goal.returns-in_default-take
@@ -37,11 +33,8 @@ returns-in_default-take g c = record {
   steps = λ _. two_steps (g.N.Nodes.table c.args.terms.now) c.take.ensures.table c.args.t c.requires.inside c.in-App.f
       c.in-App.x c.in-App.ensures.below.0 c.in-App.ensures.tree c.args.steps.now c.take-2.new.steps
       (omega (arith, c.take.ensures.counted, c.take-2.ensures.counted));
-  grows = Grows-refl (g.N.Nodes.table c.args.terms.now);
-  table = c.take.ensures.table;
-  extends = Extends-refl c.args.names.now;
+  later = IsLater-refl _ _ c.requires.below c.take.ensures.table;
   name_table = c.count-count.ensures.table;
-  below = c.requires.below;
 }
 
 pub returns-then-is_var-clause-ok : goal.returns-then-is_var-clause-ok

@@ -1,8 +1,8 @@
 use Rattle.std.proofs.Common.{length, ◌<◌, sym, subst, arith, true≢false, inl, inr, ◌∙◌}
 use Rattle.ot_plain.specs.Lists.{IsMember}
 use Rattle.ot_term.specs.declared.term.VarKey.{VarKey}
+use Rattle.ot_term.proofs.Growing.{grown_further}
 use Rattle.ot_subst.specs.Clash.{Coincides}
-use Rattle.ot_subst.proofs.Growing.{Grows-trans}
 use Rattle.ot_subst.proofs.Binders.{coincides-before, coincides-later, member-more}
 use Rattle.ot_subst.proofs.clash.any_coincides.Goals as goal
 use Rattle.ot_plain.proofs.Members.{IsMember-get_or, All-at_member}
@@ -16,24 +16,15 @@ returns-then-branch-clause-ok g c =
     let inside = All-at_member (λ (z : VarKey). z.ty < length t.types) c.args.xs.now x c.requires.variables m in (
       x,
       m,
-      coincides-before t (g.N.Nodes.table c.loop-x.terms) c.loop-x.invariant.grows c.args.subst.now
+      coincides-before t (g.N.Nodes.table c.loop-x.terms) c.loop-x.invariant.grown.grows c.args.subst.now
           c.requires.pairs c.args.v.now c.args.w.now x c.requires.binder inside
           (c.in_ok-coincides.ensures.ok.0 c.if-branch.true),
     )
 
 pub loop-x-preserved : goal.loop-x-preserved
 loop-x-preserved g c = record {
-  grows = Grows-trans c.loop-x.invariant.grows c.in_ok-coincides.ensures.grows;
-  names = record {
-    types = omega (arith, c.loop-x.invariant.names.types, c.in_ok-coincides.ensures.names.types);
-    terms = omega (
-      arith,
-      c.loop-x.invariant.names.types,
-      c.loop-x.invariant.names.terms,
-      c.in_ok-coincides.ensures.names.terms,
-    );
-  };
-  table = c.in_ok-coincides.ensures.table;
+  grown = grown_further 0 0 0 _ _ _ c.loop-x.invariant.grown (omega arith) c.in_ok-coincides.ensures.grown
+      (omega arith);
   missed = λ x m. elim (member-more x c.x-item.result c.args.xs.now c.loop-x.x-index c.loop-x-test.true c.x-item.is m) [
     | inl a ↦ c.loop-x.invariant.missed x a
     | inr e ↦
@@ -52,6 +43,6 @@ loop-x-preserved g c = record {
         let inside = All-at_member (λ (z : VarKey). z.ty < length t.types) c.args.xs.now x c.requires.variables m in
         let hit =
         c.in_ok-coincides.ensures.ok.1
-        (coincides-later t (g.N.Nodes.table c.loop-x.terms) c.loop-x.invariant.grows c.args.subst.now
+        (coincides-later t (g.N.Nodes.table c.loop-x.terms) c.loop-x.invariant.grown.grows c.args.subst.now
         c.requires.pairs c.args.v.now c.args.w.now x c.requires.binder inside h) in
         true≢false (sym hit ∙ c.if-branch.false)

@@ -1,15 +1,13 @@
 use Rattle.std.specs.Prelude.{take}
 use Rattle.ot_plain.specs.Lists.{IsMember}
-use Rattle.ot_term.specs.TermTable.{Grows, NamesUpTo, IsTermTable}
+use Rattle.ot_term.specs.TermTable.{IsGrownTo}
 use Rattle.ot_term.specs.declared.term.VarKey.{VarKey}
 use Rattle.ot_subst.specs.Clash.{Coincides}
 use Rattle.ot_subst.proofs.clash.any_coincides.Given as goal
 
 abbrev pub invariant-loop-x : goal.invariant-loop-x
 invariant-loop-x g l = record {
-  grows : Grows (g.N.Nodes.table l.fn.terms) (g.N.Nodes.table l.terms);
-  names : NamesUpTo 0 (g.N.Nodes.table l.fn.terms) (g.N.Nodes.table l.terms);
-  table : IsTermTable (g.N.Nodes.table l.terms);
+  grown : IsGrownTo 0 (g.N.Nodes.table l.fn.terms) (g.N.Nodes.table l.terms);
   missed : (x : VarKey) → IsMember x (take l.x-index l.xs)
       → ¬ (Coincides (g.N.Nodes.table l.fn.terms) l.subst l.v l.w x);
 }

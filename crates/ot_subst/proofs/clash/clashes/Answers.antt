@@ -47,5 +47,5 @@ pub returns-clause-frees : goal.returns-clause-frees
 returns-clause-frees g c =
     on_ok c.any_coincides.result _
     (AreKnown-Grows (g.N.Nodes.table c.args.terms.now) (g.N.Nodes.table c.any_coincides.new.terms)
-    c.any_coincides.ensures.grows c.args.work.now.subst.now c.requires.ready.subst c.is_put_in.new.frees
+    c.any_coincides.ensures.grown.grows c.args.work.now.subst.now c.requires.ready.subst c.is_put_in.new.frees
     c.in_ok-is_put_in.ensures.frees)

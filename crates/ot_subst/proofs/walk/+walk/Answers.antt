@@ -4,13 +4,14 @@ use Rattle.ot_plain.specs.Trees.{App, NApp, NAbs}
 use Rattle.ot_plain.specs.Hol.{is_shallow, nameless}
 use Rattle.ot_plain.specs.Naming.{numbers}
 use Rattle.ot_term.specs.TermTable.{term_at, term_of, variable_of}
+use Rattle.ot_term.proofs.Growing.{Grows-refl, Grows-trans}
 use Rattle.ot_subst.specs.Renamed.{pairs_of}
 use Rattle.ot_subst.specs.Walk.{becomes, HasForm}
 use Rattle.ot_subst.specs.Memory.{above, IsWalked}
 use Rattle.ot_subst.proofs.Abstraction.{deep-type, ready-then, instance-in, instance-then, instance-later}
 use Rattle.ot_subst.proofs.Abstraction.{stays-before, clash-before, set_up-then, memory-then, body-then}
 use Rattle.ot_subst.proofs.Abstraction.{deep-kept, deep-new, set_up-new, typed-new, apart_new, IsMemory-nil}
-use Rattle.ot_subst.proofs.Growing.{AreKnown-Grows, known-later, below-UpTo, below-twice, Grows-refl, Grows-trans}
+use Rattle.ot_subst.proofs.Growing.{AreKnown-Grows, known-later, below-UpTo, below-twice}
 use Rattle.ot_subst.proofs.Growing.{AreReady-Grows, IsSetUp-Grows, becomes_at-Grows, IsLater-table, IsLater-trans}
 use Rattle.ot_subst.proofs.Shallow.{deep-right}
 use Rattle.ot_subst.proofs.Unchanged.{walked-unchanged}
@@ -34,21 +35,21 @@ pub abstraction-clashes-requires-clause-ready : goal.abstraction-clashes-require
 abstraction-clashes-requires-clause-ready g t c =
     ready-then (length c.args.names.now) (g.N.Nodes.table c.args.terms.now) (g.N.Nodes.table c.type_inst.new.self)
     c.args.work.now.subst.now (pairs_of c.args.work.now.renamed.now) c.args.v c.in_ok-ty.ty c.args.body
-    c.requires.set_up c.requires.v c.requires.body c.in_ok-ty.ensures.grows c.in_ok-ty.ensures.table
+    c.requires.set_up c.requires.v c.requires.body c.in_ok-ty.ensures.grown
     (rw c.types.ensures at c.in_ok-ty.ensures.ok)
 
 pub abstraction-clashes-requires-clause-new : goal.abstraction-clashes-requires-clause-new
 abstraction-clashes-requires-clause-new g t c =
     instance-in (length c.args.names.now) (g.N.Nodes.table c.args.terms.now) (g.N.Nodes.table c.type_inst.new.self)
     c.args.work.now.subst.now (pairs_of c.args.work.now.renamed.now) c.args.v c.in_ok-ty.ty c.args.body
-    c.requires.set_up c.requires.v c.requires.body c.in_ok-ty.ensures.grows c.in_ok-ty.ensures.table
+    c.requires.set_up c.requires.v c.requires.body c.in_ok-ty.ensures.grown
     (rw c.types.ensures at c.in_ok-ty.ensures.ok)
 
 pub abstraction-clashes-requires-clause-instance : goal.abstraction-clashes-requires-clause-instance
 abstraction-clashes-requires-clause-instance g t c =
     instance-then (length c.args.names.now) (g.N.Nodes.table c.args.terms.now) (g.N.Nodes.table c.type_inst.new.self)
     c.args.work.now.subst.now (pairs_of c.args.work.now.renamed.now) c.args.v c.in_ok-ty.ty c.args.body
-    c.requires.set_up c.requires.v c.requires.body c.in_ok-ty.ensures.grows c.in_ok-ty.ensures.table
+    c.requires.set_up c.requires.v c.requires.body c.in_ok-ty.ensures.grown
     (rw c.types.ensures at c.in_ok-ty.ensures.ok)
 
 pub abstraction-walk-requires : goal.abstraction-walk-requires
@@ -60,33 +61,27 @@ abstraction-walk-requires g t c κs h = (
       h.1,
       (
         set_up-then (length c.args.names.now) (g.N.Nodes.table c.args.terms.now)
-            (g.N.Nodes.table c.type_inst.new.self) c.args.work.now.subst.now (pairs_of c.args.work.now.renamed.now) c.args.v
-            c.in_ok-ty.ty c.args.body c.requires.set_up c.requires.v c.requires.body c.in_ok-ty.ensures.grows
-            c.in_ok-ty.ensures.table (rw c.types.ensures at c.in_ok-ty.ensures.ok) (g.N.Nodes.table c.clashes.new.terms)
-            c.in_ok-clashes.ensures.grows c.in_ok-clashes.ensures.table
-            (below-twice (length c.args.names.now) (g.N.Nodes.table c.args.terms.now)
-            (g.N.Nodes.table c.type_inst.new.self) (g.N.Nodes.table c.clashes.new.terms) c.requires.set_up.names
-            c.in_ok-ty.ensures.names c.in_ok-clashes.ensures.names),
+            (g.N.Nodes.table c.type_inst.new.self) c.args.work.now.subst.now (pairs_of c.args.work.now.renamed.now)
+            c.args.v
+            c.in_ok-ty.ty c.args.body c.requires.set_up c.requires.v c.requires.body c.in_ok-ty.ensures.grown
+            (rw c.types.ensures at c.in_ok-ty.ensures.ok) (g.N.Nodes.table c.clashes.new.terms)
+            c.in_ok-clashes.ensures.grown,
         (
-          memory-then (length c.args.names.now) (g.N.Nodes.table c.args.terms.now) (g.N.Nodes.table c.type_inst.new.self)
+          memory-then (length c.args.names.now) (g.N.Nodes.table c.args.terms.now)
+              (g.N.Nodes.table c.type_inst.new.self)
               c.args.work.now.subst.now (pairs_of c.args.work.now.renamed.now) c.args.v c.in_ok-ty.ty c.args.body
-              c.requires.set_up c.requires.v c.requires.body c.in_ok-ty.ensures.grows c.in_ok-ty.ensures.table
-              (rw c.types.ensures at c.in_ok-ty.ensures.ok) (g.N.Nodes.table c.clashes.new.terms) c.in_ok-clashes.ensures.grows
-              c.in_ok-clashes.ensures.table
-              (below-twice (length c.args.names.now) (g.N.Nodes.table c.args.terms.now)
-              (g.N.Nodes.table c.type_inst.new.self) (g.N.Nodes.table c.clashes.new.terms) c.requires.set_up.names
-              c.in_ok-ty.ensures.names c.in_ok-clashes.ensures.names)
+              c.requires.set_up c.requires.v c.requires.body c.in_ok-ty.ensures.grown
+              (rw c.types.ensures at c.in_ok-ty.ensures.ok) (g.N.Nodes.table c.clashes.new.terms)
+              c.in_ok-clashes.ensures.grown
               c.args.memory.now c.requires.remembered,
           (
             c.in_ok-clashes.ensures.frees,
             body-then (length c.args.names.now) (g.N.Nodes.table c.args.terms.now)
-                (g.N.Nodes.table c.type_inst.new.self) c.args.work.now.subst.now (pairs_of c.args.work.now.renamed.now) c.args.v
-                c.in_ok-ty.ty c.args.body c.requires.set_up c.requires.v c.requires.body c.in_ok-ty.ensures.grows
-                c.in_ok-ty.ensures.table (rw c.types.ensures at c.in_ok-ty.ensures.ok) (g.N.Nodes.table c.clashes.new.terms)
-                c.in_ok-clashes.ensures.grows c.in_ok-clashes.ensures.table
-                (below-twice (length c.args.names.now) (g.N.Nodes.table c.args.terms.now)
-                (g.N.Nodes.table c.type_inst.new.self) (g.N.Nodes.table c.clashes.new.terms) c.requires.set_up.names
-                c.in_ok-ty.ensures.names c.in_ok-clashes.ensures.names),
+                (g.N.Nodes.table c.type_inst.new.self) c.args.work.now.subst.now
+                (pairs_of c.args.work.now.renamed.now) c.args.v
+                c.in_ok-ty.ty c.args.body c.requires.set_up c.requires.v c.requires.body c.in_ok-ty.ensures.grown
+                (rw c.types.ensures at c.in_ok-ty.ensures.ok) (g.N.Nodes.table c.clashes.new.terms)
+                c.in_ok-clashes.ensures.grown,
           ),
         ),
       ),
@@ -98,15 +93,11 @@ pub abstraction-returns-in_err-body-clause-nesting : goal.abstraction-returns-in
 abstraction-returns-in_err-body-clause-nesting g t c p =
     deep-kept (length c.args.names.now) (g.N.Nodes.table c.args.terms.now) (g.N.Nodes.table c.type_inst.new.self)
     c.args.work.now.subst.now (pairs_of c.args.work.now.renamed.now) c.args.v c.in_ok-ty.ty c.args.body
-    c.requires.set_up c.requires.v c.requires.body c.in_ok-ty.ensures.grows c.in_ok-ty.ensures.table
-    (rw c.types.ensures at c.in_ok-ty.ensures.ok) (g.N.Nodes.table c.clashes.new.terms) c.in_ok-clashes.ensures.grows
-    c.in_ok-clashes.ensures.table
-    (below-twice (length c.args.names.now) (g.N.Nodes.table c.args.terms.now)
-    (g.N.Nodes.table c.type_inst.new.self) (g.N.Nodes.table c.clashes.new.terms) c.requires.set_up.names
-    c.in_ok-ty.ensures.names c.in_ok-clashes.ensures.names)
+    c.requires.set_up c.requires.v c.requires.body c.in_ok-ty.ensures.grown
+    (rw c.types.ensures at c.in_ok-ty.ensures.ok) (g.N.Nodes.table c.clashes.new.terms) c.in_ok-clashes.ensures.grown
     (stays-before (length c.args.names.now) (g.N.Nodes.table c.args.terms.now) (g.N.Nodes.table c.type_inst.new.self)
     c.args.work.now.subst.now (pairs_of c.args.work.now.renamed.now) c.args.v c.in_ok-ty.ty c.args.body
-    c.requires.set_up c.requires.v c.requires.body c.in_ok-ty.ensures.grows c.in_ok-ty.ensures.table
+    c.requires.set_up c.requires.v c.requires.body c.in_ok-ty.ensures.grown
     (rw c.types.ensures at c.in_ok-ty.ensures.ok) (rw c.if-not-branch.true at c.in_ok-clashes.ensures.ok))
     (c.in_err-body.ensures.nesting
     (ap Err (same_Err c.from_residual-in_err-body.result _ _ c.from_residual-in_err-body.ensures.1 p)))
@@ -116,10 +107,11 @@ abstraction-abs-requires-clause-ty g t c =
     omega (
       arith,
       instance-in (length c.args.names.now) (g.N.Nodes.table c.args.terms.now)
-          (g.N.Nodes.table c.type_inst.new.self) c.args.work.now.subst.now (pairs_of c.args.work.now.renamed.now) c.args.v
-          c.in_ok-ty.ty c.args.body c.requires.set_up c.requires.v c.requires.body c.in_ok-ty.ensures.grows
-          c.in_ok-ty.ensures.table (rw c.types.ensures at c.in_ok-ty.ensures.ok),
-      c.in_ok-clashes.ensures.grows.types.longer,
+          (g.N.Nodes.table c.type_inst.new.self) c.args.work.now.subst.now (pairs_of c.args.work.now.renamed.now)
+          c.args.v
+          c.in_ok-ty.ty c.args.body c.requires.set_up c.requires.v c.requires.body c.in_ok-ty.ensures.grown
+          (rw c.types.ensures at c.in_ok-ty.ensures.ok),
+      c.in_ok-clashes.ensures.grown.grows.types.longer,
       c.in_ok-body.ensures.later.grows.types.longer,
     )
 
@@ -132,11 +124,11 @@ abstraction-returns-then-not-branch-clause-ok g t c =
     (term_at (g.N.Nodes.table c.walk.new.terms).terms c.in_ok-body.body))) _
     (λ q at. walked-kept (g.N.Nodes.table c.args.terms.now) (g.N.Nodes.table c.clashes.new.terms)
     (g.N.Nodes.table c.walk.new.terms) (g.N.Nodes.table c.abs.new.self)
-    (Grows-trans c.in_ok-ty.ensures.grows c.in_ok-clashes.ensures.grows) c.in_ok-body.ensures.later.grows
-    c.abs.ensures.grows c.args.work.now.subst.now (pairs_of c.args.work.now.renamed.now) c.requires.set_up.ready
+    (Grows-trans c.in_ok-ty.ensures.grown.grows c.in_ok-clashes.ensures.grown.grows) c.in_ok-body.ensures.later.grows
+    c.abs.ensures.grown.grows c.args.work.now.subst.now (pairs_of c.args.work.now.renamed.now) c.requires.set_up.ready
     (AreReady-Grows (g.N.Nodes.table c.args.terms.now) (g.N.Nodes.table c.walk.new.terms)
-    (Grows-trans c.in_ok-ty.ensures.grows
-    (Grows-trans c.in_ok-clashes.ensures.grows c.in_ok-body.ensures.later.grows)) c.args.work.now.subst.now
+    (Grows-trans c.in_ok-ty.ensures.grown.grows
+    (Grows-trans c.in_ok-clashes.ensures.grown.grows c.in_ok-body.ensures.later.grows)) c.args.work.now.subst.now
     c.requires.set_up.ready.subst (pairs_of c.args.work.now.renamed.now) c.requires.set_up.ready
     c.in_ok-body.ensures.later.table) c.args.v (record { name = c.args.v.name; ty = c.in_ok-ty.ty })
     c.args.memory.now c.walk.new.memory c.args.steps.now c.walk.new.steps c.args.body c.in_ok-body.body q
@@ -145,20 +137,20 @@ abstraction-returns-then-not-branch-clause-ok g t c =
       arith,
       instance-in (length c.args.names.now) (g.N.Nodes.table c.args.terms.now)
           (g.N.Nodes.table c.type_inst.new.self) c.args.work.now.subst.now (pairs_of c.args.work.now.renamed.now)
-          c.args.v c.in_ok-ty.ty c.args.body c.requires.set_up c.requires.v c.requires.body c.in_ok-ty.ensures.grows
-          c.in_ok-ty.ensures.table (rw c.types.ensures at c.in_ok-ty.ensures.ok),
-      c.in_ok-clashes.ensures.grows.types.longer,
+          c.args.v c.in_ok-ty.ty c.args.body c.requires.set_up c.requires.v c.requires.body c.in_ok-ty.ensures.grown
+          (rw c.types.ensures at c.in_ok-ty.ensures.ok),
+      c.in_ok-clashes.ensures.grown.grows.types.longer,
     )) c.in_ok-body.ensures.ok
     (instance-later (length c.args.names.now) (g.N.Nodes.table c.args.terms.now)
     (g.N.Nodes.table c.type_inst.new.self) c.args.work.now.subst.now (pairs_of c.args.work.now.renamed.now)
-    c.args.v c.in_ok-ty.ty c.args.body c.requires.set_up c.requires.v c.requires.body c.in_ok-ty.ensures.grows
-    c.in_ok-ty.ensures.table (rw c.types.ensures at c.in_ok-ty.ensures.ok) c.args.v.name
+    c.args.v c.in_ok-ty.ty c.args.body c.requires.set_up c.requires.v c.requires.body c.in_ok-ty.ensures.grown
+    (rw c.types.ensures at c.in_ok-ty.ensures.ok) c.args.v.name
     (g.N.Nodes.table c.walk.new.terms)
-    (Grows-trans c.in_ok-clashes.ensures.grows c.in_ok-body.ensures.later.grows))
+    (Grows-trans c.in_ok-clashes.ensures.grown.grows c.in_ok-body.ensures.later.grows))
     (stays-before (length c.args.names.now) (g.N.Nodes.table c.args.terms.now)
     (g.N.Nodes.table c.type_inst.new.self) c.args.work.now.subst.now (pairs_of c.args.work.now.renamed.now)
-    c.args.v c.in_ok-ty.ty c.args.body c.requires.set_up c.requires.v c.requires.body c.in_ok-ty.ensures.grows
-    c.in_ok-ty.ensures.table (rw c.types.ensures at c.in_ok-ty.ensures.ok)
+    c.args.v c.in_ok-ty.ty c.args.body c.requires.set_up c.requires.v c.requires.body c.in_ok-ty.ensures.grown
+    (rw c.types.ensures at c.in_ok-ty.ensures.ok)
     (rw c.if-not-branch.true at c.in_ok-clashes.ensures.ok)) at) c.abs.ensures.ok
 
 pub abstraction-returns-then-not-branch-clause-nesting : goal.abstraction-returns-then-not-branch-clause-nesting
@@ -166,11 +158,11 @@ abstraction-returns-then-not-branch-clause-nesting g t c p =
     sym (ap (is_shallow numbers)
     (kept_form (g.N.Nodes.table c.args.terms.now) (g.N.Nodes.table c.clashes.new.terms)
     (g.N.Nodes.table c.walk.new.terms) (g.N.Nodes.table c.abs.new.self)
-    (Grows-trans c.in_ok-ty.ensures.grows c.in_ok-clashes.ensures.grows) c.in_ok-body.ensures.later.grows
-    c.abs.ensures.grows c.args.work.now.subst.now (pairs_of c.args.work.now.renamed.now) c.requires.set_up.ready
+    (Grows-trans c.in_ok-ty.ensures.grown.grows c.in_ok-clashes.ensures.grown.grows) c.in_ok-body.ensures.later.grows
+    c.abs.ensures.grown.grows c.args.work.now.subst.now (pairs_of c.args.work.now.renamed.now) c.requires.set_up.ready
     (AreReady-Grows (g.N.Nodes.table c.args.terms.now) (g.N.Nodes.table c.walk.new.terms)
-    (Grows-trans c.in_ok-ty.ensures.grows
-    (Grows-trans c.in_ok-clashes.ensures.grows c.in_ok-body.ensures.later.grows)) c.args.work.now.subst.now
+    (Grows-trans c.in_ok-ty.ensures.grown.grows
+    (Grows-trans c.in_ok-clashes.ensures.grown.grows c.in_ok-body.ensures.later.grows)) c.args.work.now.subst.now
     c.requires.set_up.ready.subst (pairs_of c.args.work.now.renamed.now) c.requires.set_up.ready
     c.in_ok-body.ensures.later.table) c.args.v (record { name = c.args.v.name; ty = c.in_ok-ty.ty })
     c.args.memory.now c.walk.new.memory c.args.steps.now c.walk.new.steps c.args.body c.in_ok-body.body 0
@@ -179,20 +171,20 @@ abstraction-returns-then-not-branch-clause-nesting g t c p =
       arith,
       instance-in (length c.args.names.now) (g.N.Nodes.table c.args.terms.now)
           (g.N.Nodes.table c.type_inst.new.self) c.args.work.now.subst.now (pairs_of c.args.work.now.renamed.now)
-          c.args.v c.in_ok-ty.ty c.args.body c.requires.set_up c.requires.v c.requires.body c.in_ok-ty.ensures.grows
-          c.in_ok-ty.ensures.table (rw c.types.ensures at c.in_ok-ty.ensures.ok),
-      c.in_ok-clashes.ensures.grows.types.longer,
+          c.args.v c.in_ok-ty.ty c.args.body c.requires.set_up c.requires.v c.requires.body c.in_ok-ty.ensures.grown
+          (rw c.types.ensures at c.in_ok-ty.ensures.ok),
+      c.in_ok-clashes.ensures.grown.grows.types.longer,
     )) c.in_ok-body.ensures.ok
     (instance-later (length c.args.names.now) (g.N.Nodes.table c.args.terms.now)
     (g.N.Nodes.table c.type_inst.new.self) c.args.work.now.subst.now (pairs_of c.args.work.now.renamed.now)
-    c.args.v c.in_ok-ty.ty c.args.body c.requires.set_up c.requires.v c.requires.body c.in_ok-ty.ensures.grows
-    c.in_ok-ty.ensures.table (rw c.types.ensures at c.in_ok-ty.ensures.ok) c.args.v.name
+    c.args.v c.in_ok-ty.ty c.args.body c.requires.set_up c.requires.v c.requires.body c.in_ok-ty.ensures.grown
+    (rw c.types.ensures at c.in_ok-ty.ensures.ok) c.args.v.name
     (g.N.Nodes.table c.walk.new.terms)
-    (Grows-trans c.in_ok-clashes.ensures.grows c.in_ok-body.ensures.later.grows))
+    (Grows-trans c.in_ok-clashes.ensures.grown.grows c.in_ok-body.ensures.later.grows))
     (stays-before (length c.args.names.now) (g.N.Nodes.table c.args.terms.now)
     (g.N.Nodes.table c.type_inst.new.self) c.args.work.now.subst.now (pairs_of c.args.work.now.renamed.now)
-    c.args.v c.in_ok-ty.ty c.args.body c.requires.set_up c.requires.v c.requires.body c.in_ok-ty.ensures.grows
-    c.in_ok-ty.ensures.table (rw c.types.ensures at c.in_ok-ty.ensures.ok)
+    c.args.v c.in_ok-ty.ty c.args.body c.requires.set_up c.requires.v c.requires.body c.in_ok-ty.ensures.grown
+    (rw c.types.ensures at c.in_ok-ty.ensures.ok)
     (rw c.if-not-branch.true at c.in_ok-clashes.ensures.ok)))) ∙ c.abs.ensures.nesting p
 
 pub abstraction-walk-requires-2 : goal.abstraction-walk-requires-2
@@ -204,29 +196,26 @@ abstraction-walk-requires-2 g t c κs h = (
       h.1,
       (
         set_up-new (length c.args.names.now) (g.N.Nodes.table c.args.terms.now)
-            (g.N.Nodes.table c.type_inst.new.self) c.args.work.now.subst.now (pairs_of c.args.work.now.renamed.now) c.args.v
-            c.in_ok-ty.ty c.args.body c.requires.set_up c.requires.v c.requires.body c.in_ok-ty.ensures.grows
-            c.in_ok-ty.ensures.table (rw c.types.ensures at c.in_ok-ty.ensures.ok) (g.N.Nodes.table c.clashes.new.terms)
-            c.in_ok-clashes.ensures.grows c.in_ok-clashes.ensures.table
-            (below-twice (length c.args.names.now) (g.N.Nodes.table c.args.terms.now)
-            (g.N.Nodes.table c.type_inst.new.self) (g.N.Nodes.table c.clashes.new.terms) c.requires.set_up.names
-            c.in_ok-ty.ensures.names c.in_ok-clashes.ensures.names)
+            (g.N.Nodes.table c.type_inst.new.self) c.args.work.now.subst.now (pairs_of c.args.work.now.renamed.now)
+            c.args.v
+            c.in_ok-ty.ty c.args.body c.requires.set_up c.requires.v c.requires.body c.in_ok-ty.ensures.grown
+            (rw c.types.ensures at c.in_ok-ty.ensures.ok) (g.N.Nodes.table c.clashes.new.terms)
+            c.in_ok-clashes.ensures.grown
             c.in_ok-name.name c.in_ok-name.ensures.ok.0 (omega (arith, c.requires.bound)) (length c.add_new.new.self)
             c.in_ok-name.ensures.extends.longer c.in_ok-name.ensures.ok.1,
         (
           IsMemory-nil (g.N.Nodes.table c.clashes.new.terms) c.args.work.now.subst.now
-              ((c.args.v, (record { name = c.in_ok-name.name; ty = c.in_ok-ty.ty })) ∷ (pairs_of c.args.work.now.renamed.now))
+              ((c.args.v, (record { name = c.in_ok-name.name; ty = c.in_ok-ty.ty }))
+              ∷ (pairs_of c.args.work.now.renamed.now))
               c.hashed-results.result c.hashed-results.ensures,
           (
             c.in_ok-clashes.ensures.frees,
             body-then (length c.args.names.now) (g.N.Nodes.table c.args.terms.now)
-                (g.N.Nodes.table c.type_inst.new.self) c.args.work.now.subst.now (pairs_of c.args.work.now.renamed.now) c.args.v
-                c.in_ok-ty.ty c.args.body c.requires.set_up c.requires.v c.requires.body c.in_ok-ty.ensures.grows
-                c.in_ok-ty.ensures.table (rw c.types.ensures at c.in_ok-ty.ensures.ok) (g.N.Nodes.table c.clashes.new.terms)
-                c.in_ok-clashes.ensures.grows c.in_ok-clashes.ensures.table
-                (below-twice (length c.args.names.now) (g.N.Nodes.table c.args.terms.now)
-                (g.N.Nodes.table c.type_inst.new.self) (g.N.Nodes.table c.clashes.new.terms) c.requires.set_up.names
-                c.in_ok-ty.ensures.names c.in_ok-clashes.ensures.names),
+                (g.N.Nodes.table c.type_inst.new.self) c.args.work.now.subst.now
+                (pairs_of c.args.work.now.renamed.now) c.args.v
+                c.in_ok-ty.ty c.args.body c.requires.set_up c.requires.v c.requires.body c.in_ok-ty.ensures.grown
+                (rw c.types.ensures at c.in_ok-ty.ensures.ok) (g.N.Nodes.table c.clashes.new.terms)
+                c.in_ok-clashes.ensures.grown,
           ),
         ),
       ),
@@ -238,12 +227,8 @@ pub abstraction-returns-in_err-body-2-clause-nesting : goal.abstraction-returns-
 abstraction-returns-in_err-body-2-clause-nesting g t c p =
     deep-new (length c.args.names.now) (g.N.Nodes.table c.args.terms.now) (g.N.Nodes.table c.type_inst.new.self)
     c.args.work.now.subst.now (pairs_of c.args.work.now.renamed.now) c.args.v c.in_ok-ty.ty c.args.body
-    c.requires.set_up c.requires.v c.requires.body c.in_ok-ty.ensures.grows c.in_ok-ty.ensures.table
-    (rw c.types.ensures at c.in_ok-ty.ensures.ok) (g.N.Nodes.table c.clashes.new.terms) c.in_ok-clashes.ensures.grows
-    c.in_ok-clashes.ensures.table
-    (below-twice (length c.args.names.now) (g.N.Nodes.table c.args.terms.now)
-    (g.N.Nodes.table c.type_inst.new.self) (g.N.Nodes.table c.clashes.new.terms) c.requires.set_up.names
-    c.in_ok-ty.ensures.names c.in_ok-clashes.ensures.names)
+    c.requires.set_up c.requires.v c.requires.body c.in_ok-ty.ensures.grown
+    (rw c.types.ensures at c.in_ok-ty.ensures.ok) (g.N.Nodes.table c.clashes.new.terms) c.in_ok-clashes.ensures.grown
     c.in_ok-name.name c.in_ok-name.ensures.ok.0 (omega (arith, c.requires.bound))
     (c.in_err-body-2.ensures.nesting
     (ap Err (same_Err c.from_residual-in_err-body-2.result _ _ c.from_residual-in_err-body-2.ensures.1 p)))
@@ -257,16 +242,16 @@ abstraction-returns-in_err-body-2-clause-later g t c =
     (IsLater-trans c.args.names.now c.args.names.now c.args.names.now (g.N.Nodes.table c.args.terms.now)
     (g.N.Nodes.table c.type_inst.new.self) (g.N.Nodes.table c.clashes.new.terms)
     (IsLater-table 0 c.args.names.now (g.N.Nodes.table c.args.terms.now) (g.N.Nodes.table c.type_inst.new.self)
-    c.requires.set_up.names c.in_ok-ty.ensures.grows c.in_ok-ty.ensures.table c.in_ok-ty.ensures.names (omega arith))
+    c.requires.set_up.names c.in_ok-ty.ensures.grown (omega arith))
     (IsLater-table 0 c.args.names.now (g.N.Nodes.table c.type_inst.new.self) (g.N.Nodes.table c.clashes.new.terms)
     (below-UpTo 0 (length c.args.names.now) (g.N.Nodes.table c.args.terms.now) (g.N.Nodes.table c.type_inst.new.self)
-    c.requires.set_up.names c.in_ok-ty.ensures.names (omega arith)) c.in_ok-clashes.ensures.grows
-    c.in_ok-clashes.ensures.table c.in_ok-clashes.ensures.names (omega arith)))
+    c.requires.set_up.names c.in_ok-ty.ensures.grown.names (omega arith)) c.in_ok-clashes.ensures.grown
+    (omega arith)))
     (later-name c.args.names.now c.add_new.new.self (g.N.Nodes.table c.clashes.new.terms) c.in_ok-name.ensures.extends
-    c.in_ok-name.ensures.table c.in_ok-clashes.ensures.table
+    c.in_ok-name.ensures.table c.in_ok-clashes.ensures.grown.table
     (below-twice (length c.args.names.now) (g.N.Nodes.table c.args.terms.now)
     (g.N.Nodes.table c.type_inst.new.self) (g.N.Nodes.table c.clashes.new.terms) c.requires.set_up.names
-    c.in_ok-ty.ensures.names c.in_ok-clashes.ensures.names)))
+    c.in_ok-ty.ensures.grown.names c.in_ok-clashes.ensures.grown.names)))
     c.in_err-body-2.ensures.later
 
 pub abstraction-abs-requires-2-clause-ty : goal.abstraction-abs-requires-2-clause-ty
@@ -274,10 +259,11 @@ abstraction-abs-requires-2-clause-ty g t c =
     omega (
       arith,
       instance-in (length c.args.names.now) (g.N.Nodes.table c.args.terms.now)
-          (g.N.Nodes.table c.type_inst.new.self) c.args.work.now.subst.now (pairs_of c.args.work.now.renamed.now) c.args.v
-          c.in_ok-ty.ty c.args.body c.requires.set_up c.requires.v c.requires.body c.in_ok-ty.ensures.grows
-          c.in_ok-ty.ensures.table (rw c.types.ensures at c.in_ok-ty.ensures.ok),
-      c.in_ok-clashes.ensures.grows.types.longer,
+          (g.N.Nodes.table c.type_inst.new.self) c.args.work.now.subst.now (pairs_of c.args.work.now.renamed.now)
+          c.args.v
+          c.in_ok-ty.ty c.args.body c.requires.set_up c.requires.v c.requires.body c.in_ok-ty.ensures.grown
+          (rw c.types.ensures at c.in_ok-ty.ensures.ok),
+      c.in_ok-clashes.ensures.grown.grows.types.longer,
       c.in_ok-body-2.ensures.later.grows.types.longer,
     )
 
@@ -290,11 +276,13 @@ abstraction-returns-clause-ok g t c =
     (term_at (g.N.Nodes.table c.walk-2.new.terms).terms c.in_ok-body-2.body))) _
     (λ q at. walked-renamed (g.N.Nodes.table c.args.terms.now) (g.N.Nodes.table c.clashes.new.terms)
     (g.N.Nodes.table c.walk-2.new.terms) (g.N.Nodes.table c.abs-2.new.self)
-    (Grows-trans c.in_ok-ty.ensures.grows c.in_ok-clashes.ensures.grows) c.in_ok-body-2.ensures.later.grows
-    c.abs-2.ensures.grows c.args.work.now.subst.now (pairs_of c.args.work.now.renamed.now) c.requires.set_up.ready
+    (Grows-trans c.in_ok-ty.ensures.grown.grows c.in_ok-clashes.ensures.grown.grows)
+    c.in_ok-body-2.ensures.later.grows
+    c.abs-2.ensures.grown.grows c.args.work.now.subst.now (pairs_of c.args.work.now.renamed.now)
+    c.requires.set_up.ready
     (AreReady-Grows (g.N.Nodes.table c.args.terms.now) (g.N.Nodes.table c.walk-2.new.terms)
-    (Grows-trans c.in_ok-ty.ensures.grows
-    (Grows-trans c.in_ok-clashes.ensures.grows c.in_ok-body-2.ensures.later.grows)) c.args.work.now.subst.now
+    (Grows-trans c.in_ok-ty.ensures.grown.grows
+    (Grows-trans c.in_ok-clashes.ensures.grown.grows c.in_ok-body-2.ensures.later.grows)) c.args.work.now.subst.now
     c.requires.set_up.ready.subst (pairs_of c.args.work.now.renamed.now) c.requires.set_up.ready
     c.in_ok-body-2.ensures.later.table) c.args.v (record { name = c.in_ok-name.name; ty = c.in_ok-ty.ty })
     c.args.memory.now [] c.args.steps.now c.walk-2.new.steps c.args.body c.in_ok-body-2.body q c.requires.body
@@ -302,33 +290,27 @@ abstraction-returns-clause-ok g t c =
       arith,
       instance-in (length c.args.names.now) (g.N.Nodes.table c.args.terms.now)
           (g.N.Nodes.table c.type_inst.new.self) c.args.work.now.subst.now (pairs_of c.args.work.now.renamed.now)
-          c.args.v c.in_ok-ty.ty c.args.body c.requires.set_up c.requires.v c.requires.body c.in_ok-ty.ensures.grows
-          c.in_ok-ty.ensures.table (rw c.types.ensures at c.in_ok-ty.ensures.ok),
-      c.in_ok-clashes.ensures.grows.types.longer,
+          c.args.v c.in_ok-ty.ty c.args.body c.requires.set_up c.requires.v c.requires.body c.in_ok-ty.ensures.grown
+          (rw c.types.ensures at c.in_ok-ty.ensures.ok),
+      c.in_ok-clashes.ensures.grown.grows.types.longer,
     )) c.hashed-results.result c.walk-2.new.memory c.args.steps.now
     c.requires.remembered c.in_ok-body-2.ensures.ok
     (typed-new (length c.args.names.now) (g.N.Nodes.table c.args.terms.now) (g.N.Nodes.table c.type_inst.new.self)
     c.args.work.now.subst.now (pairs_of c.args.work.now.renamed.now) c.args.v c.in_ok-ty.ty c.args.body
-    c.requires.set_up c.requires.v c.requires.body c.in_ok-ty.ensures.grows c.in_ok-ty.ensures.table
+    c.requires.set_up c.requires.v c.requires.body c.in_ok-ty.ensures.grown
     (rw c.types.ensures at c.in_ok-ty.ensures.ok) (g.N.Nodes.table c.clashes.new.terms)
-    c.in_ok-clashes.ensures.grows c.in_ok-clashes.ensures.table
-    (below-twice (length c.args.names.now) (g.N.Nodes.table c.args.terms.now)
-    (g.N.Nodes.table c.type_inst.new.self) (g.N.Nodes.table c.clashes.new.terms) c.requires.set_up.names
-    c.in_ok-ty.ensures.names c.in_ok-clashes.ensures.names) c.in_ok-name.name c.in_ok-name.ensures.ok.0
+    c.in_ok-clashes.ensures.grown c.in_ok-name.name c.in_ok-name.ensures.ok.0
     (omega (arith, c.requires.bound)))
     (apart_new (length c.args.names.now) (g.N.Nodes.table c.args.terms.now) (g.N.Nodes.table c.type_inst.new.self)
     c.args.work.now.subst.now (pairs_of c.args.work.now.renamed.now) c.args.v c.in_ok-ty.ty c.args.body
-    c.requires.set_up c.requires.v c.requires.body c.in_ok-ty.ensures.grows c.in_ok-ty.ensures.table
+    c.requires.set_up c.requires.v c.requires.body c.in_ok-ty.ensures.grown
     (rw c.types.ensures at c.in_ok-ty.ensures.ok) (g.N.Nodes.table c.clashes.new.terms)
-    c.in_ok-clashes.ensures.grows c.in_ok-clashes.ensures.table
-    (below-twice (length c.args.names.now) (g.N.Nodes.table c.args.terms.now)
-    (g.N.Nodes.table c.type_inst.new.self) (g.N.Nodes.table c.clashes.new.terms) c.requires.set_up.names
-    c.in_ok-ty.ensures.names c.in_ok-clashes.ensures.names) c.in_ok-name.name c.in_ok-name.ensures.ok.0
+    c.in_ok-clashes.ensures.grown c.in_ok-name.name c.in_ok-name.ensures.ok.0
     (omega (arith, c.requires.bound)))
     (clash-before (length c.args.names.now) (g.N.Nodes.table c.args.terms.now)
     (g.N.Nodes.table c.type_inst.new.self) c.args.work.now.subst.now (pairs_of c.args.work.now.renamed.now)
-    c.args.v c.in_ok-ty.ty c.args.body c.requires.set_up c.requires.v c.requires.body c.in_ok-ty.ensures.grows
-    c.in_ok-ty.ensures.table (rw c.types.ensures at c.in_ok-ty.ensures.ok)
+    c.args.v c.in_ok-ty.ty c.args.body c.requires.set_up c.requires.v c.requires.body c.in_ok-ty.ensures.grown
+    (rw c.types.ensures at c.in_ok-ty.ensures.ok)
     (rw c.if-not-branch.false at c.in_ok-clashes.ensures.ok)) at) c.abs-2.ensures.ok
 
 pub abstraction-returns-clause-nesting : goal.abstraction-returns-clause-nesting
@@ -336,11 +318,13 @@ abstraction-returns-clause-nesting g t c p =
     sym (ap (is_shallow numbers)
     (renamed_form (g.N.Nodes.table c.args.terms.now) (g.N.Nodes.table c.clashes.new.terms)
     (g.N.Nodes.table c.walk-2.new.terms) (g.N.Nodes.table c.abs-2.new.self)
-    (Grows-trans c.in_ok-ty.ensures.grows c.in_ok-clashes.ensures.grows) c.in_ok-body-2.ensures.later.grows
-    c.abs-2.ensures.grows c.args.work.now.subst.now (pairs_of c.args.work.now.renamed.now) c.requires.set_up.ready
+    (Grows-trans c.in_ok-ty.ensures.grown.grows c.in_ok-clashes.ensures.grown.grows)
+    c.in_ok-body-2.ensures.later.grows
+    c.abs-2.ensures.grown.grows c.args.work.now.subst.now (pairs_of c.args.work.now.renamed.now)
+    c.requires.set_up.ready
     (AreReady-Grows (g.N.Nodes.table c.args.terms.now) (g.N.Nodes.table c.walk-2.new.terms)
-    (Grows-trans c.in_ok-ty.ensures.grows
-    (Grows-trans c.in_ok-clashes.ensures.grows c.in_ok-body-2.ensures.later.grows)) c.args.work.now.subst.now
+    (Grows-trans c.in_ok-ty.ensures.grown.grows
+    (Grows-trans c.in_ok-clashes.ensures.grown.grows c.in_ok-body-2.ensures.later.grows)) c.args.work.now.subst.now
     c.requires.set_up.ready.subst (pairs_of c.args.work.now.renamed.now) c.requires.set_up.ready
     c.in_ok-body-2.ensures.later.table) c.args.v (record { name = c.in_ok-name.name; ty = c.in_ok-ty.ty })
     c.args.memory.now [] c.args.steps.now c.walk-2.new.steps c.args.body c.in_ok-body-2.body 0 c.requires.body
@@ -348,28 +332,22 @@ abstraction-returns-clause-nesting g t c p =
       arith,
       instance-in (length c.args.names.now) (g.N.Nodes.table c.args.terms.now)
           (g.N.Nodes.table c.type_inst.new.self) c.args.work.now.subst.now (pairs_of c.args.work.now.renamed.now)
-          c.args.v c.in_ok-ty.ty c.args.body c.requires.set_up c.requires.v c.requires.body c.in_ok-ty.ensures.grows
-          c.in_ok-ty.ensures.table (rw c.types.ensures at c.in_ok-ty.ensures.ok),
-      c.in_ok-clashes.ensures.grows.types.longer,
+          c.args.v c.in_ok-ty.ty c.args.body c.requires.set_up c.requires.v c.requires.body c.in_ok-ty.ensures.grown
+          (rw c.types.ensures at c.in_ok-ty.ensures.ok),
+      c.in_ok-clashes.ensures.grown.grows.types.longer,
     )) c.hashed-results.result c.walk-2.new.memory c.args.steps.now
     c.requires.remembered c.in_ok-body-2.ensures.ok
     (typed-new (length c.args.names.now) (g.N.Nodes.table c.args.terms.now) (g.N.Nodes.table c.type_inst.new.self)
     c.args.work.now.subst.now (pairs_of c.args.work.now.renamed.now) c.args.v c.in_ok-ty.ty c.args.body
-    c.requires.set_up c.requires.v c.requires.body c.in_ok-ty.ensures.grows c.in_ok-ty.ensures.table
+    c.requires.set_up c.requires.v c.requires.body c.in_ok-ty.ensures.grown
     (rw c.types.ensures at c.in_ok-ty.ensures.ok) (g.N.Nodes.table c.clashes.new.terms)
-    c.in_ok-clashes.ensures.grows c.in_ok-clashes.ensures.table
-    (below-twice (length c.args.names.now) (g.N.Nodes.table c.args.terms.now)
-    (g.N.Nodes.table c.type_inst.new.self) (g.N.Nodes.table c.clashes.new.terms) c.requires.set_up.names
-    c.in_ok-ty.ensures.names c.in_ok-clashes.ensures.names) c.in_ok-name.name c.in_ok-name.ensures.ok.0
+    c.in_ok-clashes.ensures.grown c.in_ok-name.name c.in_ok-name.ensures.ok.0
     (omega (arith, c.requires.bound)))
     (apart_new (length c.args.names.now) (g.N.Nodes.table c.args.terms.now) (g.N.Nodes.table c.type_inst.new.self)
     c.args.work.now.subst.now (pairs_of c.args.work.now.renamed.now) c.args.v c.in_ok-ty.ty c.args.body
-    c.requires.set_up c.requires.v c.requires.body c.in_ok-ty.ensures.grows c.in_ok-ty.ensures.table
+    c.requires.set_up c.requires.v c.requires.body c.in_ok-ty.ensures.grown
     (rw c.types.ensures at c.in_ok-ty.ensures.ok) (g.N.Nodes.table c.clashes.new.terms)
-    c.in_ok-clashes.ensures.grows c.in_ok-clashes.ensures.table
-    (below-twice (length c.args.names.now) (g.N.Nodes.table c.args.terms.now)
-    (g.N.Nodes.table c.type_inst.new.self) (g.N.Nodes.table c.clashes.new.terms) c.requires.set_up.names
-    c.in_ok-ty.ensures.names c.in_ok-clashes.ensures.names) c.in_ok-name.name c.in_ok-name.ensures.ok.0
+    c.in_ok-clashes.ensures.grown c.in_ok-name.name c.in_ok-name.ensures.ok.0
     (omega (arith, c.requires.bound))))) ∙ c.abs-2.ensures.nesting p
 
 pub abstraction-returns-clause-later : goal.abstraction-returns-clause-later
@@ -383,20 +361,19 @@ abstraction-returns-clause-later g t c =
     (IsLater-trans c.args.names.now c.args.names.now c.args.names.now (g.N.Nodes.table c.args.terms.now)
     (g.N.Nodes.table c.type_inst.new.self) (g.N.Nodes.table c.clashes.new.terms)
     (IsLater-table 0 c.args.names.now (g.N.Nodes.table c.args.terms.now) (g.N.Nodes.table c.type_inst.new.self)
-    c.requires.set_up.names c.in_ok-ty.ensures.grows c.in_ok-ty.ensures.table c.in_ok-ty.ensures.names
+    c.requires.set_up.names c.in_ok-ty.ensures.grown
     (omega arith))
     (IsLater-table 0 c.args.names.now (g.N.Nodes.table c.type_inst.new.self) (g.N.Nodes.table c.clashes.new.terms)
     (below-UpTo 0 (length c.args.names.now) (g.N.Nodes.table c.args.terms.now)
-    (g.N.Nodes.table c.type_inst.new.self) c.requires.set_up.names c.in_ok-ty.ensures.names (omega arith))
-    c.in_ok-clashes.ensures.grows c.in_ok-clashes.ensures.table c.in_ok-clashes.ensures.names (omega arith)))
+    (g.N.Nodes.table c.type_inst.new.self) c.requires.set_up.names c.in_ok-ty.ensures.grown.names (omega arith))
+    c.in_ok-clashes.ensures.grown (omega arith)))
     (later-name c.args.names.now c.add_new.new.self (g.N.Nodes.table c.clashes.new.terms)
-    c.in_ok-name.ensures.extends c.in_ok-name.ensures.table c.in_ok-clashes.ensures.table
+    c.in_ok-name.ensures.extends c.in_ok-name.ensures.table c.in_ok-clashes.ensures.grown.table
     (below-twice (length c.args.names.now) (g.N.Nodes.table c.args.terms.now)
     (g.N.Nodes.table c.type_inst.new.self) (g.N.Nodes.table c.clashes.new.terms) c.requires.set_up.names
-    c.in_ok-ty.ensures.names c.in_ok-clashes.ensures.names))) c.in_ok-body-2.ensures.later)
+    c.in_ok-ty.ensures.grown.names c.in_ok-clashes.ensures.grown.names))) c.in_ok-body-2.ensures.later)
     (IsLater-table (max (c.in_ok-name.name + 1) 1) c.walk-2.new.names (g.N.Nodes.table c.walk-2.new.terms)
-    (g.N.Nodes.table c.abs-2.new.self) c.in_ok-body-2.ensures.later.names c.abs-2.ensures.grows
-    c.abs-2.ensures.table c.abs-2.ensures.names
+    (g.N.Nodes.table c.abs-2.new.self) c.in_ok-body-2.ensures.later.names c.abs-2.ensures.grown
     (omega (arith, c.in_ok-name.ensures.ok.1, c.in_ok-body-2.ensures.later.extends.longer)))
 
 pub application-returns-in_err-x-clause-nesting : goal.application-returns-in_err-x-clause-nesting
@@ -454,7 +431,7 @@ application-returns-clause-ok g t c =
     (term_at (g.N.Nodes.table c.walk-2.new.terms).terms c.in_ok-x.x))) _
     (λ q at. walked-app (g.N.Nodes.table c.args.terms.now) (g.N.Nodes.table c.walk.new.terms)
     (g.N.Nodes.table c.walk-2.new.terms) (g.N.Nodes.table c.join.new.terms) c.in_ok-f.ensures.later.grows
-    c.in_ok-x.ensures.later.grows c.join.ensures.grows c.args.work.now.subst.now
+    c.in_ok-x.ensures.later.grows c.join.ensures.grown.grows c.args.work.now.subst.now
     (pairs_of c.args.work.now.renamed.now) c.requires.set_up.ready
     (AreReady-Grows (g.N.Nodes.table c.args.terms.now) (g.N.Nodes.table c.walk.new.terms)
     c.in_ok-f.ensures.later.grows c.args.work.now.subst.now c.requires.set_up.ready.subst
@@ -471,7 +448,7 @@ application-returns-clause-nesting g t c p =
     sym (ap (is_shallow numbers)
     (λ i. App (walked_left (g.N.Nodes.table c.args.terms.now) (g.N.Nodes.table c.walk.new.terms)
     (g.N.Nodes.table c.walk-2.new.terms) (g.N.Nodes.table c.join.new.terms) c.in_ok-f.ensures.later.grows
-    c.in_ok-x.ensures.later.grows c.join.ensures.grows c.args.work.now.subst.now
+    c.in_ok-x.ensures.later.grows c.join.ensures.grown.grows c.args.work.now.subst.now
     (pairs_of c.args.work.now.renamed.now) c.requires.set_up.ready
     (AreReady-Grows (g.N.Nodes.table c.args.terms.now) (g.N.Nodes.table c.walk.new.terms)
     c.in_ok-f.ensures.later.grows c.args.work.now.subst.now c.requires.set_up.ready.subst
@@ -484,7 +461,7 @@ application-returns-clause-nesting g t c p =
     c.in_ok-f.ensures.ok c.in_ok-x.ensures.ok i)
     (walked_right (g.N.Nodes.table c.args.terms.now) (g.N.Nodes.table c.walk.new.terms)
     (g.N.Nodes.table c.walk-2.new.terms) (g.N.Nodes.table c.join.new.terms) c.in_ok-f.ensures.later.grows
-    c.in_ok-x.ensures.later.grows c.join.ensures.grows c.args.work.now.subst.now
+    c.in_ok-x.ensures.later.grows c.join.ensures.grown.grows c.args.work.now.subst.now
     (pairs_of c.args.work.now.renamed.now) c.requires.set_up.ready
     (AreReady-Grows (g.N.Nodes.table c.args.terms.now) (g.N.Nodes.table c.walk.new.terms)
     c.in_ok-f.ensures.later.grows c.args.work.now.subst.now c.requires.set_up.ready.subst
@@ -504,13 +481,13 @@ application-returns-clause-later g t c =
     (g.N.Nodes.table c.walk.new.terms) (g.N.Nodes.table c.walk-2.new.terms) c.in_ok-f.ensures.later
     c.in_ok-x.ensures.later)
     (IsLater-table 0 c.walk-2.new.names (g.N.Nodes.table c.walk-2.new.terms) (g.N.Nodes.table c.join.new.terms)
-    c.in_ok-x.ensures.later.names c.join.ensures.grows c.join.ensures.table c.join.ensures.names (omega arith))
+    c.in_ok-x.ensures.later.names c.join.ensures.grown (omega arith))
 
 pub image_of_node-returns-in-Var-clause-ok : goal.image_of_node-returns-in-Var-clause-ok
 image_of_node-returns-in-Var-clause-ok g t c =
     if_ok c.image_of.result _ _
     (λ q form. walked-leaf (g.N.Nodes.table c.args.terms.now) (g.N.Nodes.table c.image_of.new.terms)
-    c.image_of.ensures.grows c.args.work.now.subst.now c.requires.set_up.ready.subst
+    c.image_of.ensures.grown.grows c.args.work.now.subst.now c.requires.set_up.ready.subst
     (pairs_of c.args.work.now.renamed.now) c.requires.set_up.ready.binders c.args.memory.now c.args.steps.now
     (term_of (g.N.Nodes.table c.args.terms.now).types (g.N.Nodes.table c.args.terms.now).terms c.args.node)
     (above c.args.node) q c.requires.remembered form)
@@ -524,7 +501,7 @@ pub image_of_node-returns-in-Const-clause-ok : goal.image_of_node-returns-in-Con
 image_of_node-returns-in-Const-clause-ok g t c =
     if_ok c.constant_of.result _ _
     (λ q form. walked-leaf (g.N.Nodes.table c.args.terms.now) (g.N.Nodes.table c.constant_of.new.terms)
-    c.constant_of.ensures.grows c.args.work.now.subst.now c.requires.set_up.ready.subst
+    c.constant_of.ensures.grown.grows c.args.work.now.subst.now c.requires.set_up.ready.subst
     (pairs_of c.args.work.now.renamed.now) c.requires.set_up.ready.binders c.args.memory.now c.args.steps.now
     (term_of (g.N.Nodes.table c.args.terms.now).types (g.N.Nodes.table c.args.terms.now).terms c.args.node)
     (above c.args.node) q c.requires.remembered form)
@@ -600,7 +577,8 @@ application-walk-requires-2 g t c κs h = (
       h.1,
       (
         (IsSetUp-Grows (g.N.Nodes.table c.args.terms.now) (g.N.Nodes.table c.walk.new.terms)
-            c.in_ok-f.ensures.later.grows c.args.work.now.subst.now c.requires.set_up.ready.subst (length c.args.names.now)
+            c.in_ok-f.ensures.later.grows c.args.work.now.subst.now c.requires.set_up.ready.subst
+            (length c.args.names.now)
             (length c.walk.new.names) (pairs_of c.args.work.now.renamed.now) c.requires.set_up
             c.in_ok-f.ensures.later.extends.longer c.in_ok-f.ensures.later.table c.in_ok-f.ensures.later.names),
         (
@@ -653,7 +631,7 @@ pub abstraction-returns-in_err-body-clause-refused : goal.abstraction-returns-in
 abstraction-returns-in_err-body-clause-refused g t c =
     on_err c.from_residual-in_err-body.result _
     (counts-body (g.N.Nodes.table c.args.terms.now) (g.N.Nodes.table c.clashes.new.terms)
-    (Grows-trans c.in_ok-ty.ensures.grows c.in_ok-clashes.ensures.grows) c.args.work.now.subst.now
+    (Grows-trans c.in_ok-ty.ensures.grown.grows c.in_ok-clashes.ensures.grown.grows) c.args.work.now.subst.now
     (pairs_of c.args.work.now.renamed.now) c.requires.set_up.ready c.args.v c.args.memory.now c.args.steps.now
     c.walk.new.steps c.args.body c.requires.body c.in_err-body.ensures.refused)
 
@@ -661,7 +639,7 @@ pub abstraction-returns-then-not-branch-clause-refused : goal.abstraction-return
 abstraction-returns-then-not-branch-clause-refused g t c =
     on_err c.abs.result _
     (counts-body (g.N.Nodes.table c.args.terms.now) (g.N.Nodes.table c.clashes.new.terms)
-    (Grows-trans c.in_ok-ty.ensures.grows c.in_ok-clashes.ensures.grows) c.args.work.now.subst.now
+    (Grows-trans c.in_ok-ty.ensures.grown.grows c.in_ok-clashes.ensures.grown.grows) c.args.work.now.subst.now
     (pairs_of c.args.work.now.renamed.now) c.requires.set_up.ready c.args.v c.args.memory.now c.args.steps.now
     c.walk.new.steps c.args.body c.requires.body
     (counts-walked (g.N.Nodes.table c.clashes.new.terms) (g.N.Nodes.table c.walk.new.terms) c.args.work.now.subst.now
@@ -675,7 +653,7 @@ abstraction-returns-in_err-body-2-clause-refused g t c =
     (λ nil h. absurd
     ((clash-before (length c.args.names.now) (g.N.Nodes.table c.args.terms.now) (g.N.Nodes.table c.type_inst.new.self)
     c.args.work.now.subst.now (pairs_of c.args.work.now.renamed.now) c.args.v c.in_ok-ty.ty c.args.body
-    c.requires.set_up c.requires.v c.requires.body c.in_ok-ty.ensures.grows c.in_ok-ty.ensures.table
+    c.requires.set_up c.requires.v c.requires.body c.in_ok-ty.ensures.grown
     (rw c.types.ensures at c.in_ok-ty.ensures.ok) (rw c.if-not-branch.false at c.in_ok-clashes.ensures.ok)) nil h.0))
 
 pub abstraction-returns-clause-refused : goal.abstraction-returns-clause-refused
@@ -684,7 +662,7 @@ abstraction-returns-clause-refused g t c =
     (λ nil h. absurd
     ((clash-before (length c.args.names.now) (g.N.Nodes.table c.args.terms.now) (g.N.Nodes.table c.type_inst.new.self)
     c.args.work.now.subst.now (pairs_of c.args.work.now.renamed.now) c.args.v c.in_ok-ty.ty c.args.body
-    c.requires.set_up c.requires.v c.requires.body c.in_ok-ty.ensures.grows c.in_ok-ty.ensures.table
+    c.requires.set_up c.requires.v c.requires.body c.in_ok-ty.ensures.grown
     (rw c.types.ensures at c.in_ok-ty.ensures.ok) (rw c.if-not-branch.false at c.in_ok-clashes.ensures.ok)) nil h.0))
 
 pub application-returns-in_err-f-clause-refused : goal.application-returns-in_err-f-clause-refused
@@ -743,7 +721,8 @@ walk-returns-in_err-keep-clause-refused g t c =
 
 pub abstraction-clashes-requires-clause-frees : goal.abstraction-clashes-requires-clause-frees
 abstraction-clashes-requires-clause-frees g t c =
-    AreKnown-Grows (g.N.Nodes.table c.args.terms.now) (g.N.Nodes.table c.type_inst.new.self) c.in_ok-ty.ensures.grows
+    AreKnown-Grows (g.N.Nodes.table c.args.terms.now) (g.N.Nodes.table c.type_inst.new.self)
+    c.in_ok-ty.ensures.grown.grows
     c.args.work.now.subst.now c.requires.set_up.ready.subst c.args.frees.now c.requires.frees
 
 pub abstraction-returns-then-not-branch-clause-frees : goal.abstraction-returns-then-not-branch-clause-frees
@@ -751,8 +730,8 @@ abstraction-returns-then-not-branch-clause-frees g t c =
     on_ok c.abs.result _
     (known-later (g.N.Nodes.table c.args.terms.now) (g.N.Nodes.table c.walk.new.terms)
     (g.N.Nodes.table c.abs.new.self)
-    (Grows-trans (Grows-trans c.in_ok-ty.ensures.grows c.in_ok-clashes.ensures.grows)
-    c.in_ok-body.ensures.later.grows) c.abs.ensures.grows c.args.work.now.subst.now
+    (Grows-trans (Grows-trans c.in_ok-ty.ensures.grown.grows c.in_ok-clashes.ensures.grown.grows)
+    c.in_ok-body.ensures.later.grows) c.abs.ensures.grown.grows c.args.work.now.subst.now
     (pairs_of c.args.work.now.renamed.now) c.requires.set_up.ready c.in_ok-body.ensures.later.table
     c.walk.new.frees c.in_ok-body.ensures.frees)
 
@@ -761,8 +740,8 @@ abstraction-returns-clause-frees g t c =
     on_ok c.abs-2.result _
     (known-later (g.N.Nodes.table c.args.terms.now) (g.N.Nodes.table c.walk-2.new.terms)
     (g.N.Nodes.table c.abs-2.new.self)
-    (Grows-trans (Grows-trans c.in_ok-ty.ensures.grows c.in_ok-clashes.ensures.grows)
-    c.in_ok-body-2.ensures.later.grows) c.abs-2.ensures.grows c.args.work.now.subst.now
+    (Grows-trans (Grows-trans c.in_ok-ty.ensures.grown.grows c.in_ok-clashes.ensures.grown.grows)
+    c.in_ok-body-2.ensures.later.grows) c.abs-2.ensures.grown.grows c.args.work.now.subst.now
     (pairs_of c.args.work.now.renamed.now) c.requires.set_up.ready c.in_ok-body-2.ensures.later.table
     c.walk-2.new.frees c.in_ok-body-2.ensures.frees)
 
@@ -771,18 +750,20 @@ application-returns-clause-frees g t c =
     on_ok c.join.result _
     (known-later (g.N.Nodes.table c.args.terms.now) (g.N.Nodes.table c.walk-2.new.terms)
     (g.N.Nodes.table c.join.new.terms) (Grows-trans c.in_ok-f.ensures.later.grows c.in_ok-x.ensures.later.grows)
-    c.join.ensures.grows c.args.work.now.subst.now (pairs_of c.args.work.now.renamed.now) c.requires.set_up.ready
+    c.join.ensures.grown.grows c.args.work.now.subst.now (pairs_of c.args.work.now.renamed.now)
+    c.requires.set_up.ready
     c.in_ok-x.ensures.later.table c.walk-2.new.frees c.in_ok-x.ensures.frees)
 
 pub image_of_node-returns-in-Var-clause-frees : goal.image_of_node-returns-in-Var-clause-frees
 image_of_node-returns-in-Var-clause-frees g t c =
     on_ok c.image_of.result _
-    (AreKnown-Grows (g.N.Nodes.table c.args.terms.now) (g.N.Nodes.table c.image_of.new.terms) c.image_of.ensures.grows
+    (AreKnown-Grows (g.N.Nodes.table c.args.terms.now) (g.N.Nodes.table c.image_of.new.terms)
+    c.image_of.ensures.grown.grows
     c.args.work.now.subst.now c.requires.set_up.ready.subst c.args.frees.now c.requires.frees)
 
 pub image_of_node-returns-in-Const-clause-frees : goal.image_of_node-returns-in-Const-clause-frees
 image_of_node-returns-in-Const-clause-frees g t c =
     on_ok c.constant_of.result _
     (AreKnown-Grows (g.N.Nodes.table c.args.terms.now) (g.N.Nodes.table c.constant_of.new.terms)
-    c.constant_of.ensures.grows c.args.work.now.subst.now c.requires.set_up.ready.subst c.args.frees.now
+    c.constant_of.ensures.grown.grows c.args.work.now.subst.now c.requires.set_up.ready.subst c.args.frees.now
     c.requires.frees)

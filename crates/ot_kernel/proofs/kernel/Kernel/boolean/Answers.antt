@@ -5,8 +5,7 @@ use Rattle.ot_kernel.proofs.kernel.Kernel.boolean.Goals as goal
 
 grown : (c : goal.After-type_bool) → Grown c.args.self.now c.self.inside.names c.type_bool.new.self
     (held_of c.self.inside)
-grown c = bool_grown _ _ _ (held_of c.self.inside) _ c.self.view_is c.self.invariant c.type_bool.ensures.grows
-    c.type_bool.ensures.table c.type_bool.ensures.names
+grown c = bool_grown _ _ _ (held_of c.self.inside) _ c.self.view_is c.self.invariant c.type_bool.ensures.grown
 
 pub invariant_of-self : goal.invariant_of-self
 invariant_of-self c = (grown c).kernel

@@ -1,19 +1,13 @@
 use Rattle.std.proofs.Common.{◌+◌, arith}
 use Rattle.ot_kernel.proofs.Growth.{Grown, terms_grown}
+use Rattle.ot_kernel.proofs.Later.{held_of}
 use Rattle.ot_kernel.proofs.Numbers.{constant-ok, within-ok}
 use Rattle.ot_kernel.proofs.kernel.Kernel.constant.Goals as goal
 
 grown : (c : goal.After-constant) → Grown c.args.self.now c.self.inside.names c.constant.new.self
-    (record {
-      theorems = c.self.inside.theorems.items;
-      assumptions = c.self.inside.assumptions.items;
-      definitions = c.self.inside.definitions.items;
-      signature = c.self.inside.signature;
-      places =
-          c.self.inside.places;
-    })
-grown c = terms_grown (c.args.name + 1) _ _ _ _ _ c.self.view_is c.self.invariant c.constant.ensures.grows
-    c.constant.ensures.table c.constant.ensures.names (omega (arith, c.requires.name))
+    (held_of c.self.inside)
+grown c = terms_grown (c.args.name + 1) _ _ _ (held_of c.self.inside) _ c.self.view_is c.self.invariant
+    c.constant.ensures.grown (omega (arith, c.requires.name))
 
 pub invariant_of-self : goal.invariant_of-self
 invariant_of-self c = (grown c).kernel

@@ -3,6 +3,7 @@ use Rattle.std.proofs.lemmas.Result.{err_from_is_err_and}
 use Rattle.std.proofs.lemmas.List.{length-map}
 use Rattle.ot_plain.specs.Hol.{theorems_at}
 use Rattle.ot_plain.specs.Naming.{names, numbers}
+use Rattle.ot_term.proofs.Growing.{grown_further}
 use Rattle.ot_kernel.specs.Defining.{type_definition}
 use Rattle.ot_kernel.specs.Numbered.{tm_at}
 use Rattle.ot_kernel.specs.Proved.{bound_of_names, DerivesBoth}
@@ -10,7 +11,6 @@ use Rattle.ot_kernel.specs.Spelled.{sequent_of, state_of}
 use Rattle.ot_kernel.specs.State.{State, name_at, theorem_at}
 use Rattle.ot_kernel.proofs.Checked.{names_no_symbol}
 use Rattle.ot_kernel.proofs.Later.{Later, later_to, unchanged, held_of, terms_within}
-use Rattle.ot_kernel.proofs.NewTypes.{grown_further}
 use Rattle.ot_kernel.proofs.OpenTypes.{premise_stays, limit_stays, both_stay, open_stays, open_inside, open_holds}
 use Rattle.ot_kernel.proofs.OpenTypes.{refused_before, open_refused, open_made, nothing_defined, operator_opens}
 use Rattle.ot_kernel.proofs.Operators.{AreNames, operator_at, names-bound, premise_is, next_mid}

@@ -26,9 +26,13 @@ intern-requires-clause-suits c =
     suits-application c.args.self.now c.depth.ensures.table c.args.f c.args.x c.args.ty (c.max-deepest.result + 1)
     c.requires.f c.requires.x c.requires.ty c.requires.typed depth (omega arith)
 
-pub returns-clause-names : goal.returns-clause-names
-returns-clause-names c = record {
-  types = let e = ap names_in c.intern.ensures.types in omega (arith, e);
-  terms = omega
-      (arith, c.intern.ensures.names, bound_named-term_at _ _ c.requires.f, bound_named-term_at _ _ c.requires.x);
+pub returns-clause-grown : goal.returns-clause-grown
+returns-clause-grown c = record {
+  grows = c.intern.ensures.grows;
+  names = record {
+    types = let e = ap names_in c.intern.ensures.types in omega (arith, e);
+    terms = omega
+        (arith, c.intern.ensures.names, bound_named-term_at _ _ c.requires.f, bound_named-term_at _ _ c.requires.x);
+  };
+  table = c.intern.ensures.table;
 }

@@ -14,13 +14,14 @@ use Rattle.ot_term.proofs.table.Terms.equation.Goals.{In_ok-left}
 use Rattle.ot_plain.proofs.Results.{same_Err}
 
 pub apply-requires-clause-typed : goal.apply-requires-clause-typed
-apply-requires-clause-typed c = left_typed c.args.self.now c.equality.new.self c.equality.ensures.grows c.args.ty
+apply-requires-clause-typed c = left_typed c.args.self.now c.equality.new.self c.equality.ensures.grown.grows
+    c.args.ty
     c.args.a c.in_ok-equality.equality c.requires.a c.in_ok-equality.ensures.ok c.requires.typed_a
 
 pub returns-in_err-left-clause-nesting : goal.returns-in_err-left-clause-nesting
 returns-in_err-left-clause-nesting c =
     λ p.
-    let tree = left_tree c.args.self.now c.equality.new.self c.equality.ensures.grows c.args.ty c.args.a
+    let tree = left_tree c.args.self.now c.equality.new.self c.equality.ensures.grown.grows c.args.ty c.args.a
     c.in_ok-equality.equality c.requires.a c.in_ok-equality.ensures.ok c.requires.typed_a in
     let passes = c.in_err-left.ensures.nesting
     (ap Err (same_Err c.from_residual-in_err-left.result _ _ c.from_residual-in_err-left.ensures.1 p)) in
@@ -34,22 +35,22 @@ apply-requires-2-clause-f c = slice_get_within c.apply.new.self.terms c.in_ok-le
 
 pub apply-requires-2-clause-ty : goal.apply-requires-2-clause-ty
 apply-requires-2-clause-ty c = slice_get_within c.apply.new.self.types c.in_ok-equality.equality.truth _
-    (c.apply.ensures.grows.types.keeps c.in_ok-equality.equality.truth _ c.in_ok-equality.ensures.ok.truth)
+    (c.apply.ensures.grown.grows.types.keeps c.in_ok-equality.equality.truth _ c.in_ok-equality.ensures.ok.truth)
 
 pub apply-requires-2-clause-typed : goal.apply-requires-2-clause-typed
 apply-requires-2-clause-typed c =
-    equation_typed c.args.self.now c.equality.new.self c.equality.ensures.grows c.args.ty c.args.a
+    equation_typed c.args.self.now c.equality.new.self c.equality.ensures.grown.grows c.args.ty c.args.a
     c.in_ok-equality.equality c.requires.a c.in_ok-equality.ensures.ok c.requires.typed_a c.apply.new.self
-    c.apply.ensures.grows c.args.b c.in_ok-left.left c.requires.b c.in_ok-left.ensures.ok c.requires.typed_b
+    c.apply.ensures.grown.grows c.args.b c.in_ok-left.left c.requires.b c.in_ok-left.ensures.ok c.requires.typed_b
 
 -- the tree of the last application
 whole : (c : In_ok-left) → NApp (term_at c.apply.new.self.terms c.in_ok-left.left)
     (term_at c.apply.new.self.terms c.args.b) ≡ named_equation (type_at c.args.self.now.types c.args.ty)
     (term_at c.args.self.now.terms c.args.a) (term_at c.args.self.now.terms c.args.b)
 whole c =
-    equation_tree c.args.self.now c.equality.new.self c.equality.ensures.grows c.args.ty c.args.a
+    equation_tree c.args.self.now c.equality.new.self c.equality.ensures.grown.grows c.args.ty c.args.a
     c.in_ok-equality.equality c.requires.a c.in_ok-equality.ensures.ok c.requires.typed_a c.apply.new.self
-    c.apply.ensures.grows c.args.b c.in_ok-left.left c.requires.b c.in_ok-left.ensures.ok
+    c.apply.ensures.grown.grows c.args.b c.in_ok-left.left c.requires.b c.in_ok-left.ensures.ok
 
 pub returns-clause-ok : goal.returns-clause-ok
 returns-clause-ok c =

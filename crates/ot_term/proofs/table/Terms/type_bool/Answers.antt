@@ -11,11 +11,5 @@ invariant_of-self c = (grown c).sound
 pub returns-clause-terms : goal.returns-clause-terms
 returns-clause-terms c = (grown c).terms
 
-pub returns-clause-grows : goal.returns-clause-grows
-returns-clause-grows c = (grown c).grows
-
-pub returns-clause-table : goal.returns-clause-table
-returns-clause-table c = (grown c).table
-
-pub returns-clause-names : goal.returns-clause-names
-returns-clause-names c = (grown c).names 2 c.boolean.ensures.names
+pub returns-clause-grown : goal.returns-clause-grown
+returns-clause-grown c = (grown c).grown 2 c.boolean.ensures.names

@@ -9,8 +9,12 @@ pub intern-requires-clause-suits : goal.intern-requires-clause-suits
 intern-requires-clause-suits c =
     suits-variable c.args.self.now (subst IsTermTable c.self.view_is c.self.invariant.table) c.args.v c.requires
 
-pub returns-clause-names : goal.returns-clause-names
-returns-clause-names c = record {
-  types = let e = ap names_in c.intern.ensures.types in omega (arith, e);
-  terms = omega (arith, c.intern.ensures.names, bound_ty-type_at _ _ c.requires);
+pub returns-clause-grown : goal.returns-clause-grown
+returns-clause-grown c = record {
+  grows = c.intern.ensures.grows;
+  names = record {
+    types = let e = ap names_in c.intern.ensures.types in omega (arith, e);
+    terms = omega (arith, c.intern.ensures.names, bound_ty-type_at _ _ c.requires);
+  };
+  table = c.intern.ensures.table;
 }
