@@ -1,5 +1,5 @@
 // Changes of the stack and the dictionary of a machine of this session.
-ghost use Rattle.std.specs.Prelude.{◌≡◌, ◌<◌, ◌≤◌, length, map, IfOk, IsTrue, OnOk, OnErr, vec_len};
+ghost use Rattle.std.specs.Prelude.{◌≡◌, ◌<◌, ◌≤◌, ◌↔◌, length, map, IfOk, IsTrue, OnOk, OnErr, vec_len};
 ghost use Rattle.std.specs.List.{All};
 ghost use Rattle.std.specs.FinMap as dictionaries;
 ghost use Rattle.ot_plain.specs.Faults.{NoEntry};
@@ -160,7 +160,7 @@ impl Session {
 
 // Whether a key is this one.
 fn is_key(there: &i64, key: i64) -> bool
-    ensures { IsTrue result → there.now ≡ key }
+    ensures { IsTrue result ↔ (there.now ≡ key) }
 {
     *there == key
 }

@@ -18,4 +18,4 @@ returns-in-None-clause-found c = entry-none c.args.self.now (lists_of c.args.sel
 pub returns-then-is_key-clause-found : goal.returns-then-is_key-clause-found
 returns-then-is_key-clause-found c = entry-some c.args.self.now (lists_of c.args.self.now c.args.machine.now)
     c.args.machine.now.dictionary.entries c.in-Some.there.now c.args.key c.in-Some.entry.now
-    (c.is_key.ensures c.if-is_key.true ∙ to_z-of_z _ _ c.ranges.key) (sym c.in-Some.ensures.value)
+    (c.is_key.ensures.0 c.if-is_key.true ∙ to_z-of_z _ _ c.ranges.key) (sym c.in-Some.ensures.value)
