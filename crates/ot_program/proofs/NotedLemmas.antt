@@ -17,6 +17,7 @@ use Rattle.ot_plain.specs.Lists.{IsMember}
 use Rattle.ot_plain.specs.declared.limits.Limits.{Limits}
 use Rattle.ot_io.specs.Causes.{Rose}
 use Rattle.ot_io.specs.Folder.{Folder}
+use Rattle.ot_io.proofs.Keeping.{KeepsFiles-then}
 use Rattle.ot_args.specs.Grammar.{is_theory}
 use Rattle.ot_kernel.specs.State.{State, theorem_at}
 use Rattle.ot_machine.specs.Meaning.{IsRun}
@@ -389,10 +390,6 @@ pub keeps : {F : Type 0} (folder : F → Option Folder) (faults misses : F → �
     → ClosesFiles folder faults misses left f g → ClosesFiles folder faults misses left g h
     → ClosesFiles folder faults misses left f h
 keeps folder faults misses left f g h a b = record {
-  same_folder = b.same_folder ∙ a.same_folder;
-  later_faults = later (faults f) (faults g) (faults h) a.later_faults b.later_faults;
-  later_misses = later (misses f) (misses g) (misses h) a.later_misses b.later_misses;
+  keeps = KeepsFiles-then a.keeps b.keeps;
   closed = closes left f g h a.closed b.closed;
-} where
-  later : (x y z : ℕ) → x ≤ y → y ≤ z → x ≤ z
-  later x y z p q = omega arith
+}

@@ -9,6 +9,7 @@ use Rattle.ot_plain.specs.Hol.{Accepted as AcceptedLists}
 use Rattle.ot_laws.specs.Theorem.{IsTheorem}
 use Rattle.ot_io.specs.Causes.{Rose}
 use Rattle.ot_io.specs.Folder.{Folder, path_asked}
+use Rattle.ot_io.specs.Keeping.{KeepsFiles}
 use Rattle.ot_io.specs.Sinks.{AppendsFront}
 use Rattle.ot_args.specs.Grammar.{is_theory}
 use Rattle.ot_link.specs.Stops.{Stop, InArticle, InTheory, InStructure, TooLarge, Missing}
@@ -338,9 +339,7 @@ LastPath (FindPattern packages pattern path) folder at = LastInput path folder a
 -- the files stay what they are, their counts never fall, and none stays open
 pub record ClosesFiles {F : Type 0} (folder : F → Option Folder) (faults misses : F → ℕ)
     (left : F → Option (List ℕ)) (old new : F) : Type 0 where
-  pub same_folder : folder new ≡ folder old
-  pub later_faults : faults old ≤ faults new
-  pub later_misses : misses old ≤ misses new
+  pub keeps : KeepsFiles folder faults misses old new
   pub closed : (new ≡ old) ⊎ (left new ≡ Some [])
 
 -- the exit status

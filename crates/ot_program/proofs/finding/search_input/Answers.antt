@@ -54,14 +54,14 @@ returns-clause-ended g c =
     let m1 = g.F.Source.misses c.input_run.new.files in
     let m2 = g.F.Source.misses c.search_run.new.files in
     let next = c.in_ok-noted.ensures.files in
-    let ended = rw next.same_folder at c.search_run.ensures.ended in
+    let ended = rw next.keeps.same_folder at c.search_run.ensures.ended in
     search_later packages pattern path folder left at i j f0 f1 f2 m0 m1 m2 c.search_run.result
-    next.later_faults next.later_misses
+    next.keeps.later next.keeps.later_misses
     (ended left i j c.requires.required c.in_ok-noted.ensures.ran)
 
 pub returns-clause-searched : goal.returns-clause-searched
 returns-clause-searched g c =
-    let searched = rw c.in_ok-noted.ensures.files.same_folder at c.search_run.ensures.searched in
+    let searched = rw c.in_ok-noted.ensures.files.keeps.same_folder at c.search_run.ensures.searched in
     searched (g.S.Source.left c.args.input.now) c.requires.required c.in_ok-noted.ensures.ran
 
 pub returns-clause-files : goal.returns-clause-files

@@ -15,7 +15,10 @@ each-init g c = record {
   searched =
       none_searched c.args.packages.now (g.F.Source.folder c.args.files.now) (term_of_tree c.args.pattern.now)
       c.args.search.now;
-  files = record { same_folder = refl; later_faults = omega arith; later_misses = omega arith; closed = inl refl };
+  files = record {
+    keeps = record { same_folder = refl; later = omega arith; later_misses = omega arith };
+    closed = inl refl;
+  };
   none = λ none. refl;
 }
 
@@ -46,7 +49,8 @@ returns-in_err-search_package-clause-ended g c =
     let m1 = g.F.Source.misses c.each.files in
     let m2 = g.F.Source.misses c.search_package.new.files in
     let cut = texts_cut xs k c.full-item.result c.each-test.true c.full-item.is in
-    let ended = rw (c.deref.ensures, c.each.invariant.files.same_folder) at c.in_err-search_package.ensures.ended in
+    let ended =
+    rw (c.deref.ensures, c.each.invariant.files.keeps.same_folder) at c.in_err-search_package.ensures.ended in
     let p = err_from_is_err_and c.from_residual.result c.from_residual.ensures.1 in
     rw (p.1, p.2) (if_ended (HasEndedRun packages full folder at (Rose f1 f2) (Rose m1 m2))
     (HasEndedRuns packages (map string_bytes xs) folder at (Rose f0 f2) (Rose m0 m2))
@@ -55,8 +59,8 @@ returns-in_err-search_package-clause-ended g c =
     (sym cut)
     (runs_ended packages folder front back full (term_of_tree c.args.pattern.now)
     c.args.search.now c.each.search at (Rose f1 f2) (Rose m1 m2) (Rose f0 f2) (Rose m0 m2)
-    (rose_later f0 f1 f2 c.each.invariant.files.later_faults)
-    (rose_later m0 m1 m2 c.each.invariant.files.later_misses) c.each.invariant.searched v has))
+    (rose_later f0 f1 f2 c.each.invariant.files.keeps.later)
+    (rose_later m0 m1 m2 c.each.invariant.files.keeps.later_misses) c.each.invariant.searched v has))
     ended)
 
 pub each-preserved : goal.each-preserved
@@ -69,7 +73,8 @@ each-preserved g c =
     let folder = g.F.Source.folder c.args.files.now in
     let pattern = term_of_tree c.args.pattern.now in
     let cut = texts_cut xs k c.full-item.result c.each-test.true c.full-item.is in
-    let one = rw (c.deref.ensures, c.each.invariant.files.same_folder) at c.in_ok-search_package.ensures.searched in
+    let one =
+    rw (c.deref.ensures, c.each.invariant.files.keeps.same_folder) at c.in_ok-search_package.ensures.searched in
     record {
       searched =
           subst (λ fulls. AreSearched packages fulls folder pattern c.args.search.now c.search_package.new.search)

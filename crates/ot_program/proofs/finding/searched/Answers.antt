@@ -43,7 +43,7 @@ returns-in_err-fulls-clause-last g c =
 
 pub search_input-requires-clause-required : goal.search_input-requires-clause-required
 search_input-requires-clause-required g c =
-    rw (c.deref.ensures.value, c.in_ok-fulls.ensures.files.same_folder) c.in_ok-fulls.ensures.required
+    rw (c.deref.ensures.value, c.in_ok-fulls.ensures.files.keeps.same_folder) c.in_ok-fulls.ensures.required
 
 pub search_input-requires-clause-full : goal.search_input-requires-clause-full
 search_input-requires-clause-full g c = rw c.deref.ensures.value c.in_ok-fulls.ensures.full
@@ -66,11 +66,11 @@ returns-clause-ended g c =
     let m2 = g.F.Source.misses c.search_input.new.files in
     let first = c.in_ok-fulls.ensures.files in
     search_later packages pattern path folder left at i j f0 f1 f2 m0 m1 m2 c.search_input.result
-    first.later_faults first.later_misses
-    (rw first.same_folder at c.search_input.ensures.ended)
+    first.keeps.later first.keeps.later_misses
+    (rw first.keeps.same_folder at c.search_input.ensures.ended)
 
 pub returns-clause-searched : goal.returns-clause-searched
-returns-clause-searched g c = rw c.in_ok-fulls.ensures.files.same_folder at c.search_input.ensures.searched
+returns-clause-searched g c = rw c.in_ok-fulls.ensures.files.keeps.same_folder at c.search_input.ensures.searched
 
 pub returns-clause-files : goal.returns-clause-files
 returns-clause-files g c =
@@ -84,7 +84,7 @@ returns-clause-other g c =
     c.args.input.now c.search_input.new.input c.in_ok-fulls.ensures.other c.search_input.ensures.other
 
 pub returns-clause-at : goal.returns-clause-at
-returns-clause-at g c = rw c.in_ok-fulls.ensures.files.same_folder at c.search_input.ensures.at
+returns-clause-at g c = rw c.in_ok-fulls.ensures.files.keeps.same_folder at c.search_input.ensures.at
 
 pub returns-clause-last : goal.returns-clause-last
-returns-clause-last g c = rw c.in_ok-fulls.ensures.files.same_folder at c.search_input.ensures.last
+returns-clause-last g c = rw c.in_ok-fulls.ensures.files.keeps.same_folder at c.search_input.ensures.last

@@ -29,7 +29,7 @@ returns-in-Ok-run_input-clause-end g c =
     let shows = subst (λ (r : Result (Vec Name Global) LinkFault). IfSome
     (shown_at path folder) (λ l. (k : State) → Comes k (λ names. names.items) r l))
     c.in-Ok.is c.shown_names.ensures.comes in
-    let ended = rw c.shown_names.ensures.files.same_folder at c.run_input.ensures.end in
+    let ended = rw c.shown_names.ensures.files.keeps.same_folder at c.run_input.ensures.end in
     subst P c.in-Ok-run_input.is (ends s.kernel c.in-Ok.names (shown_at path folder)
     (run_at packages path folder left) (end_of s c.run_input.result) shows ended)
 
@@ -54,7 +54,7 @@ returns-in-Err-run_input-clause-end g c =
     let shows = subst (λ (r : Result (Vec Name Global) LinkFault). IfSome
     (shown_at path folder) (λ l. (k : State) → Comes k (λ names. names.items) r l))
     c.in-Ok.is c.shown_names.ensures.comes in
-    let ended = rw c.shown_names.ensures.files.same_folder at c.run_input.ensures.end in
+    let ended = rw c.shown_names.ensures.files.keeps.same_folder at c.run_input.ensures.end in
     subst Q (same_stop c.in-Ok.names.items s.kernel c.in-Err-run_input.stop)
     (subst P c.in-Err-run_input.is (ends s.kernel c.in-Ok.names (shown_at path folder)
     (run_at packages path folder left) (end_of s c.run_input.result) shows ended))
@@ -69,7 +69,7 @@ returns-in-Err-run_input-clause-place g c =
     let Q : Option (End Noted Stop) → Type 0 = λ o. IfSome o (IsPlace (ShowReadable packages path) folder at) in
     let P : Result (Vec Export Global) LinkFault → Type 0 =
     λ r. Q (option_map (noted_end c.in-Ok.names.items) (end_of s r)) in
-    let placed = rw c.shown_names.ensures.files.same_folder at c.run_input.ensures.place in
+    let placed = rw c.shown_names.ensures.files.keeps.same_folder at c.run_input.ensures.place in
     subst Q (same_stop c.in-Ok.names.items s.kernel c.in-Err-run_input.stop)
     (subst P c.in-Err-run_input.is (places c.in-Ok.names.items packages
     path Counts folder at (end_of s c.run_input.result) placed))

@@ -37,13 +37,13 @@ returns-in-Ok-clause-verdict g c =
     let ran = subst (λ (r : Result NotedRun LinkFault). IfSome
     (noted_end_of c.run_noted.new.session r) (IsEnd (ShowReadable packages path) folder left))
     c.in-Ok.is c.run_noted.ensures.end in
-    let read = rw kept.same_folder at c.read_text-read.ensures.end in
-    let last = rw kept.same_folder at c.read_text-read.ensures.at in
+    let read = rw kept.keeps.same_folder at c.read_text-read.ensures.end in
+    let last = rw kept.keeps.same_folder at c.read_text-read.ensures.at in
     task_verdict P (Rose m0 m2) t folder left at o c.reading_verdict.result (c.reading_verdict.ensures packages)
     (behind text folder (noted_at packages path folder left) n o ran read)
     (text_place packages path text folder at n c.read_text-read.result last)
-    (text_cause (Rose f1 f2) (Rose m1 m2) P (Rose m0 m2) o (λ r. inr (rose_later f0 f1 f2 kept.later_faults r))
-    (rose_later m0 m1 m2 kept.later_misses) c.read_text-read.ensures.cause)
+    (text_cause (Rose f1 f2) (Rose m1 m2) P (Rose m0 m2) o (λ r. inr (rose_later f0 f1 f2 kept.keeps.later r))
+    (rose_later m0 m1 m2 kept.keeps.later_misses) c.read_text-read.ensures.cause)
     (text_last path text folder at o last)
 
 -- and behind one that stopped
