@@ -1,6 +1,6 @@
 -- A list that a record asks for, element after element; and two things that are asked for together.
 use Rattle.std.specs.Prelude.{Ok, Err, Option, Some, None}
-use Rattle.std.proofs.Common.{ℕ, suc, List, [], ◌∷◌, ◌++◌, sym, ap, ◌∙◌, append_assoc, arith}
+use Rattle.std.proofs.Common.{◌≡◌, ℕ, suc, List, [], ◌∷◌, ◌++◌, sym, ap, subst, ◌∙◌, append_assoc, arith}
 use Rattle.std.proofs.lemmas.List.{append-nil}
 use Rattle.ot_plain.specs.Names.{Name}
 use Rattle.ot_plain.specs.Naming.{names}
@@ -31,16 +31,18 @@ module _ {X A : Type 0} where
 
 module _ {A X : Type 0} (st : LogState Name) (ask : (A → RecordForm names) → RecordForm names) where
   -- the count was read
-  pub collects-start : (is : X → A → Type 0) (n : ℕ) (old new : Reader) (l m : Option (List ℕ))
-      → AnsweredFrom st AskCount IsValue (Ok n) old new l m → CollectsFrom st ask is [] n old new l m
-  collects-start is n old new None m a = tt
-  collects-start is n old new (Some l) None a = a
-  collects-start is n old new (Some l) (Some m) a = (
-    [],
-    tt,
-    λ first next. a.2 first (λ k. ask_each ask k next)
-        ∙ ap (λ k. outcome_in first st (ask_each ask k next) (rest new m)) (sym a.1),
-  )
+  pub collects-start : (is : X → A → Type 0) (xs : List X) (n k : ℕ) (old new : Reader) (l m : Option (List ℕ))
+      → xs ≡ [] → n ≡ k → AnsweredFrom st AskCount IsValue (Ok n) old new l m
+      → CollectsFrom st ask is xs k old new l m
+  collects-start is xs n k old new None m none e a = tt
+  collects-start is xs n k old new (Some l) None none e a = a
+  collects-start is xs n k old new (Some l) (Some m) none e a =
+      subst (λ ys. Collects st ask is ys k (rest old l) (rest new m)) (sym none) (
+        [],
+        tt,
+        λ first next. a.2 first (λ i. ask_each ask i next)
+            ∙ ap (λ i. outcome_in first st (ask_each ask i next) (rest new m)) (sym a.1 ∙ e),
+      )
 
   module _ (is is' : X → A → Type 0) (more : (x : X) (y : A) → is x y → is' x y) where
     -- one more
@@ -57,40 +59,53 @@ module _ {A X : Type 0} (st : LogState Name) (ask : (A → RecordForm names) →
           (λ j us. next (sym (append_assoc c.0 (a.0 ∷ []) us) j)),
     )
 
-    pub collects-next : (xs : List X) (x : X) (k : ℕ) (old mid new : Reader) (l m n : Option (List ℕ))
-        → CollectsFrom st ask is xs (suc k) old mid l m → AnsweredFrom st ask is' (Ok x) mid new m n
-        → CollectsFrom st ask is' (xs ++ x ∷ []) k old new l n
-    collects-next xs x k old mid new None m n c a = tt
-    collects-next xs x k old mid new (Some l) None n c a = absurd c
-    collects-next xs x k old mid new (Some l) (Some m) None c a = a
-    collects-next xs x k old mid new (Some l) (Some m) (Some n) c a =
-        next-one xs x k (rest old l) (rest mid m) (rest new n) c a
+    pub collects-next : (now : LogState Name) (xs ys : List X) (x : X) (j k : ℕ) (old mid new : Reader)
+        (l m n : Option (List ℕ))
+        → now ≡ st → ys ≡ xs ++ x ∷ [] → j ≡ suc k → CollectsFrom st ask is xs j old mid l m
+        → AnsweredFrom now ask is' (Ok x) mid new m n
+        → CollectsFrom st ask is' ys k old new l n
+    collects-next now xs ys x j k old mid new None m n same longer e c a = tt
+    collects-next now xs ys x j k old mid new (Some l) None n same longer e c a = absurd c
+    collects-next now xs ys x j k old mid new (Some l) (Some m) None same longer e c a = a
+    collects-next now xs ys x j k old mid new (Some l) (Some m) (Some n) same longer e c a =
+        subst (λ zs. Collects st ask is' zs k (rest old l) (rest new n)) (sym longer)
+        (next-one xs x k (rest old l) (rest mid m) (rest new n)
+        (subst (λ i. Collects st ask is xs i (rest old l) (rest mid m)) e c)
+        (subst (λ s. Answered s ask is' (Ok x) (rest mid m) (rest new n)) same a))
 
   -- all of them
-  pub collects-end : {V : Type 0} (is : X → A → Type 0) (items : V → List X) (v : V) (old new : Reader)
+  pub collects-end : {V : Type 0} (is : X → A → Type 0) (items : V → List X) (v : V) (k : ℕ) (old new : Reader)
       (l m : Option (List ℕ))
-      → CollectsFrom st ask is (items v) 0 old new l m
+      → k ≡ 0 → CollectsFrom st ask is (items v) k old new l m
       → AnsweredFrom st (ask_list ask) (λ (v : V). AreEach is (items v)) (Ok v) old new l m
-  collects-end is items v old new None m c = tt
-  collects-end is items v old new (Some l) None c = c
-  collects-end is items v old new (Some l) (Some m) c = (
+  collects-end is items v k old new None m e c = tt
+  collects-end is items v k old new (Some l) None e c = c
+  collects-end is items v k old new (Some l) (Some m) e c = (
     c.0,
     c.1,
-    λ first next. c.2 first next ∙ ap (λ ys. outcome_in first st (next ys) (rest new m)) (append-nil c.0),
+    λ first next. c.2 first next
+        ∙ ap (λ i. outcome_in first st (ask_each ask i (λ us. next (c.0 ++ us))) (rest new m)) e
+        ∙ ap (λ ys. outcome_in first st (next ys) (rest new m)) (append-nil c.0),
   )
 
   -- one that was not read
-  pub collects-stop : {Y Z : Type 0} (is : X → A → Type 0) (xs : List X) (k : ℕ) (e : VerifyFault)
-      (old mid new : Reader) (l m n : Option (List ℕ)) (at : Z → A → Type 0) (these : Y → List A → Type 0)
-      → CollectsFrom st ask is xs (suc k) old mid l m → AnsweredFrom st ask at (Err e) mid new m n
-      → AnsweredFrom st (ask_list ask) these (Err e) old new l n
-  collects-stop is xs k e old mid new None m n at these c a = tt
-  collects-stop is xs k e old mid new (Some l) None n at these c a = absurd c
-  collects-stop is xs k e old mid new (Some l) (Some m) None at these c a = a
-  collects-stop is xs k (verify.At line f) old mid new (Some l) (Some m) (Some n) at these c a =
-      λ first next. c.2 first next ∙ a first (λ x. ask_each ask k (λ us. next (c.0 ++ (x ∷ us))))
-  collects-stop is xs k verify.ReadFault old mid new (Some l) (Some m) (Some n) at these c a = tt
-  collects-stop is xs k verify.Memory old mid new (Some l) (Some m) (Some n) at these c a = tt
+  pub collects-stop : {Y Z : Type 0} (now : LogState Name) (is : X → A → Type 0) (xs : List X) (j k : ℕ)
+      (fault : VerifyFault) (old mid new : Reader) (l m n : Option (List ℕ))
+      (at : Z → A → Type 0) (these : Y → List A → Type 0)
+      → now ≡ st → j ≡ suc k → CollectsFrom st ask is xs j old mid l m
+      → AnsweredFrom now ask at (Err fault) mid new m n
+      → AnsweredFrom st (ask_list ask) these (Err fault) old new l n
+  collects-stop now is xs j k fault old mid new None m n at these same e c a = tt
+  collects-stop now is xs j k fault old mid new (Some l) None n at these same e c a = absurd c
+  collects-stop now is xs j k fault old mid new (Some l) (Some m) None at these same e c a = a
+  collects-stop now is xs j k (verify.At line f) old mid new (Some l) (Some m) (Some n) at these same e c a =
+      λ first next. c.2 first next
+      ∙ ap (λ i. outcome_in first st (ask_each ask i (λ us. next (c.0 ++ us))) (rest mid m)) e
+      ∙ ap (λ s. outcome_in first s (ask (λ x. ask_each ask k (λ us. next (c.0 ++ (x ∷ us))))) (rest mid m))
+      (sym same)
+      ∙ a first (λ x. ask_each ask k (λ us. next (c.0 ++ (x ∷ us))))
+  collects-stop now is xs j k verify.ReadFault old mid new (Some l) (Some m) (Some n) at these same e c a = tt
+  collects-stop now is xs j k verify.Memory old mid new (Some l) (Some m) (Some n) at these same e c a = tt
 
 module _ {A : Type 0} (st : LogState Name) (ask : (A → RecordForm names) → RecordForm names) where
   -- the count was not read

@@ -7,3 +7,4 @@ pub mod Verifying
 pub mod Going
 pub mod Finding
 pub mod Held
+pub mod Later

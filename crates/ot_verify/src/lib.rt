@@ -4,6 +4,7 @@
 mod checking;
 mod fault;
 mod finding;
+mod lists;
 mod log;
 mod operand;
 mod operands;

@@ -8,13 +8,13 @@ ghost use Rattle.ot_verify.specs.Logged.{RecordedFrom, refused, settled_at};
 ghost use Rattle.ot_verify.specs.Going.{Advances};
 
 use crate::fault::{LogFault, VerifyFault};
+use crate::lists::{TermNumber, TypeNumber, list};
 use crate::log::{Log, Refusal};
-use crate::operands::{
-    constant_pairs, name_number, named_type, names_list, sequent_number, term_number, term_pairs,
-    terms, type_number, type_pairs, types,
-};
+use crate::operand::{ConstantPair, NamedType, TermPair};
+use crate::operands::{name_number, named_type, sequent_number, term_number, type_number};
 use crate::reader::Reader;
 use ot_io::Source;
+use ot_nodes::NameId;
 use ot_records::RecordWord;
 use std::alloc::Global;
 
@@ -113,7 +113,7 @@ fn type_op<S: Source>(
     ensures kept { KeepsSource S.folder S.faults S.misses S.at source.old source.new }
 {
     let name = name_number(alloc, log, reader, source)?;
-    let args = types(alloc, log, reader, source)?;
+    let args = list::<TypeNumber, _>(alloc, log, reader, source)?;
     let made = log.type_op(name, args.as_slice());
     settle(first, made)
 }
@@ -349,8 +349,8 @@ fn subst<S: Source>(
     ensures kept { KeepsSource S.folder S.faults S.misses S.at source.old source.new }
 {
     let sequent = sequent_number(alloc, log, reader, source)?;
-    let types = type_pairs(alloc, log, reader, source)?;
-    let terms = term_pairs(alloc, log, reader, source)?;
+    let types = list::<NamedType, _>(alloc, log, reader, source)?;
+    let terms = list::<TermPair, _>(alloc, log, reader, source)?;
     let made = log.subst(sequent, types.as_slice(), terms.as_slice());
     settle(first, made)
 }
@@ -370,7 +370,7 @@ fn assumption<S: Source>(
     ensures kept { KeepsSource S.folder S.faults S.misses S.at source.old source.new }
 {
     let concl = term_number(alloc, log, reader, source)?;
-    let hyps = terms(alloc, log, reader, source)?;
+    let hyps = list::<TermNumber, _>(alloc, log, reader, source)?;
     let made = log.assumption(concl, hyps.as_slice());
     settle(first, made)
 }
@@ -409,7 +409,7 @@ fn constants<S: Source>(
     ensures cause { result ≡ Err VerifyFault.ReadFault → Rose (S.faults source.old) (S.faults source.new) }
     ensures kept { KeepsSource S.folder S.faults S.misses S.at source.old source.new }
 {
-    let pairs = constant_pairs(alloc, log, reader, source)?;
+    let pairs = list::<ConstantPair, _>(alloc, log, reader, source)?;
     let premise = sequent_number(alloc, log, reader, source)?;
     let made = log.define_constants(pairs.as_slice(), premise);
     settle(first, made)
@@ -432,7 +432,7 @@ fn type_operator<S: Source>(
     let name = name_number(alloc, log, reader, source)?;
     let abs = name_number(alloc, log, reader, source)?;
     let rep = name_number(alloc, log, reader, source)?;
-    let vars = names_list(alloc, log, reader, source)?;
+    let vars = list::<NameId, _>(alloc, log, reader, source)?;
     let premise = sequent_number(alloc, log, reader, source)?;
     let made = log.define_type(name, abs, rep, vars.as_slice(), premise);
     settle(first, made)

@@ -19,26 +19,26 @@ returns-clause-recorded g c =
     let made = c.define_constants-made.result in
     rw c.settle.ensures
     (answered-then st now (λ next. ask_list ask_constant_pair next)
-    (λ (v : Vec ConstantPair Global). AreEach (IsConstantPair c.constant_pairs.new.log) v.items) c.in_ok-pairs.pairs
+    (λ (v : Vec ConstantPair Global). AreEach (IsConstantPair c.list.new.log) v.items) c.in_ok-pairs.pairs
     (λ x0. AskSequent (λ x1. Makes (makes_definition names (λ dl. constants_step names dl x0 x1)))) first
     (settled_at first made)
-    c.args.reader.now c.constant_pairs.new.reader c.sequent_number.new.reader (g.S.Source.left c.args.source.now)
-    (g.S.Source.left c.constant_pairs.new.source) (g.S.Source.left c.sequent_number.new.source)
+    c.args.reader.now c.list.new.reader c.sequent_number.new.reader (g.S.Source.left c.args.source.now)
+    (g.S.Source.left c.list.new.source) (g.S.Source.left c.sequent_number.new.source)
     c.in_ok-pairs.ensures.answered
     (λ x0 h0. answered-then st now AskSequent (IsAt c.args.log.now.state.sequents)
     c.in_ok-premise.premise (λ x1. Makes (makes_definition names (λ dl. constants_step names dl x0 x1)))
-    first (settled_at first made) c.constant_pairs.new.reader c.sequent_number.new.reader
-    c.sequent_number.new.reader (g.S.Source.left c.constant_pairs.new.source)
+    first (settled_at first made) c.list.new.reader c.sequent_number.new.reader
+    c.sequent_number.new.reader (g.S.Source.left c.list.new.source)
     (g.S.Source.left c.sequent_number.new.source) (g.S.Source.left c.sequent_number.new.source)
     (subst (λ (s : LogState Name). AnsweredFrom s AskSequent (IsAt s.sequents)
-    (Ok c.in_ok-premise.premise) c.constant_pairs.new.reader c.sequent_number.new.reader
-    (g.S.Source.left c.constant_pairs.new.source) (g.S.Source.left c.sequent_number.new.source))
+    (Ok c.in_ok-premise.premise) c.list.new.reader c.sequent_number.new.reader
+    (g.S.Source.left c.list.new.source) (g.S.Source.left c.sequent_number.new.source))
     c.in_ok-pairs.ensures.meets.state c.in_ok-premise.ensures.answered)
     (λ x1 h1. made-settled (makes_definition names (λ dl. constants_step names dl x0 x1)) first st now
     c.sequent_number.new.reader
     (g.S.Source.left c.sequent_number.new.source) made
     (subst (λ s. MadeBy made (makes_definition names (λ dl. constants_step names dl x0 x1)) s now)
     c.in_ok-pairs.ensures.meets.state (c.define_constants-made.ensures x0 x1
-    (subst (λ is. AreEach (IsConstantPair c.constant_pairs.new.log) is x0) (sym c.as_slice.ensures.value) h0)
+    (subst (λ is. AreEach (IsConstantPair c.list.new.log) is x0) (sym c.as_slice.ensures.value) h0)
     (subst (λ (s : LogState Name). IsAt s.sequents c.in_ok-premise.premise x1) (sym c.in_ok-pairs.ensures.meets.state)
     h1))))))

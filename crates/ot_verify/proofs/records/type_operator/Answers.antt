@@ -7,7 +7,8 @@ use Rattle.ot_records.specs.State.{LogState, makes_definition}
 use Rattle.ot_records.specs.Records.{Makes, AskName, AskSequent, ask_list}
 use Rattle.ot_verify.specs.Asking.{AnsweredFrom, IsAt, AreEach}
 use Rattle.ot_verify.specs.Logged.{IsNamed, MadeBy, settled_at}
-use Rattle.ot_verify.proofs.Meeting.{meets-then, named-later}
+use Rattle.ot_verify.specs.Later.{named-later}
+use Rattle.ot_verify.proofs.Meeting.{meets-then}
 use Rattle.ot_verify.proofs.Recording.{answered-then, made-settled}
 use Rattle.ot_verify.proofs.records.type_operator.Goals as goal
 
@@ -48,15 +49,15 @@ returns-clause-recorded g c =
     c.in_ok-name.ensures.meets c.in_ok-abs.ensures.meets).state
     c.in_ok-rep.ensures.answered)
     (λ x2 h2. answered-then st now (λ next. ask_list AskName next)
-    (λ (v : Vec ℕ Global). AreEach (IsNamed c.names_list.new.log) v.items) c.in_ok-vars.vars
+    (λ (v : Vec ℕ Global). AreEach (IsNamed c.list.new.log) v.items) c.in_ok-vars.vars
     (λ x3. AskSequent (λ x4. Makes (makes_definition names (λ dl. type_operator_step names dl x0 x1 x2 x3 x4))))
-    first (settled_at first made) c.name_number-3.new.reader c.names_list.new.reader c.sequent_number.new.reader
-    (g.S.Source.left c.name_number-3.new.source) (g.S.Source.left c.names_list.new.source)
+    first (settled_at first made) c.name_number-3.new.reader c.list.new.reader c.sequent_number.new.reader
+    (g.S.Source.left c.name_number-3.new.source) (g.S.Source.left c.list.new.source)
     (g.S.Source.left c.sequent_number.new.source)
     (subst (λ (s : LogState Name). AnsweredFrom s (λ next. ask_list AskName next)
-    (λ (v : Vec ℕ Global). AreEach (IsNamed c.names_list.new.log) v.items) (Ok c.in_ok-vars.vars)
+    (λ (v : Vec ℕ Global). AreEach (IsNamed c.list.new.log) v.items) (Ok c.in_ok-vars.vars)
     c.name_number-3.new.reader
-    c.names_list.new.reader (g.S.Source.left c.name_number-3.new.source) (g.S.Source.left c.names_list.new.source))
+    c.list.new.reader (g.S.Source.left c.name_number-3.new.source) (g.S.Source.left c.list.new.source))
     (meets-then c.args.log.now c.name_number-2.new.log c.name_number-3.new.log
     (meets-then c.args.log.now c.name_number.new.log c.name_number-2.new.log c.in_ok-name.ensures.meets
     c.in_ok-abs.ensures.meets)
@@ -65,13 +66,13 @@ returns-clause-recorded g c =
     (λ x3 h3. answered-then st now AskSequent (IsAt c.args.log.now.state.sequents) c.in_ok-premise.premise
     (λ x4. Makes (makes_definition names (λ dl. type_operator_step names dl x0 x1 x2 x3 x4))) first
     (settled_at first made)
-    c.names_list.new.reader c.sequent_number.new.reader c.sequent_number.new.reader
-    (g.S.Source.left c.names_list.new.source)
+    c.list.new.reader c.sequent_number.new.reader c.sequent_number.new.reader
+    (g.S.Source.left c.list.new.source)
     (g.S.Source.left c.sequent_number.new.source) (g.S.Source.left c.sequent_number.new.source)
     (subst (λ (s : LogState Name). AnsweredFrom s AskSequent (IsAt s.sequents)
-    (Ok c.in_ok-premise.premise) c.names_list.new.reader c.sequent_number.new.reader
-    (g.S.Source.left c.names_list.new.source) (g.S.Source.left c.sequent_number.new.source))
-    (meets-then c.args.log.now c.name_number-3.new.log c.names_list.new.log
+    (Ok c.in_ok-premise.premise) c.list.new.reader c.sequent_number.new.reader
+    (g.S.Source.left c.list.new.source) (g.S.Source.left c.sequent_number.new.source))
+    (meets-then c.args.log.now c.name_number-3.new.log c.list.new.log
     (meets-then c.args.log.now c.name_number-2.new.log c.name_number-3.new.log
     (meets-then c.args.log.now c.name_number.new.log c.name_number-2.new.log c.in_ok-name.ensures.meets
     c.in_ok-abs.ensures.meets)
@@ -81,27 +82,27 @@ returns-clause-recorded g c =
     (λ x4 h4. made-settled (makes_definition names (λ dl. type_operator_step names dl x0 x1 x2 x3 x4)) first st now
     c.sequent_number.new.reader (g.S.Source.left c.sequent_number.new.source) made
     (subst (λ s. MadeBy made (makes_definition names (λ dl. type_operator_step names dl x0 x1 x2 x3 x4)) s now)
-    (meets-then c.args.log.now c.name_number-3.new.log c.names_list.new.log
+    (meets-then c.args.log.now c.name_number-3.new.log c.list.new.log
     (meets-then c.args.log.now c.name_number-2.new.log c.name_number-3.new.log
     (meets-then c.args.log.now c.name_number.new.log c.name_number-2.new.log c.in_ok-name.ensures.meets
     c.in_ok-abs.ensures.meets)
     c.in_ok-rep.ensures.meets)
     c.in_ok-vars.ensures.meets).state
     (c.define_type-made.ensures x0 x1 x2 x3 x4
-    (named-later c.name_number.new.log c.names_list.new.log c.in_ok-name.name x0
-    (meets-then c.name_number.new.log c.name_number-3.new.log c.names_list.new.log
+    (named-later c.name_number.new.log c.list.new.log c.in_ok-name.name x0
+    (meets-then c.name_number.new.log c.name_number-3.new.log c.list.new.log
     (meets-then c.name_number.new.log c.name_number-2.new.log
     c.name_number-3.new.log c.in_ok-abs.ensures.meets c.in_ok-rep.ensures.meets)
     c.in_ok-vars.ensures.meets)
     h0)
-    (named-later c.name_number-2.new.log c.names_list.new.log c.in_ok-abs.abs x1
+    (named-later c.name_number-2.new.log c.list.new.log c.in_ok-abs.abs x1
     (meets-then c.name_number-2.new.log c.name_number-3.new.log
-    c.names_list.new.log c.in_ok-rep.ensures.meets c.in_ok-vars.ensures.meets)
+    c.list.new.log c.in_ok-rep.ensures.meets c.in_ok-vars.ensures.meets)
     h1)
-    (named-later c.name_number-3.new.log c.names_list.new.log c.in_ok-rep.rep x2 c.in_ok-vars.ensures.meets h2)
-    (subst (λ is. AreEach (IsNamed c.names_list.new.log) is x3) (sym c.as_slice.ensures.value) h3)
+    (named-later c.name_number-3.new.log c.list.new.log c.in_ok-rep.rep x2 c.in_ok-vars.ensures.meets h2)
+    (subst (λ is. AreEach (IsNamed c.list.new.log) is x3) (sym c.as_slice.ensures.value) h3)
     (subst (λ (s : LogState Name). IsAt s.sequents c.in_ok-premise.premise x4)
-    (sym (meets-then c.args.log.now c.name_number-3.new.log c.names_list.new.log
+    (sym (meets-then c.args.log.now c.name_number-3.new.log c.list.new.log
     (meets-then c.args.log.now c.name_number-2.new.log c.name_number-3.new.log
     (meets-then c.args.log.now c.name_number.new.log c.name_number-2.new.log c.in_ok-name.ensures.meets
     c.in_ok-abs.ensures.meets)

@@ -5,11 +5,12 @@ use Rattle.ot_records.specs.State.{LogState}
 use Rattle.ot_records.specs.Records.{AskName, ask_variable}
 use Rattle.ot_verify.specs.Asking.{AnsweredFrom}
 use Rattle.ot_verify.specs.Logged.{IsNamed, IsVariable, IsConstantPair}
+use Rattle.ot_verify.specs.Later.{named-later}
 use Rattle.ot_verify.specs.declared.operand.NamedType.{NamedType}
 use Rattle.ot_verify.specs.declared.operand.ConstantPair.{ConstantPair}
 use Rattle.ot_verify.proofs.Collecting.{both-read, second-stop}
-use Rattle.ot_verify.proofs.Meeting.{meets-then, named-later}
-use Rattle.ot_verify.proofs.operands.constant_pair.Goals as goal
+use Rattle.ot_verify.proofs.Meeting.{meets-then}
+use Rattle.ot_verify.proofs.lists.ConstantPairOperand.read.Goals as goal
 
 pub returns-clause-answered : goal.returns-clause-answered
 returns-clause-answered g c =

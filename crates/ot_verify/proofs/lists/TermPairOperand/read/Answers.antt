@@ -7,7 +7,7 @@ use Rattle.ot_verify.specs.Asking.{AnsweredFrom, IsAt}
 use Rattle.ot_verify.specs.Logged.{IsVariable, IsTermPair}
 use Rattle.ot_verify.specs.declared.operand.TermPair.{TermPair}
 use Rattle.ot_verify.proofs.Collecting.{both-read, second-stop}
-use Rattle.ot_verify.proofs.operands.term_pair.Goals as goal
+use Rattle.ot_verify.proofs.lists.TermPairOperand.read.Goals as goal
 
 pub returns-clause-answered : goal.returns-clause-answered
 returns-clause-answered g c =
