@@ -23,10 +23,6 @@ pub on-any : {A E : Type 0} {P : Type 0} (r : Result A E) → P → OnOk r P
 on-any (Ok x) h = h
 on-any (Err e) h = tt
 
-pub ok-as : {A E : Type 0} {P Q : A → Type 0} (r : Result A E) → ((x : A) → P x → Q x) → IfOk r P → IfOk r Q
-ok-as (Ok x) f h = f x h
-ok-as (Err e) f h = tt
-
 module _ (s0 s : Session) (before after : Machine) (c : Context) (lines : Lines)
     (fresh : article_of s0 before ≡ fresh_article) where
   abbrev start : ArticleState → State

@@ -1,36 +1,40 @@
 -- What is lawful over a run is lawful over a later one.
-use Rattle.std.specs.Prelude.{◌==◌, Option, Some, None, Vec, flat_map}
+use Rattle.std.specs.Prelude.{◌==◌, Option, Some, None, Result, Ok, Err, Vec, IfOk, IfErr, flat_map}
 use Rattle.std.specs.Global.{Global}
 use Rattle.std.specs.List.{All}
 use Rattle.std.specs.HashMap.{HashMap, get_by}
-use Rattle.std.proofs.Common.{◌≡◌, ℕ, List, [], ◌∷◌, ◌++◌, map, Bool, true}
+use Rattle.std.proofs.Common.{◌≡◌, ◌<◌, ℕ, List, [], ◌∷◌, ◌++◌, length, map, Bool, true}
 use Rattle.std.proofs.Common.{false, cond, if◌then◌else◌, refl, sym, subst}
 use Rattle.std.proofs.lemmas.List.{map-append}
 use Rattle.std.proofs.lemmas.List.Elements.{All-nil, All-head, All-tail, All-cons, All-append, All-push}
-use Rattle.ot_interp.specs.Interpretation.{identity, map_interpretation}
+use Rattle.ot_interp.specs.Interpretation.{identity, map_interpretation, IsWithin}
 use Rattle.ot_kernel.specs.State as kernel
+use Rattle.ot_kernel.specs.Alike.{AreFirstPlaces}
 use Rattle.ot_theory.specs.Theory.{TagText}
 use Rattle.ot_machine.specs.States as states
-use Rattle.ot_machine.specs.States.{RunState, Context, fresh_article, no_context}
+use Rattle.ot_machine.specs.States.{RunState, Context, fresh_article, fresh_run, no_context}
 use Rattle.ot_machine.specs.Lawful.{IsLarger, IsLawfulExport, IsLawfulRun, IsLawful, GivenFits}
 use Rattle.ot_machine.specs.Lawful.{Keeps, AreLawfulGivens, StatesSequent, AreApart, IsNaming}
 use Rattle.ot_machine.specs.Writable.{IsWritable}
 use Rattle.ot_machine.specs.LawfulLaws.{CanBeNamed, FreshIsLawful, LinesAreLawful, LawfulStays}
 use Rattle.ot_machine.specs.Commanded.{LeadsTo}
-use Rattle.ot_machine.specs.Meaning.{export_of, run_of, article_of, state_of, IsRun, IsExportIn, Grows}
+use Rattle.ot_machine.specs.Meaning.{export_of, run_of, article_of, state_of, IsRun, IsOf, IsExportIn, Grows}
+use Rattle.ot_machine.specs.Answers.{NamesSymbolIn}
 use Rattle.ot_machine.specs.Contexts.{given_of, context_of, IsContextOf}
 use Rattle.ot_machine.specs.Rows.{is_exported}
 use Rattle.ot_machine.specs.declared.session.Session.{Session}
 use Rattle.ot_machine.specs.declared.machine.Export.{Export}
 use Rattle.ot_machine.specs.declared.machine.Machine.{Machine}
 use Rattle.ot_machine.specs.declared.context.Context as code
+use Rattle.ot_machine.specs.declared.fault.ArticleFault.{ArticleFault}
+use Rattle.ot_machine.specs.declared.fault.ArticleFault.TheVariants as article
 use Rattle.ot_machine.proofs.InContext.{context-kept}
 use Rattle.ot_machine.proofs.Apart.{apart-push, not-exported}
 use Rattle.ot_link.specs.Blocks.{given_by, context_in, each_once}
 use Rattle.ot_link.specs.Adding.{AreRight}
 use Rattle.ot_link.specs.Holding.{held_at, held_of}
 use Rattle.ot_link.specs.Lawful.{basis_of, IsLawfulSession, AreLawfulExports, AreLawfulOnce}
-use Rattle.ot_link.specs.Lawful.{IsLawfulContext, StaysLawful, BlocksAreNaming}
+use Rattle.ot_link.specs.Lawful.{IsLawfulContext, StaysLawful, IsReady, LeavesExports, BlocksAreNaming}
 use Rattle.ot_link.proofs.Held.{exports-kept, held-as}
 
 -- ---- sessions that stay lawful
@@ -70,7 +74,7 @@ empty-context s c i t =
       theorems = map (given_of s) (t j);
     }
 
-pub empty-lawful : (s : Session) (c : code.Context) → c.interp.now ≡ identity → c.theorems.now ≡ []
+empty-lawful : (s : Session) (c : code.Context) → c.interp.now ≡ identity → c.theorems.now ≡ []
     → IsLawfulContext s c
 empty-lawful s c i t =
     let same = empty-context s c i t in
@@ -80,27 +84,64 @@ empty-lawful s c i t =
       naming = subst (IsNaming IsWritable) (sym same) (record { constants = λ n w. w; type_ops = λ n w. w });
     }
 
+-- a fresh session, without renamings and theorems
+pub empty-ready : (s : Session) (c : code.Context) → IsRun s → run_of s ≡ fresh_run
+    → IsLawfulRun IsWritable fresh_run → c.interp.now ≡ identity → IsWithin (length s.kernel.names) c.interp.now
+    → c.theorems.now ≡ [] → AreFirstPlaces s.kernel [] c.places.now → IsReady s c
+empty-ready s c run start fresh i within t placed = record {
+  session = run;
+  lawful = subst (IsLawfulRun IsWritable) (sym start) fresh;
+  context = record {
+    interpretation = within;
+    theorems = rw t (All-nil (λ g. g.th < length s.kernel.theorems));
+    steps = rw t (All-nil (λ g. g.step < length s.trace));
+    placed = rw t placed;
+  };
+  lawful_context = empty-lawful s c i t;
+}
+
 -- ---- an article
 
-module _ (old new : Session) (m n : Machine) (c : Context) (fresh : FreshIsLawful IsWritable)
+module _ (old new : Session) (m n : Machine) (c : code.Context) (fresh : FreshIsLawful IsWritable)
     (lines : LinesAreLawful IsWritable) (said : CanBeNamed IsWritable) (begun : article_of old m ≡ fresh_article)
-    (run : IsLawfulSession old) (naming : IsNaming IsWritable c)
-    (givens : AreLawfulGivens IsWritable (run_of old) c.theorems)
-    (led : LeadsTo c (state_of old m) (state_of new n)) where
+    (ready : IsReady old c) (led : LeadsTo (context_of old c) (state_of old m) (state_of new n))
+    (grown : Grows old new) (of : IsOf new n) where
   article-keeps : Keeps IsWritable (state_of old m) (state_of new n)
   article-keeps =
       let start = subst (λ (a : states.ArticleState). IsLawful IsWritable (record { article = a; run = run_of old }))
-      (sym begun) (fresh.1 (run_of old) run) in
-      lines c (state_of old m) (state_of new n) naming said givens start led
+      (sym begun) (fresh.1 (run_of old) ready.lawful) in
+      lines (context_of old c) (state_of old m) (state_of new n) ready.lawful_context.naming said
+      ready.lawful_context.theorems start led
 
-  pub article-stays : StaysLawful old new
+  article-stays : StaysLawful old new
   article-stays = record { run = article-keeps.0.run; larger = article-keeps.1 }
 
-  pub article-exports : (es : List Export) → es ≡ n.exports.items → AreLawfulOnce new es
-  article-exports es e =
-      let article = article-keeps.0.article in
-      subst (AreLawfulOnce new) (sym e)
-      (record { exports = record { lawful = article.exports; stated = article.stated }; apart = article.apart })
+  -- it stops
+  pub article-refused : (e : ArticleFault) → NamesSymbolIn new.kernel e → LeavesExports NamesSymbolIn (Err e) old new
+  article-refused e symbols = record {
+    exports = tt;
+    symbols = symbols;
+    grown = grown;
+    session = of.run;
+    lawful = article-stays;
+    lawful_exports = tt;
+  }
+
+  -- its exports are copied, or memory runs out
+  pub article-left : (r : Result (Vec Export Global) ArticleFault) → IfOk r (λ copy. copy.items ≡ n.exports.items)
+      → IfErr r (λ e. e ≡ article.Memory) → LeavesExports NamesSymbolIn r old new
+  article-left (Err e) same memory = article-refused e (rw memory tt)
+  article-left (Ok copy) same memory =
+      let state = article-keeps.0.article in
+      record {
+        exports = rw same of.exports;
+        symbols = tt;
+        grown = grown;
+        session = of.run;
+        lawful = article-stays;
+        lawful_exports = subst (AreLawfulOnce new) (sym same)
+            (record { exports = record { lawful = state.exports; stated = state.stated }; apart = state.apart });
+      }
 
 -- ---- a block
 
@@ -195,6 +236,12 @@ none-lawful s = record {
   exports = record { lawful = All-nil (IsLawfulExport (basis_of (run_of s))); stated = All-nil StatesSequent };
   apart = λ i j x y p q same. absurd (cc);
 }
+
+-- those of a place are of the session
+pub place-inside : {S : Type 0} (s : Session) (held : HashMap ℕ (Vec Export Global) S)
+    → ((b : ℕ) → All (IsExportIn s) (held_at held b)) → (place : Option ℕ) → All (IsExportIn s) (held_of held place)
+place-inside s held inside None = All-nil (IsExportIn s)
+place-inside s held inside (Some b) = inside b
 
 module _ {S : Type 0} (s : Session) (held : HashMap ℕ (Vec Export Global) S)
     (lawful : (b : ℕ) → AreLawfulOnce s (held_at held b)) where

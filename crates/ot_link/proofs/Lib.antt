@@ -29,4 +29,6 @@ pub mod Held
 pub mod EachOnce
 -- What is lawful over a run is lawful over a later one.
 pub mod Lawful
+-- What the run of an article or a block leaves.
+pub mod Leaving
 pub mod FileTags

@@ -5,15 +5,15 @@ ghost use Rattle.ot_io.specs.Folder.{Folder};
 ghost use Rattle.ot_io.specs.Keeping.{KeepsSource, KeepsFiles};
 ghost use Rattle.ot_scan.specs.Lines.{lines_of};
 ghost use Rattle.ot_machine.specs.States.{fresh_article, fresh_run, no_context};
-ghost use Rattle.ot_machine.specs.Meaning.{run_of, IsRun, Grows};
-ghost use Rattle.ot_machine.specs.Contexts.{context_of, IsContextOf};
+ghost use Rattle.ot_machine.specs.Meaning.{run_of, IsRun};
+ghost use Rattle.ot_machine.specs.Contexts.{context_of};
 ghost use Rattle.ot_machine.specs.Run.{run};
 ghost use Rattle.ot_machine.specs.Answers.{NamesSymbolIn as NamesSymbolInArticle};
 ghost use Rattle.ot_link.specs.Blocks.{article_end, run_article};
 ghost use Rattle.ot_link.specs.Stops.{answered_by};
 ghost use Rattle.ot_link.specs.Answers.{AreWithin, setting_of, Comes, ran_of, EndsAs, AreExportsIn};
 ghost use Rattle.ot_link.specs.Answers.{NamesSymbolIn, HasCause, IsOfArticle, HasFailed};
-ghost use Rattle.ot_link.specs.Lawful.{IsLawfulSession, IsLawfulContext, AreLawfulOnce, StaysLawful};
+ghost use Rattle.ot_link.specs.Lawful.{IsLawfulSession, AreLawfulOnce, IsReady, LeavesExports};
 
 use crate::fault::LinkFault;
 use crate::setting::Setting;
@@ -32,21 +32,13 @@ pub(crate) fn run_article<F: Files>(
     context: &Context<'_>,
     path: String,
 ) -> Result<Vec<Export>, LinkFault>
-    requires session { IsRun session.old }
-    requires lawful { IsLawfulSession session.old }
-    requires context { IsContextOf session.old context.now }
-    requires lawful_context { IsLawfulContext session.old context.now }
+    requires ready { IsReady session.old context.now }
     requires limit { setting.limits.now.article_bytes ≤ 2 ^ 32 }
     ensures comes { (folder : Folder) → F.folder files.old ≡ Some folder
         → Comes session.new.kernel (ran_of session.new) result
         (run_article (setting_of folder setting.entry) (string_bytes path) (context_of session.old context.now)
         (run_of session.old)) }
-    ensures exports { IfOk result (AreExportsIn session.new) }
-    ensures symbols { IfErr result (NamesSymbolIn session.new.kernel) }
-    ensures grown { Grows session.old session.new }
-    ensures session { IsRun session.new }
-    ensures lawful { StaysLawful session.old session.new }
-    ensures lawful_exports { IfOk result (λ exports. AreLawfulOnce session.new exports.items) }
+    ensures left { LeavesExports NamesSymbolIn result session.old session.new }
     ensures cause { IfErr result (λ e. HasCause e (F.misses files.old) (F.misses files.new) (F.faults files.old)
         (F.faults files.new) (F.at files.new)) }
     ensures kept { KeepsFiles F.folder F.faults F.misses files.old files.new }
@@ -116,10 +108,7 @@ fn run_named<S: Source>(
     context: &Context<'_>,
     path: String,
 ) -> Result<Vec<Export>, LinkFault>
-    requires session { IsRun session.old }
-    requires lawful { IsLawfulSession session.old }
-    requires context { IsContextOf session.old context.now }
-    requires lawful_context { IsLawfulContext session.old context.now }
+    requires ready { IsReady session.old context.now }
     requires limit { setting.limits.now.article_bytes ≤ 2 ^ 32 }
     ensures ends { (bytes : List ℕ) → S.left source.old ≡ Some bytes
         → Comes session.new.kernel (ran_of session.new) result
@@ -128,12 +117,7 @@ fn run_named<S: Source>(
         (run (context_of session.old context.now) (lines_of setting.entry.limits.now.article_bytes bytes)
         (record { article = fresh_article; run = run_of session.old })))) }
     ensures own { IfErr result (IsOfArticle (string_bytes path)) }
-    ensures exports { IfOk result (AreExportsIn session.new) }
-    ensures symbols { IfErr result (NamesSymbolIn session.new.kernel) }
-    ensures grown { Grows session.old session.new }
-    ensures session { IsRun session.new }
-    ensures lawful { StaysLawful session.old session.new }
-    ensures lawful_exports { IfOk result (λ exports. AreLawfulOnce session.new exports.items) }
+    ensures left { LeavesExports NamesSymbolIn result session.old session.new }
     ensures cause { IfErr result (λ e. HasFailed e (S.faults source.old) (S.faults source.new)) }
     ensures kept { KeepsSource S.folder S.faults S.misses S.at source.old source.new }
 {
@@ -152,21 +136,13 @@ fn run_source<S: Source>(
     source: &mut S,
     context: &Context<'_>,
 ) -> Result<Vec<Export>, ArticleFault>
-    requires session { IsRun session.old }
-    requires lawful { IsLawfulSession session.old }
-    requires context { IsContextOf session.old context.now }
-    requires lawful_context { IsLawfulContext session.old context.now }
+    requires ready { IsReady session.old context.now }
     requires limit { setting.limits.now.article_bytes ≤ 2 ^ 32 }
     ensures ends { IfSome (S.left source.old) (λ bytes. EndsAs session.new result
         (run (context_of session.old context.now) (lines_of setting.entry.limits.now.article_bytes bytes)
         (record { article = fresh_article; run = run_of session.old }))) }
-    ensures exports { IfOk result (AreExportsIn session.new) }
-    ensures symbols { IfErr result (NamesSymbolInArticle session.new.kernel) }
+    ensures left { LeavesExports NamesSymbolInArticle result session.old session.new }
     ensures apart { (line : ℕ) → result ≢ Err (ArticleFault.At line Fault.Memory) }
-    ensures grown { Grows session.old session.new }
-    ensures session { IsRun session.new }
-    ensures lawful { StaysLawful session.old session.new }
-    ensures lawful_exports { IfOk result (λ exports. AreLawfulOnce session.new exports.items) }
     ensures cause { result ≡ Err ArticleFault.ReadFault → Rose (S.faults source.old) (S.faults source.new) }
     ensures kept { KeepsSource S.folder S.faults S.misses S.at source.old source.new }
 {

@@ -8,15 +8,14 @@ ghost use Rattle.ot_io.specs.Keeping.{KeepsFiles};
 ghost use Rattle.ot_theory.specs.Answers.{block_of, blocks_of, tags_of};
 ghost use Rattle.ot_blocks.specs.Paths.{is_package};
 ghost use Rattle.ot_blocks.specs.Answers.{plan_of};
-ghost use Rattle.ot_machine.specs.Meaning.{export_of, run_of, IsRun, IsExportIn, Grows};
-ghost use Rattle.ot_machine.specs.Contexts.{context_of, IsContextOf};
+ghost use Rattle.ot_machine.specs.Meaning.{export_of, run_of, IsExportIn};
+ghost use Rattle.ot_machine.specs.Contexts.{context_of};
 ghost use Rattle.ot_link.specs.Blocks.{source_at, run_source, run_block};
 ghost use Rattle.ot_link.specs.Link.{imported, run_at, run_planned, run_file};
-ghost use Rattle.ot_link.specs.Answers.{AreWithin, setting_of, Comes, ran_of, AreExportsIn, NamesSymbolIn, HasCause};
+ghost use Rattle.ot_link.specs.Answers.{AreWithin, setting_of, Comes, ran_of, NamesSymbolIn, HasCause};
 ghost use Rattle.ot_link.specs.Holding.{held_at, held_of, done_of};
 ghost use Rattle.ot_link.specs.Running.{chain_of, first_source, opener_of, source_value, IsRunnable, IsSourceRight};
-ghost use Rattle.ot_link.specs.Lawful.{IsLawfulSession, IsLawfulContext};
-ghost use Rattle.ot_link.specs.Lawful.{AreLawfulExports, AreLawfulOnce, StaysLawful};
+ghost use Rattle.ot_link.specs.Lawful.{AreLawfulExports, AreLawfulOnce, IsReady, LeavesExports};
 
 use crate::article::run_article;
 use crate::exports::{each_once, given_to, imported};
@@ -135,10 +134,7 @@ fn run_source<'x, F: Files>(
     imports: &[Export],
 ) -> Result<Vec<Export>, LinkFault>
     requires limits { AreWithin setting.limits.now }
-    requires session { IsRun session.old }
-    requires lawful { IsLawfulSession session.old }
-    requires context { IsContextOf session.old context.now }
-    requires lawful_context { IsLawfulContext session.old context.now }
+    requires ready { IsReady session.old context.now }
     requires source { IsSourceRight (source_value source) }
     requires imports { All (IsExportIn session.old) imports.now }
     requires lawful_imports { AreLawfulExports session.old imports.now }
@@ -148,12 +144,7 @@ fn run_source<'x, F: Files>(
         (string_bytes file.now.path)
         (map (export_of session.old) imports.now) (source_value source.entry) (context_of session.old context.now)
         (run_of session.old)) }
-    ensures exports { IfOk result (AreExportsIn session.new) }
-    ensures symbols { IfErr result (NamesSymbolIn session.new.kernel) }
-    ensures grown { Grows session.old session.new }
-    ensures session { IsRun session.new }
-    ensures lawful { StaysLawful session.old session.new }
-    ensures lawful_exports { IfOk result (λ exports. AreLawfulOnce session.new exports.items) }
+    ensures left { LeavesExports NamesSymbolIn result session.old session.new }
     ensures cause { IfErr result (λ e. HasCause e (F.misses files.old) (F.misses files.new) (F.faults files.old)
         (F.faults files.new) (F.at files.new)) }
     ensures kept { KeepsFiles F.folder F.faults F.misses files.old files.new }
@@ -185,21 +176,13 @@ fn open_package<'x, F: Files>(
     full: &[u8],
 ) -> Result<Vec<Export>, LinkFault>
     requires limits { AreWithin setting.limits.now }
-    requires session { IsRun session.old }
-    requires lawful { IsLawfulSession session.old }
-    requires context { IsContextOf session.old context.now }
-    requires lawful_context { IsLawfulContext session.old context.now }
+    requires ready { IsReady session.old context.now }
     requires full { is_package full.now ≡ true }
     ensures comes { (folder : Folder) → F.folder files.old ≡ Some folder
         → Comes session.new.kernel (ran_of session.new) result
         (opener_of (setting_of folder setting.entry) file.now line full.now (context_of session.old context.now)
         (run_of session.old)) }
-    ensures exports { IfOk result (AreExportsIn session.new) }
-    ensures symbols { IfErr result (NamesSymbolIn session.new.kernel) }
-    ensures grown { Grows session.old session.new }
-    ensures session { IsRun session.new }
-    ensures lawful { StaysLawful session.old session.new }
-    ensures lawful_exports { IfOk result (λ exports. AreLawfulOnce session.new exports.items) }
+    ensures left { LeavesExports NamesSymbolIn result session.old session.new }
     ensures cause { IfErr result (λ e. HasCause e (F.misses files.old) (F.misses files.new) (F.faults files.old)
         (F.faults files.new) (F.at files.new)) }
     ensures kept { KeepsFiles F.folder F.faults F.misses files.old files.new }
@@ -237,10 +220,7 @@ fn run_block<F: Files>(
     imports: &[Export],
 ) -> Result<Vec<Export>, LinkFault>
     requires limits { AreWithin setting.limits.now }
-    requires session { IsRun session.old }
-    requires lawful { IsLawfulSession session.old }
-    requires context { IsContextOf session.old file.now.outer.now }
-    requires lawful_context { IsLawfulContext session.old file.now.outer.now }
+    requires ready { IsReady session.old file.now.outer.now }
     requires block { IsRunnable (block_of block.now) }
     requires imports { All (IsExportIn session.old) imports.now }
     requires lawful_imports { AreLawfulExports session.old imports.now }
@@ -250,12 +230,7 @@ fn run_block<F: Files>(
         (string_bytes file.now.path)
         (context_of session.old file.now.outer.now) (block_of block.now) (map (export_of session.old) imports.now)
         (run_of session.old)) }
-    ensures exports { IfOk result (AreExportsIn session.new) }
-    ensures symbols { IfErr result (NamesSymbolIn session.new.kernel) }
-    ensures grown { Grows session.old session.new }
-    ensures session { IsRun session.new }
-    ensures lawful { StaysLawful session.old session.new }
-    ensures lawful_exports { IfOk result (λ exports. AreLawfulOnce session.new exports.items) }
+    ensures left { LeavesExports NamesSymbolIn result session.old session.new }
     ensures cause { IfErr result (λ e. HasCause e (F.misses files.old) (F.misses files.new) (F.faults files.old)
         (F.faults files.new) (F.at files.new)) }
     ensures kept { KeepsFiles F.folder F.faults F.misses files.old files.new }
@@ -296,10 +271,7 @@ fn run_next<F: Files>(
     place: usize,
 ) -> Result<Vec<Export>, LinkFault>
     requires limits { AreWithin setting.limits.now }
-    requires session { IsRun session.old }
-    requires lawful { IsLawfulSession session.old }
-    requires context { IsContextOf session.old file.now.outer.now }
-    requires lawful_context { IsLawfulContext session.old file.now.outer.now }
+    requires ready { IsReady session.old file.now.outer.now }
     requires blocks { All IsRunnable (blocks_of blocks.now) }
     requires done { (b : ℕ) → All (IsExportIn session.old) (held_at done.now b) }
     requires lawful_done { (b : ℕ) → AreLawfulOnce session.old (held_at done.now b) }
@@ -310,12 +282,7 @@ fn run_next<F: Files>(
         (context_of session.old file.now.outer.now)
         (imported (plan_of plan.now).imports (done_of session.old done.now) place)
         (slice_get (blocks_of blocks.now) place) (run_of session.old)) }
-    ensures exports { IfOk result (AreExportsIn session.new) }
-    ensures symbols { IfErr result (NamesSymbolIn session.new.kernel) }
-    ensures grown { Grows session.old session.new }
-    ensures session { IsRun session.new }
-    ensures lawful { StaysLawful session.old session.new }
-    ensures lawful_exports { IfOk result (λ exports. AreLawfulOnce session.new exports.items) }
+    ensures left { LeavesExports NamesSymbolIn result session.old session.new }
     ensures cause { IfErr result (λ e. HasCause e (F.misses files.old) (F.misses files.new) (F.faults files.old)
         (F.faults files.new) (F.at files.new)) }
     ensures kept { KeepsFiles F.folder F.faults F.misses files.old files.new }
@@ -338,10 +305,7 @@ fn run_blocks<F: Files>(
     plan: &Plan,
 ) -> Result<Vec<Export>, LinkFault>
     requires limits { AreWithin setting.limits.now }
-    requires session { IsRun session.old }
-    requires lawful { IsLawfulSession session.old }
-    requires context { IsContextOf session.old file.now.outer.now }
-    requires lawful_context { IsLawfulContext session.old file.now.outer.now }
+    requires ready { IsReady session.old file.now.outer.now }
     requires blocks { All IsRunnable (blocks_of blocks.now) }
     ensures comes { (folder : Folder) → F.folder files.old ≡ Some folder
         → Comes session.new.kernel (ran_of session.new) result
@@ -349,12 +313,7 @@ fn run_blocks<F: Files>(
         (string_bytes file.now.path)
         (context_of session.old file.now.outer.now) (run_of session.old)
         (record { blocks = blocks_of blocks.now; plan = plan_of plan.now })) }
-    ensures exports { IfOk result (AreExportsIn session.new) }
-    ensures symbols { IfErr result (NamesSymbolIn session.new.kernel) }
-    ensures grown { Grows session.old session.new }
-    ensures session { IsRun session.new }
-    ensures lawful { StaysLawful session.old session.new }
-    ensures lawful_exports { IfOk result (λ exports. AreLawfulOnce session.new exports.items) }
+    ensures left { LeavesExports NamesSymbolIn result session.old session.new }
     ensures cause { IfErr result (λ e. HasCause e (F.misses files.old) (F.misses files.new) (F.faults files.old)
         (F.faults files.new) (F.at files.new)) }
     ensures kept { KeepsFiles F.folder F.faults F.misses files.old files.new }
@@ -378,21 +337,13 @@ pub(crate) fn link_file<F: Files>(
     file: &File<'_>,
 ) -> Result<Vec<Export>, LinkFault>
     requires limits { AreWithin setting.limits.now }
-    requires session { IsRun session.old }
-    requires lawful { IsLawfulSession session.old }
-    requires context { IsContextOf session.old file.now.outer.now }
-    requires lawful_context { IsLawfulContext session.old file.now.outer.now }
+    requires ready { IsReady session.old file.now.outer.now }
     ensures comes { (folder : Folder) → F.folder files.old ≡ Some folder
         → Comes session.new.kernel (ran_of session.new) result
         (run_file (setting_of folder setting.entry) (opener_of (setting_of folder setting.entry) file.now)
         (string_bytes file.now.path)
         (context_of session.old file.now.outer.now) (run_of session.old)) }
-    ensures exports { IfOk result (AreExportsIn session.new) }
-    ensures symbols { IfErr result (NamesSymbolIn session.new.kernel) }
-    ensures grown { Grows session.old session.new }
-    ensures session { IsRun session.new }
-    ensures lawful { StaysLawful session.old session.new }
-    ensures lawful_exports { IfOk result (λ exports. AreLawfulOnce session.new exports.items) }
+    ensures left { LeavesExports NamesSymbolIn result session.old session.new }
     ensures cause { IfErr result (λ e. HasCause e (F.misses files.old) (F.misses files.new) (F.faults files.old)
         (F.faults files.new) (F.at files.new)) }
     ensures kept { KeepsFiles F.folder F.faults F.misses files.old files.new }

@@ -1,12 +1,9 @@
-use Rattle.std.proofs.Common.{refl, sym, subst}
-use Rattle.ot_machine.specs.Lawful.{IsLawfulRun}
-use Rattle.ot_machine.specs.Writable.{IsWritable}
-use Rattle.ot_link.proofs.Lawful.{empty-lawful}
+use Rattle.std.proofs.Common.{length, refl}
+use Rattle.ot_link.proofs.Lawful.{empty-ready}
 use Rattle.ot_link.proofs.article.run_alone.Goals as goal
 
-pub run_named-requires-clause-lawful : goal.run_named-requires-clause-lawful
-run_named-requires-clause-lawful g c =
-    subst (IsLawfulRun IsWritable) (sym c.requires.fresh) c.fresh_law.ensures.written.0
-
-pub run_named-requires-clause-lawful_context : goal.run_named-requires-clause-lawful_context
-run_named-requires-clause-lawful_context g c = empty-lawful c.args.session.now _ c.new-interp.ensures.pairs refl
+pub run_named-requires-clause-ready : goal.run_named-requires-clause-ready
+run_named-requires-clause-ready g c =
+    let s = c.args.session.now in
+    empty-ready s _ c.requires.session c.requires.fresh c.fresh_law.ensures.written.0 c.new-interp.ensures.pairs
+    (c.new-interp.ensures.within (length s.kernel.names)) refl (c.new-places.ensures.none s.kernel)

@@ -1,16 +1,14 @@
 use Rattle.ot_scan.specs.Lines.{lines_of}
-use Rattle.std.proofs.Common.{◌≡◌, ◌∙◌, sym, subst}
-use Rattle.std.specs.List.{All}
-use Rattle.ot_machine.specs.Meaning.{IsExportIn}
+use Rattle.std.proofs.Common.{◌≡◌, subst}
 use Rattle.std.specs.Prelude.{IfOk}
 use Rattle.ot_machine.specs.Contexts.{context_of}
 use Rattle.ot_link.proofs.Parts.{told-as}
-use Rattle.ot_link.proofs.Ending.{ok-as, article-ended, article-stopped}
-use Rattle.ot_link.proofs.Lawful.{article-stays, article-exports}
+use Rattle.ot_link.proofs.Ending.{article-ended, article-stopped}
+use Rattle.ot_link.proofs.Lawful.{article-left, article-refused}
 use Rattle.ot_link.proofs.article.run_source.Goals as goal
 
 pub run_article-requires-clause-of : goal.run_article-requires-clause-of
-run_article-requires-clause-of g c = c.new-machine.ensures.of c.args.session.now c.requires.session
+run_article-requires-clause-of g c = c.new-machine.ensures.of c.args.session.now c.requires.ready.session
 
 pub returns-in-Ok-clause-ends : goal.returns-in-Ok-clause-ends
 returns-in-Ok-clause-ends g c =
@@ -32,36 +30,20 @@ returns-clause-ends g c =
     (c.new-machine.ensures.fresh s0) c.in-Err.fault h)
     c.in-Err.ensures.runs
 
-pub returns-in-Ok-clause-lawful : goal.returns-in-Ok-clause-lawful
-returns-in-Ok-clause-lawful g c =
+pub returns-in-Ok-clause-left : goal.returns-in-Ok-clause-left
+returns-in-Ok-clause-left g c =
     let s0 = c.args.session.now in
-    article-stays s0 c.run_article.new.session c.new-machine.result c.run_article.new.self
-    (context_of s0 c.args.context.now) c.fresh_law.ensures.written c.lines_law.ensures.written
-    c.lines_law.ensures.said
-    (c.new-machine.ensures.fresh s0) c.requires.lawful c.requires.lawful_context.naming
-    c.requires.lawful_context.theorems c.in-Ok.ensures.led
+    article-left s0 c.run_article.new.session c.new-machine.result c.run_article.new.self c.args.context.now
+    c.fresh_law.ensures.written c.lines_law.ensures.written c.lines_law.ensures.said
+    (c.new-machine.ensures.fresh s0) c.requires.ready c.in-Ok.ensures.led c.in-Ok.ensures.grown c.in-Ok.ensures.of
+    c.copied.result
+    (subst (λ xs. IfOk c.copied.result (λ copy. copy.items ≡ xs)) c.exports.ensures c.copied.ensures.copy)
+    c.copied.ensures.memory
 
-pub returns-clause-lawful : goal.returns-clause-lawful
-returns-clause-lawful g c =
+pub returns-clause-left : goal.returns-clause-left
+returns-clause-left g c =
     let s0 = c.args.session.now in
-    article-stays s0 c.run_article.new.session c.new-machine.result c.run_article.new.self
-    (context_of s0 c.args.context.now) c.fresh_law.ensures.written c.lines_law.ensures.written
-    c.lines_law.ensures.said
-    (c.new-machine.ensures.fresh s0) c.requires.lawful c.requires.lawful_context.naming
-    c.requires.lawful_context.theorems c.in-Err.ensures.led
-
-pub returns-in-Ok-clause-lawful_exports : goal.returns-in-Ok-clause-lawful_exports
-returns-in-Ok-clause-lawful_exports g c =
-    let s0 = c.args.session.now in
-    ok-as c.copied.result
-    (λ copy e. article-exports s0 c.run_article.new.session c.new-machine.result c.run_article.new.self
-    (context_of s0 c.args.context.now) c.fresh_law.ensures.written c.lines_law.ensures.written
-    c.lines_law.ensures.said
-    (c.new-machine.ensures.fresh s0) c.requires.lawful c.requires.lawful_context.naming
-    c.requires.lawful_context.theorems c.in-Ok.ensures.led copy.items (e ∙ c.exports.ensures))
-    c.copied.ensures.copy
-
-pub returns-in-Ok-clause-exports : goal.returns-in-Ok-clause-exports
-returns-in-Ok-clause-exports g c =
-    ok-as c.copied.result (λ copy e. subst (All (IsExportIn c.run_article.new.session)) (sym (e ∙ c.exports.ensures))
-    c.in-Ok.ensures.of.exports) c.copied.ensures.copy
+    article-refused s0 c.run_article.new.session c.new-machine.result c.run_article.new.self c.args.context.now
+    c.fresh_law.ensures.written c.lines_law.ensures.written c.lines_law.ensures.said
+    (c.new-machine.ensures.fresh s0) c.requires.ready c.in-Err.ensures.led c.in-Err.ensures.grown c.in-Err.ensures.of
+    c.in-Err.fault c.in-Err.ensures.symbols

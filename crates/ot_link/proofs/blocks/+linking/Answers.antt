@@ -5,6 +5,7 @@ use Rattle.std.specs.List.{All, list_any}
 use Rattle.std.specs.Map.{lookup}
 use Rattle.std.specs.Str.{bytes_eq}
 use Rattle.std.proofs.lemmas.List.{drop_all, get_or_default}
+use Rattle.std.proofs.lemmas.List.Elements.{All-nil}
 use Rattle.std.proofs.lemmas.Result.{err_from_is_err_and}
 use Rattle.ot_plain.specs.Naming.{IsNameTable}
 use Rattle.ot_io.proofs.Keeping.{KeepsFiles-then}
@@ -44,7 +45,8 @@ use Rattle.ot_link.proofs.Standing.{imported-as, imported-inside, exports-as}
 use Rattle.ot_link.proofs.Opened.{any-now, open-again, open-deep, open-inside}
 use Rattle.ot_link.proofs.Opened.{file-unread, file-unparsed, file-unplanned, file-ran}
 use Rattle.ot_link.proofs.Lawful.{stays-as, stays-on, inner-lawful, same-exports-lawful, none-lawful}
-use Rattle.ot_link.proofs.Lawful.{place-lawful, imported-lawful, context-lawful, held-lawful}
+use Rattle.ot_link.proofs.Leaving.{left-stopped, left-unmoved, left-passed, left-behind}
+use Rattle.ot_link.proofs.Lawful.{place-inside, place-lawful, imported-lawful, context-lawful, held-lawful}
 use Rattle.ot_link.proofs.blocks.+linking.Goals as goal
 
 -- ---- a theory file
@@ -59,20 +61,20 @@ link_file-returns-in_err-text-clause-comes g t c =
     (context_of old c.args.file.now.outer.now) (run_of old) c.in_err-text.field-0.0
     (rw c.deref.ensures at (c.in_err-text.ensures.comes folder old.kernel e)))
 
-pub link_file-returns-in_err-text-clause-symbols : goal.link_file-returns-in_err-text-clause-symbols
-link_file-returns-in_err-text-clause-symbols g t c =
-    let p = err_from_is_err_and c.from_residual.result c.from_residual.ensures.1 in
-    rw (p.1, p.2) (c.in_err-text.ensures.symbols c.args.session.now.kernel)
+pub link_file-returns-in_err-text-clause-left : goal.link_file-returns-in_err-text-clause-left
+link_file-returns-in_err-text-clause-left g t c =
+    left-unmoved c.requires.ready _ _ c.from_residual.ensures.1
+    (c.in_err-text.ensures.symbols c.args.session.now.kernel)
 
-pub link_file-returns-in_err-theory-clause-symbols : goal.link_file-returns-in_err-theory-clause-symbols
-link_file-returns-in_err-theory-clause-symbols g t c =
-    let p = err_from_is_err_and c.from_residual-in_err-theory.result c.from_residual-in_err-theory.ensures.1 in
-    rw (p.1, p.2) (c.in_err-theory.ensures.symbols c.args.session.now.kernel)
+pub link_file-returns-in_err-theory-clause-left : goal.link_file-returns-in_err-theory-clause-left
+link_file-returns-in_err-theory-clause-left g t c =
+    left-unmoved c.requires.ready _ _ c.from_residual-in_err-theory.ensures.1
+    (c.in_err-theory.ensures.symbols c.args.session.now.kernel)
 
-pub link_file-returns-in_err-plan-clause-symbols : goal.link_file-returns-in_err-plan-clause-symbols
-link_file-returns-in_err-plan-clause-symbols g t c =
-    let p = err_from_is_err_and c.from_residual-in_err-plan.result c.from_residual-in_err-plan.ensures.1 in
-    rw (p.1, p.2) (c.in_err-plan.ensures.symbols c.args.session.now.kernel)
+pub link_file-returns-in_err-plan-clause-left : goal.link_file-returns-in_err-plan-clause-left
+link_file-returns-in_err-plan-clause-left g t c =
+    left-unmoved c.requires.ready _ _ c.from_residual-in_err-plan.ensures.1
+    (c.in_err-plan.ensures.symbols c.args.session.now.kernel)
 
 pub link_file-returns-in_err-theory-clause-cause : goal.link_file-returns-in_err-theory-clause-cause
 link_file-returns-in_err-theory-clause-cause g t c =
@@ -97,17 +99,6 @@ open_package-returns-then-is_open-clause-comes g t c =
     (context_of old c.args.context.now) (run_of old) c.args.file.now.left there
     ∙ ap (λ q. Err (InStructure q c.args.line PackageCycle))
     (sym (c.in_ok-path.ensures.ok ∙ c.deref-then-is_open.ensures))
-
--- ---- kernels that grow
-
-pub run_blocks-returns-in_err-exports-clause-grown : goal.run_blocks-returns-in_err-exports-clause-grown
-run_blocks-returns-in_err-exports-clause-grown g t c = grows-on c.each.invariant.grown c.in_err-exports.ensures.grown
-
-pub run_blocks-returns-in_err-insert-clause-grown : goal.run_blocks-returns-in_err-insert-clause-grown
-run_blocks-returns-in_err-insert-clause-grown g t c = grows-on c.each.invariant.grown c.in_ok-exports.ensures.grown
-
-pub run_block-returns-clause-grown : goal.run_block-returns-clause-grown
-run_block-returns-clause-grown g t c = grows-on c.in_ok-own.ensures.grown c.run_source.ensures.grown
 
 -- ---- a theory file, further on
 
@@ -197,11 +188,6 @@ run_block-returns-in_err-theorems-clause-comes g t c =
     let p = err_from_is_err_and c.from_residual-in_err-theorems.result c.from_residual-in_err-theorems.ensures.1 in
     rw (p.1, p.2) (λ folder e. tt)
 
-pub run_block-returns-in_err-theorems-clause-symbols : goal.run_block-returns-in_err-theorems-clause-symbols
-run_block-returns-in_err-theorems-clause-symbols g t c =
-    let p = err_from_is_err_and c.from_residual-in_err-theorems.result c.from_residual-in_err-theorems.ensures.1 in
-    rw (p.1, p.2) tt
-
 pub run_block-returns-in_err-theorems-clause-cause : goal.run_block-returns-in_err-theorems-clause-cause
 run_block-returns-in_err-theorems-clause-cause g t c =
     let p = err_from_is_err_and c.from_residual-in_err-theorems.result c.from_residual-in_err-theorems.ensures.1 in
@@ -211,11 +197,6 @@ pub run_block-returns-in_err-places-clause-comes : goal.run_block-returns-in_err
 run_block-returns-in_err-places-clause-comes g t c =
     let p = err_from_is_err_and c.from_residual-in_err-places.result c.from_residual-in_err-places.ensures.1 in
     rw (p.1, p.2) (λ folder e. tt)
-
-pub run_block-returns-in_err-places-clause-symbols : goal.run_block-returns-in_err-places-clause-symbols
-run_block-returns-in_err-places-clause-symbols g t c =
-    let p = err_from_is_err_and c.from_residual-in_err-places.result c.from_residual-in_err-places.ensures.1 in
-    rw (p.1, p.2) tt
 
 pub run_block-returns-in_err-places-clause-cause : goal.run_block-returns-in_err-places-clause-cause
 run_block-returns-in_err-places-clause-cause g t c =
@@ -234,15 +215,15 @@ link_file-run_blocks-requires g t c κs within =
         within,
         (
           c.requires.limits,
-          (c.requires.session, (c.requires.lawful, (c.requires.context, (c.requires.lawful_context, right)))),
+          (c.requires.ready, right),
         ),
       ),
     )
 
 pub run_block-places_of-requires : goal.run_block-places_of-requires
 run_block-places_of-requires g t c =
-    given-all c.args.session.now c.interpretation_of.new.session c.requires.session c.in_ok-own.ensures.grown
-    c.args.file.now.outer.now c.args.imports.now c.deref-2.result.now c.requires.context c.requires.imports
+    given-all c.args.session.now c.interpretation_of.new.session c.requires.ready.session c.in_ok-own.ensures.grown
+    c.args.file.now.outer.now c.args.imports.now c.deref-2.result.now c.requires.ready.context c.requires.imports
     (c.deref-2.ensures.value ∙ c.in_ok-theorems.ensures)
 
 pub run_block-run_source-requires : goal.run_block-run_source-requires
@@ -258,7 +239,7 @@ run_block-run_source-requires g t c κs within =
     let given : c.deref-3.result.now ≡ map given_to imports ++ outer.theorems.now = c.deref-3.ensures.value
     ∙ c.in_ok-theorems.ensures in
     let symbols = c.in_ok-interp.ensures.within (length mid.kernel.names) c.in_ok-own.ensures.within
-    (of_context-kept old mid c.requires.session kept outer c.requires.context).interpretation in
+    (of_context-kept old mid c.requires.ready.session kept outer c.requires.ready.context).interpretation in
     let source : source_value c.source_of.result ≡ source_at (first_source statements) = c.source_of.ensures
     ∙ ap (λ ts. source_at (first_source (tags_of ts))) c.deref-4.ensures.value in
     let inner : Context =
@@ -272,16 +253,16 @@ run_block-run_source-requires g t c κs within =
     let placed =
     subst (λ gs. AreFirstPlaces mid.kernel (concls_of mid.kernel (map (λ g. g.th) gs)) c.in_ok-places.places)
     same_theorems c.in_ok-places.ensures in
-    let context = of_block-context old mid c.requires.session kept outer _ c.in_ok-own.own statements imports
-    c.requires.context c.in_ok-own.ensures.within named c.in_ok-interp.ensures.pairs given c.requires.imports
+    let context = of_block-context old mid c.requires.ready.session kept outer _ c.in_ok-own.own statements imports
+    c.requires.ready.context c.in_ok-own.ensures.within named c.in_ok-interp.ensures.pairs given c.requires.imports
     symbols placed in
-    let same = block-context old mid c.requires.session kept outer inner c.in_ok-own.own statements imports
-    c.requires.context c.in_ok-own.ensures.within named c.in_ok-interp.ensures.pairs given c.requires.imports
+    let same = block-context old mid c.requires.ready.session kept outer inner c.in_ok-own.own statements imports
+    c.requires.ready.context c.in_ok-own.ensures.within named c.in_ok-interp.ensures.pairs given c.requires.imports
     (subst (λ state. IsNameTable state.names) c.kernel.ensures c.sound.ensures.names) in
-    let run = subst (IsLawfulRun IsWritable) (sym c.in_ok-own.ensures.run) c.requires.lawful in
+    let run = subst (IsLawfulRun IsWritable) (sym c.in_ok-own.ensures.run) c.requires.ready.lawful in
     let theorems = inner-lawful old mid outer _ statements imports c.in_ok-own.ensures.run same c.naming_law.ensures
-    c.requires.block.statements c.requires.lawful_context c.requires.lawful_imports in
-    let lawful = same-exports-lawful old mid c.requires.session kept c.in_ok-own.ensures.run imports
+    c.requires.block.statements c.requires.ready.lawful_context c.requires.lawful_imports in
+    let lawful = same-exports-lawful old mid c.requires.ready.session kept c.in_ok-own.ensures.run imports
     c.requires.imports c.requires.lawful_imports in (
       omega arith,
       (
@@ -289,19 +270,15 @@ run_block-run_source-requires g t c κs within =
         (
           c.requires.limits,
           (
-            c.in_ok-own.ensures.session,
+            record {
+              session = c.in_ok-own.ensures.session;
+              lawful = run;
+              context = context;
+              lawful_context = theorems;
+            },
             (
-              run,
-              (
-                context,
-                (
-                  theorems,
-                  (
-                    subst IsSourceRight (sym source) c.requires.block.source,
-                    (exports-later old mid kept imports c.requires.imports, lawful),
-                  ),
-                ),
-              ),
+              subst IsSourceRight (sym source) c.requires.block.source,
+              (exports-later old mid kept imports c.requires.imports, lawful),
             ),
           ),
         ),
@@ -330,10 +307,10 @@ run_block-returns-clause-comes g t c =
       places =
           record { ref_ptr = outer.places.ref_ptr; now = c.in_ok-places.places };
     } in
-    let context = block-context old mid c.requires.session kept outer inner c.in_ok-own.own statements imports
-    c.requires.context c.in_ok-own.ensures.within named c.in_ok-interp.ensures.pairs given c.requires.imports
+    let context = block-context old mid c.requires.ready.session kept outer inner c.in_ok-own.own statements imports
+    c.requires.ready.context c.in_ok-own.ensures.within named c.in_ok-interp.ensures.pairs given c.requires.imports
     (subst (λ state. IsNameTable state.names) c.kernel.ensures c.sound.ensures.names) in
-    let same = exports-kept old mid kept c.requires.session imports c.requires.imports in
+    let same = exports-kept old mid kept c.requires.ready.session imports c.requires.imports in
     let run = c.in_ok-own.ensures.run in
     λ folder e.
     let s = setting_of folder c.args.setting in
@@ -365,16 +342,17 @@ run_blocks-returns-in_err-exports-clause-comes g t c =
     one-stopped s (opener_of s c.args.file.now) (string_bytes c.args.file.now.path) (context_of old outer)
     (record { blocks = blocks_of c.args.blocks.now; plan = plan_of c.args.plan.now }) (run_of old)
     c.each.place-index b (done_of mid c.each.done) (run_of mid) lt is (c.each.invariant.left folder e)
-    (context_of mid outer) (context-kept old mid c.requires.session c.each.invariant.grown outer c.requires.context)
+    (context_of mid outer)
+    (context-kept old mid c.requires.ready.session c.each.invariant.grown outer c.requires.ready.context)
     new.kernel c.in_err-exports.field-0.0
     (c.in_err-exports.ensures.comes folder (c.each.invariant.kept.same_folder ∙ e)))
 
 pub run_blocks-each-init : goal.run_blocks-each-init
 run_blocks-each-init g t c = record {
   grown = grows-same c.args.session.now;
-  session = c.requires.session;
+  session = c.requires.ready.session;
   inside = search rules;
-  lawful = stays-as c.args.session.now c.args.session.now refl c.requires.lawful;
+  lawful = stays-as c.args.session.now c.args.session.now refl c.requires.ready.lawful;
   exports = search rules;
   kept = record { same_folder = refl; later = omega arith; later_misses = omega arith };
   left = λ folder e.
@@ -396,7 +374,7 @@ run_blocks-each-preserved g t c =
     let mid = c.each.session in
     let new = c.run_next.new.session in
     let outer = c.args.file.now.outer.now in
-    let kept = c.in_ok-exports.ensures.grown in
+    let kept = c.in_ok-exports.ensures.left.grown in
     let order = c.args.plan.now.order.items in
     let b = get_or c.deref-place-items.result.now c.each.place-index 0 in
     let lt : c.each.place-index < length order =
@@ -407,13 +385,13 @@ run_blocks-each-preserved g t c =
       grown = grows-on c.each.invariant.grown kept;
       inside = held-inside mid new c.each.invariant.session kept c.each.done c.insert.new.self b
           c.in_ok-exports.exports c.in_ok-insert.ensures.updates.0 c.each.invariant.inside
-          c.in_ok-exports.ensures.exports;
-      session = c.in_ok-exports.ensures.session;
-      lawful = stays-on c.each.invariant.lawful c.in_ok-exports.ensures.lawful;
+          c.in_ok-exports.ensures.left.exports;
+      session = c.in_ok-exports.ensures.left.session;
+      lawful = stays-on c.each.invariant.lawful c.in_ok-exports.ensures.left.lawful;
       exports = held-lawful mid new c.each.invariant.session kept c.stays_law.ensures.written
-          c.in_ok-exports.ensures.lawful.larger c.each.done c.insert.new.self b c.in_ok-exports.exports
+          c.in_ok-exports.ensures.left.lawful.larger c.each.done c.insert.new.self b c.in_ok-exports.exports
           c.in_ok-insert.ensures.updates.0
-          c.each.invariant.inside c.each.invariant.exports c.in_ok-exports.ensures.lawful_exports;
+          c.each.invariant.inside c.each.invariant.exports c.in_ok-exports.ensures.left.lawful_exports;
       kept = KeepsFiles-then c.each.invariant.kept c.in_ok-exports.ensures.kept;
       left = λ folder e.
           let s = setting_of folder c.args.setting in
@@ -426,7 +404,7 @@ run_blocks-each-preserved g t c =
           (run_of old)
           c.each.place-index b (done_of mid c.each.done) (run_of mid) lt is (c.each.invariant.left folder e)
           (context_of mid outer)
-          (context-kept old mid c.requires.session c.each.invariant.grown outer c.requires.context)
+          (context-kept old mid c.requires.ready.session c.each.invariant.grown outer c.requires.ready.context)
           (ran_of new c.in_ok-exports.exports)
           (c.in_ok-exports.ensures.comes folder (c.each.invariant.kept.same_folder ∙ e)));
     }
@@ -471,10 +449,7 @@ run_next-run_block-requires g t c κs within =
         within,
         (
           c.requires.limits,
-          (
-            c.requires.session,
-            (c.requires.lawful, (c.requires.context, (c.requires.lawful_context, (right, (inside, lawful))))),
-          ),
+          (c.requires.ready, (right, (inside, lawful))),
         ),
       ),
     )
@@ -538,34 +513,44 @@ run_source-returns-in_ok-path-in-Article-clause-comes g t c =
 
 -- ---- lawful sessions
 
-pub run_source-returns-in_ok-once-in-Imports-clause-lawful_exports : goal.run_source-returns-in_ok-once-in-Imports-clause-lawful_exports
-run_source-returns-in_ok-once-in-Imports-clause-lawful_exports g t c =
-    c.in_ok-once-in-Imports.ensures.lawful c.requires.lawful_imports
+pub run_source-returns-in_ok-once-in-Imports-clause-left : goal.run_source-returns-in_ok-once-in-Imports-clause-left
+run_source-returns-in_ok-once-in-Imports-clause-left g t c =
+    left-passed c.requires.ready _ c.in_ok-once-in-Imports.ensures.inside
+    (c.in_ok-once-in-Imports.ensures.lawful c.requires.lawful_imports)
 
-pub run_block-returns-in_err-own-clause-lawful : goal.run_block-returns-in_err-own-clause-lawful
-run_block-returns-in_err-own-clause-lawful g t c =
-    stays-as c.args.session.now c.interpretation_of.new.session c.in_err-own.ensures.run c.requires.lawful
+pub run_block-returns-in_err-own-clause-left : goal.run_block-returns-in_err-own-clause-left
+run_block-returns-in_err-own-clause-left g t c =
+    left-stopped _ _ c.from_residual.ensures.1 tt c.in_err-own.ensures.grown c.in_err-own.ensures.session
+    (stays-as c.args.session.now c.interpretation_of.new.session c.in_err-own.ensures.run c.requires.ready.lawful)
 
-pub run_block-returns-in_err-interp-clause-lawful : goal.run_block-returns-in_err-interp-clause-lawful
-run_block-returns-in_err-interp-clause-lawful g t c =
-    stays-as c.args.session.now c.interpretation_of.new.session c.in_ok-own.ensures.run c.requires.lawful
+pub run_block-returns-in_err-interp-clause-left : goal.run_block-returns-in_err-interp-clause-left
+run_block-returns-in_err-interp-clause-left g t c =
+    left-stopped _ _ c.from_residual-in_err-interp.ensures.1 tt c.in_ok-own.ensures.grown c.in_ok-own.ensures.session
+    (stays-as c.args.session.now c.interpretation_of.new.session c.in_ok-own.ensures.run c.requires.ready.lawful)
 
-pub run_block-returns-in_err-theorems-clause-lawful : goal.run_block-returns-in_err-theorems-clause-lawful
-run_block-returns-in_err-theorems-clause-lawful g t c =
-    stays-as c.args.session.now c.interpretation_of.new.session c.in_ok-own.ensures.run c.requires.lawful
+pub run_block-returns-in_err-theorems-clause-left : goal.run_block-returns-in_err-theorems-clause-left
+run_block-returns-in_err-theorems-clause-left g t c =
+    left-stopped _ _ c.from_residual-in_err-theorems.ensures.1 tt c.in_ok-own.ensures.grown
+    c.in_ok-own.ensures.session
+    (stays-as c.args.session.now c.interpretation_of.new.session c.in_ok-own.ensures.run c.requires.ready.lawful)
 
-pub run_block-returns-in_err-places-clause-lawful : goal.run_block-returns-in_err-places-clause-lawful
-run_block-returns-in_err-places-clause-lawful g t c =
-    stays-as c.args.session.now c.interpretation_of.new.session c.in_ok-own.ensures.run c.requires.lawful
+pub run_block-returns-in_err-places-clause-left : goal.run_block-returns-in_err-places-clause-left
+run_block-returns-in_err-places-clause-left g t c =
+    left-stopped _ _ c.from_residual-in_err-places.ensures.1 tt c.in_ok-own.ensures.grown c.in_ok-own.ensures.session
+    (stays-as c.args.session.now c.interpretation_of.new.session c.in_ok-own.ensures.run c.requires.ready.lawful)
 
-pub run_block-returns-clause-lawful : goal.run_block-returns-clause-lawful
-run_block-returns-clause-lawful g t c =
-    stays-on (stays-as c.args.session.now c.interpretation_of.new.session c.in_ok-own.ensures.run c.requires.lawful)
-    c.run_source.ensures.lawful
+pub run_block-returns-clause-left : goal.run_block-returns-clause-left
+run_block-returns-clause-left g t c =
+    left-behind c.in_ok-own.ensures.grown
+    (stays-as c.args.session.now c.interpretation_of.new.session c.in_ok-own.ensures.run c.requires.ready.lawful)
+    c.run_source.ensures.left
 
-pub run_next-returns-clause-lawful_exports : goal.run_next-returns-clause-lawful_exports
-run_next-returns-clause-lawful_exports g t c = subst (AreLawfulOnce c.args.session.now) (sym c.new.ensures.items)
-    (none-lawful c.args.session.now)
+pub run_next-returns-clause-left : goal.run_next-returns-clause-left
+run_next-returns-clause-left g t c =
+    let s = c.args.session.now in
+    left-passed c.requires.ready c.new.result
+    (subst (All (IsExportIn s)) (sym c.new.ensures.items) (All-nil (IsExportIn s)))
+    (subst (AreLawfulOnce s) (sym c.new.ensures.items) (none-lawful s))
 
 pub run_blocks-run_next-requires : goal.run_blocks-run_next-requires
 run_blocks-run_next-requires g t c κs within =
@@ -573,35 +558,50 @@ run_blocks-run_next-requires g t c κs within =
     let mid = c.each.session in
     let outer = c.args.file.now.outer.now in
     let grown = c.each.invariant.grown in
-    let context = of_context-kept old mid c.requires.session grown outer c.requires.context in
-    let lawful_context = context-lawful old mid c.requires.session grown c.stays_law.ensures.written
-    c.each.invariant.lawful.larger outer c.requires.context c.requires.lawful_context in (
+    let context = of_context-kept old mid c.requires.ready.session grown outer c.requires.ready.context in
+    let lawful_context = context-lawful old mid c.requires.ready.session grown c.stays_law.ensures.written
+    c.each.invariant.lawful.larger outer c.requires.ready.context c.requires.ready.lawful_context in (
       omega arith,
       (
         within,
         (
           c.requires.limits,
           (
-            c.each.invariant.session,
-            (
-              c.each.invariant.lawful.run,
-              (context, (lawful_context, (c.requires.blocks, (c.each.invariant.inside, c.each.invariant.exports)))),
-            ),
+            record {
+              session = c.each.invariant.session;
+              lawful = c.each.invariant.lawful.run;
+              context = context;
+              lawful_context = lawful_context;
+            },
+            (c.requires.blocks, (c.each.invariant.inside, c.each.invariant.exports)),
           ),
         ),
       ),
     )
 
-pub run_blocks-returns-in_err-exports-clause-lawful : goal.run_blocks-returns-in_err-exports-clause-lawful
-run_blocks-returns-in_err-exports-clause-lawful g t c =
-    stays-on c.each.invariant.lawful c.in_err-exports.ensures.lawful
+pub run_blocks-returns-in_err-exports-clause-left : goal.run_blocks-returns-in_err-exports-clause-left
+run_blocks-returns-in_err-exports-clause-left g t c =
+    let left = c.in_err-exports.ensures.left in
+    left-stopped _ _ c.from_residual.ensures.1 left.symbols (grows-on c.each.invariant.grown left.grown) left.session
+    (stays-on c.each.invariant.lawful left.lawful)
 
-pub run_blocks-returns-in_err-insert-clause-lawful : goal.run_blocks-returns-in_err-insert-clause-lawful
-run_blocks-returns-in_err-insert-clause-lawful g t c = stays-on c.each.invariant.lawful c.in_ok-exports.ensures.lawful
+pub run_blocks-returns-in_err-insert-clause-left : goal.run_blocks-returns-in_err-insert-clause-left
+run_blocks-returns-in_err-insert-clause-left g t c =
+    let left = c.in_ok-exports.ensures.left in
+    left-stopped _ _ c.from_residual-in_err-insert.ensures.1 tt (grows-on c.each.invariant.grown left.grown)
+    left.session (stays-on c.each.invariant.lawful left.lawful)
 
-pub run_blocks-returns-clause-lawful_exports : goal.run_blocks-returns-clause-lawful_exports
-run_blocks-returns-clause-lawful_exports g t c =
+pub run_blocks-returns-clause-left : goal.run_blocks-returns-clause-left
+run_blocks-returns-clause-left g t c =
     let mid = c.each.session in
-    subst (AreLawfulOnce mid) (sym c.in_ok-exports-2.ensures)
-    (place-lawful mid c.each.done c.each.invariant.exports
-    (position (λ b. bytes_eq b.name.now (codes "main")) c.args.blocks.now))
+    let place = position (λ b. bytes_eq b.name.now (codes "main")) c.args.blocks.now in
+    record {
+      exports = subst (All (IsExportIn mid)) (sym c.in_ok-exports-2.ensures)
+          (place-inside mid c.each.done c.each.invariant.inside place);
+      symbols = tt;
+      grown = c.each.invariant.grown;
+      session = c.each.invariant.session;
+      lawful = c.each.invariant.lawful;
+      lawful_exports = subst (AreLawfulOnce mid) (sym c.in_ok-exports-2.ensures)
+          (place-lawful mid c.each.done c.each.invariant.exports place);
+    }
