@@ -26,16 +26,14 @@ use Rattle.ot_trace.specs.Origins.{Origin, Make, NoOrigins, make_two}
 use Rattle.ot_term.specs.declared.term.VarKey.{VarKey}
 use Rattle.ot_view.specs.Nodes.{IsKey}
 use Rattle.ot_machine.specs.Version5.{canon_ty, canon_tys, canon_under, canon, numbered, var_term, app, lam}
-use Rattle.ot_machine.specs.Canonical.{Binders, variable_in, canon_in, binders_at, IsBinderIn, Adds}
+use Rattle.ot_machine.specs.Canonical.{Binders, variable_in, canon_in, binders_at, IsBinderIn}
 use Rattle.ot_machine.specs.Canonical.{AreTypes, same_binder, same_part, IsStepOf, AreTerms, AreKnown}
 use Rattle.ot_machine.specs.declared.makers.canonical.Binder.{Binder}
 use Rattle.ot_machine.specs.declared.makers.canonical.Part.{Part}
 use Rattle.ot_machine.specs.declared.makers.canonical.Known.{Known}
-use Rattle.ot_machine.specs.declared.machine.Machine.{Machine}
 use Rattle.ot_machine.specs.declared.session.Session.{Session}
-use Rattle.ot_machine.specs.Meaning.{origin_of, IsRun, IsOf, Grows, Leaves, Traces}
-use Rattle.ot_machine.proofs.Kept.{at-Extends, origin-kept, grows-on, trace-same, traces-grow}
-use Rattle.ot_machine.proofs.Traced.{traces-none}
+use Rattle.ot_machine.specs.Meaning.{origin_of, IsRun, Grows}
+use Rattle.ot_machine.proofs.Kept.{at-Extends, origin-kept}
 use Rattle.ot_machine.specs.Occurrences.{same_occurrence}
 use Rattle.ot_machine.proofs.Occurrences.{occurrences-later}
 
@@ -90,22 +88,6 @@ canon-agree k bs cs (NAbs w b) h =
     ]
 
 -- ---- a session that grew
-pub adds-traces : (s t : Session) (m : Machine) → Traces s t m → Adds s t m
-adds-traces s t m h = record { grown = traces-grow s t m h; article = h.article; run = h.run; of = h.of }
-
-pub adds-leaves : (s t : Session) (m : Machine) → Leaves s t m → Adds s t m
-adds-leaves s t m h =
-    record {
-      grown = record { kernel = h.machine.grown; trace = trace-same s.trace t.trace h.machine.trace };
-      article = h.machine.article;
-      run = h.run;
-      of = h.machine.of;
-    }
-
-pub adds-on : (s t u : Session) (m : Machine) → Adds s t m → Adds t u m → Adds s u m
-adds-on s t u m p q =
-    record { grown = grows-on p.grown q.grown; article = q.article ∙ p.article; run = q.run ∙ p.run; of = q.of }
-
 module _ (s t : Session) (grown : Grows s t) where
   pub name-later : (n : ℕ) → n < length s.kernel.names → kernel.name_at t.kernel n ≡ kernel.name_at s.kernel n
   name-later n h = at-Extends s.kernel.names t.kernel.names grown.kernel.names [] n h
@@ -300,10 +282,6 @@ other-variable t w v b d refused here = elim (var_cases names tells_names v w) [
 pub rest-empty : {X : Type 0} (xs : List X) → length xs ≡ 0 → xs ≡ []
 rest-empty [] e = refl
 rest-empty (x ∷ xs) e = absurd (omega (arith, e))
-
--- nothing was added
-pub adds-none : (s : Session) (m : Machine) → IsOf s m → Adds s s m
-adds-none s m h = adds-traces s s m (traces-none s m h)
 
 -- ---- names and theorems of a session that grew
 module _ (s t : Session) (grown : Grows s t) where

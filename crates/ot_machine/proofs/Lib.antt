@@ -16,6 +16,7 @@ pub mod Stepped
 pub mod Stated
 pub mod Taken
 pub mod Assuming
+pub mod Staying
 pub mod Weakening
 pub mod Reached
 pub mod Followed

@@ -22,7 +22,7 @@ use Rattle.ot_machine.specs.OpenTypes.{first_origin, second_origin, open_entries
 use Rattle.ot_machine.specs.Version5.{open_theorems}
 use Rattle.ot_machine.proofs.Tops.{same-ok}
 use Rattle.ot_machine.proofs.Defined.{twice-ok, first-ok, double}
-use Rattle.ot_machine.proofs.Stepped.{definitions_of-made, defined-refused}
+use Rattle.ot_machine.proofs.Stepped.{definitions_of-made, with_definition, defined_then, defined-refused}
 use Rattle.ot_machine.proofs.OpenRow.{open-pushed, open-refused}
 use Rattle.ot_machine.proofs.Canonical.{name-later, names-later, theorem-later}
 use Rattle.ot_plain.proofs.Results.{bind-ok, unless-ok}
@@ -160,16 +160,9 @@ module _ (s : Session) (run : IsRun s) (n abs rep : Name) (vars : List Name) (q 
           let known : rule (definitions_of (run_of s).definitions) ≡ Ok e =
           ap rule (definitions_of-made s s.kernel.definitions s.definition_steps.items run.each_definition)
           ∙ r.1 in
-          ap (λ a. opened (a >>= after)) known ∙ ap (λ a. a >>= λ ths. Ok (ths, (after-run e))) r.2
+          ap (λ a. opened (a >>= defined_then s j)) known
+          ∙ ap (λ a. a >>= λ ths. Ok (ths, with_definition s j e)) r.2
     ]
-      where
-        after-run : Definition Name → RunState
-        after-run e =
-            record (run_of s)
-            { definitions = (run_of s).definitions ++ record { definition = e; origin = origin_of s j } ∷ [] }
-
-        after : Definition Name → Stated
-        after e = Ok (theorem_entries (origin_of s j) 0 (theorems names e), after-run e)
 
     -- the definition was made, and the run has it
     pub stated-made : (e : Definition Name) (r : RunState)
@@ -209,42 +202,34 @@ open_stated k n a r vs th o run = open_defined (kernel.name_at k n) (kernel.name
 module _ (s t : Session) (grown : Grows s t) (n a r : ℕ) (vs : List ℕ) (th : ℕ) (hn : n < length s.kernel.names)
     (ha : a < length s.kernel.names) (hr : r < length s.kernel.names) (hv : All (λ n. n < length s.kernel.names) vs)
     (ht : th < length s.kernel.theorems) where
+  same : {X : Type 0} (f : (n a r : Name) → List Name → Sequent Name → X)
+      → f (kernel.name_at t.kernel n) (kernel.name_at t.kernel a) (kernel.name_at t.kernel r)
+      (map (kernel.name_at t.kernel) vs) (kernel.theorem_at t.kernel th)
+      ≡ f (kernel.name_at s.kernel n) (kernel.name_at s.kernel a) (kernel.name_at s.kernel r)
+      (map (kernel.name_at s.kernel) vs) (kernel.theorem_at s.kernel th)
+  same f =
+      let x = name-later s t grown n hn in
+      let y = name-later s t grown a ha in
+      let z = name-later s t grown r hr in
+      let v = names-later s t grown vs hv in
+      let q = theorem-later s t grown th ht in
+      λ i. f (x i) (y i) (z i) (v i) (q i)
+
   pub open-same : (o p : Origin Name) → o ≡ p → run_of t ≡ run_of s → open_stated t.kernel n a r vs th o (run_of t)
       ≡ open_stated s.kernel n a r vs th p (run_of s)
-  open-same o p e f =
-      let x = name-later s t grown n hn in
-      let y = name-later s t grown a ha in
-      let z = name-later s t grown r hr in
-      let v = names-later s t grown vs hv in
-      let q = theorem-later s t grown th ht in
-      λ i. open_defined (x i) (y i) (z i) (v i) (q i) (e i) (f i)
+  open-same o p e f = (λ i. open_stated t.kernel n a r vs th (e i) (f i))
+      ∙ same (λ n a r vs q. open_defined n a r vs q p (run_of s))
 
-  pub first-same : (o p : Origin Name) → o ≡ p
-      → first_origin o (kernel.name_at t.kernel a) (kernel.name_at t.kernel r)
+  pub origin-same : (origin : Origin Name → (abs rep : Name) → Ty Name → Tm Name → Origin Name) (o p : Origin Name)
+      → o ≡ p
+      → origin o (kernel.name_at t.kernel a) (kernel.name_at t.kernel r)
       (TyOp (kernel.name_at t.kernel n) (tys_of_vars names (map (kernel.name_at t.kernel) vs)))
       (kernel.theorem_at t.kernel th).concl
-      ≡ first_origin p (kernel.name_at s.kernel a) (kernel.name_at s.kernel r)
+      ≡ origin p (kernel.name_at s.kernel a) (kernel.name_at s.kernel r)
       (TyOp (kernel.name_at s.kernel n) (tys_of_vars names (map (kernel.name_at s.kernel) vs)))
       (kernel.theorem_at s.kernel th).concl
-  first-same o p e =
-      let x = name-later s t grown n hn in
-      let y = name-later s t grown a ha in
-      let z = name-later s t grown r hr in
-      let v = names-later s t grown vs hv in
-      let q = theorem-later s t grown th ht in
-      λ i. first_origin (e i) (y i) (z i) (TyOp (x i) (tys_of_vars names (v i))) (q i).concl
-
-  pub second-same : (o p : Origin Name) → o ≡ p
-      → second_origin o (kernel.name_at t.kernel a) (kernel.name_at t.kernel r)
+  origin-same origin o p e =
+      (λ i. origin (e i) (kernel.name_at t.kernel a) (kernel.name_at t.kernel r)
       (TyOp (kernel.name_at t.kernel n) (tys_of_vars names (map (kernel.name_at t.kernel) vs)))
-      (kernel.theorem_at t.kernel th).concl
-      ≡ second_origin p (kernel.name_at s.kernel a) (kernel.name_at s.kernel r)
-      (TyOp (kernel.name_at s.kernel n) (tys_of_vars names (map (kernel.name_at s.kernel) vs)))
-      (kernel.theorem_at s.kernel th).concl
-  second-same o p e =
-      let x = name-later s t grown n hn in
-      let y = name-later s t grown a ha in
-      let z = name-later s t grown r hr in
-      let v = names-later s t grown vs hv in
-      let q = theorem-later s t grown th ht in
-      λ i. second_origin (e i) (y i) (z i) (TyOp (x i) (tys_of_vars names (v i))) (q i).concl
+      (kernel.theorem_at t.kernel th).concl)
+      ∙ same (λ n a r vs q. origin p a r (TyOp n (tys_of_vars names vs)) q.concl)

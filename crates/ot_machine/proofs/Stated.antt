@@ -1,7 +1,7 @@
 -- What is stated of a session, and of one with the same kernel, run and origins; and what a session without a machine
 -- keeps.
-use Rattle.std.specs.Prelude.{◌≡◌, ℕ, List, length, map, slice_index_or, Result, Ok, Err, OnErr}
-use Rattle.std.proofs.Common.{ap, sym, ◌∙◌}
+use Rattle.std.specs.Prelude.{◌≡◌, ◌<◌, ℕ, List, [], ◌∷◌, length, map, slice_index_or, Result, Ok, Err, OnErr}
+use Rattle.std.proofs.Common.{ap, sym, ◌∙◌, arith}
 use Rattle.ot_plain.specs.Names.{Name}
 use Rattle.ot_plain.specs.Naming.{names}
 use Rattle.ot_plain.specs.Faults.{Fault}
@@ -9,13 +9,15 @@ use Rattle.ot_plain.proofs.TableLemmas.{Extends-refl}
 use Rattle.ot_term.specs.declared.term.VarKey.{VarKey}
 use Rattle.ot_kernel.specs.Defining.{const_definition, list_definition}
 use Rattle.ot_kernel.specs.State as kernel
-use Rattle.ot_trace.specs.Origins.{Origin}
+use Rattle.ot_plain.specs.declared.command.Cmd.TheVariants as words
+use Rattle.ot_trace.specs.Origins.{Origin, Named, Define, from_list}
 use Rattle.ot_machine.specs.States.{Entry, RunState}
-use Rattle.ot_machine.specs.Rows.{defined}
-use Rattle.ot_machine.specs.Defining.{closed_defined}
+use Rattle.ot_machine.specs.Rows.{defined, origin_at, type_defining}
+use Rattle.ot_machine.specs.Defining.{closed_defined, AreOperatorSteps, IsOperatorOf}
+use Rattle.ot_machine.specs.declared.makers.definitions.OperatorSteps.{OperatorSteps}
 use Rattle.ot_machine.specs.declared.session.Session.{Session}
-use Rattle.ot_machine.specs.Meaning.{givens_of, made_of, run_of, IsRun, Grows}
-use Rattle.ot_machine.proofs.Kept.{with_kernel, named-more, givens-kept, made-kept}
+use Rattle.ot_machine.specs.Meaning.{origin_of, givens_of, made_of, run_of, IsRun, Grows}
+use Rattle.ot_machine.proofs.Kept.{with_kernel, named-more, origin-kept, givens-kept, made-kept}
 
 -- a refusal that is handed on
 pub on-err : {X E : Type 0} (r : Result X E) {P : Type 0} → P → OnErr r P
@@ -79,3 +81,40 @@ module _ (s : Session) (l : kernel.State) (run : IsRun s) (kept : kernel.Keeps s
             (ap (λ ds. made_of t ds s.definition_steps.items) same.definitions
             ∙ made-kept s t run grown s.kernel.definitions s.definition_steps.items run.definitions) i;
       }
+
+-- ---- the steps of a type operator
+module _ (s t : Session) (n a r list premise : ℕ) (d : OperatorSteps)
+    (are : AreOperatorSteps s t n a r list premise d) where
+  -- its definition is by the operands on the stack
+  pub defining-is : (stack : List Entry) → origin_of s list ≡ origin_at 1 stack → origin_of s premise
+      ≡ origin_at 0 stack → origin_of t d.definition
+      ≡ type_defining (kernel.name_at s.kernel n) (kernel.name_at s.kernel a) (kernel.name_at s.kernel r) stack
+  defining-is stack e f =
+      let named = λ (m : ℕ). Named (kernel.name_at s.kernel m) in
+      are.definition
+      ∙ (λ i. Define words.DefineTypeOp (from_list (named n ∷ named a ∷ named r ∷ e i ∷ f i ∷ [])))
+
+  -- with the theorems and their steps, in a session that grew
+  pub operator-of : (u : Session) (i first j second : ℕ) → IsRun t → Grows t u → i < length u.kernel.theorems
+      → first < length u.trace → j < length u.kernel.theorems → second < length u.trace
+      → IsOperatorOf s u n a r (record {
+        op = d.op;
+        abs = d.abs;
+        rep = d.rep;
+        abs_rep = i;
+        abs_rep_step = first;
+        rep_abs = j;
+        rep_abs_step = second;
+      })
+  operator-of u i first j second run grown ii fi ji si = record {
+    op = origin-kept t u run grown d.op are.op_step ∙ are.op;
+    abs = origin-kept t u run grown d.abs are.abs_step ∙ are.abs;
+    rep = origin-kept t u run grown d.rep are.rep_step ∙ are.rep;
+    op_step = omega (arith, are.op_step, grown.trace.longer);
+    abs_step = omega (arith, are.abs_step, grown.trace.longer);
+    rep_step = omega (arith, are.rep_step, grown.trace.longer);
+    first = ii;
+    first_step = fi;
+    second = ji;
+    second_step = si;
+  }

@@ -21,7 +21,8 @@ use Rattle.ot_machine.specs.Rows.{definitions_of, theorem_entries, defined}
 use Rattle.ot_machine.specs.declared.machine.Machine.{Machine}
 use Rattle.ot_machine.specs.declared.session.Session.{Session}
 use Rattle.ot_machine.specs.Meaning.{origin_of, givens_of, made_of, run_of, article_of, IsRun, IsOf, Grows}
-use Rattle.ot_machine.proofs.Kept.{named-more, origin-kept, givens-kept, made-kept, article-kept, of-kept}
+use Rattle.ot_machine.specs.Stays.{Stays}
+use Rattle.ot_machine.proofs.Kept.{keeps-same, named-more, origin-kept, givens-kept, made-kept, article-kept, of-kept}
 
 -- ---- lists of steps
 -- a step more
@@ -36,9 +37,10 @@ push-length xs ys j qs rs q e f same =
     omega (arith, ap length e, ap length f, length-append xs (j ∷ []), length-append qs (q ∷ []), same)
 
 -- the last step was taken off again
-pub popped : (xs ys zs : List ℕ) (j n : ℕ) → ys ≡ xs ++ j ∷ [] → n ≡ length ys → zs ≡ take (n - 1) ys → zs ≡ xs
-popped xs ys zs j n e len rest =
-    let place : n - 1 ≡ length xs = omega (arith, len, ap length e, length-append xs (j ∷ [])) in
+pub popped : (xs : List ℕ) (v : Vec StepId Global) (zs : List ℕ) (j : ℕ) → v.items ≡ xs ++ j ∷ []
+    → zs ≡ take (v.len - 1) v.items → zs ≡ xs
+popped xs v zs j e rest =
+    let place : v.len - 1 ≡ length xs = omega (arith, v.ok.0, ap length e, length-append xs (j ∷ [])) in
     rest ∙ (λ i. take (place i) (e i)) ∙ take-append_seam xs (j ∷ [])
 
 -- ---- one more at the end
@@ -66,6 +68,17 @@ definitions_of-made s [] [] e = refl
 definitions_of-made s [] (j ∷ is) e = refl
 definitions_of-made s (d ∷ ds) [] e = absurd (omega (arith, e))
 definitions_of-made s (d ∷ ds) (j ∷ is) e = ap (λ rest. d ∷ rest) (definitions_of-made s ds is (omega (arith, e)))
+
+-- the run with a definition of this step, and its theorems
+abbrev pub with_definition : Session → ℕ → Definition Name → RunState
+with_definition s j e =
+    record (run_of s) {
+      definitions = (run_of s).definitions ++ record { definition = e; origin = origin_of s j }
+          ∷ [];
+    }
+
+abbrev pub defined_then : Session → ℕ → Definition Name → Result (List Entry × RunState) (Fault Name)
+defined_then s j e = Ok (theorem_entries (origin_of s j) 0 (theorems names e), with_definition s j e)
 
 -- ---- the session
 module _ (s : Session) (l : kernel.State) (a d : Vec StepId Global) (m : Machine) (h : IsOf s m)
@@ -103,7 +116,7 @@ module _ (s : Session) (l : kernel.State) (a d : Vec StepId Global) (m : Machine
       ∙ made-kept s with_steps h.run steps-grow s.kernel.definitions s.definition_steps.items h.run.definitions
 
   -- nothing more
-  pub run-same : kernel.SameBasis s.kernel l → a.items ≡ s.assumption_steps.items → d.items ≡ s.definition_steps.items
+  run-same : kernel.SameBasis s.kernel l → a.items ≡ s.assumption_steps.items → d.items ≡ s.definition_steps.items
       → run_of with_steps ≡ run_of s
   run-same same ai di =
       λ i. record {
@@ -111,13 +124,18 @@ module _ (s : Session) (l : kernel.State) (a d : Vec StepId Global) (m : Machine
         definitions = definitions-same same.definitions di i;
       }
 
-  pub of-same : kernel.SameBasis s.kernel l → a.items ≡ s.assumption_steps.items → d.items ≡ s.definition_steps.items
+  of-same : kernel.SameBasis s.kernel l → a.items ≡ s.assumption_steps.items → d.items ≡ s.definition_steps.items
       → IsOf with_steps m
   of-same same ai di =
       of-with (subst (All (λ i. i < length s.trace)) (sym ai) h.run.assumptions)
       (ap length ai ∙ h.run.each_assumption ∙ ap length (sym same.assumptions))
       (subst (All (λ i. i < length s.trace)) (sym di) h.run.definitions)
       (ap length di ∙ h.run.each_definition ∙ ap length (sym same.definitions))
+
+  pub stays-with : kernel.SameBasis s.kernel l → a.items ≡ s.assumption_steps.items
+      → d.items ≡ s.definition_steps.items → Stays s with_steps m
+  stays-with same ai di =
+      record { grown = steps-grow; article = article-with; run = run-same same ai di; of = of-same same ai di }
 
   -- a definition more
   module _ (c : Definition Name) (j : ℕ) (inside : j < length s.trace)
@@ -131,9 +149,7 @@ module _ (s : Session) (l : kernel.State) (a d : Vec StepId Global) (m : Machine
         (push-length s.definition_steps.items d.items j s.kernel.definitions l.definitions c di more
         h.run.each_definition)
 
-    pub defined-run : run_of with_steps
-        ≡ (let r = run_of s in
-        record r { definitions = r.definitions ++ record { definition = c; origin = origin_of s j } ∷ [] })
+    defined-run : run_of with_steps ≡ with_definition s j c
     defined-run =
         let t = with_steps in
         let old = made-kept s t h.run steps-grow s.kernel.definitions s.definition_steps.items h.run.definitions in
@@ -147,31 +163,22 @@ module _ (s : Session) (l : kernel.State) (a d : Vec StepId Global) (m : Machine
         → rule s.kernel.definitions ≡ Ok c → theorems names c ≡ qs → defined rule (origin_of s j) (run_of s)
         ≡ Ok (theorem_entries (origin_of s j) 0 qs, run_of with_steps)
     defined-is rule qs given are =
-        ap (λ dl. rule dl >>= after)
+        ap (λ dl. rule dl >>= defined_then s j)
         (definitions_of-made s s.kernel.definitions s.definition_steps.items h.run.each_definition)
-        ∙ ap (λ r. r >>= after) given
+        ∙ ap (λ r. r >>= defined_then s j) given
         ∙ (λ i. Ok (theorem_entries (origin_of s j) 0 (are i), sym defined-run i))
-      where
-        after : Definition Name → Result (List Entry × RunState) (Fault Name)
-        after e =
-            Ok (
-              theorem_entries (origin_of s j) 0 (theorems names e),
-              record (run_of s)
-                  { definitions = (run_of s).definitions ++ record { definition = e; origin = origin_of s j } ∷ [] },
-            )
 
 -- and so is its refusal
 pub defined-refused : (s : Session) (run : IsRun s) (rule : List (Definition Name) → Defining names) (j : ℕ)
     (f : Fault Name) → rule s.kernel.definitions ≡ Err f → defined rule (origin_of s j) (run_of s) ≡ Err f
 defined-refused s run rule j f refused =
-    ap (λ dl. rule dl >>= after)
+    ap (λ dl. rule dl >>= defined_then s j)
     (definitions_of-made s s.kernel.definitions s.definition_steps.items run.each_definition)
-    ∙ ap (λ r. r >>= after) refused
-  where
-    after : Definition Name → Result (List Entry × RunState) (Fault Name)
-    after e =
-        Ok (
-          theorem_entries (origin_of s j) 0 (theorems names e),
-          record (run_of s)
-              { definitions = (run_of s).definitions ++ record { definition = e; origin = origin_of s j } ∷ [] },
-        )
+    ∙ ap (λ r. r >>= defined_then s j) refused
+
+-- over the same kernel
+pub stays-beside : (s : Session) (a d : Vec StepId Global) (m : Machine) → IsOf s m
+    → a.items ≡ s.assumption_steps.items → d.items ≡ s.definition_steps.items
+    → Stays s (record s { assumption_steps = a; definition_steps = d }) m
+stays-beside s a d m h = stays-with s s.kernel a d m h (keeps-same s.kernel)
+    (record { assumptions = refl; definitions = refl })

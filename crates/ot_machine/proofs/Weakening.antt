@@ -1,12 +1,10 @@
 -- A theorem with hypotheses more, from what the rules of the kernel and the trace make.
-use Rattle.std.specs.Prelude.{◌≡◌, ◌<◌, ℕ, true, false, List, [], ◌∷◌, length, map, Result, Ok, Err, if◌then◌else◌}
-use Rattle.std.specs.List.{All}
-use Rattle.std.proofs.lemmas.List.Elements.{All-head, All-tail}
-use Rattle.std.proofs.Common.{refl, sym, ap, ◌∙◌, arith}
+use Rattle.std.specs.Prelude.{◌≡◌, true, false, List, [], ◌∷◌, Result, Ok, Err, IfOk, if◌then◌else◌}
+use Rattle.std.proofs.Common.{refl, sym, ap, ◌∙◌}
 use Rattle.ot_plain.specs.Names.{Name}
 use Rattle.ot_plain.specs.Naming.{names}
-use Rattle.ot_plain.specs.Trees.{Tm, Bound, Sequent, TyVar, NConst}
-use Rattle.ot_plain.specs.Hol.{nameless, is_in}
+use Rattle.ot_plain.specs.Trees.{Tm, Sequent}
+use Rattle.ot_plain.specs.Hol.{is_in}
 use Rattle.ot_plain.specs.Faults.{Fault}
 use Rattle.ot_plain.specs.Answers.{◌>>=◌}
 use Rattle.ot_plain.specs.Rules.{assume_rule, deduct_antisym_rule, eq_mp_rule}
@@ -17,60 +15,13 @@ use Rattle.ot_machine.specs.Objects.{term, theorem}
 use Rattle.ot_machine.specs.States.{Entry, RunState}
 use Rattle.ot_machine.specs.declared.fault.Fault as code
 use Rattle.ot_machine.specs.Answers.{Makes}
-use Rattle.ot_machine.specs.Rows.{made}
+use Rattle.ot_machine.specs.Rows.{made, theorem_entry}
+use Rattle.ot_machine.specs.Contexts.{given_of}
+use Rattle.ot_machine.specs.declared.context.Given as code_given
+use Rattle.ot_machine.specs.declared.session.Session.{Session}
+use Rattle.ot_machine.specs.Meaning.{origin_of}
 use Rattle.ot_machine.specs.Discharge.{adding, weakened}
 use Rattle.ot_machine.specs.Assumptions.{term_entries, supposing}
-use Rattle.ot_machine.specs.declared.machine.Machine.{Machine}
-use Rattle.ot_machine.specs.declared.session.Session.{Session}
-use Rattle.ot_machine.specs.Meaning.{origin_of, IsOf, Leaves, Traces}
-use Rattle.ot_machine.specs.Stays.{Stays}
-use Rattle.ot_machine.proofs.Kept.{at-Extends, trace-same, traces-grow, grows-on, origin-kept}
-use Rattle.ot_machine.proofs.Turning.{grows-same}
-
--- ---- sessions in which all stays
-pub stays-same : (s : Session) (m : Machine) → IsOf s m → Stays s s m
-stays-same s m h = record { grown = grows-same s; article = refl; run = refl; of = h }
-
-pub leaves-stay : {s t : Session} {m : Machine} → Leaves s t m → Stays s t m
-leaves-stay l = record {
-  grown = record { kernel = l.machine.grown; trace = trace-same _ _ l.machine.trace };
-  article = l.machine.article;
-  run = l.run;
-  of = l.machine.of;
-}
-
-pub traces-stay : {s t : Session} {m : Machine} → Traces s t m → Stays s t m
-traces-stay {s} {t} {m} p = record { grown = traces-grow s t m p; article = p.article; run = p.run; of = p.of }
-
-pub stays-on : {s t u : Session} {m : Machine} → Stays s t m → Stays t u m → Stays s u m
-stays-on p q =
-    record { grown = grows-on p.grown q.grown; article = q.article ∙ p.article; run = q.run ∙ p.run; of = q.of }
-
--- ---- what numbers stand for in them
-module _ (s t : Session) (m : Machine) (h : IsOf s m) (stays : Stays s t m) where
-  pub stays-origin : (i : ℕ) → i < length s.trace → origin_of t i ≡ origin_of s i
-  stays-origin i lt = origin-kept s t h.run stays.grown i lt
-
-  pub stays-theorem : (i : ℕ) → i < length s.kernel.theorems → kernel.theorem_at t.kernel i
-      ≡ kernel.theorem_at s.kernel i
-  stays-theorem i lt = at-Extends s.kernel.theorems t.kernel.theorems stays.grown.kernel.theorems
-      (record { hyps = []; concl = Bound 0 }) i lt
-
-  pub stays-term : (i : ℕ) → i < length s.kernel.terms → kernel.term_at t.kernel i ≡ kernel.term_at s.kernel i
-  stays-term i lt =
-      ap (nameless names)
-      (at-Extends s.kernel.terms t.kernel.terms stays.grown.kernel.terms (NConst [] (TyVar [])) i lt)
-
-  pub stays-terms : (is : List ℕ) → All (λ i. i < length s.kernel.terms) is → map (kernel.term_at t.kernel) is
-      ≡ map (kernel.term_at s.kernel) is
-  stays-terms [] all = refl
-  stays-terms (i ∷ is) all =
-      let a = stays-term i (All-head (λ i. i < length s.kernel.terms) i is all) in
-      let b = stays-terms is (All-tail (λ i. i < length s.kernel.terms) i is all) in
-      λ j. a j ∷ b j
-
-  pub terms-inside : (is : List ℕ) → All (λ i. i < length s.kernel.terms) is → All (λ i. i < length t.kernel.terms) is
-  terms-inside is all = λ i d p. let x = all i d p in omega (arith, x, stays.grown.kernel.terms.longer)
 
 -- ---- one hypothesis more
 abbrev pub proof : Sequent Name → Origin Name → Entry
@@ -82,7 +33,7 @@ stated t o = record { object = term t; origin = o }
 abbrev Rule : Type 0
 Rule = Result (Sequent Name) (Fault Name)
 
-abbrev as_proof : Origin Name → Rule → Result Entry (Fault Name)
+abbrev pub as_proof : Origin Name → Rule → Result Entry (Fault Name)
 as_proof o r = r >>= λ q. Ok (proof q o)
 
 through : (o : Origin Name) (r : Rule) → ((r >>= λ q. Ok (theorem q)) >>= λ x. Ok (record { object = x; origin = o }))
@@ -136,16 +87,10 @@ module _ (q : Sequent Name) (o : Origin Name) (p : Tm Name) (u : Origin Name) wh
     adding-second f e = second-read (Err f) e
 
     module _ (d : Sequent Name) (two : deduct_antisym_rule names a q ≡ Ok d) where
-      third-read : (r : Rule) → eq_mp_rule names d a ≡ r → adding (proof q o) (stated p u) ≡ as_proof added_origin r
-      third-read r e = second-read (Ok d) two ∙ made-eq_mp d a equation_origin assumed_origin
+      pub adding-third : (r : Rule) → eq_mp_rule names d a ≡ r → adding (proof q o) (stated p u)
+          ≡ as_proof added_origin r
+      adding-third r e = second-read (Ok d) two ∙ made-eq_mp d a equation_origin assumed_origin
           ∙ ap (as_proof added_origin) e
-
-      pub adding-third : (f : Fault Name) → eq_mp_rule names d a ≡ Err f → adding (proof q o) (stated p u) ≡ Err f
-      adding-third f e = third-read (Err f) e
-
-      pub adding-ok : (r : Sequent Name) → eq_mp_rule names d a ≡ Ok r → adding (proof q o) (stated p u)
-          ≡ Ok (proof r added_origin)
-      adding-ok r e = third-read (Ok r) e
 
 -- ---- where it is one already
 pub supposing-there : (p : Tm Name) (u : Origin Name) (q : Sequent Name) (o : Origin Name)
@@ -155,6 +100,15 @@ supposing-there p u q o e = ap (λ b. if b then Ok (proof q o) else adding (proo
 pub supposing-lacking : (p : Tm Name) (u : Origin Name) (q : Sequent Name) (o : Origin Name)
     → is_in names p q.hyps ≡ false → supposing (stated p u) (proof q o) ≡ adding (proof q o) (stated p u)
 supposing-lacking p u q o e = ap (λ b. if b then Ok (proof q o) else adding (proof q o) (stated p u)) e
+
+-- the origin beside what was made
+pub with-origin : (t : Session) (result : Result code_given.Given code.Fault) (stated : Rule) (o : Origin Name)
+    → Makes t.kernel (λ g. kernel.theorem_at t.kernel g.th) result stated
+    → IfOk result (λ g. origin_of t g.step ≡ o)
+    → Makes t.kernel (λ g. theorem_entry (given_of t g)) result (as_proof o stated)
+with-origin t (Ok g) stated o h e = ap (as_proof o) h
+    ∙ (λ i. Ok (proof (kernel.theorem_at t.kernel g.th) (sym e i)))
+with-origin t (Err f) stated o h e = (h.0, λ g p. ap (as_proof o) (h.1 g p))
 
 -- the run beside what was made
 pub with-run : {X Y : Type 0} (k : kernel.State) (view : X → Y) (result : Result X code.Fault)

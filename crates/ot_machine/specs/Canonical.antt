@@ -15,9 +15,8 @@ use Rattle.ot_machine.specs.Version5.{canon_ty, var_origin, var_term, const_term
 use Rattle.ot_machine.specs.declared.makers.canonical.Binder.{Binder}
 use Rattle.ot_machine.specs.declared.makers.canonical.Part.{Part}
 use Rattle.ot_machine.specs.declared.makers.canonical.Known.{Known}
-use Rattle.ot_machine.specs.declared.machine.Machine.{Machine}
 use Rattle.ot_machine.specs.declared.session.Session.{Session}
-use Rattle.ot_machine.specs.Meaning.{origin_of, article_of, run_of, IsOf, Grows}
+use Rattle.ot_machine.specs.Meaning.{origin_of}
 
 -- the variables of binders, each with the origin of the one that stands for it, the innermost first
 abbrev pub Binders : Type 0
@@ -43,13 +42,6 @@ binders_at s (b ∷ bs) = (variable_at s.kernel b.variable, origin_of s b.step) 
 -- the binder's numbers are of the session
 abbrev pub IsBinderIn : Session → Binder → Type 0
 IsBinderIn s b = IsKey s.kernel b.variable × (b.step < length s.trace)
-
--- the kernel and the trace grew, and all that the machine and the run stand for stays
-pub record Adds (old new : Session) (m : Machine) : Type 0 where
-  pub grown : Grows old new
-  pub article : article_of new m ≡ article_of old m
-  pub run : run_of new ≡ run_of old
-  pub of : IsOf new m
 
 -- each step that is kept is that of its type
 pub record AreTypes (s : Session) (es : List (ℕ × ℕ)) : Type 0 where

@@ -3,6 +3,7 @@
 
 mod context;
 mod definition_lists;
+mod element;
 mod exports;
 mod fault;
 mod laws;

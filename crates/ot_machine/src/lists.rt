@@ -5,16 +5,17 @@ ghost use Rattle.ot_kernel.specs.State.{name_at, type_at, term_at};
 ghost use Rattle.ot_plain.specs.Hol.{depth_limit};
 ghost use Rattle.ot_machine.specs.Objects.{list as a_list, nesting};
 ghost use Rattle.ot_machine.specs.Meaning.{object_of, origin_of, list_at, lists_of, article_of, IsOf, IsIn, IsListIn};
-ghost use Rattle.ot_machine.specs.Places.{as_name, as_type, as_term, as_each, types_on, terms_on, names_on};
+ghost use Rattle.ot_machine.specs.Places.{as_each, types_on, terms_on, names_on};
 ghost use Rattle.ot_machine.specs.Makers.{consed};
 ghost use Rattle.ot_machine.specs.Rows.{constants_of, origin_at};
 ghost use Rattle.ot_machine.specs.Answers.{Makes};
 
+use crate::element::Element;
 use crate::fault::Fault;
 use crate::machine::Machine;
 use crate::object::{Cell, List, Object};
 use crate::session::Session;
-use ot_plain::{DEPTH_LIMIT, Kind, Memory, NameId};
+use ot_plain::{DEPTH_LIMIT, Memory, NameId};
 use ot_term::TermId;
 use ot_trace::StepId;
 use ot_type::TypeId;
@@ -121,28 +122,7 @@ impl Session {
         ensures inside { IfOk result (λ v. All (λ i. i < length self.now.kernel.types) v.items) }
     {
         let list = self.list_on(machine, place)?;
-        self.types_of(alloc, machine, list)
-    }
-
-    /// The types of a list.
-    fn types_of(&self, alloc: Global, machine: &Machine, list: List) -> Result<Vec<TypeId>, Fault>
-        requires of { IsOf self.now machine.now }
-        requires inside { IsListIn (length machine.now.cells.items) list }
-        ensures found { Makes self.now.kernel (λ v. map (type_at self.now.kernel) v.items) result
-            (as_each as_type (list_at (lists_of self.now machine.now) list)) }
-        ensures inside { IfOk result (λ v. All (λ i. i < length self.now.kernel.types) v.items) }
-    {
-        let mut types = Vec::new(alloc);
-        let mut rest = list;
-        'cells: while let List::Cell(place) = rest {
-            let cell = &machine.cells[place as usize];
-            let Object::Type(ty) = cell.head else {
-                return Err(Fault::WrongKind(Kind::Ty, cell.head.kind()));
-            };
-            types.push(ty)?;
-            rest = cell.tail;
-        }
-        Ok(types)
+        self.each_of(alloc, machine, list)
     }
 
     /// The terms of the list at a place, and its step.
@@ -160,33 +140,7 @@ impl Session {
         ensures step { IfOk result (λ p. p.1 < length self.now.trace) }
     {
         let (list, step) = self.list_entry(machine, place)?;
-        Ok((self.terms_of(alloc, machine, list)?, step))
-    }
-
-    /// The terms of a list.
-    pub(crate) fn terms_of(
-        &self,
-        alloc: Global,
-        machine: &Machine,
-        list: List,
-    ) -> Result<Vec<TermId>, Fault>
-        requires of { IsOf self.now machine.now }
-        requires inside { IsListIn (length machine.now.cells.items) list }
-        ensures found { Makes self.now.kernel (λ v. map (term_at self.now.kernel) v.items) result
-            (as_each as_term (list_at (lists_of self.now machine.now) list)) }
-        ensures inside { IfOk result (λ v. All (λ i. i < length self.now.kernel.terms) v.items) }
-    {
-        let mut terms = Vec::new(alloc);
-        let mut rest = list;
-        'cells: while let List::Cell(place) = rest {
-            let cell = &machine.cells[place as usize];
-            let Object::Term(term) = cell.head else {
-                return Err(Fault::WrongKind(Kind::Tm, cell.head.kind()));
-            };
-            terms.push(term)?;
-            rest = cell.tail;
-        }
-        Ok(terms)
+        Ok((self.each_of(alloc, machine, list)?, step))
     }
 
     /// The names of the list at a place, and its step.
@@ -204,27 +158,30 @@ impl Session {
         ensures step { IfOk result (λ p. p.1 < length self.now.trace) }
     {
         let (list, step) = self.list_entry(machine, place)?;
-        Ok((self.names_of(alloc, machine, list)?, step))
+        Ok((self.each_of(alloc, machine, list)?, step))
     }
 
-    /// The names of a list.
-    fn names_of(&self, alloc: Global, machine: &Machine, list: List) -> Result<Vec<NameId>, Fault>
+    /// The elements of a list, all of one kind.
+    pub(crate) fn each_of<E: Element>(
+        &self,
+        alloc: Global,
+        machine: &Machine,
+        list: List,
+    ) -> Result<Vec<E>, Fault>
         requires of { IsOf self.now machine.now }
         requires inside { IsListIn (length machine.now.cells.items) list }
-        ensures found { Makes self.now.kernel (λ v. map (name_at self.now.kernel) v.items) result
-            (as_each as_name (list_at (lists_of self.now machine.now) list)) }
-        ensures inside { IfOk result (λ v. All (λ i. i < length self.now.kernel.names) v.items) }
+        ensures found { Makes self.now.kernel (λ v. map (E.value_at self.now.kernel) v.items) result
+            (as_each E.as_one (list_at (lists_of self.now machine.now) list)) }
+        ensures inside { IfOk result (λ v. All (E.is_inside self.now.kernel) v.items) }
     {
-        let mut names = Vec::new(alloc);
+        let mut elements = Vec::new(alloc);
         let mut rest = list;
         'cells: while let List::Cell(place) = rest {
             let cell = &machine.cells[place as usize];
-            let Object::Name(name) = cell.head else {
-                return Err(Fault::WrongKind(Kind::Name, cell.head.kind()));
-            };
-            names.push(name)?;
+            let element = E::of(cell.head)?;
+            elements.push(element)?;
             rest = cell.tail;
         }
-        Ok(names)
+        Ok(elements)
     }
 }

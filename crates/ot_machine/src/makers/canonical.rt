@@ -12,8 +12,9 @@ ghost use Rattle.ot_trace.specs.Origins.{Named, make_two, constant_origin};
 ghost use Rattle.ot_view.specs.Nodes.{IsKey};
 ghost use Rattle.ot_machine.specs.Occurrences.{AreOccurrences};
 ghost use Rattle.ot_machine.specs.Version5.{canon_ty, canon_tys, var_origin};
-ghost use Rattle.ot_machine.specs.Canonical.{variable_in, canon_in, binders_at, IsBinderIn, Adds, AreTypes, AreKnown};
+ghost use Rattle.ot_machine.specs.Canonical.{variable_in, canon_in, binders_at, IsBinderIn, AreTypes, AreKnown};
 ghost use Rattle.ot_machine.specs.Meaning.{origin_of, IsOf, Leaves, Traces};
+ghost use Rattle.ot_machine.specs.Stays.{Stays};
 
 use crate::machine::Machine;
 use crate::makers::occurrences::{Occurrence, is_free};
@@ -208,7 +209,7 @@ impl Session {
         ensures made { IfOk result
             (λ i. origin_of self.new i ≡ make_two words.Var (Named (decimal depth ∷ [])) (origin_of self.old ty)) }
         ensures inside { IfOk result (λ i. i < length self.new.trace) }
-        ensures kept { Adds self.old self.new machine.now }
+        ensures kept { Stays self.old self.new machine.now }
     {
         let name = self.numeral(machine, depth)?;
         Ok(self.variable_step(machine, name, ty)?)
@@ -309,7 +310,7 @@ impl Session {
         ensures made { IfOk result (λ i. origin_of self.new i ≡ canon_in depth (binders_at self.old binders.now)
             (named_at self.old.kernel.terms id)) }
         ensures inside { IfOk result (λ i. i < length self.new.trace) }
-        ensures kept { Adds self.old self.new machine.now }
+        ensures kept { Stays self.old self.new machine.now }
         ensures known { OnOk result (AreKnown self.new known.new) }
     {
         let binders = self.binders_within(machine.alloc, binders, id, &mut known.free)?;
@@ -340,7 +341,7 @@ impl Session {
         ensures made { IfOk result (λ i. origin_of self.new i ≡ canon_in depth (binders_at self.old binders.now)
             (named_at self.old.kernel.terms id)) }
         ensures inside { IfOk result (λ i. i < length self.new.trace) }
-        ensures kept { Adds self.old self.new machine.now }
+        ensures kept { Stays self.old self.new machine.now }
         ensures known { OnOk result (AreKnown self.new known.new) }
     {
         match *term_node(&self.kernel, id) {

@@ -13,8 +13,8 @@ ghost use Rattle.ot_machine.specs.Version5.{app, canon_tys};
 ghost use Rattle.ot_machine.specs.OpenTypes.{fun_origin, bool_origin, constant_at, variable_at, term_of, redex};
 ghost use Rattle.ot_machine.specs.OpenTypes.{composed, outcome_at, reduced, returned_origin, opened_origin};
 ghost use Rattle.ot_machine.specs.OpenTypes.{AreConstants, first_origin, second_origin, open_entries};
-ghost use Rattle.ot_machine.specs.Canonical.{Adds};
 ghost use Rattle.ot_machine.specs.Meaning.{article_of, origin_of, run_of, IsOf, Grows, Traces};
+ghost use Rattle.ot_machine.specs.Stays.{Stays};
 ghost use Rattle.ot_machine.specs.Answers.{Makes};
 
 use crate::fault::Fault;
@@ -386,7 +386,7 @@ impl Session {
             (theorem_at self.old.kernel premise).concl) }
         ensures first_step { IfOk result (λ p. p.0 < length self.new.trace) }
         ensures second_step { IfOk result (λ p. p.1 < length self.new.trace) }
-        ensures kept { Adds self.old self.new machine.now }
+        ensures kept { Stays self.old self.new machine.now }
     {
         match *term_node(&self.kernel, self.kernel.concl(premise)) {
             TermNode::App(p, t) => {

@@ -8,6 +8,7 @@ ghost use Rattle.ot_plain.specs.Trees.{Sequent};
 ghost use Rattle.ot_plain.specs.Faults.{Fault as StatedFault};
 ghost use Rattle.ot_kernel.specs.State.{State, term_at, theorem_at};
 ghost use Rattle.ot_kernel.specs.Answers.{Concludes};
+ghost use Rattle.ot_trace.specs.Origins.{Make, from_list};
 ghost use Rattle.ot_machine.specs.Objects.{term};
 ghost use Rattle.ot_machine.specs.Rows.{theorem_entry};
 ghost use Rattle.ot_machine.specs.Discharge.{given_for, adding, weakened};
@@ -152,12 +153,41 @@ impl Session {
         ensures given_step { IfOk result (λ g. g.step < length self.new.trace) }
         ensures stays { Stays self.old self.new machine.now }
     {
-        let assumed = ruled(self.kernel.assume(hyp))?;
-        let assumed_step = self.made_of(machine, Cmd::Assume, &[step])?;
-        let equation = ruled(self.kernel.deduct_antisym(assumed, given.th))?;
-        let equation_step = self.made_of(machine, Cmd::DeductAntisym, &[assumed_step, given.step])?;
-        let th = ruled(self.kernel.eq_mp(equation, assumed))?;
-        let step = self.made_of(machine, Cmd::EqMp, &[equation_step, assumed_step])?;
+        let answer = self.kernel.assume(hyp);
+        let assumed = self.concluded(machine, answer, Cmd::Assume, &[step])?;
+        let answer = self.kernel.deduct_antisym(assumed.th, given.th);
+        let equation = self.concluded(
+            machine,
+            answer,
+            Cmd::DeductAntisym,
+            &[assumed.step, given.step],
+        )?;
+        let answer = self.kernel.eq_mp(equation.th, assumed.th);
+        self.concluded(machine, answer, Cmd::EqMp, &[equation.step, assumed.step])
+    }
+
+    /// What a rule gave, with the step that a word makes of those of its operands.
+    fn concluded(
+        &mut self,
+        machine: &Machine,
+        answer: Result<ThmId, RuleFault>,
+        word: Cmd,
+        operands: &[StepId],
+    ) -> Result<Given, Fault>
+        requires of { IsOf self.old machine.now }
+        requires operands { All (λ i. i < length self.old.trace) operands.now }
+        ensures made { (k : State) (stated : Result (Sequent Name) (StatedFault Name))
+            → Concludes answer stated k self.old.kernel
+            → Makes self.new.kernel (λ g. theorem_at self.new.kernel g.th) result stated }
+        ensures origin { IfOk result
+            (λ g. origin_of self.new g.step ≡ Make word (from_list (map (origin_of self.old) operands.now))) }
+        ensures theorem { (k : State) (stated : Result (Sequent Name) (StatedFault Name))
+            → Concludes answer stated k self.old.kernel → IfOk result (λ g. g.th < length self.new.kernel.theorems) }
+        ensures step { IfOk result (λ g. g.step < length self.new.trace) }
+        ensures stays { Stays self.old self.new machine.now }
+    {
+        let th = ruled(answer)?;
+        let step = self.made_of(machine, word, operands)?;
         Ok(Given { th, step })
     }
 }

@@ -147,7 +147,7 @@ pub fn axiom(
 {
     let concl = session.term_on(machine, 0)?;
     let (list, list_step) = session.list_entry(machine, 1)?;
-    let hyps = session.terms_of(alloc, machine, list)?;
+    let hyps = session.each_of(alloc, machine, list)?;
     let given = session.axiom(machine, ctx, &hyps, list_step, concl)?;
     session.replace(machine, 2, Object::Theorem(given.th), Some(given.step));
     Ok(())

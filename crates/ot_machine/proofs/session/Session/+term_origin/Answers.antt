@@ -11,7 +11,8 @@ use Rattle.ot_machine.specs.declared.makers.canonical.Part.{Part}
 use Rattle.ot_machine.specs.declared.makers.canonical.Binder.{Binder}
 use Rattle.ot_machine.proofs.Kept.{origin-kept, traces-grow}
 use Rattle.ot_machine.proofs.Traced.{traces-on}
-use Rattle.ot_machine.proofs.Canonical.{adds-traces, adds-on, canon-agree, binders-inside}
+use Rattle.ot_machine.proofs.Staying.{traces-stay, stays-on}
+use Rattle.ot_machine.proofs.Canonical.{canon-agree, binders-inside}
 use Rattle.ot_machine.proofs.Canonical.{binders-later, named-later, type-later, name-later, key-later}
 use Rattle.ot_machine.proofs.Canonical.{types-later, terms-later, known-later, terms-insert}
 use Rattle.ot_machine.proofs.Occurrences.{occurrences-later}
@@ -142,7 +143,7 @@ node_origin-returns-in_ok-made_of-in-Abs-clause-made t c =
     let one = c.in_ok-ty-in-Abs.ensures.kept in
     let two = c.in_ok-step-in-Abs.ensures.kept in
     let three = c.in_ok-body-in-Abs.ensures.kept in
-    let grown = (adds-on s t1 t2 m (adds-traces s t1 m one) two).grown in
+    let grown = (stays-on (traces-stay one) two).grown in
     let v = c.in-Abs.v in
     let tree = rw c.in-Abs.is at c.term_node.ensures.tree in
     let below = rw c.in-Abs.is at c.term_node.ensures.inside in
@@ -176,7 +177,7 @@ node_origin-term_origin-requires-in-Abs t c =
     let t2 = c.binder_step.new.self in
     let one = c.in_ok-ty-in-Abs.ensures.kept in
     let two = c.in_ok-step-in-Abs.ensures.kept in
-    let grown = (adds-on s t1 t2 m (adds-traces s t1 m one) two).grown in
+    let grown = (stays-on (traces-stay one) two).grown in
     let below = rw c.in-Abs.is at c.term_node.ensures.inside in
     let items = c.deref.ensures.value ∙ c.in_ok-inner-in-Abs.ensures in
     let binder : Binder = record { variable = c.in-Abs.v; step = c.in_ok-step-in-Abs.step } in

@@ -1,104 +1,70 @@
-use Rattle.std.specs.Prelude.{map}
-use Rattle.std.proofs.Common.{refl, arith}
+use Rattle.std.specs.Prelude.{List, map}
+use Rattle.std.proofs.Common.{refl}
+use Rattle.ot_plain.specs.Names.{Name}
+use Rattle.ot_plain.specs.Trees.{Definition}
 use Rattle.ot_plain.specs.Naming.{names}
 use Rattle.ot_kernel.specs.State.{name_at, variable_at, theorem_at}
-use Rattle.ot_kernel.specs.Defining.{list_definition}
-use Rattle.ot_machine.proofs.Kept.{keeps-same}
+use Rattle.ot_kernel.specs.Defining.{Defining, list_definition}
 use Rattle.ot_machine.proofs.Defined.{list-theorem}
-use Rattle.ot_machine.proofs.Stepped.{steps-grow, article-with, run-same, of-same}
+use Rattle.ot_machine.proofs.Stepped.{steps-grow, article-with, stays-with, stays-beside}
 use Rattle.ot_machine.proofs.Stepped.{defined-of, defined-is, defined-refused, popped}
 use Rattle.ot_machine.proofs.Refusals.{refuses-definition}
 use Rattle.ot_machine.proofs.session.Session.accept_list.Goals as goal
+use Rattle.ot_machine.proofs.session.Session.accept_list.Goals.{Start}
+
+-- what is defined
+abbrev Rule : Start → List (Definition Name) → Defining names
+Rule c ds =
+    let k = c.args.self.now.kernel in
+    list_definition names ds (map (name_at k) c.args.constants.now) (map (variable_at k) c.args.variables.now)
+    (theorem_at k c.args.premise)
 
 pub returns-in_err-push-clause-grown : goal.returns-in_err-push-clause-grown
-returns-in_err-push-clause-grown c =
-    let s = c.args.self.now in
-    steps-grow s s.kernel s.assumption_steps c.push.new.self c.args.machine.now c.requires.of (keeps-same s.kernel)
+returns-in_err-push-clause-grown c = (stays-beside _ _ _ _ c.requires.of refl c.in_err-push.ensures.items).grown
 
 pub returns-in_err-push-clause-of : goal.returns-in_err-push-clause-of
-returns-in_err-push-clause-of c =
-    let s = c.args.self.now in
-    of-same s s.kernel s.assumption_steps c.push.new.self c.args.machine.now c.requires.of (keeps-same s.kernel)
-    (record { assumptions = refl; definitions = refl }) refl c.in_err-push.ensures.items
+returns-in_err-push-clause-of c = (stays-beside _ _ _ _ c.requires.of refl c.in_err-push.ensures.items).of
 
-pub returns-in-Ok-clause-made : goal.returns-in-Ok-clause-made
-returns-in-Ok-clause-made c =
+pub returns-in-Ok : goal.returns-in-Ok
+returns-in-Ok c =
     let s = c.args.self.now in
     let k = s.kernel in
     let l = c.define_list.new.self in
+    let keeps = c.define_list.ensures.keeps in
     let a = c.in-Ok.ensures.defines in
-    defined-is s l s.assumption_steps c.push.new.self c.args.machine.now c.requires.of c.define_list.ensures.keeps a.0
-    c.args.definition c.requires.definition a.2 a.5 refl c.in_ok-push.ensures.items
-    (λ ds. list_definition names ds (map (name_at k) c.args.constants.now) (map (variable_at k) c.args.variables.now)
-    (theorem_at k c.args.premise)) _ a.1
-    (list-theorem k l (map (name_at k) c.args.constants.now) (map (variable_at k) c.args.variables.now)
-    (theorem_at k c.args.premise) a.0 c.in-Ok.theorem a.1 a.3 a.4).0
+    let theorems = list-theorem k l (map (name_at k) c.args.constants.now) (map (variable_at k) c.args.variables.now)
+    (theorem_at k c.args.premise) a.0 c.in-Ok.theorem a.1 a.3 a.4 in
+    record {
+      made = defined-is s l s.assumption_steps c.push.new.self c.args.machine.now c.requires.of keeps a.0
+          c.args.definition c.requires.definition a.2 a.5 refl c.in_ok-push.ensures.items
+          (Rule (goal.at.returns-in-Ok c).Start) _ a.1 theorems.0;
+      refused = tt;
+      theorem = theorems.1;
+      grown = steps-grow s l s.assumption_steps c.push.new.self c.args.machine.now c.requires.of keeps;
+      article = article-with s l s.assumption_steps c.push.new.self c.args.machine.now c.requires.of keeps;
+      of = defined-of s l s.assumption_steps c.push.new.self c.args.machine.now c.requires.of keeps a.0
+          c.args.definition c.requires.definition a.2 a.5 refl c.in_ok-push.ensures.items;
+    }
 
-pub returns-in-Ok-clause-theorem : goal.returns-in-Ok-clause-theorem
-returns-in-Ok-clause-theorem c =
-    let k = c.args.self.now.kernel in
+-- the step is taken off again
+pub returns-in-Err : goal.returns-in-Err
+returns-in-Err c =
+    let s = c.args.self.now in
     let l = c.define_list.new.self in
-    let a = c.in-Ok.ensures.defines in
-    (list-theorem k l (map (name_at k) c.args.constants.now) (map (variable_at k) c.args.variables.now)
-    (theorem_at k c.args.premise) a.0 c.in-Ok.theorem a.1 a.3 a.4).1
-
-pub returns-in-Ok-clause-grown : goal.returns-in-Ok-clause-grown
-returns-in-Ok-clause-grown c =
-    let s = c.args.self.now in
-    steps-grow s c.define_list.new.self s.assumption_steps c.push.new.self c.args.machine.now c.requires.of
-    c.define_list.ensures.keeps
-
-pub returns-in-Ok-clause-article : goal.returns-in-Ok-clause-article
-returns-in-Ok-clause-article c =
-    let s = c.args.self.now in
-    article-with s c.define_list.new.self s.assumption_steps c.push.new.self c.args.machine.now c.requires.of
-    c.define_list.ensures.keeps
-
-pub returns-in-Ok-clause-of : goal.returns-in-Ok-clause-of
-returns-in-Ok-clause-of c =
-    let s = c.args.self.now in
-    let a = c.in-Ok.ensures.defines in
-    defined-of s c.define_list.new.self s.assumption_steps c.push.new.self c.args.machine.now c.requires.of
-    c.define_list.ensures.keeps a.0 c.args.definition c.requires.definition a.2 a.5 refl
-    c.in_ok-push.ensures.items
-
-pub returns-in-Err-clause-made : goal.returns-in-Err-clause-made
-returns-in-Err-clause-made c =
-    let s = c.args.self.now in
-    let k = s.kernel in
-    rw c.from.ensures
-    (refuses-definition c.define_list.new.self _ _ (
-      c.in-Err.ensures.defines.1.0,
-      λ f q. defined-refused s c.requires.of.run
-          (λ ds. list_definition names ds (map (name_at k) c.args.constants.now)
-          (map (variable_at k) c.args.variables.now) (theorem_at k c.args.premise)) c.args.definition f
-          (c.in-Err.ensures.defines.1.1 f q),
-    ) c.in-Err.ensures.symbols)
-
-pub returns-in-Err-clause-refused : goal.returns-in-Err-clause-refused
-returns-in-Err-clause-refused c =
-    let s = c.args.self.now in
-    let items = popped s.definition_steps.items c.push.new.self.items c.pop.new.self.items c.args.definition
-    c.push.new.self.len c.in_ok-push.ensures.items (omega (arith, c.push.new.self.ok.0)) c.pop.ensures.rest in
-    run-same s c.define_list.new.self s.assumption_steps c.pop.new.self c.args.machine.now c.requires.of
-    c.define_list.ensures.keeps c.in-Err.ensures.defines.0.basis refl items
-
-pub returns-in-Err-clause-grown : goal.returns-in-Err-clause-grown
-returns-in-Err-clause-grown c =
-    let s = c.args.self.now in
-    steps-grow s c.define_list.new.self s.assumption_steps c.pop.new.self c.args.machine.now c.requires.of
-    c.define_list.ensures.keeps
-
-pub returns-in-Err-clause-article : goal.returns-in-Err-clause-article
-returns-in-Err-clause-article c =
-    let s = c.args.self.now in
-    article-with s c.define_list.new.self s.assumption_steps c.pop.new.self c.args.machine.now c.requires.of
-    c.define_list.ensures.keeps
-
-pub returns-in-Err-clause-of : goal.returns-in-Err-clause-of
-returns-in-Err-clause-of c =
-    let s = c.args.self.now in
-    let items = popped s.definition_steps.items c.push.new.self.items c.pop.new.self.items c.args.definition
-    c.push.new.self.len c.in_ok-push.ensures.items (omega (arith, c.push.new.self.ok.0)) c.pop.ensures.rest in
-    of-same s c.define_list.new.self s.assumption_steps c.pop.new.self c.args.machine.now c.requires.of
-    c.define_list.ensures.keeps c.in-Err.ensures.defines.0.basis refl items
+    let there = c.in-Err.ensures.defines in
+    let stays = stays-with s l s.assumption_steps c.pop.new.self c.args.machine.now c.requires.of
+    c.define_list.ensures.keeps there.0.basis refl
+    (popped _ c.push.new.self _ _ c.in_ok-push.ensures.items c.pop.ensures.rest) in
+    record {
+      made = rw c.from.ensures
+          (refuses-definition l _ _ (
+            there.1.0,
+            λ f q. defined-refused s c.requires.of.run (Rule (goal.at.returns-in-Err c).Start) c.args.definition f
+                (there.1.1 f q),
+          ) c.in-Err.ensures.symbols);
+      refused = stays.run;
+      theorem = tt;
+      grown = stays.grown;
+      article = stays.article;
+      of = stays.of;
+    }

@@ -1,240 +1,149 @@
-use Rattle.std.specs.Prelude.{Ok}
-use Rattle.std.proofs.Common.{rules, ap, sym, ◌∙◌, ◌<◌, length, arith}
+use Rattle.std.proofs.Common.{rules, ◌≡◌, ◌<◌, length, ap, sym, subst, ◌∙◌}
+use Rattle.ot_plain.specs.Names.{Name}
 use Rattle.ot_plain.specs.Naming.{names}
+use Rattle.ot_plain.specs.Trees.{Sequent}
 use Rattle.ot_plain.specs.Rules.{deduct_antisym_rule, eq_mp_rule}
 use Rattle.ot_plain.specs.declared.command.Cmd.TheVariants as words
 use Rattle.ot_kernel.specs.State.{term_at, theorem_at}
 use Rattle.ot_trace.specs.Origins.{make_one, make_two}
+use Rattle.ot_machine.specs.Answers.{Makes}
+use Rattle.ot_machine.specs.Rows.{theorem_entry}
+use Rattle.ot_machine.specs.Contexts.{given_of}
 use Rattle.ot_machine.specs.Meaning.{origin_of}
+use Rattle.ot_machine.specs.Stays.{Stays}
 use Rattle.ot_machine.proofs.Kept.{leaves, with_kernel}
 use Rattle.ot_machine.proofs.Refusals.{refused}
-use Rattle.ot_machine.proofs.Weakening.{leaves-stay, traces-stay, stays-on, stays-origin, stays-theorem}
-use Rattle.ot_machine.proofs.Weakening.{proof, adding-first, adding-second, adding-third, adding-ok}
+use Rattle.ot_machine.proofs.Staying.{leaves-stay, stays-on, stays-origin, stays-theorem}
+use Rattle.ot_machine.proofs.Weakening.{as_proof, adding-first, adding-second, adding-third, with-origin}
 use Rattle.ot_machine.proofs.session.Session.adding.Goals as goal
+use Rattle.ot_machine.proofs.session.Session.adding.Goals.{Start, After-assume-answer, In_ok-assumed}
+use Rattle.ot_machine.proofs.session.Session.adding.Goals.{After-deduct_antisym-answer}
+use Rattle.ot_machine.proofs.session.Session.adding.Goals.{In_ok-equation, After-eq_mp-answer}
 
+-- ---- all stays in the session after each rule, and after its step
+one : (c : After-assume-answer)
+    → Stays c.args.self.now (with_kernel c.args.self.now c.assume-answer.new.self) c.args.machine.now
+one c = leaves-stay (leaves _ _ _ c.requires.of c.assume-answer.ensures.keeps c.assume-answer.ensures.same)
+
+two : (c : In_ok-assumed) → Stays c.args.self.now c.concluded.new.self c.args.machine.now
+two c = stays-on (one (goal.at.In_ok-assumed c).After-assume-answer) c.in_ok-assumed.ensures.stays
+
+three : (c : After-deduct_antisym-answer)
+    → Stays c.concluded.new.self (with_kernel c.concluded.new.self c.deduct_antisym-answer.new.self)
+    c.args.machine.now
+three c = leaves-stay (leaves _ _ _ c.in_ok-assumed.ensures.stays.of c.deduct_antisym-answer.ensures.keeps
+    c.deduct_antisym-answer.ensures.same)
+
+four : (c : In_ok-equation) → Stays c.concluded.new.self c.concluded-2.new.self c.args.machine.now
+four c = stays-on (three (goal.at.In_ok-equation c).After-deduct_antisym-answer) c.in_ok-equation.ensures.stays
+
+five : (c : After-eq_mp-answer)
+    → Stays c.concluded-2.new.self (with_kernel c.concluded-2.new.self c.eq_mp-answer.new.self) c.args.machine.now
+five c = leaves-stay
+    (leaves _ _ _ c.in_ok-equation.ensures.stays.of c.eq_mp-answer.ensures.keeps c.eq_mp-answer.ensures.same)
+
+-- ---- what the rules make
+abbrev Q : Start → Sequent Name
+Q c = theorem_at c.args.self.now.kernel c.args.given.th
+
+abbrev A : In_ok-assumed → Sequent Name
+A c = theorem_at c.concluded.new.self.kernel c.in_ok-assumed.assumed.th
+
+abbrev D : In_ok-equation → Sequent Name
+D c = theorem_at c.concluded-2.new.self.kernel c.in_ok-equation.equation.th
+
+antisym : (c : In_ok-assumed) → deduct_antisym_rule names (A c) (Q (goal.at.In_ok-assumed c).Start)
+    ≡ deduct_antisym_rule names (A c) (theorem_at c.concluded.new.self.kernel c.args.given.th)
+antisym c = ap (deduct_antisym_rule names (A c))
+    (sym (stays-theorem _ _ _ c.requires.of (two c) c.args.given.th c.requires.theorem))
+
+inside : (c : In_ok-assumed) → c.in_ok-assumed.assumed.th < length c.concluded.new.self.kernel.theorems
+inside c = c.in_ok-assumed.ensures.theorem _ _ c.assume-answer.ensures.concludes
+
+-- ---- refusals
 pub returns-in_err-assumed-clause-made : goal.returns-in_err-assumed-clause-made
 returns-in_err-assumed-clause-made c =
-    let s0 = c.args.self.now in
-    let m = c.args.machine.now in
-    let hyp = c.args.hyp in
-    let g = c.args.given in
-    let p = term_at s0.kernel hyp in
-    let q = theorem_at s0.kernel g.th in
-    let o = origin_of s0 g.step in
-    let u = origin_of s0 c.args.step in
-    let s1 = with_kernel s0 c.assume.new.self in
-    let there = c.in_err-assumed.ensures.made _ _ _ c.assume.ensures.concludes in
-    refused s1.kernel _ _ c.in_err-assumed.field-0.0 _ (search rules)
-    (there.0, λ f e. adding-first q o p u f (there.1 f e))
+    let s = c.args.self.now in
+    let there = c.in_err-assumed.ensures.made _ _ c.assume-answer.ensures.concludes in
+    refused c.concluded.new.self.kernel _ _ c.in_err-assumed.field-0.0 _ (search rules) (
+      there.0,
+      λ f e. adding-first (Q (goal.at.returns-in_err-assumed-clause-made c).Start) (origin_of s c.args.given.step)
+          (term_at s.kernel c.args.hyp) (origin_of s c.args.step) f (there.1 f e),
+    )
 
 pub returns-in_err-assumed-clause-stays : goal.returns-in_err-assumed-clause-stays
 returns-in_err-assumed-clause-stays c =
-    leaves-stay (leaves _ _ _ c.requires.of c.assume.ensures.keeps c.assume.ensures.same)
-
-pub returns-in_err-assumed_step-clause-stays : goal.returns-in_err-assumed_step-clause-stays
-returns-in_err-assumed_step-clause-stays c =
-    stays-on (leaves-stay (leaves _ _ _ c.requires.of c.assume.ensures.keeps c.assume.ensures.same))
-    (traces-stay c.in_err-assumed_step.ensures.kept)
+    stays-on (one (goal.at.returns-in_err-assumed-clause-stays c).After-assume-answer) c.in_err-assumed.ensures.stays
 
 pub returns-in_err-equation-clause-made : goal.returns-in_err-equation-clause-made
 returns-in_err-equation-clause-made c =
-    let s0 = c.args.self.now in
-    let m = c.args.machine.now in
-    let hyp = c.args.hyp in
-    let g = c.args.given in
-    let p = term_at s0.kernel hyp in
-    let q = theorem_at s0.kernel g.th in
-    let o = origin_of s0 g.step in
-    let u = origin_of s0 c.args.step in
-    let s1 = with_kernel s0 c.assume.new.self in
-    let made-assumed = c.in_ok-assumed.ensures.made _ _ _ c.assume.ensures.concludes in
-    let inside-assumed = c.in_ok-assumed.ensures.inside _ _ _ c.assume.ensures.concludes in
-    let s2 = c.made_of.new.self in
-    let one = leaves-stay (leaves _ _ _ c.requires.of c.assume.ensures.keeps c.assume.ensures.same) in
-    let two = traces-stay c.in_ok-assumed_step.ensures.kept in
-    let s3 = with_kernel s2 c.deduct_antisym.new.self in
-    let there = c.in_err-equation.ensures.made _ _ _ c.deduct_antisym.ensures.concludes in
-    let a = stays-theorem s1 s2 m one.of two c.in_ok-assumed.assumed inside-assumed in
-    let q2 = stays-theorem s0 s2 m c.requires.of (stays-on one two) g.th c.requires.theorem in
-    refused s3.kernel _ _ c.in_err-equation.field-0.0 _ (search rules) (
+    let at = goal.at.returns-in_err-equation-clause-made c in
+    let s = c.args.self.now in
+    let there = c.in_err-equation.ensures.made _ _ c.deduct_antisym-answer.ensures.concludes in
+    refused c.concluded-2.new.self.kernel _ _ c.in_err-equation.field-0.0 _ (search rules) (
       there.0,
-      λ f e. adding-second q o p u (theorem_at s1.kernel c.in_ok-assumed.assumed) made-assumed f
-          ((λ i. deduct_antisym_rule names (sym a i) (sym q2 i)) ∙ there.1 f e),
+      λ f e. adding-second (Q at.Start) (origin_of s c.args.given.step) (term_at s.kernel c.args.hyp)
+          (origin_of s c.args.step) (A at.In_ok-assumed)
+          (c.in_ok-assumed.ensures.made _ _ c.assume-answer.ensures.concludes) f
+          (antisym at.In_ok-assumed ∙ there.1 f e),
     )
 
 pub returns-in_err-equation-clause-stays : goal.returns-in_err-equation-clause-stays
 returns-in_err-equation-clause-stays c =
-    let one = leaves-stay (leaves _ _ _ c.requires.of c.assume.ensures.keeps c.assume.ensures.same) in
-    let two = traces-stay c.in_ok-assumed_step.ensures.kept in
-    stays-on (stays-on one two)
-    (leaves-stay (leaves _ _ _ two.of c.deduct_antisym.ensures.keeps c.deduct_antisym.ensures.same))
+    let at = goal.at.returns-in_err-equation-clause-stays c in
+    stays-on (stays-on (two at.In_ok-assumed) (three at.After-deduct_antisym-answer)) c.in_err-equation.ensures.stays
 
-pub returns-in_err-equation_step-clause-stays : goal.returns-in_err-equation_step-clause-stays
-returns-in_err-equation_step-clause-stays c =
-    let one = leaves-stay (leaves _ _ _ c.requires.of c.assume.ensures.keeps c.assume.ensures.same) in
-    let two = traces-stay c.in_ok-assumed_step.ensures.kept in
-    let three = leaves-stay (leaves _ _ _ two.of c.deduct_antisym.ensures.keeps c.deduct_antisym.ensures.same) in
-    stays-on (stays-on (stays-on one two) three) (traces-stay c.in_err-equation_step.ensures.kept)
-
-pub returns-in_err-th-clause-made : goal.returns-in_err-th-clause-made
-returns-in_err-th-clause-made c =
-    let s0 = c.args.self.now in
-    let m = c.args.machine.now in
-    let hyp = c.args.hyp in
-    let g = c.args.given in
-    let p = term_at s0.kernel hyp in
-    let q = theorem_at s0.kernel g.th in
-    let o = origin_of s0 g.step in
-    let u = origin_of s0 c.args.step in
-    let s1 = with_kernel s0 c.assume.new.self in
-    let made-assumed = c.in_ok-assumed.ensures.made _ _ _ c.assume.ensures.concludes in
-    let inside-assumed = c.in_ok-assumed.ensures.inside _ _ _ c.assume.ensures.concludes in
-    let s2 = c.made_of.new.self in
-    let s3 = with_kernel s2 c.deduct_antisym.new.self in
-    let made-equation = c.in_ok-equation.ensures.made _ _ _ c.deduct_antisym.ensures.concludes in
-    let inside-equation = c.in_ok-equation.ensures.inside _ _ _ c.deduct_antisym.ensures.concludes in
-    let s4 = c.made_of-2.new.self in
-    let one = leaves-stay (leaves _ _ _ c.requires.of c.assume.ensures.keeps c.assume.ensures.same) in
-    let two = traces-stay c.in_ok-assumed_step.ensures.kept in
-    let three = leaves-stay (leaves _ _ _ two.of c.deduct_antisym.ensures.keeps c.deduct_antisym.ensures.same) in
-    let four = traces-stay c.in_ok-equation_step.ensures.kept in
-    let s5 = with_kernel s4 c.eq_mp.new.self in
-    let there = c.in_err-th.ensures.made _ _ _ c.eq_mp.ensures.concludes in
-    let a = stays-theorem s1 s2 m one.of two c.in_ok-assumed.assumed inside-assumed in
-    let q2 = stays-theorem s0 s2 m c.requires.of (stays-on one two) g.th c.requires.theorem in
-    let a4 = stays-theorem s1 s4 m one.of (stays-on two (stays-on three four)) c.in_ok-assumed.assumed
-    inside-assumed in
-    let d4 = stays-theorem s3 s4 m three.of four c.in_ok-equation.equation inside-equation in
-    refused s5.kernel _ _ c.in_err-th.field-0.0 _ (search rules) (
-      there.0,
-      λ f e. adding-third q o p u (theorem_at s1.kernel c.in_ok-assumed.assumed) made-assumed
-          (theorem_at s3.kernel c.in_ok-equation.equation) ((λ i. deduct_antisym_rule names (sym a i) (sym q2 i))
-          ∙ made-equation) f ((λ i. eq_mp_rule names (sym d4 i) (sym a4 i)) ∙ there.1 f e),
-    )
-
-pub returns-in_err-th-clause-stays : goal.returns-in_err-th-clause-stays
-returns-in_err-th-clause-stays c =
-    let one = leaves-stay (leaves _ _ _ c.requires.of c.assume.ensures.keeps c.assume.ensures.same) in
-    let two = traces-stay c.in_ok-assumed_step.ensures.kept in
-    let three = leaves-stay (leaves _ _ _ two.of c.deduct_antisym.ensures.keeps c.deduct_antisym.ensures.same) in
-    let four = traces-stay c.in_ok-equation_step.ensures.kept in
-    stays-on (stays-on (stays-on (stays-on one two) three) four)
-    (leaves-stay (leaves _ _ _ four.of c.eq_mp.ensures.keeps c.eq_mp.ensures.same))
-
-pub returns-in_err-step-clause-stays : goal.returns-in_err-step-clause-stays
-returns-in_err-step-clause-stays c =
-    let one = leaves-stay (leaves _ _ _ c.requires.of c.assume.ensures.keeps c.assume.ensures.same) in
-    let two = traces-stay c.in_ok-assumed_step.ensures.kept in
-    let three = leaves-stay (leaves _ _ _ two.of c.deduct_antisym.ensures.keeps c.deduct_antisym.ensures.same) in
-    let four = traces-stay c.in_ok-equation_step.ensures.kept in
-    let five = leaves-stay (leaves _ _ _ four.of c.eq_mp.ensures.keeps c.eq_mp.ensures.same) in
-    stays-on (stays-on (stays-on (stays-on (stays-on one two) three) four) five)
-    (traces-stay c.in_err-step.ensures.kept)
-
+-- ---- in the end
 pub returns-clause-made : goal.returns-clause-made
 returns-clause-made c =
-    let s0 = c.args.self.now in
-    let m = c.args.machine.now in
-    let hyp = c.args.hyp in
-    let g = c.args.given in
-    let p = term_at s0.kernel hyp in
-    let q = theorem_at s0.kernel g.th in
-    let o = origin_of s0 g.step in
-    let u = origin_of s0 c.args.step in
-    let s1 = with_kernel s0 c.assume.new.self in
-    let made-assumed = c.in_ok-assumed.ensures.made _ _ _ c.assume.ensures.concludes in
-    let inside-assumed = c.in_ok-assumed.ensures.inside _ _ _ c.assume.ensures.concludes in
-    let s2 = c.made_of.new.self in
-    let s3 = with_kernel s2 c.deduct_antisym.new.self in
-    let made-equation = c.in_ok-equation.ensures.made _ _ _ c.deduct_antisym.ensures.concludes in
-    let inside-equation = c.in_ok-equation.ensures.inside _ _ _ c.deduct_antisym.ensures.concludes in
-    let s4 = c.made_of-2.new.self in
-    let s5 = with_kernel s4 c.eq_mp.new.self in
-    let made-th = c.in_ok-th.ensures.made _ _ _ c.eq_mp.ensures.concludes in
-    let inside-th = c.in_ok-th.ensures.inside _ _ _ c.eq_mp.ensures.concludes in
-    let s6 = c.made_of-3.new.self in
-    let one = leaves-stay (leaves _ _ _ c.requires.of c.assume.ensures.keeps c.assume.ensures.same) in
-    let two = traces-stay c.in_ok-assumed_step.ensures.kept in
-    let three = leaves-stay (leaves _ _ _ two.of c.deduct_antisym.ensures.keeps c.deduct_antisym.ensures.same) in
-    let four = traces-stay c.in_ok-equation_step.ensures.kept in
-    let five = leaves-stay (leaves _ _ _ four.of c.eq_mp.ensures.keeps c.eq_mp.ensures.same) in
-    let six = traces-stay c.in_ok-step.ensures.kept in
-    let a = stays-theorem s1 s2 m one.of two c.in_ok-assumed.assumed inside-assumed in
-    let q2 = stays-theorem s0 s2 m c.requires.of (stays-on one two) g.th c.requires.theorem in
-    let a4 = stays-theorem s1 s4 m one.of (stays-on two (stays-on three four)) c.in_ok-assumed.assumed
-    inside-assumed in
-    let d4 = stays-theorem s3 s4 m three.of four c.in_ok-equation.equation inside-equation in
-    let r6 = stays-theorem s5 s6 m five.of six c.in_ok-th.th inside-th in
-    let step = c.in_ok-assumed_step.ensures.made
-    ∙ ap (make_one words.Assume) (stays-origin s0 s1 m c.requires.of one c.args.step c.requires.step) in
-    let given = stays-origin s0 s3 m c.requires.of (stays-on (stays-on one two) three) g.step c.requires.given_step in
-    let step3 = stays-origin s2 s3 m two.of three c.in_ok-assumed_step.assumed_step
-    c.in_ok-assumed_step.ensures.inside ∙ step in
-    let step5 = stays-origin s2 s5 m two.of (stays-on three (stays-on four five)) c.in_ok-assumed_step.assumed_step
-    c.in_ok-assumed_step.ensures.inside ∙ step in
-    let equation = c.in_ok-equation_step.ensures.made ∙ (λ i. make_two words.DeductAntisym (step3 i) (given i)) in
-    let equation5 = stays-origin s4 s5 m four.of five c.in_ok-equation_step.equation_step
-    c.in_ok-equation_step.ensures.inside ∙ equation in
-    let last = c.in_ok-step.ensures.made ∙ (λ i. make_two words.EqMp (equation5 i) (step5 i)) in
-    adding-ok q o p u (theorem_at s1.kernel c.in_ok-assumed.assumed) made-assumed
-    (theorem_at s3.kernel c.in_ok-equation.equation) ((λ i. deduct_antisym_rule names (sym a i) (sym q2 i))
-    ∙ made-equation)
-    (theorem_at s5.kernel c.in_ok-th.th) ((λ i. eq_mp_rule names (sym d4 i) (sym a4 i)) ∙ made-th)
-    ∙ (λ i. Ok (proof (sym r6 i) (sym last i)))
+    let at = goal.at.returns-clause-made c in
+    let s = c.args.self.now in
+    let t = c.concluded-3.new.self in
+    let here = three at.After-deduct_antisym-answer in
+    let last = five at.After-eq_mp-answer in
+    let of2 = c.in_ok-assumed.ensures.stays.of in
+    let step = c.in_ok-assumed.assumed.step in
+    let assumed = c.in_ok-assumed.ensures.origin
+    ∙ ap (make_one words.Assume)
+    (stays-origin _ _ _ c.requires.of (one at.After-assume-answer) c.args.step c.requires.step) in
+    let first = stays-origin _ _ _ of2 here step c.in_ok-assumed.ensures.step ∙ assumed in
+    let given = stays-origin _ _ _ c.requires.of (stays-on (two at.In_ok-assumed) here) c.args.given.step
+    c.requires.given_step in
+    let equation = stays-origin _ _ _ c.in_ok-equation.ensures.stays.of last c.in_ok-equation.equation.step
+    c.in_ok-equation.ensures.step ∙ c.in_ok-equation.ensures.origin
+    ∙ (λ i. make_two words.DeductAntisym (first i) (given i)) in
+    let second = stays-origin _ _ _ of2 (stays-on (four at.In_ok-equation) last) step c.in_ok-assumed.ensures.step
+    ∙ assumed in
+    let kept = stays-theorem _ _ _ of2 (four at.In_ok-equation) c.in_ok-assumed.assumed.th
+    (inside at.In_ok-assumed) in
+    let rule = eq_mp_rule names (D at.In_ok-equation) (theorem_at c.concluded-2.new.self.kernel
+    c.in_ok-assumed.assumed.th) in
+    let whole = adding-third (Q at.Start) (origin_of s c.args.given.step) (term_at s.kernel c.args.hyp)
+    (origin_of s c.args.step) (A at.In_ok-assumed)
+    (c.in_ok-assumed.ensures.made _ _ c.assume-answer.ensures.concludes)
+    (D at.In_ok-equation)
+    (antisym at.In_ok-assumed ∙ c.in_ok-equation.ensures.made _ _ c.deduct_antisym-answer.ensures.concludes) rule
+    (ap (eq_mp_rule names (D at.In_ok-equation)) (sym kept))
+    ∙ (λ i. as_proof (make_two words.EqMp (sym equation i) (sym second i)) rule) in
+    subst (Makes t.kernel (λ g. theorem_entry (given_of t g)) c.concluded-3.result) (sym whole)
+    (with-origin t c.concluded-3.result rule _ (c.concluded-3.ensures.made _ _ c.eq_mp-answer.ensures.concludes)
+    c.concluded-3.ensures.origin)
+
+pub returns-clause-theorem : goal.returns-clause-theorem
+returns-clause-theorem c = c.concluded-3.ensures.theorem _ _ c.eq_mp-answer.ensures.concludes
 
 pub returns-clause-stays : goal.returns-clause-stays
 returns-clause-stays c =
-    let one = leaves-stay (leaves _ _ _ c.requires.of c.assume.ensures.keeps c.assume.ensures.same) in
-    let two = traces-stay c.in_ok-assumed_step.ensures.kept in
-    let three = leaves-stay (leaves _ _ _ two.of c.deduct_antisym.ensures.keeps c.deduct_antisym.ensures.same) in
-    let four = traces-stay c.in_ok-equation_step.ensures.kept in
-    let five = leaves-stay (leaves _ _ _ four.of c.eq_mp.ensures.keeps c.eq_mp.ensures.same) in
-    stays-on (stays-on (stays-on (stays-on (stays-on one two) three) four) five)
-    (traces-stay c.in_ok-step.ensures.kept)
+    let at = goal.at.returns-clause-stays c in
+    stays-on (stays-on (stays-on (two at.In_ok-assumed) (four at.In_ok-equation)) (five at.After-eq_mp-answer))
+    c.concluded-3.ensures.stays
 
-pub made_of-requires-clause-of : goal.made_of-requires-clause-of
-made_of-requires-clause-of c = (leaves _ _ _ c.requires.of c.assume.ensures.keeps c.assume.ensures.same).machine.of
+-- ---- what the calls ask
+pub concluded-requires-clause-of : goal.concluded-requires-clause-of
+concluded-requires-clause-of c = (one (goal.at.concluded-requires-clause-of c).After-assume-answer).of
 
-pub made_of-requires-2-clause-of : goal.made_of-requires-2-clause-of
-made_of-requires-2-clause-of c =
-    (leaves _ _ _ c.in_ok-assumed_step.ensures.kept.of c.deduct_antisym.ensures.keeps
-    c.deduct_antisym.ensures.same).machine.of
+pub concluded-requires-2-clause-of : goal.concluded-requires-2-clause-of
+concluded-requires-2-clause-of c = (three (goal.at.concluded-requires-2-clause-of c).After-deduct_antisym-answer).of
 
-pub made_of-requires-3-clause-of : goal.made_of-requires-3-clause-of
-made_of-requires-3-clause-of c =
-    (leaves _ _ _ c.in_ok-equation_step.ensures.kept.of c.eq_mp.ensures.keeps c.eq_mp.ensures.same).machine.of
-
-pub deduct_antisym-requires-clause-lower : goal.deduct_antisym-requires-clause-lower
-deduct_antisym-requires-clause-lower c =
-    let inside : c.in_ok-assumed.assumed < length c.assume.new.self.theorems =
-    c.in_ok-assumed.ensures.inside _ _ _ c.assume.ensures.concludes in
-    let two = traces-stay c.in_ok-assumed_step.ensures.kept in
-    omega (arith, inside, two.grown.kernel.theorems.longer)
-
-pub eq_mp-requires-clause-lower : goal.eq_mp-requires-clause-lower
-eq_mp-requires-clause-lower c =
-    let inside : c.in_ok-equation.equation < length c.deduct_antisym.new.self.theorems =
-    c.in_ok-equation.ensures.inside _ _ _ c.deduct_antisym.ensures.concludes in
-    let four = traces-stay c.in_ok-equation_step.ensures.kept in
-    omega (arith, inside, four.grown.kernel.theorems.longer)
-
-pub eq_mp-requires-clause-top : goal.eq_mp-requires-clause-top
-eq_mp-requires-clause-top c =
-    let inside : c.in_ok-assumed.assumed < length c.assume.new.self.theorems =
-    c.in_ok-assumed.ensures.inside _ _ _ c.assume.ensures.concludes in
-    let two = traces-stay c.in_ok-assumed_step.ensures.kept in
-    let four = traces-stay c.in_ok-equation_step.ensures.kept in
-    omega (
-      arith,
-      inside,
-      two.grown.kernel.theorems.longer,
-      c.deduct_antisym.ensures.keeps.theorems.longer,
-      four.grown.kernel.theorems.longer,
-    )
-
-pub returns-clause-theorem : goal.returns-clause-theorem
-returns-clause-theorem c =
-    let inside : c.in_ok-th.th < length c.eq_mp.new.self.theorems =
-    c.in_ok-th.ensures.inside _ _ _ c.eq_mp.ensures.concludes in
-    let six = traces-stay c.in_ok-step.ensures.kept in
-    omega (arith, inside, six.grown.kernel.theorems.longer)
+pub concluded-requires-3-clause-of : goal.concluded-requires-3-clause-of
+concluded-requires-3-clause-of c = (five (goal.at.concluded-requires-3-clause-of c).After-eq_mp-answer).of

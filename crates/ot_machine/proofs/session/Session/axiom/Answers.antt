@@ -14,7 +14,7 @@ use Rattle.ot_machine.proofs.InContext.{context-kept, of_context-kept}
 use Rattle.ot_machine.proofs.Refusals.{refuses-named}
 use Rattle.ot_machine.proofs.Stated.{on-err-map}
 use Rattle.ot_machine.proofs.Taken.{once, used-refused, used-same}
-use Rattle.ot_machine.proofs.Weakening.{stays-origin, stays-term, stays-terms, terms-inside}
+use Rattle.ot_machine.proofs.Staying.{stays-origin, stays-term, stays-terms, terms-inside}
 use Rattle.ot_machine.proofs.session.Session.axiom.Goals as goal
 
 pub returns-then-not-proper-clause-made : goal.returns-then-not-proper-clause-made

@@ -4,7 +4,7 @@ use Rattle.std.proofs.Common.{sym, ap, ◌∙◌}
 use Rattle.ot_kernel.specs.State.{term_at}
 use Rattle.ot_machine.proofs.Kept.{leaves}
 use Rattle.ot_machine.proofs.Taken.{is_proposition, rule-refuses, rule-of}
-use Rattle.ot_machine.proofs.Weakening.{leaves-stay, stays-on, stays-terms}
+use Rattle.ot_machine.proofs.Staying.{leaves-stay, stays-on, stays-terms}
 use Rattle.ot_machine.proofs.session.Session.is_proper.Goals as goal
 
 pub returns-in_err-proposed-clause-stays : goal.returns-in_err-proposed-clause-stays

@@ -1,219 +1,191 @@
-use Rattle.std.specs.Prelude.{map}
+use Rattle.std.specs.Prelude.{◌≡◌, map}
 use Rattle.std.proofs.Common.{ap, sym, ◌∙◌}
+use Rattle.ot_plain.specs.Names.{Name}
 use Rattle.ot_plain.specs.Naming.{names}
-use Rattle.ot_plain.specs.Trees.{TyOp}
-use Rattle.ot_plain.specs.Hol.{nameless, tys_of_vars}
+use Rattle.ot_plain.specs.Trees.{Ty, TyOp, NApp}
+use Rattle.ot_plain.specs.Hol.{type_of, nameless, tys_of_vars}
 use Rattle.ot_plain.specs.declared.command.Cmd.TheVariants as words
-use Rattle.ot_kernel.specs.State.{name_at, type_at, named_at}
+use Rattle.ot_kernel.specs.State.{name_at, type_at, named_at, theorem_at}
 use Rattle.ot_trace.specs.Origins.{Named, make_two, type_op_origin}
 use Rattle.ot_machine.specs.OpenTypes.{fun_origin, bool_origin, constant_at, returned_origin}
 use Rattle.ot_machine.specs.OpenTypes.{opened_origin, first_origin, second_origin}
 use Rattle.ot_machine.specs.Version5.{canon_ty, canon_tys}
-use Rattle.ot_machine.specs.Meaning.{origin_of}
-use Rattle.ot_machine.proofs.Kept.{origin-kept, traces-grow, grows-on}
+use Rattle.ot_machine.specs.declared.session.Session.{Session}
+use Rattle.ot_machine.specs.Meaning.{origin_of, Traces}
+use Rattle.ot_machine.specs.Stays.{Stays}
+use Rattle.ot_machine.proofs.Kept.{origin-kept}
 use Rattle.ot_machine.proofs.Traced.{traces-on, traced-origin}
-use Rattle.ot_machine.proofs.Canonical.{adds-traces, adds-on, canon-is, type-is, name-later, names-later, type-later}
+use Rattle.ot_machine.proofs.Staying.{traces-stay, stays-on}
+use Rattle.ot_machine.proofs.Canonical.{canon-is, type-is, name-later, names-later, type-later}
 use Rattle.ot_machine.proofs.session.Session.open_steps.Goals as goal
+use Rattle.ot_machine.proofs.session.Session.open_steps.Goals.{Start, In-App, In_ok-predicate-in-App}
+use Rattle.ot_machine.proofs.session.Session.open_steps.Goals.{In_ok-old-in-App, In_ok-list-in-App, In_ok-new-in-App}
+use Rattle.ot_machine.proofs.session.Session.open_steps.Goals.{In_ok-constants-in-App, In_ok-first-in-App}
 
+-- ---- the trace alone grows after the predicate's step
+since_list : (c : In_ok-list-in-App) → Traces c.term_origin.new.self c.type_variables_step.new.self c.args.machine.now
+since_list c = traces-on _ _ _ _ c.in_ok-old-in-App.ensures.kept c.in_ok-list-in-App.ensures.kept
+
+since_new : (c : In_ok-new-in-App) → Traces c.term_origin.new.self c.operated_step.new.self c.args.machine.now
+since_new c = traces-on _ _ _ _ (since_list (goal.at.In_ok-new-in-App c).In_ok-list-in-App)
+    c.in_ok-new-in-App.ensures.kept
+
+since_constants : (c : In_ok-constants-in-App)
+    → Traces c.term_origin.new.self c.constants_between.new.self c.args.machine.now
+since_constants c = traces-on _ _ _ _ (since_new (goal.at.In_ok-constants-in-App c).In_ok-new-in-App)
+    c.in_ok-constants-in-App.ensures.kept
+
+since_first : (c : In_ok-first-in-App) → Traces c.term_origin.new.self c.returned_step.new.self c.args.machine.now
+since_first c = traces-on _ _ _ _ (since_constants (goal.at.In_ok-first-in-App c).In_ok-constants-in-App)
+    c.in_ok-first-in-App.ensures.kept
+
+-- and after that of the old type
+old_new : (c : In_ok-new-in-App) → Traces c.type_origin.new.self c.operated_step.new.self c.args.machine.now
+old_new c = traces-on _ _ _ _ c.in_ok-list-in-App.ensures.kept c.in_ok-new-in-App.ensures.kept
+
+-- all stays
+stays : (c : In_ok-predicate-in-App) (t : Session) → Traces c.term_origin.new.self t c.args.machine.now
+    → Stays c.args.self.now t c.args.machine.now
+stays c t traced = stays-on c.in_ok-predicate-in-App.ensures.kept (traces-stay traced)
+
+-- ---- what the steps stand for
+abbrev Old : In-App → Ty Name
+Old c = type_of names (nameless names (named_at c.args.self.now.kernel.terms c.in-App.t))
+
+abbrev New : Start → Ty Name
+New c =
+    let k = c.args.self.now.kernel in
+    TyOp (name_at k c.args.name) (tys_of_vars names (map (name_at k) c.args.variables.now))
+
+concl_is : (c : In-App) → (let k = c.args.self.now.kernel in
+    (theorem_at k c.args.premise).concl
+    ≡ nameless names (NApp (named_at k.terms c.in-App.p) (named_at k.terms c.in-App.t)))
+concl_is c = sym c.concl.ensures.concl ∙ ap (nameless names) (rw c.in-App.is at c.term_node.ensures.tree)
+
+old_is : (c : In_ok-old-in-App)
+    → origin_of c.type_origin.new.self c.in_ok-old-in-App.old ≡ canon_ty (Old (goal.at.In_ok-old-in-App c).In-App)
+old_is c =
+    let k = c.args.self.now.kernel in
+    c.in_ok-old-in-App.ensures.made
+    ∙ ap canon_ty
+    (type-later c.args.self.now c.term_origin.new.self c.in_ok-predicate-in-App.ensures.kept.grown
+    c.type_of-ty.result c.type_of-ty.ensures.below
+    ∙ type-is (named_at k.terms c.in-App.t) (type_at k c.type_of-ty.result) c.type_of-ty.ensures.typed)
+
+new_is : (c : In_ok-new-in-App)
+    → origin_of c.operated_step.new.self c.in_ok-new-in-App.new ≡ canon_ty (New (goal.at.In_ok-new-in-App c).Start)
+new_is c =
+    let s = c.args.self.now in
+    let at = goal.at.In_ok-new-in-App c in
+    let grown = λ (t : Session) (h : Traces c.term_origin.new.self t c.args.machine.now).
+    (stays at.In_ok-predicate-in-App t h).grown in
+    let name = name-later s _ (grown _ (since_list at.In_ok-list-in-App)) c.args.name c.requires.name in
+    let vars = names-later s _ (grown _ c.in_ok-old-in-App.ensures.kept) c.args.variables.now c.requires.variables in
+    let list = c.in_ok-list-in-App.ensures.made ∙ (λ i. canon_tys (tys_of_vars names (vars i))) in
+    c.in_ok-new-in-App.ensures.made ∙ (λ i. make_two words.OpType (type_op_origin (Named (name i))) (list i))
+
+-- the constants, over the two types
+record AreMade (c : In_ok-constants-in-App) : Type 0 where
+  abs : origin_of c.constants_between.new.self c.in_ok-constants-in-App.constants.abs
+      ≡ constant_at (name_at c.args.self.now.kernel c.args.abs)
+      (fun_origin (canon_ty (Old (goal.at.In_ok-constants-in-App c).In-App))
+      (canon_ty (New (goal.at.In_ok-constants-in-App c).Start)))
+  rep : origin_of c.constants_between.new.self c.in_ok-constants-in-App.constants.rep
+      ≡ constant_at (name_at c.args.self.now.kernel c.args.rep)
+      (fun_origin (canon_ty (New (goal.at.In_ok-constants-in-App c).Start))
+      (canon_ty (Old (goal.at.In_ok-constants-in-App c).In-App)))
+  equality : (let o = canon_ty (Old (goal.at.In_ok-constants-in-App c).In-App) in
+      origin_of c.constants_between.new.self c.in_ok-constants-in-App.constants.equality
+      ≡ constant_at names.equals (fun_origin o (fun_origin o bool_origin)))
+
+made : (c : In_ok-constants-in-App) → AreMade c
+made c =
+    let s = c.args.self.now in
+    let at = goal.at.In_ok-constants-in-App c in
+    let are = c.in_ok-constants-in-App.ensures.made in
+    let grown = (stays at.In_ok-predicate-in-App _ (since_new at.In_ok-new-in-App)).grown in
+    let abs = name-later s _ grown c.args.abs c.requires.abs in
+    let rep = name-later s _ grown c.args.rep c.requires.rep in
+    let old = traced-origin _ _ _ c.in_ok-old-in-App.ensures.kept.of (old_new at.In_ok-new-in-App)
+    c.in_ok-old-in-App.old c.in_ok-old-in-App.ensures.inside ∙ old_is at.In_ok-old-in-App in
+    let new = new_is at.In_ok-new-in-App in
+    record {
+      abs = are.abs ∙ (λ i. constant_at (abs i) (fun_origin (old i) (new i)));
+      rep = are.rep ∙ (λ i. constant_at (rep i) (fun_origin (new i) (old i)));
+      equality = are.equality ∙ (λ i. constant_at names.equals (fun_origin (old i) (fun_origin (old i) bool_origin)));
+    }
+
+-- ---- the two theorems
 pub returns-in_ok-second-in-App-clause-first : goal.returns-in_ok-second-in-App-clause-first
 returns-in_ok-second-in-App-clause-first c =
+    let at = goal.at.returns-in_ok-second-in-App-clause-first c in
     let s = c.args.self.now in
-    let m = c.args.machine.now in
-    let t1 = c.term_origin.new.self in
-    let t2 = c.type_origin.new.self in
-    let t3 = c.type_variables_step.new.self in
-    let t4 = c.operated_step.new.self in
-    let t5 = c.constants_between.new.self in
-    let t6 = c.returned_step.new.self in
-    let t7 = c.opened_step.new.self in
-    let k1 = c.in_ok-predicate-in-App.ensures.kept in
-    let k2 = c.in_ok-old-in-App.ensures.kept in
-    let k3 = c.in_ok-list-in-App.ensures.kept in
-    let k4 = c.in_ok-new-in-App.ensures.kept in
-    let k5 = c.in_ok-constants-in-App.ensures.kept in
-    let k6 = c.in_ok-first-in-App.ensures.kept in
-    let k7 = c.in_ok-second-in-App.ensures.kept in
-    let a1_3 = traces-on t1 t2 t3 m k2 k3 in
-    let a1_4 = traces-on t1 t3 t4 m a1_3 k4 in
-    let a1_5 = traces-on t1 t4 t5 m a1_4 k5 in
-    let a1_6 = traces-on t1 t5 t6 m a1_5 k6 in
-    let a2_4 = traces-on t2 t3 t4 m k3 k4 in
-    let a2_5 = traces-on t2 t4 t5 m a2_4 k5 in
-    let a2_6 = traces-on t2 t5 t6 m a2_5 k6 in
-    let g2 = grows-on k1.grown (traces-grow t1 t2 m k2) in
-    let g3 = grows-on k1.grown (traces-grow t1 t3 m a1_3) in
-    let g4 = grows-on k1.grown (traces-grow t1 t4 m a1_4) in
-    let g5 = grows-on k1.grown (traces-grow t1 t5 m a1_5) in
-    let g6 = grows-on k1.grown (traces-grow t1 t6 m a1_6) in
     let k = s.kernel in
-    let d = c.args.definition in
-    let ab = name_at k c.args.abs in
-    let rp = name_at k c.args.rep in
-    let ty = TyOp (name_at k c.args.name) (tys_of_vars names (map (name_at k) c.args.variables.now)) in
-    let tree = rw c.in-App.is at c.term_node.ensures.tree in
-    let below = rw c.in-App.is at c.term_node.ensures.inside in
-    let u = named_at k.terms c.in-App.t in
-    let p = named_at k.terms c.in-App.p in
-    let concl = sym c.concl.ensures.concl ∙ ap (nameless names) tree in
-    let o2 = c.in_ok-old-in-App.ensures.made
-    ∙ ap canon_ty (type-later s t1 k1.grown c.type_of-ty.result c.type_of-ty.ensures.below
-    ∙ type-is u (type_at k c.type_of-ty.result) c.type_of-ty.ensures.typed) in
-    let o4 = traced-origin t2 t4 m k2.of a2_4 c.in_ok-old-in-App.old c.in_ok-old-in-App.ensures.inside ∙ o2 in
-    let nm = name-later s t3 g3 c.args.name c.requires.name in
-    let vs = names-later s t2 g2 c.args.variables.now c.requires.variables in
-    let ls = c.in_ok-list-in-App.ensures.made ∙ (λ i. canon_tys (tys_of_vars names (vs i))) in
-    let n4 = c.in_ok-new-in-App.ensures.made ∙ (λ i. make_two words.OpType (type_op_origin (Named (nm i))) (ls i)) in
-    let are = c.in_ok-constants-in-App.ensures.made in
-    let ab4 = name-later s t4 g4 c.args.abs c.requires.abs in
-    let rp4 = name-later s t4 g4 c.args.rep c.requires.rep in
-    let a5 = are.abs ∙ (λ i. constant_at (ab4 i) (fun_origin (o4 i) (n4 i))) in
-    let r5 = are.rep ∙ (λ i. constant_at (rp4 i) (fun_origin (n4 i) (o4 i))) in
-    let n5 = traced-origin t4 t5 m k4.of k5 c.in_ok-new-in-App.new c.in_ok-new-in-App.ensures.inside ∙ n4 in
-    let d5 = origin-kept s t5 c.requires.of.run g5 d c.requires.definition in
-    traced-origin t6 t7 m k6.of k7 c.in_ok-first-in-App.first c.in_ok-first-in-App.ensures.inside
-    ∙ c.in_ok-first-in-App.ensures.made ∙ (λ i. returned_origin (d5 i) (a5 i) (r5 i) (n5 i))
-    ∙ ap (first_origin (origin_of s d) ab rp ty) (sym concl)
+    let constants = made at.In_ok-constants-in-App in
+    let new = traced-origin _ _ _ c.in_ok-new-in-App.ensures.kept.of c.in_ok-constants-in-App.ensures.kept
+    c.in_ok-new-in-App.new c.in_ok-new-in-App.ensures.inside ∙ new_is at.In_ok-new-in-App in
+    let grown = (stays at.In_ok-predicate-in-App _ (since_constants at.In_ok-constants-in-App)).grown in
+    let definition = origin-kept s _ c.requires.of.run grown c.args.definition c.requires.definition in
+    traced-origin _ _ _ c.in_ok-first-in-App.ensures.kept.of c.in_ok-second-in-App.ensures.kept
+    c.in_ok-first-in-App.first c.in_ok-first-in-App.ensures.inside ∙ c.in_ok-first-in-App.ensures.made
+    ∙ (λ i. returned_origin (definition i) (constants.abs i) (constants.rep i) (new i))
+    ∙ ap (first_origin (origin_of s c.args.definition) (name_at k c.args.abs) (name_at k c.args.rep) (New at.Start))
+    (sym (concl_is at.In-App))
 
 pub returns-in_ok-second-in-App-clause-second : goal.returns-in_ok-second-in-App-clause-second
 returns-in_ok-second-in-App-clause-second c =
+    let at = goal.at.returns-in_ok-second-in-App-clause-second c in
     let s = c.args.self.now in
-    let m = c.args.machine.now in
-    let t1 = c.term_origin.new.self in
-    let t2 = c.type_origin.new.self in
-    let t3 = c.type_variables_step.new.self in
-    let t4 = c.operated_step.new.self in
-    let t5 = c.constants_between.new.self in
-    let t6 = c.returned_step.new.self in
-    let t7 = c.opened_step.new.self in
-    let k1 = c.in_ok-predicate-in-App.ensures.kept in
-    let k2 = c.in_ok-old-in-App.ensures.kept in
-    let k3 = c.in_ok-list-in-App.ensures.kept in
-    let k4 = c.in_ok-new-in-App.ensures.kept in
-    let k5 = c.in_ok-constants-in-App.ensures.kept in
-    let k6 = c.in_ok-first-in-App.ensures.kept in
-    let k7 = c.in_ok-second-in-App.ensures.kept in
-    let a1_3 = traces-on t1 t2 t3 m k2 k3 in
-    let a1_4 = traces-on t1 t3 t4 m a1_3 k4 in
-    let a1_5 = traces-on t1 t4 t5 m a1_4 k5 in
-    let a1_6 = traces-on t1 t5 t6 m a1_5 k6 in
-    let a2_4 = traces-on t2 t3 t4 m k3 k4 in
-    let a2_5 = traces-on t2 t4 t5 m a2_4 k5 in
-    let a2_6 = traces-on t2 t5 t6 m a2_5 k6 in
-    let g2 = grows-on k1.grown (traces-grow t1 t2 m k2) in
-    let g3 = grows-on k1.grown (traces-grow t1 t3 m a1_3) in
-    let g4 = grows-on k1.grown (traces-grow t1 t4 m a1_4) in
-    let g5 = grows-on k1.grown (traces-grow t1 t5 m a1_5) in
-    let g6 = grows-on k1.grown (traces-grow t1 t6 m a1_6) in
     let k = s.kernel in
-    let d = c.args.definition in
-    let ab = name_at k c.args.abs in
-    let rp = name_at k c.args.rep in
-    let ty = TyOp (name_at k c.args.name) (tys_of_vars names (map (name_at k) c.args.variables.now)) in
-    let tree = rw c.in-App.is at c.term_node.ensures.tree in
-    let below = rw c.in-App.is at c.term_node.ensures.inside in
-    let u = named_at k.terms c.in-App.t in
-    let p = named_at k.terms c.in-App.p in
-    let concl = sym c.concl.ensures.concl ∙ ap (nameless names) tree in
-    let o2 = c.in_ok-old-in-App.ensures.made
-    ∙ ap canon_ty (type-later s t1 k1.grown c.type_of-ty.result c.type_of-ty.ensures.below
-    ∙ type-is u (type_at k c.type_of-ty.result) c.type_of-ty.ensures.typed) in
-    let o4 = traced-origin t2 t4 m k2.of a2_4 c.in_ok-old-in-App.old c.in_ok-old-in-App.ensures.inside ∙ o2 in
-    let nm = name-later s t3 g3 c.args.name c.requires.name in
-    let vs = names-later s t2 g2 c.args.variables.now c.requires.variables in
-    let ls = c.in_ok-list-in-App.ensures.made ∙ (λ i. canon_tys (tys_of_vars names (vs i))) in
-    let n4 = c.in_ok-new-in-App.ensures.made ∙ (λ i. make_two words.OpType (type_op_origin (Named (nm i))) (ls i)) in
+    let t6 = c.returned_step.new.self in
+    let five = c.in_ok-constants-in-App.ensures.kept in
+    let six = c.in_ok-first-in-App.ensures.kept in
     let are = c.in_ok-constants-in-App.ensures.made in
-    let ab4 = name-later s t4 g4 c.args.abs c.requires.abs in
-    let rp4 = name-later s t4 g4 c.args.rep c.requires.rep in
-    let a5 = are.abs ∙ (λ i. constant_at (ab4 i) (fun_origin (o4 i) (n4 i))) in
-    let r5 = are.rep ∙ (λ i. constant_at (rp4 i) (fun_origin (n4 i) (o4 i))) in
-    let e5 = are.equality ∙ (λ i. constant_at names.equals (fun_origin (o4 i) (fun_origin (o4 i) bool_origin))) in
-    let d6 = origin-kept s t6 c.requires.of.run g6 d c.requires.definition in
-    let constants = c.in_ok-constants-in-App.constants in
-    let a6 = traced-origin t5 t6 m k5.of k6 constants.abs are.abs_step ∙ a5 in
-    let r6 = traced-origin t5 t6 m k5.of k6 constants.rep are.rep_step ∙ r5 in
-    let e6 = traced-origin t5 t6 m k5.of k6 constants.equality are.equality_step ∙ e5 in
-    let p6 = traced-origin t1 t6 m k1.of a1_6 c.in_ok-predicate-in-App.predicate
-    c.in_ok-predicate-in-App.ensures.inside ∙ c.in_ok-predicate-in-App.ensures.made ∙ canon-is p in
-    let o6 = traced-origin t2 t6 m k2.of a2_6 c.in_ok-old-in-App.old c.in_ok-old-in-App.ensures.inside ∙ o2 in
-    c.in_ok-second-in-App.ensures.made ∙ (λ i. opened_origin (d6 i) (a6 i) (r6 i) (e6 i) (p6 i) (o6 i))
-    ∙ ap (second_origin (origin_of s d) ab rp ty) (sym concl)
+    let constants = made at.In_ok-constants-in-App in
+    let numbers = c.in_ok-constants-in-App.constants in
+    let grown = (stays at.In_ok-predicate-in-App _ (since_first at.In_ok-first-in-App)).grown in
+    let definition = origin-kept s _ c.requires.of.run grown c.args.definition c.requires.definition in
+    let abs = traced-origin _ t6 _ five.of six numbers.abs are.abs_step ∙ constants.abs in
+    let rep = traced-origin _ t6 _ five.of six numbers.rep are.rep_step ∙ constants.rep in
+    let equality = traced-origin _ t6 _ five.of six numbers.equality are.equality_step ∙ constants.equality in
+    let predicate = traced-origin _ t6 _ c.in_ok-predicate-in-App.ensures.kept.of (since_first at.In_ok-first-in-App)
+    c.in_ok-predicate-in-App.predicate c.in_ok-predicate-in-App.ensures.inside
+    ∙ c.in_ok-predicate-in-App.ensures.made ∙ canon-is (named_at k.terms c.in-App.p) in
+    let later = traces-on _ _ t6 _ (traces-on _ _ _ _ (old_new at.In_ok-new-in-App) five) six in
+    let old = traced-origin _ t6 _ c.in_ok-old-in-App.ensures.kept.of later c.in_ok-old-in-App.old
+    c.in_ok-old-in-App.ensures.inside ∙ old_is at.In_ok-old-in-App in
+    c.in_ok-second-in-App.ensures.made
+    ∙ (λ i. opened_origin (definition i) (abs i) (rep i) (equality i) (predicate i) (old i))
+    ∙ ap (second_origin (origin_of s c.args.definition) (name_at k c.args.abs) (name_at k c.args.rep) (New at.Start))
+    (sym (concl_is at.In-App))
 
 -- ---- the machine stays
 pub returns-in_err-new-in-App-clause-kept : goal.returns-in_err-new-in-App-clause-kept
 returns-in_err-new-in-App-clause-kept c =
-    let s = c.args.self.now in
-    let m = c.args.machine.now in
-    let t1 = c.term_origin.new.self in
-    let t2 = c.type_origin.new.self in
-    let t3 = c.type_variables_step.new.self in
-    let t4 = c.operated_step.new.self in
-    let a3 = traces-on t1 t2 t3 m c.in_ok-old-in-App.ensures.kept c.in_ok-list-in-App.ensures.kept in
-    let a4 = traces-on t1 t3 t4 m a3 c.in_err-new-in-App.ensures.kept in
-    adds-on s t1 t4 m c.in_ok-predicate-in-App.ensures.kept (adds-traces t1 t4 m a4)
+    let at = goal.at.returns-in_err-new-in-App-clause-kept c in
+    stays at.In_ok-predicate-in-App _
+    (traces-on _ _ _ _ (since_list at.In_ok-list-in-App) c.in_err-new-in-App.ensures.kept)
 
 pub returns-in_err-constants-in-App-clause-kept : goal.returns-in_err-constants-in-App-clause-kept
 returns-in_err-constants-in-App-clause-kept c =
-    let s = c.args.self.now in
-    let m = c.args.machine.now in
-    let t1 = c.term_origin.new.self in
-    let t2 = c.type_origin.new.self in
-    let t3 = c.type_variables_step.new.self in
-    let t4 = c.operated_step.new.self in
-    let t5 = c.constants_between.new.self in
-    let a3 = traces-on t1 t2 t3 m c.in_ok-old-in-App.ensures.kept c.in_ok-list-in-App.ensures.kept in
-    let a4 = traces-on t1 t3 t4 m a3 c.in_ok-new-in-App.ensures.kept in
-    let a5 = traces-on t1 t4 t5 m a4 c.in_err-constants-in-App.ensures.kept in
-    adds-on s t1 t5 m c.in_ok-predicate-in-App.ensures.kept (adds-traces t1 t5 m a5)
+    let at = goal.at.returns-in_err-constants-in-App-clause-kept c in
+    stays at.In_ok-predicate-in-App _
+    (traces-on _ _ _ _ (since_new at.In_ok-new-in-App) c.in_err-constants-in-App.ensures.kept)
 
 pub returns-in_err-first-in-App-clause-kept : goal.returns-in_err-first-in-App-clause-kept
 returns-in_err-first-in-App-clause-kept c =
-    let s = c.args.self.now in
-    let m = c.args.machine.now in
-    let t1 = c.term_origin.new.self in
-    let t2 = c.type_origin.new.self in
-    let t3 = c.type_variables_step.new.self in
-    let t4 = c.operated_step.new.self in
-    let t5 = c.constants_between.new.self in
-    let t6 = c.returned_step.new.self in
-    let a3 = traces-on t1 t2 t3 m c.in_ok-old-in-App.ensures.kept c.in_ok-list-in-App.ensures.kept in
-    let a4 = traces-on t1 t3 t4 m a3 c.in_ok-new-in-App.ensures.kept in
-    let a5 = traces-on t1 t4 t5 m a4 c.in_ok-constants-in-App.ensures.kept in
-    let a6 = traces-on t1 t5 t6 m a5 c.in_err-first-in-App.ensures.kept in
-    adds-on s t1 t6 m c.in_ok-predicate-in-App.ensures.kept (adds-traces t1 t6 m a6)
+    let at = goal.at.returns-in_err-first-in-App-clause-kept c in
+    stays at.In_ok-predicate-in-App _
+    (traces-on _ _ _ _ (since_constants at.In_ok-constants-in-App) c.in_err-first-in-App.ensures.kept)
 
 pub returns-in_err-second-in-App-clause-kept : goal.returns-in_err-second-in-App-clause-kept
 returns-in_err-second-in-App-clause-kept c =
-    let s = c.args.self.now in
-    let m = c.args.machine.now in
-    let t1 = c.term_origin.new.self in
-    let t2 = c.type_origin.new.self in
-    let t3 = c.type_variables_step.new.self in
-    let t4 = c.operated_step.new.self in
-    let t5 = c.constants_between.new.self in
-    let t6 = c.returned_step.new.self in
-    let t7 = c.opened_step.new.self in
-    let a3 = traces-on t1 t2 t3 m c.in_ok-old-in-App.ensures.kept c.in_ok-list-in-App.ensures.kept in
-    let a4 = traces-on t1 t3 t4 m a3 c.in_ok-new-in-App.ensures.kept in
-    let a5 = traces-on t1 t4 t5 m a4 c.in_ok-constants-in-App.ensures.kept in
-    let a6 = traces-on t1 t5 t6 m a5 c.in_ok-first-in-App.ensures.kept in
-    let a7 = traces-on t1 t6 t7 m a6 c.in_err-second-in-App.ensures.kept in
-    adds-on s t1 t7 m c.in_ok-predicate-in-App.ensures.kept (adds-traces t1 t7 m a7)
+    let at = goal.at.returns-in_err-second-in-App-clause-kept c in
+    stays at.In_ok-predicate-in-App _
+    (traces-on _ _ _ _ (since_first at.In_ok-first-in-App) c.in_err-second-in-App.ensures.kept)
 
 pub returns-in_ok-second-in-App-clause-kept : goal.returns-in_ok-second-in-App-clause-kept
 returns-in_ok-second-in-App-clause-kept c =
-    let s = c.args.self.now in
-    let m = c.args.machine.now in
-    let t1 = c.term_origin.new.self in
-    let t2 = c.type_origin.new.self in
-    let t3 = c.type_variables_step.new.self in
-    let t4 = c.operated_step.new.self in
-    let t5 = c.constants_between.new.self in
-    let t6 = c.returned_step.new.self in
-    let t7 = c.opened_step.new.self in
-    let a3 = traces-on t1 t2 t3 m c.in_ok-old-in-App.ensures.kept c.in_ok-list-in-App.ensures.kept in
-    let a4 = traces-on t1 t3 t4 m a3 c.in_ok-new-in-App.ensures.kept in
-    let a5 = traces-on t1 t4 t5 m a4 c.in_ok-constants-in-App.ensures.kept in
-    let a6 = traces-on t1 t5 t6 m a5 c.in_ok-first-in-App.ensures.kept in
-    let a7 = traces-on t1 t6 t7 m a6 c.in_ok-second-in-App.ensures.kept in
-    adds-on s t1 t7 m c.in_ok-predicate-in-App.ensures.kept (adds-traces t1 t7 m a7)
+    let at = goal.at.returns-in_ok-second-in-App-clause-kept c in
+    stays at.In_ok-predicate-in-App _
+    (traces-on _ _ _ _ (since_first at.In_ok-first-in-App) c.in_ok-second-in-App.ensures.kept)

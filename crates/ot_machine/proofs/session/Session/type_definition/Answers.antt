@@ -1,96 +1,77 @@
-use Rattle.std.specs.Prelude.{ℕ, Ok}
+use Rattle.std.specs.Prelude.{◌≡◌, Ok}
 use Rattle.std.proofs.Common.{rules, ◌∷◌, [], ap, sym, subst, ◌∙◌, arith}
-use Rattle.ot_plain.specs.declared.command.Cmd.TheVariants as words
 use Rattle.ot_kernel.specs.State.{name_at, theorem_at}
-use Rattle.ot_trace.specs.Origins.{Named, Define, Outcome, from_list}
+use Rattle.ot_trace.specs.Origins.{Outcome}
 use Rattle.ot_machine.specs.Objects.{theorem}
 use Rattle.ot_machine.specs.Answers.{Refuses}
-use Rattle.ot_machine.specs.Meaning.{run_of}
+use Rattle.ot_machine.specs.Rows.{type_defining}
+use Rattle.ot_machine.specs.Meaning.{article_of, origin_of, run_of, Grows, Traces}
 use Rattle.ot_machine.proofs.Kept.{origin-kept, traces-grow, grows-on}
 use Rattle.ot_machine.proofs.Refusals.{refused}
-use Rattle.ot_machine.proofs.Stated.{on-err, type-same}
+use Rattle.ot_machine.proofs.Stated.{on-err, type_stated, type-same, defining-is, operator-of}
 use Rattle.ot_machine.proofs.Traced.{traces-on, traced-origin}
 use Rattle.ot_machine.proofs.session.Session.type_definition.Goals as goal
+use Rattle.ot_machine.proofs.session.Session.type_definition.Goals.{In_ok-abs_rep_step}
+use Rattle.ot_machine.proofs.session.Session.type_definition.Goals.{In_ok-rep_abs_step, In_ok-abs_rep}
 
-pub returns-in_err-steps-clause-grown : goal.returns-in_err-steps-clause-grown
-returns-in_err-steps-clause-grown c = traces-grow _ _ _ c.in_err-steps.ensures.kept
+-- ---- the steps before the definition is accepted
+traced_first : (c : In_ok-abs_rep_step) → Traces c.args.self.now c.outcome_step.new.self c.args.machine.now
+traced_first c = traces-on _ _ _ _ c.in_ok-steps.ensures.kept c.in_ok-abs_rep_step.ensures.kept
 
-pub returns-in_err-abs_rep_step-clause-grown : goal.returns-in_err-abs_rep_step-clause-grown
-returns-in_err-abs_rep_step-clause-grown c =
-    grows-on (traces-grow _ _ _ c.in_ok-steps.ensures.kept) (traces-grow _ _ _ c.in_err-abs_rep_step.ensures.kept)
+traced : (c : In_ok-rep_abs_step) → Traces c.args.self.now c.outcome_step-2.new.self c.args.machine.now
+traced c = traces-on _ _ _ _ (traced_first (goal.at.In_ok-rep_abs_step c).In_ok-abs_rep_step)
+    c.in_ok-rep_abs_step.ensures.kept
 
-pub returns-in_err-rep_abs_step-clause-grown : goal.returns-in_err-rep_abs_step-clause-grown
-returns-in_err-rep_abs_step-clause-grown c =
-    grows-on (grows-on (traces-grow _ _ _ c.in_ok-steps.ensures.kept)
-    (traces-grow _ _ _ c.in_ok-abs_rep_step.ensures.kept)) (traces-grow _ _ _ c.in_err-rep_abs_step.ensures.kept)
+later : (c : In_ok-rep_abs_step) → origin_of c.outcome_step-2.new.self c.in_ok-steps.steps.definition
+    ≡ origin_of c.type_defining.new.self c.in_ok-steps.steps.definition
+later c = traced-origin _ _ _ c.in_ok-steps.ensures.kept.of
+    (traces-on _ _ _ _ c.in_ok-abs_rep_step.ensures.kept c.in_ok-rep_abs_step.ensures.kept)
+    c.in_ok-steps.steps.definition c.in_ok-steps.ensures.made.definition_step
 
+-- what is stated over them is what was stated at the start
+same : (c : In_ok-rep_abs_step) → (let s = c.args.self.now in
+    let t = c.outcome_step-2.new.self in
+    let a = c.args in
+    type_stated t.kernel a.name a.abs a.rep a.variables.now a.premise (origin_of t c.in_ok-steps.steps.definition)
+    (run_of t)
+    ≡ type_stated s.kernel a.name a.abs a.rep a.variables.now a.premise
+    (type_defining (name_at s.kernel a.name) (name_at s.kernel a.abs) (name_at s.kernel a.rep)
+    (article_of s c.args.machine.now).stack) (run_of s))
+same c =
+    let s = c.args.self.now in
+    let t = c.outcome_step-2.new.self in
+    let origin = later c ∙ defining-is _ _ _ _ _ _ _ c.in_ok-steps.steps c.in_ok-steps.ensures.made
+    (article_of s c.args.machine.now).stack c.requires.list_origin c.requires.premise_origin in
+    type-same t.kernel s.kernel _ _ (run_of t) (run_of s) (traced c).kernel origin (traced c).run c.args.name
+    c.args.abs c.args.rep c.args.variables.now c.args.premise
+
+-- ---- what each step grew by until the end
+from_first : (c : In_ok-abs_rep) → Grows c.outcome_step.new.self c.accept_type.new.self
+from_first c = grows-on (traces-grow _ _ _ c.in_ok-rep_abs_step.ensures.kept) c.in_ok-abs_rep.ensures.grown
+
+-- ---- the theorems
 pub returns-in_err-abs_rep-clause-made : goal.returns-in_err-abs_rep-clause-made
 returns-in_err-abs_rep-clause-made c =
-    let s = c.args.self.now in
-    let m = c.args.machine.now in
-    let t1 = c.type_defining.new.self in
-    let t2 = c.outcome_step.new.self in
-    let t3 = c.outcome_step-2.new.self in
-    let t = c.accept_type.new.self in
-    let one = c.in_ok-steps.ensures.kept in
-    let two = c.in_ok-abs_rep_step.ensures.kept in
-    let three = c.in_ok-rep_abs_step.ensures.kept in
-    let traced = traces-on s t2 t3 m (traces-on s t1 t2 m one two) three in
-    let d = c.in_ok-steps.steps in
-    let made = c.in_ok-steps.ensures.made in
-    let later = traced-origin t1 t3 m one.of (traces-on t1 t2 t3 m two three) d.definition made.definition_step in
-    let named = λ (n : ℕ). Named (name_at s.kernel n) in
-    let origin = later ∙ made.definition
-    ∙ (λ i. Define words.DefineTypeOp
-    (from_list (named c.args.name ∷ named c.args.abs ∷ named c.args.rep ∷ c.requires.list_origin i
-    ∷ c.requires.premise_origin i ∷ []))) in
-    let same = type-same t3.kernel s.kernel _ _ (run_of t3) (run_of s) traced.kernel origin traced.run c.args.name
-    c.args.abs c.args.rep c.args.variables.now c.args.premise in
-    refused t.kernel _ _ c.in_err-abs_rep.field-0.0 _ (search rules)
-    (subst (Refuses t.kernel c.in_err-abs_rep.field-0.0) same c.in_err-abs_rep.ensures.made)
-
-pub returns-in_err-abs_rep-clause-refused : goal.returns-in_err-abs_rep-clause-refused
-returns-in_err-abs_rep-clause-refused c =
-    on-err c.from_residual-in_err-abs_rep.result (c.in_err-abs_rep.ensures.refused
-    ∙ c.in_ok-rep_abs_step.ensures.kept.run ∙ c.in_ok-abs_rep_step.ensures.kept.run ∙ c.in_ok-steps.ensures.kept.run)
-
-pub returns-in_err-abs_rep-clause-grown : goal.returns-in_err-abs_rep-clause-grown
-returns-in_err-abs_rep-clause-grown c =
-    grows-on (grows-on
-    (grows-on (traces-grow _ _ _ c.in_ok-steps.ensures.kept)
-    (traces-grow _ _ _ c.in_ok-abs_rep_step.ensures.kept)) (traces-grow _ _ _ c.in_ok-rep_abs_step.ensures.kept))
-    c.in_err-abs_rep.ensures.grown
+    let there = same (goal.at.returns-in_err-abs_rep-clause-made c).In_ok-rep_abs_step in
+    let k = c.accept_type.new.self.kernel in
+    refused k _ _ c.in_err-abs_rep.field-0.0 _ (search rules)
+    (subst (Refuses k c.in_err-abs_rep.field-0.0) there c.in_err-abs_rep.ensures.made)
 
 pub returns-clause-made : goal.returns-clause-made
 returns-clause-made c =
-    let s = c.args.self.now in
-    let m = c.args.machine.now in
-    let t1 = c.type_defining.new.self in
-    let t2 = c.outcome_step.new.self in
-    let t3 = c.outcome_step-2.new.self in
+    let at = goal.at.returns-clause-made c in
     let t = c.accept_type.new.self in
-    let one = c.in_ok-steps.ensures.kept in
-    let two = c.in_ok-abs_rep_step.ensures.kept in
-    let three = c.in_ok-rep_abs_step.ensures.kept in
-    let traced = traces-on s t2 t3 m (traces-on s t1 t2 m one two) three in
-    let d = c.in_ok-steps.steps in
-    let made = c.in_ok-steps.ensures.made in
-    let later = traced-origin t1 t3 m one.of (traces-on t1 t2 t3 m two three) d.definition made.definition_step in
-    let named = λ (n : ℕ). Named (name_at s.kernel n) in
-    let origin = later ∙ made.definition
-    ∙ (λ i. Define words.DefineTypeOp
-    (from_list (named c.args.name ∷ named c.args.abs ∷ named c.args.rep ∷ c.requires.list_origin i
-    ∷ c.requires.premise_origin i ∷ []))) in
-    let same = type-same t3.kernel s.kernel _ _ (run_of t3) (run_of s) traced.kernel origin traced.run c.args.name
-    c.args.abs c.args.rep c.args.variables.now c.args.premise in
-    let there = c.in_ok-abs_rep.ensures in
-    let from2 = grows-on (traces-grow t2 t3 m three) there.grown in
-    let first = origin-kept t2 t two.of.run from2 c.in_ok-abs_rep_step.abs_rep_step
-    c.in_ok-abs_rep_step.ensures.inside ∙ c.in_ok-abs_rep_step.ensures.made ∙ ap (Outcome 1) (sym later) in
-    let second = origin-kept t3 t three.of.run there.grown c.in_ok-rep_abs_step.rep_abs_step
-    c.in_ok-rep_abs_step.ensures.inside ∙ c.in_ok-rep_abs_step.ensures.made
-    ∙ ap (Outcome 2) (traced-origin t1 t2 m one.of two d.definition made.definition_step ∙ sym later) in
-    sym same ∙ there.made
+    let one = c.in_ok-steps.ensures in
+    let two = c.in_ok-abs_rep_step.ensures in
+    let three = c.in_ok-rep_abs_step.ensures in
+    let there = later at.In_ok-rep_abs_step in
+    let first = origin-kept _ t two.kept.of.run (from_first at.In_ok-abs_rep) c.in_ok-abs_rep_step.abs_rep_step
+    two.inside ∙ two.made ∙ ap (Outcome 1) (sym there) in
+    let second = origin-kept _ t three.kept.of.run c.in_ok-abs_rep.ensures.grown c.in_ok-rep_abs_step.rep_abs_step
+    three.inside ∙ three.made
+    ∙ ap (Outcome 2)
+    (traced-origin _ _ _ one.kept.of two.kept c.in_ok-steps.steps.definition one.made.definition_step ∙ sym there) in
+    sym (same at.In_ok-rep_abs_step) ∙ c.in_ok-abs_rep.ensures.made
     ∙ (λ i. Ok (
       record { object = theorem (theorem_at t.kernel c.in_ok-abs_rep.abs_rep); origin = sym first i }
           ∷ record { object = theorem (theorem_at t.kernel c.in_ok-abs_rep.rep_abs); origin = sym second i }
@@ -100,35 +81,38 @@ returns-clause-made c =
 
 pub returns-clause-operator : goal.returns-clause-operator
 returns-clause-operator c =
-    let m = c.args.machine.now in
-    let t1 = c.type_defining.new.self in
-    let t2 = c.outcome_step.new.self in
-    let t3 = c.outcome_step-2.new.self in
-    let t = c.accept_type.new.self in
-    let one = c.in_ok-steps.ensures.kept in
-    let two = c.in_ok-abs_rep_step.ensures.kept in
-    let three = c.in_ok-rep_abs_step.ensures.kept in
     let there = c.in_ok-abs_rep.ensures in
-    let d = c.in_ok-steps.steps in
-    let made = c.in_ok-steps.ensures.made in
-    let from2 = grows-on (traces-grow t2 t3 m three) there.grown in
-    let from1 = grows-on (traces-grow t1 t2 m two) from2 in
-    record {
-      op = origin-kept t1 t one.of.run from1 d.op made.op_step ∙ made.op;
-      abs = origin-kept t1 t one.of.run from1 d.abs made.abs_step ∙ made.abs;
-      rep = origin-kept t1 t one.of.run from1 d.rep made.rep_step ∙ made.rep;
-      op_step = omega (arith, made.op_step, from1.trace.longer);
-      abs_step = omega (arith, made.abs_step, from1.trace.longer);
-      rep_step = omega (arith, made.rep_step, from1.trace.longer);
-      first = there.first;
-      first_step = omega (arith, c.in_ok-abs_rep_step.ensures.inside, from2.trace.longer);
-      second = there.second;
-      second_step = omega (arith, c.in_ok-rep_abs_step.ensures.inside, there.grown.trace.longer);
-    }
+    let from2 = from_first (goal.at.returns-clause-operator c).In_ok-abs_rep in
+    operator-of _ _ _ _ _ _ _ c.in_ok-steps.steps c.in_ok-steps.ensures.made _ _ _ _ _
+    c.in_ok-steps.ensures.kept.of.run (grows-on (traces-grow _ _ _ c.in_ok-abs_rep_step.ensures.kept) from2)
+    there.first
+    (omega (arith, c.in_ok-abs_rep_step.ensures.inside, from2.trace.longer)) there.second
+    (omega (arith, c.in_ok-rep_abs_step.ensures.inside, there.grown.trace.longer))
+
+-- ---- the session of each answer
+pub returns-in_err-steps-clause-grown : goal.returns-in_err-steps-clause-grown
+returns-in_err-steps-clause-grown c = traces-grow _ _ _ c.in_err-steps.ensures.kept
+
+pub returns-in_err-abs_rep_step-clause-grown : goal.returns-in_err-abs_rep_step-clause-grown
+returns-in_err-abs_rep_step-clause-grown c =
+    traces-grow _ _ _ (traces-on _ _ _ _ c.in_ok-steps.ensures.kept c.in_err-abs_rep_step.ensures.kept)
+
+pub returns-in_err-rep_abs_step-clause-grown : goal.returns-in_err-rep_abs_step-clause-grown
+returns-in_err-rep_abs_step-clause-grown c =
+    let two = traced_first (goal.at.returns-in_err-rep_abs_step-clause-grown c).In_ok-abs_rep_step in
+    traces-grow _ _ _ (traces-on _ _ _ _ two c.in_err-rep_abs_step.ensures.kept)
+
+pub returns-in_err-abs_rep-clause-refused : goal.returns-in_err-abs_rep-clause-refused
+returns-in_err-abs_rep-clause-refused c =
+    on-err c.from_residual-in_err-abs_rep.result (c.in_err-abs_rep.ensures.refused
+    ∙ (traced (goal.at.returns-in_err-abs_rep-clause-refused c).In_ok-rep_abs_step).run)
+
+pub returns-in_err-abs_rep-clause-grown : goal.returns-in_err-abs_rep-clause-grown
+returns-in_err-abs_rep-clause-grown c =
+    grows-on (traces-grow _ _ _ (traced (goal.at.returns-in_err-abs_rep-clause-grown c).In_ok-rep_abs_step))
+    c.in_err-abs_rep.ensures.grown
 
 pub returns-clause-grown : goal.returns-clause-grown
 returns-clause-grown c =
-    grows-on (grows-on
-    (grows-on (traces-grow _ _ _ c.in_ok-steps.ensures.kept)
-    (traces-grow _ _ _ c.in_ok-abs_rep_step.ensures.kept)) (traces-grow _ _ _ c.in_ok-rep_abs_step.ensures.kept))
+    grows-on (traces-grow _ _ _ (traced (goal.at.returns-clause-grown c).In_ok-rep_abs_step))
     c.in_ok-abs_rep.ensures.grown

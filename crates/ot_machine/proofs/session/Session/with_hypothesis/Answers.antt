@@ -4,7 +4,8 @@ use Rattle.ot_machine.specs.Answers.{Makes}
 use Rattle.ot_machine.specs.Rows.{theorem_entry}
 use Rattle.ot_machine.specs.Contexts.{given_of}
 use Rattle.ot_machine.specs.Meaning.{origin_of}
-use Rattle.ot_machine.proofs.Weakening.{stays-same, supposing-there, supposing-lacking}
+use Rattle.ot_machine.proofs.Staying.{stays-same}
+use Rattle.ot_machine.proofs.Weakening.{supposing-there, supposing-lacking}
 use Rattle.ot_machine.proofs.session.Session.with_hypothesis.Goals as goal
 
 pub returns-then-has_hyp-clause-made : goal.returns-then-has_hyp-clause-made
