@@ -23,9 +23,9 @@ use Rattle.ot_subst.proofs.Walked.{no_clash-Grows}
 use Rattle.ot_plain.proofs.Members.{IsMember-cases, IsMember-left, IsMember-map, IsMember-map_back, IsMember-right}
 
 -- the steps of a walk that gave a result
-pub counts-walked : (t u : TermTable) (s : Substitution) (r : List (VarKey × VarKey)) (m0 m1 : List (ℕ × ℕ))
-    (n0 n1 : ℕ) (x : Named ℕ) (k q : ℕ) → IsWalked t u s r m0 m1 n0 n1 x k q → IsCounted t s r m0 n0 n1 x k
-counts-walked t u s r m0 m1 n0 n1 x k q a nil h = record {
+pub counts-walked : {t u : TermTable} {s : Substitution} {r : List (VarKey × VarKey)} {m0 m1 : List (ℕ × ℕ)}
+    {n0 n1 : ℕ} {x : Named ℕ} {k q : ℕ} → IsWalked t u s r m0 m1 n0 n1 x k q → IsCounted t s r m0 n0 n1 x k
+counts-walked {t} {u} {s} {r} {m0} {m1} {n0} {n1} {x} {k} {q} a nil h = record {
   terms = keys m1;
   distinct = a.memory.distinct;
   known = λ n m.
@@ -38,10 +38,10 @@ counts-walked t u s r m0 m1 n0 n1 x k q a nil h = record {
 }
 
 -- ---- the parts of an application
-pub counts-left : (t : TermTable) (s : Substitution) (r : List (VarKey × VarKey)) (m0 : List (ℕ × ℕ)) (n0 n1 f x : ℕ)
-    → IsCounted t s r m0 n0 n1 (term_at t.terms f) (suc f)
+pub counts-left : {t : TermTable} (s : Substitution) {r : List (VarKey × VarKey)} {m0 : List (ℕ × ℕ)} {n0 n1 : ℕ}
+    (f x : ℕ) → IsCounted t s r m0 n0 n1 (term_at t.terms f) (suc f)
     → IsCounted t s r m0 n0 n1 (NApp (term_at t.terms f) (term_at t.terms x)) (suc (max f x))
-counts-left t s r m0 n0 n1 f x a nil h =
+counts-left {t} s f x a nil h =
     let c = a nil h.0 in
     record {
       terms = c.terms;
@@ -58,11 +58,11 @@ counts-left t s r m0 n0 n1 f x a nil h =
       most = c.most;
     }
 
-pub counts-right : (t u : TermTable) (g : Grows t u) (s : Substitution) (r : List (VarKey × VarKey))
-    (ready : AreReady t s r) (m0 m1 : List (ℕ × ℕ)) (n0 n1 n2 f x q : ℕ) → x < length t.terms
+pub counts-right : {t u : TermTable} (g : Grows t u) {s : Substitution} {r : List (VarKey × VarKey)}
+    (ready : AreReady t s r) {m0 m1 : List (ℕ × ℕ)} {n0 n1 n2 f x q : ℕ} → x < length t.terms
     → IsWalked t u s r m0 m1 n0 n1 (term_at t.terms f) (suc f) q → IsCounted u s r m1 n1 n2 (term_at u.terms x)
     (suc x) → IsCounted t s r m0 n0 n2 (NApp (term_at t.terms f) (term_at t.terms x)) (suc (max f x))
-counts-right t u g s r ready m0 m1 n0 n1 n2 f x q xin a b nil h =
+counts-right {t} {u} g {s} {r} ready {m0} {m1} {f = f} {x} xin a b nil h =
     let c = b nil (no_clash-Grows t u g s ready.subst x xin h.1) in
     let first = a.counted nil h.0 in
     record {
@@ -100,11 +100,11 @@ counts-right t u g s r ready m0 m1 n0 n1 n2 f x q xin a b nil h =
     }
 
 -- ---- the body of an abstraction
-pub counts-body : (t w : TermTable) (g : Grows t w) (s : Substitution) (r : List (VarKey × VarKey))
-    (ready : AreReady t s r) (v : VarKey) (m0 : List (ℕ × ℕ)) (n0 n1 body : ℕ) → body < length t.terms
+pub counts-body : {t w : TermTable} (g : Grows t w) {s : Substitution} {r : List (VarKey × VarKey)}
+    (ready : AreReady t s r) (v : VarKey) {m0 : List (ℕ × ℕ)} {n0 n1 body : ℕ} → body < length t.terms
     → IsCounted w s r m0 n0 n1 (term_at w.terms body) (suc body)
     → IsCounted t s r m0 n0 n1 (NAbs (variable_of t.types v) (term_at t.terms body)) (suc body)
-counts-body t w g s r ready v m0 n0 n1 body bin a nil h =
+counts-body {t} {w} g {s} {r} ready v {body = body} bin a nil h =
     let c = a nil (no_clash-Grows t w g s ready.subst body bin h.1) in
     record {
       terms = c.terms;
@@ -203,7 +203,7 @@ counted-size t one old from to x k le nil c =
 pub counts-either : {E : Type 0} (res : Result ℕ E) (t u : TermTable) (s : Substitution) (r : List (VarKey × VarKey))
     (m0 m1 : List (ℕ × ℕ)) (n0 n1 : ℕ) (x : Named ℕ) (k : ℕ) → IfOk res (IsWalked t u s r m0 m1 n0 n1 x k)
     → OnErr res (IsCounted t s r m0 n0 n1 x k) → IsCounted t s r m0 n0 n1 x k
-counts-either (Ok q) t u s r m0 m1 n0 n1 x k a b = counts-walked t u s r m0 m1 n0 n1 x k q a
+counts-either (Ok q) t u s r m0 m1 n0 n1 x k a b = counts-walked a
 counts-either (Err e) t u s r m0 m1 n0 n1 x k a b = b
 
 -- no entry of a table stands at two numbers, where none does later

@@ -166,9 +166,9 @@ IsLater-table j ns t u h g le = record {
 }
 
 -- what was found in u holds in v too
-pub known-later : (t u v : TermTable) → Grows t u → Grows u v → (s : Substitution) (r : List (VarKey × VarKey))
+pub known-later : {t u v : TermTable} → Grows t u → Grows u v → {s : Substitution} {r : List (VarKey × VarKey)}
     → AreReady t s r → IsTermTable u
     → (known : Option (Vec VarKey Global)) → AreKnown u s known → AreKnown v s known
-known-later t u v tu uv s r ready table known h =
+known-later {t} {u} {v} tu uv {s} {r} ready table known h =
     let later = AreReady-Grows t u tu s ready.subst r ready table in
     AreKnown-Grows u v uv s later.subst known h

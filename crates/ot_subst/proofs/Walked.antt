@@ -11,7 +11,7 @@ use Rattle.ot_laws.proofs.Tests.{tells_numbers}
 use Rattle.ot_laws.proofs.Size.{part-self}
 use Rattle.ot_laws.proofs.Apply.{abs-kept, abs-renamed}
 use Rattle.ot_term.specs.Term.{TermTable}
-use Rattle.ot_term.specs.TermTable.{term_at, variable_of, Grows}
+use Rattle.ot_term.specs.TermTable.{term_at, variable_of, Grows, IsTermTable}
 use Rattle.ot_term.specs.declared.term.VarKey.{VarKey}
 use Rattle.ot_term.proofs.Growing.{Grows-trans, term_at-Grows, variable_of-Grows}
 use Rattle.ot_subst.specs.Substitution.{Substitution, type_part, named_part, variable_part, IsSubstOf}
@@ -20,7 +20,7 @@ use Rattle.ot_subst.specs.Walk.{carried, becomes, HasForm, IsRenamed, AreReady}
 use Rattle.ot_subst.specs.Clash.{MayStay, IsUnclashing}
 use Rattle.ot_subst.specs.Memory.{keys, IsEntry, IsMemory, IsPartBelow, IsWalked}
 use Rattle.ot_subst.proofs.Variables.{made}
-use Rattle.ot_subst.proofs.Growing.{renaming_of-Grows}
+use Rattle.ot_subst.proofs.Growing.{renaming_of-Grows, AreReady-Grows}
 use Rattle.ot_subst.proofs.Growing.{type_part-Grows, named_part-Grows, becomes_at-Grows, HasForm-Grows}
 use Rattle.ot_plain.proofs.Members.{IsMember-cases, IsMember-left, IsMember-map, IsMember-map_back, IsMember-right}
 
@@ -33,7 +33,9 @@ module _ (t u : TermTable) (g : Grows t u) (s : Substitution) (inside : IsSubstO
       let types = type_part-Grows t u g s inside in
       let terms = named_part-Grows t u g s inside in
       let tree = term_at-Grows t u g x within in
-      let p : HasNoClash numbers (type_part u s) (variable_part u s) (term_at u.terms x) ≡ HasNoClash numbers (type_part t s) (variable_part t s) (term_at t.terms x) = λ i. HasNoClash numbers (types i) (nameless_map numbers (terms i)) (tree i) in
+      let p : HasNoClash numbers (type_part u s) (variable_part u s) (term_at u.terms x)
+      ≡ HasNoClash numbers (type_part t s) (variable_part t s) (term_at t.terms x)
+      = λ i. HasNoClash numbers (types i) (nameless_map numbers (terms i)) (tree i) in
       subst (λ (P : Type 0). P) (sym p) h
 
   module _ (r : List (VarKey × VarKey)) (binders : (p : VarKey × VarKey) → IsMember p r → IsRenamed t s p) where
@@ -61,22 +63,31 @@ pub walked-recalled : (t : TermTable) (s : Substitution) (r : List (VarKey × Va
 walked-recalled t s r es n id q h m =
     record { form = (h.right (id, q) m).form; memory = h; known = λ e i. inl i; counted = λ _ _. omega arith }
 
--- ---- an application: t becomes u, w and z
-module _ (t u w z : TermTable) (tu : Grows t u) (uw : Grows u w) (wz : Grows w z) (s : Substitution)
-    (r : List (VarKey × VarKey)) (ready : AreReady t s r) (later : AreReady u s r) (last : AreReady w s r)
-    (m0 m1 m2 : List (ℕ × ℕ)) (n0 n1 n2 f x g y q : ℕ) (fin : f < length t.terms) (xin : x < length t.terms)
-    (a : IsWalked t u s r m0 m1 n0 n1 (term_at t.terms f) (suc f) g)
-    (b : IsWalked u w s r m1 m2 n1 n2 (term_at u.terms x) (suc x) y) where
+-- ---- an application: its parts were walked, and t became u and then w
+pub record ArePartsWalked (t u w : TermTable) (s : Substitution) (r : List (VarKey × VarKey))
+    (m0 m1 m2 : List (ℕ × ℕ)) (n0 n1 n2 f x g y : ℕ) : Type 0 where
+  pub ready : AreReady t s r
+  pub first_grown : Grows t u
+  pub then_grown : Grows u w
+  pub table : IsTermTable w
+  pub argument_within : x < length t.terms
+  pub first : IsWalked t u s r m0 m1 n0 n1 (term_at t.terms f) (suc f) g
+  pub second : IsWalked u w s r m1 m2 n1 n2 (term_at u.terms x) (suc x) y
+
+module _ {t u w : TermTable} {s : Substitution} {r : List (VarKey × VarKey)} {m0 m1 m2 : List (ℕ × ℕ)}
+    {n0 n1 n2 f x g y : ℕ} (had : ArePartsWalked t u w s r m0 m1 m2 n0 n1 n2 f x g y) where
   pub walked_left : nameless numbers (term_at w.terms g) ≡ becomes t s r (nameless numbers (term_at t.terms f))
-  walked_left = (HasForm-Grows u w uw g (becomes t s r (nameless numbers (term_at t.terms f))) a.form).form
+  walked_left = (HasForm-Grows u w had.then_grown g (becomes t s r (nameless numbers (term_at t.terms f)))
+      had.first.form).form
 
   pub walked_right : nameless numbers (term_at w.terms y) ≡ becomes t s r (nameless numbers (term_at t.terms x))
-  walked_right = b.form.form ∙ becomes_at-Grows t u tu s ready.subst r ready.binders x xin
+  walked_right = had.second.form.form
+      ∙ becomes_at-Grows t u had.first_grown s had.ready.subst r had.ready.binders x had.argument_within
 
   known_part : (e : ℕ × ℕ) → IsMember e m2
       → IsMember e m0 ⊎ IsPartBelow t (NApp (term_at t.terms f) (term_at t.terms x)) (suc (max f x)) e.0
-  known_part e m = elim (b.known e m) [
-    | inl i ↦ elim (a.known e i) [
+  known_part e m = elim (had.second.known e m) [
+    | inl i ↦ elim (had.first.known e i) [
       | inl j ↦ inl j
       | inr p ↦ inr (record {
         below = let l = p.below in omega (arith, l);
@@ -86,9 +97,9 @@ module _ (t u w z : TermTable) (tu : Grows t u) (uw : Grows u w) (wz : Grows w z
     ]
     | inr p ↦
         let l = p.below in
-        let within : e.0 < length t.terms = omega (arith, l, xin) in
-        let key = term_at-Grows t u tu e.0 within in
-        let tree = term_at-Grows t u tu x xin in
+        let within : e.0 < length t.terms = omega (arith, l, had.argument_within) in
+        let key = term_at-Grows t u had.first_grown e.0 within in
+        let tree = term_at-Grows t u had.first_grown x had.argument_within in
         inr (record {
           below = omega (arith, l);
           part = inr
@@ -98,16 +109,25 @@ module _ (t u w z : TermTable) (tu : Grows t u) (uw : Grows u w) (wz : Grows w z
         })
   ]
 
-  pub walked-app : slice_get z.terms q ≡ Some (NApp (term_at w.terms g) (term_at w.terms y))
+  last : AreReady w s r
+  last = AreReady-Grows t w (Grows-trans had.first_grown had.then_grown) s had.ready.subst r had.ready had.table
+
+  pub walked-app : {z : TermTable} → Grows w z → (q : ℕ)
+      → slice_get z.terms q ≡ Some (NApp (term_at w.terms g) (term_at w.terms y))
       → IsWalked t z s r m0 m2 n0 n2 (NApp (term_at t.terms f) (term_at t.terms x)) (suc (max f x)) q
-  walked-app at = record {
+  walked-app {z} wz q at = record {
     form = made z q (NApp (term_at w.terms g) (term_at w.terms y))
         (becomes t s r (nameless numbers (NApp (term_at t.terms f) (term_at t.terms x)))) at
         (λ i. App (walked_left i) (walked_right i));
-    memory = IsMemory-Grows w z wz s last.subst r last.binders m2 b.memory;
+    memory = IsMemory-Grows w z wz s last.subst r last.binders m2 had.second.memory;
     known = known_part;
     counted =
-        λ nil h. omega (arith, a.counted nil h.0, b.counted nil (no_clash-Grows t u tu s ready.subst x xin h.1));
+        λ nil h. omega (
+          arith,
+          had.first.counted nil h.0,
+          had.second.counted nil
+              (no_clash-Grows t u had.first_grown s had.ready.subst x had.argument_within h.1),
+        );
   }
 
 -- ---- an abstraction: its type is instantiated, and t becomes w; then its body, and it becomes x; then z
@@ -206,39 +226,48 @@ distinct-push k q (x ∷ es) d n = (away, distinct-push k q es d.1 (λ i. n (inr
         ]
 
 -- the walk of its parts remembers parts alone
-pub still_absent : (t u : TermTable) (s : Substitution) (r : List (VarKey × VarKey)) (m0 m1 : List (ℕ × ℕ))
-    (n1 n2 id k q : ℕ) (x : Named ℕ) → k ≤ id → IsWalked t u s r m0 m1 n1 n2 x k q → ¬ (IsMember id (keys m0))
+pub still_absent : {t u : TermTable} {s : Substitution} {r : List (VarKey × VarKey)} {m0 m1 : List (ℕ × ℕ)}
+    {n1 n2 id k q : ℕ} {x : Named ℕ} → k ≤ id → IsWalked t u s r m0 m1 n1 n2 x k q → ¬ (IsMember id (keys m0))
     → ¬ (IsMember id (keys m1))
-still_absent t u s r m0 m1 n1 n2 id k q x le a absent i =
+still_absent {m0 = m0} {m1} {id = id} le a absent i =
     let (e, j, p) = IsMember-map_back (λ (z : ℕ × ℕ). z.0) id m1 i in
     elim (a.known e j) [
       | inl b ↦ absent (subst (λ z. IsMember z (keys m0)) p (IsMember-map (λ (z : ℕ × ℕ). z.0) e m0 b))
       | inr b ↦ let l = b.below in absurd (omega (arith, l, p, le))
     ]
 
-module _ (t u : TermTable) (s : Substitution) (r : List (VarKey × VarKey)) (m0 m1 m2 : List (ℕ × ℕ))
-    (n0 n1 n2 id k q : ℕ) (x : Named ℕ) (within : id < length t.terms) (tree : term_at t.terms id ≡ x)
+same_form : (t : TermTable) (s : Substitution) (r : List (VarKey × VarKey)) (id : ℕ) {x : Named ℕ}
+    → term_at t.terms id ≡ x → becomes t s r (nameless numbers x)
+    ≡ becomes t s r (nameless numbers (term_at t.terms id))
+same_form t s r id tree = ap (λ z. becomes t s r (nameless numbers z)) (sym tree)
+
+entry : {t u : TermTable} {s : Substitution} {r : List (VarKey × VarKey)} {id q : ℕ} {x : Named ℕ}
+    → id < length t.terms → term_at t.terms id ≡ x → Grows t u → IsSubstOf t s
+    → ((p : VarKey × VarKey) → IsMember p r → IsRenamed t s p) → HasForm u q (becomes t s r (nameless numbers x))
+    → IsEntry u s r (id, q)
+entry {t} {u} {s} {r} {id} {q} within tree g inside binders form = record {
+  within = omega (arith, within, g.terms.longer);
+  form = subst (HasForm u q) (same_form t s r id tree ∙ sym (becomes_at-Grows t u g s inside r binders id within))
+      form;
+}
+
+module _ {t u : TermTable} {s : Substitution} {r : List (VarKey × VarKey)} {m0 m1 m2 : List (ℕ × ℕ)}
+    {n0 n1 n2 id k q : ℕ} {x : Named ℕ} (within : id < length t.terms) (tree : term_at t.terms id ≡ x)
     (above : k ≤ id) (g : Grows t u) (inside : IsSubstOf t s) (binders : (p : VarKey × VarKey) → IsMember p r
     → IsRenamed t s p) (absent : ¬ (IsMember id (keys m0))) (step : n1 ≤ n0 + 1) (added : m2 ≡ m1 ++ (id, q) ∷ [])
     (a : IsWalked t u s r m0 m1 n1 n2 x k q) where
-  same_form : becomes t s r (nameless numbers x) ≡ becomes t s r (nameless numbers (term_at t.terms id))
-  same_form = ap (λ z. becomes t s r (nameless numbers z)) (sym tree)
-
-  entry : IsEntry u s r (id, q)
-  entry = record {
-    within = omega (arith, within, g.terms.longer);
-    form = subst (HasForm u q) (same_form ∙ sym (becomes_at-Grows t u g s inside r binders id within)) a.form;
-  }
-
   pub walked-whole : IsWalked t u s r m0 m2 n0 n2 (term_at t.terms id) (suc id) q
   walked-whole = record {
-    form = subst (HasForm u q) same_form a.form;
+    form = subst (HasForm u q) (same_form t s r id tree) a.form;
     memory = subst (IsMemory u s r) (sym added) (record {
       right = λ e i. elim (IsMember-cases e m1 ((id, q) ∷ []) i) [
         | inl b ↦ a.memory.right e b
-        | inr b ↦ elim b [ inl c ↦ subst (IsEntry u s r) c entry | inr c ↦ absurd c ]
+        | inr b ↦ elim b [
+          | inl c ↦ subst (IsEntry u s r) c (entry within tree g inside binders a.form)
+          | inr c ↦ absurd c
+        ]
       ];
-      distinct = distinct-push id q m1 a.memory.distinct (still_absent t u s r m0 m1 n1 n2 id k q x above a absent);
+      distinct = distinct-push id q m1 a.memory.distinct (still_absent above a absent);
     });
     known = λ e i. elim (IsMember-cases e m1 ((id, q) ∷ []) (subst (IsMember e) added i)) [
       | inl b ↦ elim (a.known e b) [
