@@ -11,12 +11,12 @@ ghost use Rattle.ot_match.specs.Found.{types_of, terms_of, IsMatchIn};
 ghost use Rattle.ot_find.specs.Matches.{Found, found, matches_in};
 ghost use Rattle.ot_find.specs.Texts.{found_text, find_text, HasFound};
 
-use crate::lines::{put_types, put_vars};
+use crate::lines::{InMatch, put_pairs};
 use ot_kernel::{Kernel, ThmId};
 use ot_match::{Match, find_match};
 use ot_plain::{Memory, Tm};
-use ot_print::Printable;
-use ot_text::{Page, PrintFault};
+use ot_print::InKernel;
+use ot_text::{Page, PrintFault, Printable};
 use std::alloc::Global;
 
 /// The matches that were found so far: their text, and how many they are.
@@ -160,8 +160,8 @@ fn put_found(
     page.put(b"  ");
     page.put(source);
     page.put(b": ");
-    th.put(page, alloc, kernel);
+    th.put(page, alloc, &InKernel { kernel });
     page.put(b"\n");
-    put_types(page, alloc, kernel, &maps.types);
-    put_vars(page, alloc, kernel, &maps.vars);
+    put_pairs(page, alloc, &InMatch { kernel }, &maps.types);
+    put_pairs(page, alloc, &InMatch { kernel }, &maps.vars);
 }

@@ -11,22 +11,22 @@ ghost use Rattle.ot_text.specs.Sections.{head_text, theorems_text, definition_te
 ghost use Rattle.ot_text.specs.Pages.{IsPut, printed};
 ghost use Rattle.ot_rules.specs.Accepting.{accepted_at, HasAccepted};
 
-use crate::printable::Printable;
 use crate::sequents::put_statement;
+use crate::table::InNodes;
 use crate::terms::put_typed;
 use crate::types::put_name;
 use ot_nodes::{NameId, Nodes, VariableNode};
 use ot_rules::{Accepted, Definition, Statement};
-use ot_text::Page;
+use ot_text::{Page, Printable};
 use std::alloc::Global;
 
-impl Printable for Accepted {
-    ghost is_inside = { HasAccepted };
+impl Printable<InNodes<'_>> for Accepted {
+    ghost is_inside = { λ t a. HasAccepted t.nodes.now a };
 
-    ghost text = { λ ts a. definition_text (accepted_at ts a) };
+    ghost text = { λ t a. definition_text (accepted_at t.nodes.now a) };
 
-    fn put(&self, page: &mut Page, alloc: Global, nodes: &Nodes) {
-        put_accepted(page, alloc, nodes, self);
+    fn put(&self, page: &mut Page, alloc: Global, table: &InNodes<'_>) {
+        put_accepted(page, alloc, table.nodes, self);
     }
 }
 

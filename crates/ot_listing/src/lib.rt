@@ -7,10 +7,9 @@
 #![tactic(auto)]
 
 mod definitions;
-mod gather;
-mod printable;
 mod sequents;
 mod summary;
+mod table;
 mod terms;
 mod types;
 

@@ -3,21 +3,20 @@ ghost use Rattle.ot_rules.specs.Statements.{sequent_at, HasStatement};
 ghost use Rattle.ot_text.specs.Texts.{sequent_text};
 ghost use Rattle.ot_text.specs.Pages.{IsPut, printed};
 
-use crate::gather::gathered;
-use crate::printable::Printable;
+use crate::table::InNodes;
 use crate::terms::put_term;
 use ot_nodes::Nodes;
 use ot_rules::Statement;
-use ot_text::{Page, put_hyps};
+use ot_text::{Page, Printable, put_hypotheses};
 use std::alloc::Global;
 
-impl Printable for Statement {
-    ghost is_inside = { HasStatement };
+impl Printable<InNodes<'_>> for Statement {
+    ghost is_inside = { λ t q. HasStatement t.nodes.now q };
 
-    ghost text = { λ ts q. sequent_text (sequent_at ts q) };
+    ghost text = { λ t q. sequent_text (sequent_at t.nodes.now q) };
 
-    fn put(&self, page: &mut Page, alloc: Global, nodes: &Nodes) {
-        put_statement(page, alloc, nodes, self);
+    fn put(&self, page: &mut Page, alloc: Global, table: &InNodes<'_>) {
+        put_statement(page, alloc, table.nodes, self);
     }
 }
 
@@ -27,14 +26,6 @@ pub(crate) fn put_statement(page: &mut Page, alloc: Global, nodes: &Nodes, state
     ensures { IsPut (sequent_text (sequent_at nodes.now statement.now)) (printed page.old) (printed
         page.new) }
 {
-    if page.is_stopped() {
-        return;
-    }
-    match gathered(alloc, nodes, statement.hyps.as_slice(), page.room()) {
-        Ok(texts) => {
-            put_hyps(page, &texts);
-            put_term(page, nodes, statement.concl);
-        }
-        Err(fault) => page.stop(fault),
-    }
+    put_hypotheses(page, alloc, &InNodes { nodes }, statement.hyps.as_slice());
+    put_term(page, nodes, statement.concl);
 }

@@ -4,20 +4,20 @@ ghost use Rattle.ot_nodes.specs.Items.{HasName, HasType, HasTerm, name_at, type_
 ghost use Rattle.ot_text.specs.Texts.{name_text, ty_text, tm_text};
 ghost use Rattle.ot_text.specs.Pages.{IsPut, printed};
 
-use crate::printable::Printable;
+use crate::table::InNodes;
 use crate::types::{put_name, put_type};
 use ot_nodes::{NameId, Nodes, TermId, TermNode, TypeId};
 use ot_rules::as_equation;
-use ot_text::Page;
+use ot_text::{Page, Printable};
 use std::alloc::Global;
 
-impl Printable for TermId {
-    ghost is_inside = { HasTerm };
+impl Printable<InNodes<'_>> for TermId {
+    ghost is_inside = { λ t id. HasTerm t.nodes.now id };
 
-    ghost text = { λ ts id. tm_text (term_at ts id) };
+    ghost text = { λ t id. tm_text (term_at t.nodes.now id) };
 
-    fn put(&self, page: &mut Page, _alloc: Global, nodes: &Nodes) {
-        put_term(page, nodes, *self);
+    fn put(&self, page: &mut Page, _alloc: Global, table: &InNodes<'_>) {
+        put_term(page, table.nodes, *self);
     }
 }
 

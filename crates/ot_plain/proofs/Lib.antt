@@ -12,3 +12,4 @@ pub mod PlainTrees
 pub mod Members
 pub mod Elements
 pub mod Results
+pub mod Putting

@@ -11,22 +11,22 @@ ghost use Rattle.ot_view.specs.Nodes.{IsKey};
 ghost use Rattle.ot_text.specs.Pages.{IsPut, printed};
 
 use crate::nodes::put_name;
-use crate::printable::Printable;
 use crate::sequents::put_sequent;
+use crate::table::InKernel;
 use crate::terms::put_typed;
 use ot_kernel::{Definition, Kernel, ThmId};
 use ot_plain::NameId;
 use ot_term::VarKey;
-use ot_text::Page;
+use ot_text::{Page, Printable};
 use std::alloc::Global;
 
-impl Printable for Definition {
-    ghost is_inside = { IsHeld };
+impl Printable<InKernel<'_>> for Definition {
+    ghost is_inside = { λ t d. IsHeld t.kernel.now d };
 
-    ghost text = { λ s d. definition_text (definition_at s d) };
+    ghost text = { λ t d. definition_text (definition_at t.kernel.now d) };
 
-    fn put(&self, page: &mut Page, alloc: Global, kernel: &Kernel) {
-        put_definition(page, alloc, kernel, self);
+    fn put(&self, page: &mut Page, alloc: Global, table: &InKernel<'_>) {
+        put_definition(page, alloc, table.kernel, self);
     }
 }
 

@@ -4,11 +4,10 @@ ghost use Rattle.ot_kernel.specs.State.{theorem_at};
 ghost use Rattle.ot_text.specs.Texts.{sequent_text as text_of};
 ghost use Rattle.ot_text.specs.Pages.{IsPut, printed, Appended};
 
-use crate::gather::gathered;
-use crate::printable::{Printable, append};
+use crate::table::InKernel;
 use crate::terms::put_whole;
 use ot_kernel::{Kernel, ThmId};
-use ot_text::{Page, PrintFault, put_hyps};
+use ot_text::{Page, PrintFault, Printable, append, put_hypotheses};
 use std::alloc::Global;
 
 /// Appends the text of a theorem's sequent. `TooLarge` exactly where it has more than `max` bytes. After a refusal
@@ -25,16 +24,16 @@ pub fn sequent_text(
     ensures too_large { result ≡ Err PrintFault.TooLarge → max < length (text_of (theorem_at kernel.now th)) }
     ensures err { OnErr result (out.new.items ≡ out.old.items) }
 {
-    append(alloc, kernel, &th, max, out)
+    append(alloc, &InKernel { kernel }, &th, max, out)
 }
 
-impl Printable for ThmId {
-    ghost is_inside = { λ s th. th < length s.theorems };
+impl Printable<InKernel<'_>> for ThmId {
+    ghost is_inside = { λ t th. th < length t.kernel.now.theorems };
 
-    ghost text = { λ s th. text_of (theorem_at s th) };
+    ghost text = { λ t th. text_of (theorem_at t.kernel.now th) };
 
-    fn put(&self, page: &mut Page, alloc: Global, kernel: &Kernel) {
-        put_sequent(page, alloc, kernel, *self);
+    fn put(&self, page: &mut Page, alloc: Global, table: &InKernel<'_>) {
+        put_sequent(page, alloc, table.kernel, *self);
     }
 }
 
@@ -43,14 +42,6 @@ pub(crate) fn put_sequent(page: &mut Page, alloc: Global, kernel: &Kernel, th: T
     requires { th < length kernel.now.theorems }
     ensures { IsPut (text_of (theorem_at kernel.now th)) (printed page.old) (printed page.new) }
 {
-    if page.is_stopped() {
-        return;
-    }
-    match gathered(alloc, kernel, kernel.hyps(th), page.room()) {
-        Ok(texts) => {
-            put_hyps(page, &texts);
-            put_whole(page, kernel, kernel.concl(th));
-        }
-        Err(fault) => page.stop(fault),
-    }
+    put_hypotheses(page, alloc, &InKernel { kernel }, kernel.hyps(th));
+    put_whole(page, kernel, kernel.concl(th));
 }

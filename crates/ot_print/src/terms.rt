@@ -9,12 +9,12 @@ ghost use Rattle.ot_view.specs.Binders.{binders_at, AreKeys};
 ghost use Rattle.ot_text.specs.Pages.{IsPut, printed, Appended};
 
 use crate::nodes::{equation_sides, put_name};
-use crate::printable::{Printable, append};
+use crate::table::InKernel;
 use crate::types::put_type;
 use ot_kernel::Kernel;
 use ot_plain::NameId;
 use ot_term::{TermId, TermNode, VarKey};
-use ot_text::{Page, PrintFault};
+use ot_text::{Page, PrintFault, Printable, append};
 use ot_type::TypeId;
 use ot_view::{Binders, place, term_node};
 use std::alloc::Global;
@@ -33,16 +33,16 @@ pub fn term_text(
     ensures too_large { result ≡ Err PrintFault.TooLarge → max < length (tm_text (term_at kernel.now id)) }
     ensures err { OnErr result (out.new.items ≡ out.old.items) }
 {
-    append(alloc, kernel, &id, max, out)
+    append(alloc, &InKernel { kernel }, &id, max, out)
 }
 
-impl Printable for TermId {
-    ghost is_inside = { λ s id. id < length s.terms };
+impl Printable<InKernel<'_>> for TermId {
+    ghost is_inside = { λ t id. id < length t.kernel.now.terms };
 
-    ghost text = { λ s id. tm_text (term_at s id) };
+    ghost text = { λ t id. tm_text (term_at t.kernel.now id) };
 
-    fn put(&self, page: &mut Page, _alloc: Global, kernel: &Kernel) {
-        put_whole(page, kernel, *self);
+    fn put(&self, page: &mut Page, _alloc: Global, table: &InKernel<'_>) {
+        put_whole(page, table.kernel, *self);
     }
 }
 

@@ -6,10 +6,12 @@ ghost use Rattle.ot_text.specs.Texts.{ty_text, spaced_text};
 ghost use Rattle.ot_text.specs.Pages.{IsPut, printed, Appended};
 
 use crate::nodes::{function_parts, put_name};
+use crate::table::InKernel;
 use ot_kernel::Kernel;
-use ot_text::{Page, PrintFault};
+use ot_text::{Page, PrintFault, Printable, append};
 use ot_type::{TypeId, TypeNode};
 use ot_view::type_node;
+use std::alloc::Global;
 
 /// Appends the text of a type. `TooLarge` exactly where it has more than `max` bytes. After a refusal `out` is as it
 /// was.
@@ -24,9 +26,17 @@ pub fn type_text(
     ensures too_large { result ≡ Err PrintFault.TooLarge → max < length (ty_text (type_at kernel.now id)) }
     ensures err { OnErr result (out.new.items ≡ out.old.items) }
 {
-    let mut page = Page::new(*out.allocator(), max);
-    put_type(&mut page, kernel, id);
-    page.finish(out)
+    append(*out.allocator(), &InKernel { kernel }, &id, max, out)
+}
+
+impl Printable<InKernel<'_>> for TypeId {
+    ghost is_inside = { λ t id. id < length t.kernel.now.types };
+
+    ghost text = { λ t id. ty_text (type_at t.kernel.now id) };
+
+    fn put(&self, page: &mut Page, _alloc: Global, table: &InKernel<'_>) {
+        put_type(page, table.kernel, *self);
+    }
 }
 
 /// A type. Nothing is read once the page takes no more, so a type costs no more than the limit.

@@ -106,6 +106,9 @@ hyps-bytes : (xs : List (List ℕ)) → bytes_in xs ≤ length (hyps_text xs)
 hyps-bytes [] = omega arith
 hyps-bytes (x ∷ xs) = let more = further-bytes xs in let n = length-append x (further_hyps xs) in omega arith
 
+pub hyps-room : (room : ℕ) (xs : List (List ℕ)) → room < bytes_in xs → room < length (hyps_text xs)
+hyps-room room xs h = let more = hyps-bytes xs in omega arith
+
 -- a sequent has at least the bytes of its hypotheses
 pub sequent-bytes : (room : ℕ) (q : Sequent Name) → room < bytes_in (ascending (map tm_text q.hyps))
     → room < length (sequent_text q)

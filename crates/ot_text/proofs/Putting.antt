@@ -1,44 +1,16 @@
 -- One text after another.
-use Rattle.std.specs.Prelude.{◌≡◌, ℕ, suc, ◌+◌, ◌-◌, ◌<◌, ◌≤◌, Bool, true, false}
-use Rattle.std.specs.Prelude.{cond, nat_le, List, [], ◌∷◌, ◌++◌, length, Some, ◌⊎◌}
-use Rattle.std.proofs.Common.{refl, sym, ◌∙◌, ap, subst, inl, inr, arith, append_assoc}
-use Rattle.std.proofs.Common.{append-nil, length-append, drop, drop-cons, get_or}
-use Rattle.std.proofs.lemmas.Bool.Decides.{nat_tests}
+use Rattle.std.specs.Prelude.{◌≡◌, ℕ, suc, ◌+◌, ◌-◌, ◌<◌, ◌≤◌, true, false}
+use Rattle.std.specs.Prelude.{nat_le, List, [], ◌∷◌, ◌++◌, length, Some, ◌⊎◌}
+use Rattle.std.proofs.Common.{refl, sym, ◌∙◌, ap, subst, inl, inr, arith, append-nil, drop, drop-cons, get_or}
 use Rattle.std.proofs.Math.ListN.{drop_of_length-le}
-use Rattle.std.proofs.lemmas.Bool.{leb-true, le-leb, lt-leb}
+use Rattle.std.proofs.lemmas.Bool.{le-leb, lt-leb}
+use Rattle.ot_plain.proofs.Putting.{put-twice}
 use Rattle.ot_text.specs.declared.fault.PrintFault.{PrintFault}
 use Rattle.ot_text.specs.declared.fault.PrintFault.TheVariants.{TooLarge, Memory}
 use Rattle.ot_text.specs.Pages.{Printed, Bytes, Full, NoMemory, put, is_stopped, IsPut, HasRoom, stopped}
 
-le-false : (a b : ℕ) → nat_le a b ≡ false → b < a
-le-false a b h = grind (arith, nat_tests)
-
-pub put-put : (x y : List ℕ) (s : Printed) → put y (put x s) ≡ put (x ++ y) s
-put-put x y (Bytes bs room) = go (nat_le (length x) room) refl where
-  fits : (e : Bool) → nat_le (length x) room ≡ true → nat_le (length y) (room - length x) ≡ e
-      → cond e (Bytes ((bs ++ x) ++ y) (room - length x - length y)) Full ≡ put (x ++ y) (Bytes bs room)
-  fits true h k =
-      let a = leb-true _ _ h in
-      let b = leb-true _ _ k in
-      let n = length-append x y in
-      let t = le-leb (length (x ++ y)) room (omega (arith, n, a, b)) in
-      let d : room - length x - length y ≡ room - length (x ++ y) = omega (arith, n, a, b) in
-      rw (t, append_assoc, d) refl
-  fits false h k =
-      let a = leb-true _ _ h in
-      let b = le-false _ _ k in
-      let n = length-append x y in
-      let t = lt-leb (length (x ++ y)) room (omega (arith, n, a, b)) in
-      rw t refl
-
-  go : (e : Bool) → nat_le (length x) room ≡ e → put y (cond e (Bytes (bs ++ x) (room - length x)) Full)
-      ≡ put (x ++ y) (Bytes bs room)
-  go true h = fits (nat_le (length y) (room - length x)) h refl
-  go false h =
-      let b = le-false _ _ h in
-      let n = length-append x y in
-      let t = lt-leb (length (x ++ y)) room (omega (arith, n, b)) in
-      rw t refl
+put-put : (x y : List ℕ) (s : Printed) → put y (put x s) ≡ put (x ++ y) s
+put-put x y (Bytes bs room) = put-twice Bytes Full put (λ z. refl) (λ z cs n. refl) x y bs room
 put-put x y Full = refl
 put-put x y NoMemory = refl
 

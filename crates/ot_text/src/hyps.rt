@@ -1,12 +1,36 @@
 //! The front of a sequent's text: the hypotheses and the turnstile.
-ghost use Rattle.std.specs.Prelude.{[]};
-ghost use Rattle.ot_text.specs.Texts.{hyps_text};
+ghost use Rattle.std.specs.Prelude.{[], map};
+ghost use Rattle.std.specs.List.{All};
+ghost use Rattle.ot_text.specs.Texts.{ascending, hyps_text};
 ghost use Rattle.ot_text.specs.Gathered.{texts_of};
 ghost use Rattle.ot_text.specs.Separated.{hyps_from};
 ghost use Rattle.ot_text.specs.Pages.{IsPut, printed};
 
+use crate::gather::gathered;
 use crate::page::Page;
+use crate::printable::Printable;
+use std::alloc::Global;
 use std::collections::BTreeSet;
+
+/// Puts the hypotheses of these numbers and the turnstile on a page. The hypotheses' texts together cost no more than
+/// the limit.
+pub fn put_hypotheses<Table, T: Printable<Table>>(
+    page: &mut Page,
+    alloc: Global,
+    table: &Table,
+    hyps: &[T],
+)
+    requires { All (T.is_inside table.now) hyps.now }
+    ensures { IsPut (hyps_text (ascending (map (T.text table.now) hyps.now))) (printed page.old) (printed page.new) }
+{
+    if page.is_stopped() {
+        return;
+    }
+    match gathered(alloc, table, hyps, page.room()) {
+        Ok(texts) => put_hyps(page, &texts),
+        Err(fault) => page.stop(fault),
+    }
+}
 
 /// Puts the hypotheses' texts and the turnstile on a page.
 pub fn put_hyps(page: &mut Page, texts: &BTreeSet<Vec<u8>>)

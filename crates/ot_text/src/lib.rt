@@ -1,4 +1,5 @@
-//! The printed texts of types, terms and sequents, the law that a text names one of them, and a page to put texts on.
+//! The printed texts of types, terms and sequents, the law that a text names one of them, and a page on which a text
+//! is put: items by a table, the front of a sequent, the sections of a summary.
 #![tactic(auto)]
 
 mod fault;
@@ -6,9 +7,13 @@ mod gather;
 mod hyps;
 mod laws;
 mod page;
+mod printable;
+mod sections;
 
 pub use fault::PrintFault;
-pub use gather::add_text;
-pub use hyps::put_hyps;
+pub use gather::{add_text, gathered};
+pub use hyps::{put_hypotheses, put_hyps};
 pub use laws::one_text;
 pub use page::Page;
+pub use printable::{Printable, append};
+pub use sections::{put_indented, put_section, put_sorted_section};

@@ -11,12 +11,13 @@ use Rattle.ot_listing.proofs.summary.put_summary.Goals as goal
 pub returns : goal.returns
 returns c =
     let ts = c.args.nodes.now in
+    let assumptions = texts-through sequent_text (sequent_at ts) c.args.assumptions.now
+    (map (sequent_at ts) c.args.assumptions.now) refl in
     let definitions = texts-through definition_text (accepted_at ts) c.args.definitions.now
     (map (accepted_at ts) c.args.definitions.now) refl in
     let results =
     texts-through sequent_text (sequent_at ts) c.args.results.now (map (sequent_at ts) c.args.results.now) refl in
     same-text
-    (λ j. section_text true (codes "assumptions")
-    (ascending (map sequent_text (map (sequent_at ts) c.args.assumptions.now))) ++ section_text true
+    (λ j. section_text true (codes "assumptions") (ascending (assumptions j)) ++ section_text true
     (codes "definitions") (definitions j) ++ section_text true (codes "theorems") (results j))
-    (then (then c.put_assumptions.ensures c.put_section.ensures) c.put_section-2.ensures)
+    (then (then c.put_sorted_section.ensures c.put_section.ensures) c.put_section-2.ensures)

@@ -1,0 +1,21 @@
+use Rattle.std.specs.Map.Iter.{deref}
+use Rattle.std.proofs.Common.{map, ap, ◌∙◌}
+use Rattle.std.proofs.lemmas.Map.Iter.{rest_more, rest_all}
+use Rattle.ot_text.proofs.Putting.{then, leaves-more, leaves-all, nothing}
+use Rattle.ot_text.specs.Sections.{indented_text}
+use Rattle.ot_text.proofs.SectionPieces.{indented-first}
+use Rattle.ot_text.proofs.sections.put_indented.Goals as goal
+
+pub loop-text-preserved : goal.loop-text-preserved
+loop-text-preserved c =
+    leaves-more c.loop-text.invariant
+    (ap (λ ts. indented_text (map (λ t. t.items) ts))
+    (rest_more deref _ _ _ c.in-Some.text c.in-Some.is c.next.ensures.steps)
+    ∙ indented-first _ _ _ c.as_slice.ensures.value)
+    (then (then c.put.ensures c.put-in-loop-text.ensures) c.put-in-loop-text-2.ensures)
+
+pub returns : goal.returns
+returns c =
+    leaves-all c.loop-text.invariant
+    (ap (λ ts. indented_text (map (λ t. t.items) ts)) (rest_all deref _ _ _ c.in-None.is c.next.ensures.steps))
+    (nothing _)
