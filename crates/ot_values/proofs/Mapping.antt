@@ -16,7 +16,7 @@ use Rattle.ot_plain.specs.Faults.{BadSubst}
 use Rattle.ot_plain.specs.Answers.{◌>>=◌, unless}
 use Rattle.ot_plain.specs.Table.{IsInjective}
 use Rattle.ot_kernel.specs.Pairs.{with_type, with_term}
-use Rattle.ot_nodes.specs.Items.{Item, HasName, HasType, HasTerm, name_at, type_at, term_at}
+use Rattle.ot_nodes.specs.Items.{Item, HasName, name_at, type_at, term_at}
 use Rattle.ot_nodes.specs.Changing.{variable_at, type_map, term_map, HasVariable, HasTypes, HasTerms}
 use Rattle.ot_nodes.specs.declared.node.VariableNode.{VariableNode}
 use Rattle.ot_nodes.proofs.MapLemmas.{variable_eq, same-names, same-variables}
@@ -30,9 +30,9 @@ use Rattle.ot_machine.specs.declared.session.Session.{Session}
 use Rattle.ot_machine.proofs.Tops.{same-ok}
 use Rattle.ot_machine.proofs.ObjectKinds.{or_bad-is}
 use Rattle.ot_values.specs.Steps.{IsNameOf, IsTypeOf, IsVariableOf, IsTermOf}
-use Rattle.ot_values.specs.Lists.{AreElementsOf, AreMapsOf}
-use Rattle.ot_values.specs.Reading.{IsPairOf, IsTypePairOf, IsTermPairOf, AreTypePairsOf}
-use Rattle.ot_values.specs.Reading.{AreTermPairsOf, with_first, add_firsts, all_first}
+use Rattle.ot_values.specs.Lists.{AreElementsOf, AreEachOf, AreMapsOf, HasPair, pair_at}
+use Rattle.ot_values.specs.Reading.{IsOneOf, HasTypePair, type_pair_at, HasTermPair, term_pair_at}
+use Rattle.ot_values.specs.Reading.{with_first, add_firsts, all_first}
 use Rattle.ot_values.proofs.Listing.{two-of}
 use Rattle.ot_plain.proofs.Results.{bind-ok}
 
@@ -44,7 +44,7 @@ two x y = list (more_objects x (more_objects y no_objects))
 module _ (s : Session) (ts : List Item) where
   pub pair-read : (step p q n : ℕ) (w : VariableNode)
       → AreElementsOf (origin_of s step) (origin_of s p ∷ origin_of s q ∷ [])
-      → IsNameOf s ts p n → IsVariableOf s ts q w → IsPairOf s ts step (n, w)
+      → IsNameOf s ts p n → IsVariableOf s ts q w → IsOneOf HasPair pair_at definition_pair s ts step (n, w)
   pair-read step p q n w elements a b = record {
     has = (a.has, b.has);
     read = λ v h.
@@ -56,7 +56,7 @@ module _ (s : Session) (ts : List Item) where
 
   pub type_pair-read : (step p q n y : ℕ) → AreElementsOf (origin_of s step) (origin_of s p ∷ origin_of s q ∷ [])
       → IsNameOf s ts p n
-      → IsTypeOf s ts q y → IsTypePairOf s ts step (n, y)
+      → IsTypeOf s ts q y → IsOneOf HasTypePair type_pair_at type_pair s ts step (n, y)
   type_pair-read step p q n y elements a b = record {
     has = (a.has, b.has);
     read = λ v h.
@@ -68,7 +68,7 @@ module _ (s : Session) (ts : List Item) where
 
   pub term_pair-read : (step p q : ℕ) (w : VariableNode) (y : ℕ)
       → AreElementsOf (origin_of s step) (origin_of s p ∷ origin_of s q ∷ [])
-      → IsVariableOf s ts p w → IsTermOf s ts q y → IsTermPairOf s ts step (w, y)
+      → IsVariableOf s ts p w → IsTermOf s ts q y → IsOneOf HasTermPair term_pair_at term_pair s ts step (w, y)
   term_pair-read step p q w y elements a b = record {
     has = (a.has, b.has);
     read = λ v h.
@@ -123,18 +123,12 @@ fold_terms m [] = m
 fold_terms m (p ∷ ps) = fold_terms (with_term m p.0 p.1) ps
 
 module _ (ts : List Item) (once : IsInjective ts) where
-  abbrev HasTypePair : ℕ × ℕ → Type 0
-  HasTypePair p = HasName ts p.0 × HasType ts p.1
-
-  abbrev HasTermPair : VariableNode × ℕ → Type 0
-  HasTermPair p = HasVariable ts p.0 × HasTerm ts p.1
-
   any-types : (n : ℕ) (ps : List (ℕ × ℕ)) → HasName ts n → HasTypes ts ps
       → list_any (λ p. names.same (name_at ts n) p.0) (type_map ts ps) ≡ is_some (lookup (nat_eq n) ps)
   any-types n [] g h = refl
   any-types n (p ∷ ps) g h =
-      let rest = any-types n ps g (All-tail HasTypePair p ps h) in
-      let same = same-names ts once n p.0 g (All-head HasTypePair p ps h).0 in
+      let rest = any-types n ps g (All-tail (HasTypePair ts) p ps h) in
+      let same = same-names ts once n p.0 g (All-head (HasTypePair ts) p ps h).0 in
       ap (λ b. b || list_any (λ p. names.same (name_at ts n) p.0) (type_map ts ps)) same
       ∙ or-some (nat_eq n p.0) _ p.1 (lookup (nat_eq n) ps) rest
 
@@ -142,19 +136,19 @@ module _ (ts : List Item) (once : IsInjective ts) where
       → list_any (λ p. same_var names (variable_at ts v) p.0) (term_map ts ps) ≡ is_some (lookup (variable_eq v) ps)
   any-terms v [] g h = refl
   any-terms v (p ∷ ps) g h =
-      let rest = any-terms v ps g (All-tail HasTermPair p ps h) in
-      let same = same-variables ts once v p.0 g (All-head HasTermPair p ps h).0 in
+      let rest = any-terms v ps g (All-tail (HasTermPair ts) p ps h) in
+      let same = same-variables ts once v p.0 g (All-head (HasTermPair ts) p ps h).0 in
       ap (λ b. b || list_any (λ p. same_var names (variable_at ts v) p.0) (term_map ts ps)) same
       ∙ or-some (variable_eq v p.0) _ p.1 (lookup (variable_eq v) ps) rest
 
-  type-first : (ps : List (ℕ × ℕ)) (p : ℕ × ℕ) → HasTypes ts ps → HasTypePair p
+  type-first : (ps : List (ℕ × ℕ)) (p : ℕ × ℕ) → HasTypes ts ps → HasTypePair ts p
       → type_map ts (with_first nat_eq ps p) ≡ with_type (type_map ts ps) (name_at ts p.0) (type_at ts p.1)
   type-first ps p h one =
       map-first (λ (p : ℕ × ℕ). (name_at ts p.0, type_at ts p.1)) (is_some (lookup (nat_eq p.0) ps)) ps p
       ∙ ap (λ b. if b then type_map ts ps else type_map ts ps ++ (name_at ts p.0, type_at ts p.1) ∷ [])
       (sym (any-types p.0 ps one.0 h))
 
-  term-first : (ps : List (VariableNode × ℕ)) (p : VariableNode × ℕ) → HasTerms ts ps → HasTermPair p
+  term-first : (ps : List (VariableNode × ℕ)) (p : VariableNode × ℕ) → HasTerms ts ps → HasTermPair ts p
       → term_map ts (with_first variable_eq ps p) ≡ with_term (term_map ts ps) (variable_at ts p.0) (term_at ts p.1)
   term-first ps p h one =
       map-first (λ (p : VariableNode × ℕ). (variable_at ts p.0, term_at ts p.1))
@@ -167,10 +161,10 @@ module _ (ts : List Item) (once : IsInjective ts) where
       × (type_map ts (add_firsts nat_eq ps qs) ≡ fold_types (type_map ts ps) (type_map ts qs))
   types-firsts [] ps h g = (h, refl)
   types-firsts (q ∷ qs) ps h g =
-      let one = All-head HasTypePair q qs g in
+      let one = All-head (HasTypePair ts) q qs g in
       let rest = types-firsts qs (with_first nat_eq ps q)
-      (all-first HasTypePair (is_some (lookup (nat_eq q.0) ps)) ps q h one)
-      (All-tail HasTypePair q qs g) in
+      (all-first (HasTypePair ts) (is_some (lookup (nat_eq q.0) ps)) ps q h one)
+      (All-tail (HasTypePair ts) q qs g) in
       (rest.0, rest.1 ∙ ap (λ m. fold_types m (type_map ts qs)) (type-first ps q h one))
 
   terms-firsts : (qs ps : List (VariableNode × ℕ)) → HasTerms ts ps → HasTerms ts qs
@@ -178,10 +172,10 @@ module _ (ts : List Item) (once : IsInjective ts) where
       × (term_map ts (add_firsts variable_eq ps qs) ≡ fold_terms (term_map ts ps) (term_map ts qs))
   terms-firsts [] ps h g = (h, refl)
   terms-firsts (q ∷ qs) ps h g =
-      let one = All-head HasTermPair q qs g in
+      let one = All-head (HasTermPair ts) q qs g in
       let rest = terms-firsts qs (with_first variable_eq ps q)
-      (all-first HasTermPair (is_some (lookup (variable_eq q.0) ps)) ps q h one)
-      (All-tail HasTermPair q qs g) in
+      (all-first (HasTermPair ts) (is_some (lookup (variable_eq q.0) ps)) ps q h one)
+      (All-tail (HasTermPair ts) q qs g) in
       (rest.0, rest.1 ∙ ap (λ m. fold_terms m (term_map ts qs)) (term-first ps q h one))
 
 -- ---- the maps
@@ -226,7 +220,7 @@ all-types : (ts : List Item) → IsInjective ts → (types : List (ℕ × ℕ)) 
 all-types ts once types m vs has onto read =
     let same : type_map ts (add_firsts nat_eq [] types) ≡ fold_types [] (type_map ts types) =
     (types-firsts ts once types []
-    (All-nil (HasTypePair ts once)) has).1 in
+    (All-nil (HasTypePair ts)) has).1 in
     same-ok _ _ _ onto (types-read [] vs (type_map ts types) read) ∙ sym same
 
 all-terms : (ts : List Item) → IsInjective ts → (terms : List (VariableNode × ℕ)) (m : TermMap names) (vs : Objects)
@@ -236,7 +230,7 @@ all-terms : (ts : List Item) → IsInjective ts → (terms : List (VariableNode 
 all-terms ts once terms m vs has onto read =
     let same : term_map ts (add_firsts variable_eq [] terms) ≡ fold_terms [] (term_map ts terms) =
     (terms-firsts ts once terms []
-    (All-nil (HasTermPair ts once)) has).1 in
+    (All-nil (HasTermPair ts)) has).1 in
     terms-read [] vs (term_map ts terms) m read onto ∙ sym same
 
 -- what the maps of a list of two are made of
@@ -268,11 +262,12 @@ maps-made first second maps e =
 pub maps-read : (s : Session) (ts : List Item) → IsInjective ts
     → (step p q : ℕ) (types : List (ℕ × ℕ)) (terms : List (VariableNode × ℕ))
     → AreElementsOf (origin_of s step) (origin_of s p ∷ origin_of s q ∷ [])
-    → AreTypePairsOf s ts p types → AreTermPairsOf s ts q terms
+    → AreEachOf HasTypePair type_pair_at type_pair s ts p types
+    → AreEachOf HasTermPair term_pair_at term_pair s ts q terms
     → AreMapsOf s ts step (all_first nat_eq types) (all_first variable_eq terms)
 maps-read s ts once step p q types terms elements h g = record {
-  has_types = (types-firsts ts once types [] (All-nil (HasTypePair ts once)) h.has).0;
-  has_terms = (terms-firsts ts once terms [] (All-nil (HasTermPair ts once)) g.has).0;
+  has_types = (types-firsts ts once types [] (All-nil (HasTypePair ts)) h.has).0;
+  has_terms = (terms-firsts ts once terms [] (All-nil (HasTermPair ts)) g.has).0;
   read = λ v maps is reads.
       let t = two-of _ _ _ v elements is in
       let m = maps-made t.first t.second maps (list-read maps_of v (two t.first t.second) maps t.is reads) in

@@ -2,4 +2,5 @@
 pub mod Steps
 pub mod Lists
 pub mod Reading
+pub mod Staying
 pub mod Known

@@ -6,13 +6,14 @@ use Rattle.ot_plain.specs.Naming.{names}
 use Rattle.ot_plain.specs.Faults.{Fault}
 use Rattle.ot_plain.specs.Answers.{◌>>=◌}
 use Rattle.ot_plain.specs.Hol.{TypeMap, TermMap}
+use Rattle.ot_plain.specs.Trees.{Variable}
 use Rattle.ot_nodes.specs.Items.{Item, HasName, HasType, HasTerm, name_at, type_at, term_at}
 use Rattle.ot_nodes.specs.Changing.{variable_at, type_map, term_map, HasVariable, HasTypes, HasTerms}
 use Rattle.ot_nodes.specs.declared.node.VariableNode.{VariableNode}
 use Rattle.ot_trace.specs.Origins.{Origin}
 use Rattle.ot_machine.specs.Objects.{Object, Objects, list, no_objects, more_objects}
 use Rattle.ot_machine.specs.Places.{as_list, as_name, as_type, as_term, as_each}
-use Rattle.ot_machine.specs.DefinitionLists.{pairs_of}
+use Rattle.ot_machine.specs.DefinitionLists.{definition_pair}
 use Rattle.ot_machine.specs.Substitutions.{maps_of}
 use Rattle.ot_machine.specs.Values.{value}
 use Rattle.ot_machine.specs.Meaning.{origin_of}
@@ -22,25 +23,34 @@ use Rattle.ot_machine.specs.declared.session.Session.{Session}
 pub record ReadsAs {A : Type 0} (read : Objects → Result A (Fault Name)) (o : Origin Name) (x : A) : Type 0 where
   pub is : (v : Object) → value o ≡ Ok v → (as_list v >>= read) ≡ Ok x
 
+-- the numbers of a table that stand for the elements of a list, each of which is read as one
+pub record AreEachOf {X A : Type 0} (Has : List Item → X → Type 0) (value_at : List Item → X → A)
+    (as_one : Object → Result A (Fault Name)) (s : Session) (ts : List Item) (step : ℕ) (xs : List X) : Type 0 where
+  pub has : All (Has ts) xs
+  pub read : ReadsAs (as_each as_one) (origin_of s step) (map (value_at ts) xs)
+
 -- the names of a list
-pub record AreNamesOf (s : Session) (ts : List Item) (step : ℕ) (ids : List ℕ) : Type 0 where
-  pub has : All (HasName ts) ids
-  pub read : ReadsAs (as_each as_name) (origin_of s step) (map (name_at ts) ids)
+abbrev pub AreNamesOf : Session → List Item → ℕ → List ℕ → Type 0
+AreNamesOf = AreEachOf HasName name_at as_name
 
 -- the types of a list
-pub record AreTypesOf (s : Session) (ts : List Item) (step : ℕ) (ids : List ℕ) : Type 0 where
-  pub has : All (HasType ts) ids
-  pub read : ReadsAs (as_each as_type) (origin_of s step) (map (type_at ts) ids)
+abbrev pub AreTypesOf : Session → List Item → ℕ → List ℕ → Type 0
+AreTypesOf = AreEachOf HasType type_at as_type
 
 -- the terms of a list
-pub record AreTermsOf (s : Session) (ts : List Item) (step : ℕ) (ids : List ℕ) : Type 0 where
-  pub has : All (HasTerm ts) ids
-  pub read : ReadsAs (as_each as_term) (origin_of s step) (map (term_at ts) ids)
+abbrev pub AreTermsOf : Session → List Item → ℕ → List ℕ → Type 0
+AreTermsOf = AreEachOf HasTerm term_at as_term
+
+-- a name and a variable
+abbrev pub HasPair : List Item → ℕ × VariableNode → Type 0
+HasPair ts p = HasName ts p.0 × HasVariable ts p.1
+
+abbrev pub pair_at : List Item → ℕ × VariableNode → Name × Variable Name
+pair_at ts p = (name_at ts p.0, variable_at ts p.1)
 
 -- the names and variables of a list of constants that are defined together
-pub record ArePairsOf (s : Session) (ts : List Item) (step : ℕ) (ps : List (ℕ × VariableNode)) : Type 0 where
-  pub has : All (λ p. HasName ts p.0 × HasVariable ts p.1) ps
-  pub read : ReadsAs pairs_of (origin_of s step) (map (λ p. (name_at ts p.0, variable_at ts p.1)) ps)
+abbrev pub ArePairsOf : Session → List Item → ℕ → List (ℕ × VariableNode) → Type 0
+ArePairsOf = AreEachOf HasPair pair_at definition_pair
 
 -- the maps of a substitution, where the list reads as such
 pub record AreMapsOf (s : Session) (ts : List Item) (step : ℕ)

@@ -1,42 +1,42 @@
 -- Pairs of numbers that stand for lists of two, as they are read one by one.
-use Rattle.std.specs.Prelude.{◌≡◌, ℕ, Bool, List, [], ◌∷◌, ◌++◌, is_some, Ok, if◌then◌else◌}
+use Rattle.std.specs.Prelude.{◌≡◌, ℕ, Bool, List, [], ◌∷◌, ◌++◌, is_some, Result, Ok, if◌then◌else◌}
 use Rattle.std.specs.Map.{lookup}
+use Rattle.ot_plain.specs.Names.{Name}
+use Rattle.ot_plain.specs.Faults.{Fault}
+use Rattle.ot_plain.specs.Trees.{Ty, Variable, Tm}
+use Rattle.ot_plain.specs.Table.{Extends}
 use Rattle.ot_nodes.specs.Items.{Item, HasName, HasType, HasTerm, name_at, type_at, term_at}
-use Rattle.ot_nodes.specs.Changing.{variable_at, type_map, term_map, HasVariable, HasTypes, HasTerms}
+use Rattle.ot_nodes.specs.Changing.{variable_at, HasVariable}
 use Rattle.ot_nodes.specs.declared.node.VariableNode.{VariableNode}
 use Rattle.ot_machine.specs.Objects.{Object}
-use Rattle.ot_machine.specs.Places.{as_each}
-use Rattle.ot_machine.specs.DefinitionLists.{definition_pair}
-use Rattle.ot_machine.specs.Substitutions.{type_pair, term_pair}
 use Rattle.ot_machine.specs.Values.{value}
 use Rattle.ot_machine.specs.Meaning.{origin_of}
 use Rattle.ot_machine.specs.declared.session.Session.{Session}
-use Rattle.ot_values.specs.Lists.{ReadsAs}
 
--- the name and the variable of a list of the two
-pub record IsPairOf (s : Session) (ts : List Item) (step : ℕ) (p : ℕ × VariableNode) : Type 0 where
-  pub has : HasName ts p.0 × HasVariable ts p.1
-  pub read : (v : Object) → value (origin_of s step) ≡ Ok v
-      → definition_pair v ≡ Ok (name_at ts p.0, variable_at ts p.1)
+-- the numbers of a table that stand for what is read of the object of a step
+pub record IsOneOf {X A : Type 0} (Has : List Item → X → Type 0) (value_at : List Item → X → A)
+    (as_one : Object → Result A (Fault Name)) (s : Session) (ts : List Item) (step : ℕ) (x : X) : Type 0 where
+  pub has : Has ts x
+  pub read : (v : Object) → value (origin_of s step) ≡ Ok v → as_one v ≡ Ok (value_at ts x)
 
--- the name and the type of a list of the two
-pub record IsTypePairOf (s : Session) (ts : List Item) (step : ℕ) (p : ℕ × ℕ) : Type 0 where
-  pub has : HasName ts p.0 × HasType ts p.1
-  pub read : (v : Object) → value (origin_of s step) ≡ Ok v → type_pair v ≡ Ok (name_at ts p.0, type_at ts p.1)
+-- a name and a type
+abbrev pub HasTypePair : List Item → ℕ × ℕ → Type 0
+HasTypePair ts p = HasName ts p.0 × HasType ts p.1
 
--- the variable and the term of a list of the two
-pub record IsTermPairOf (s : Session) (ts : List Item) (step : ℕ) (p : VariableNode × ℕ) : Type 0 where
-  pub has : HasVariable ts p.0 × HasTerm ts p.1
-  pub read : (v : Object) → value (origin_of s step) ≡ Ok v → term_pair v ≡ Ok (variable_at ts p.0, term_at ts p.1)
+abbrev pub type_pair_at : List Item → ℕ × ℕ → Name × Ty Name
+type_pair_at ts p = (name_at ts p.0, type_at ts p.1)
 
--- those of a list of such lists
-pub record AreTypePairsOf (s : Session) (ts : List Item) (step : ℕ) (ps : List (ℕ × ℕ)) : Type 0 where
-  pub has : HasTypes ts ps
-  pub read : ReadsAs (as_each type_pair) (origin_of s step) (type_map ts ps)
+-- a variable and a term
+abbrev pub HasTermPair : List Item → VariableNode × ℕ → Type 0
+HasTermPair ts p = HasVariable ts p.0 × HasTerm ts p.1
 
-pub record AreTermPairsOf (s : Session) (ts : List Item) (step : ℕ) (ps : List (VariableNode × ℕ)) : Type 0 where
-  pub has : HasTerms ts ps
-  pub read : ReadsAs (as_each term_pair) (origin_of s step) (term_map ts ps)
+abbrev pub term_pair_at : List Item → VariableNode × ℕ → Variable Name × Tm Name
+term_pair_at ts p = (variable_at ts p.0, term_at ts p.1)
+
+-- what stands in the table stays in one that grew
+abbrev pub Stays : {X A : Type 0} → (List Item → X → Type 0) → (List Item → X → A) → Type 0
+Stays {X} Has value_at = (ts us : List Item) → Extends ts us → (x : X) → Has ts x
+    → Has us x × (value_at us x ≡ value_at ts x)
 
 -- ---- of several pairs for one key the first alone
 

@@ -3,11 +3,10 @@ ghost use Rattle.std.specs.Prelude.{◌≡◌, ◌<◌, length, IfOk, OnOk};
 ghost use Rattle.ot_plain.specs.Table.{Extends};
 ghost use Rattle.ot_machine.specs.Meaning.{IsRun};
 ghost use Rattle.ot_values.specs.Lists.{AreMapsOf};
-ghost use Rattle.ot_values.specs.Reading.{IsTypePairOf, IsTermPairOf, AreTypePairsOf};
-ghost use Rattle.ot_values.specs.Reading.{AreTermPairsOf, with_first, all_first};
+ghost use Rattle.ot_values.specs.Reading.{with_first, all_first};
 ghost use Rattle.ot_values.specs.Known.{AreKnown};
 
-use crate::steps::{elements, name, two_elements};
+use crate::steps::two_elements;
 use crate::values::Values;
 use indexmap::IndexMap;
 use ot_machine::Session;
@@ -35,100 +34,12 @@ impl Values {
     {
         let alloc = nodes.allocator();
         let (first, second) = two_elements(alloc, session, list)?;
-        let types = self.type_pairs(nodes, session, first)?;
-        let terms = self.term_pairs(nodes, session, second)?;
+        let types = self.each_of::<(NameId, TypeId)>(nodes, session, first)?;
+        let terms = self.each_of::<(VariableNode, TermId)>(nodes, session, second)?;
         nodes.primitives();
         let first_types = firsts(alloc, &types)?;
         let first_terms = firsts(alloc, &terms)?;
         Ok((first_types, first_terms))
-    }
-
-    // The pairs of a list of lists of a name and a type.
-    fn type_pairs(
-        &mut self,
-        nodes: &mut Nodes,
-        session: &Session,
-        list: StepId,
-    ) -> Result<Vec<(NameId, TypeId)>, Memory>
-        requires run { IsRun session.now }
-        requires list { list < length session.now.trace }
-        requires known { AreKnown session.now nodes.old self.old }
-        ensures made { IfOk result (λ ps. AreTypePairsOf session.now nodes.new list ps.items) }
-        ensures extends { Extends nodes.old nodes.new }
-        ensures known { AreKnown session.now nodes.new self.new }
-    {
-        let alloc = nodes.allocator();
-        let steps = elements(alloc, session, list)?;
-        let mut found = Vec::new(alloc);
-        for step in &steps {
-            let pair = self.type_pair(nodes, session, *step)?;
-            found.push(pair)?;
-        }
-        Ok(found)
-    }
-
-    // The name and the type of a list of the two.
-    fn type_pair(
-        &mut self,
-        nodes: &mut Nodes,
-        session: &Session,
-        list: StepId,
-    ) -> Result<(NameId, TypeId), Memory>
-        requires run { IsRun session.now }
-        requires list { list < length session.now.trace }
-        requires known { AreKnown session.now nodes.old self.old }
-        ensures made { IfOk result (IsTypePairOf session.now nodes.new list) }
-        ensures extends { Extends nodes.old nodes.new }
-        ensures known { AreKnown session.now nodes.new self.new }
-    {
-        let (spelled, ty) = two_elements(nodes.allocator(), session, list)?;
-        let name = name(nodes, session, spelled)?;
-        let ty = self.ty(nodes, session, ty)?;
-        Ok((name, ty))
-    }
-
-    // The pairs of a list of lists of a variable and a term.
-    fn term_pairs(
-        &mut self,
-        nodes: &mut Nodes,
-        session: &Session,
-        list: StepId,
-    ) -> Result<Vec<(VariableNode, TermId)>, Memory>
-        requires run { IsRun session.now }
-        requires list { list < length session.now.trace }
-        requires known { AreKnown session.now nodes.old self.old }
-        ensures made { IfOk result (λ ps. AreTermPairsOf session.now nodes.new list ps.items) }
-        ensures extends { Extends nodes.old nodes.new }
-        ensures known { AreKnown session.now nodes.new self.new }
-    {
-        let alloc = nodes.allocator();
-        let steps = elements(alloc, session, list)?;
-        let mut found = Vec::new(alloc);
-        for step in &steps {
-            let pair = self.term_pair(nodes, session, *step)?;
-            found.push(pair)?;
-        }
-        Ok(found)
-    }
-
-    // The variable and the term of a list of the two.
-    fn term_pair(
-        &mut self,
-        nodes: &mut Nodes,
-        session: &Session,
-        list: StepId,
-    ) -> Result<(VariableNode, TermId), Memory>
-        requires run { IsRun session.now }
-        requires list { list < length session.now.trace }
-        requires known { AreKnown session.now nodes.old self.old }
-        ensures made { IfOk result (IsTermPairOf session.now nodes.new list) }
-        ensures extends { Extends nodes.old nodes.new }
-        ensures known { AreKnown session.now nodes.new self.new }
-    {
-        let (first, second) = two_elements(nodes.allocator(), session, list)?;
-        let variable = self.variable(nodes, session, first)?;
-        let term = self.term(nodes, session, second)?;
-        Ok((variable, term))
     }
 }
 

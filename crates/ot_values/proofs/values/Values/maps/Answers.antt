@@ -3,20 +3,23 @@ use Rattle.std.proofs.Common.{sym, ap, subst, ◌∙◌}
 use Rattle.ot_nodes.specs.declared.node.VariableNode.{VariableNode}
 use Rattle.ot_nodes.proofs.MapLemmas.{variable_eq}
 use Rattle.ot_values.specs.Lists.{AreMapsOf}
-use Rattle.ot_values.specs.Reading.{all_first}
-use Rattle.ot_values.proofs.Later.{type_pairs-later}
+use Rattle.ot_machine.specs.Substitutions.{type_pair}
+use Rattle.ot_values.specs.Reading.{all_first, HasTypePair, type_pair_at}
+use Rattle.ot_values.specs.Staying.{type_pair-still}
+use Rattle.ot_values.proofs.Later.{each-later}
 use Rattle.ot_values.proofs.Mapping.{maps-read}
 use Rattle.ot_values.proofs.values.Values.maps.Goals as goal
 
 pub returns-clause-made : goal.returns-clause-made
 returns-clause-made c =
     let s = c.args.session.now in
-    let us = c.type_pairs.new.nodes in
-    let ws = c.term_pairs.new.nodes in
+    let us = c.each_of.new.nodes in
+    let ws = c.each_of-2.new.nodes in
     let list = c.args.list in
     let types = c.in_ok-types.types.items in
     let terms = c.in_ok-terms.terms.items in
-    let pairs = type_pairs-later s us ws c.in_ok-terms.ensures.extends c.in_ok-first.first types
+    let pairs = each-later s us ws c.in_ok-terms.ensures.extends HasTypePair type_pair_at type_pair type_pair-still
+    c.in_ok-first.first types
     c.in_ok-types.ensures.made in
     let read = maps-read s ws c.primitives.ensures.once list c.in_ok-first.first
     c.in_ok-first.second types terms c.in_ok-first.ensures.made

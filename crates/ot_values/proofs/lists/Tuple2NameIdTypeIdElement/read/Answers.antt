@@ -1,15 +1,15 @@
 use Rattle.ot_values.proofs.Later.{known-later, name-later}
 use Rattle.ot_values.proofs.Mapping.{type_pair-read}
-use Rattle.ot_values.proofs.values.Values.type_pair.Goals as goal
+use Rattle.ot_values.proofs.lists.Tuple2NameIdTypeIdElement.read.Goals as goal
 
 pub returns-in_err-name-clause-known : goal.returns-in_err-name-clause-known
 returns-in_err-name-clause-known c =
     known-later c.args.session.now c.args.nodes.now c.name.new.nodes c.in_err-name.ensures.extends
-    c.args.self.now c.requires.known
+    c.args.values.now c.requires.known
 
 pub ty-requires-clause-known : goal.ty-requires-clause-known
 ty-requires-clause-known c =
-    known-later c.args.session.now c.args.nodes.now c.name.new.nodes c.in_ok-name.ensures.extends c.args.self.now
+    known-later c.args.session.now c.args.nodes.now c.name.new.nodes c.in_ok-name.ensures.extends c.args.values.now
     c.requires.known
 
 pub returns-clause-made : goal.returns-clause-made
@@ -19,6 +19,6 @@ returns-clause-made c =
     let ws = c.ty.new.nodes in
     let name = name-later s us ws c.in_ok-ty.ensures.extends
     c.in_ok-spelled.spelled c.in_ok-name.name c.in_ok-name.ensures.made in
-    type_pair-read s ws c.args.list c.in_ok-spelled.spelled c.in_ok-spelled.ty
+    type_pair-read s ws c.args.step c.in_ok-spelled.spelled c.in_ok-spelled.ty
     c.in_ok-name.name c.in_ok-ty.ty c.in_ok-spelled.ensures.made
     name c.in_ok-ty.ensures.made
