@@ -5,15 +5,14 @@ use Rattle.std.specs.Prelude.{IsTrue, ◌↔◌}
 use Rattle.std.specs.List.{All}
 use Rattle.std.specs.Cmp.Lexicographic.{pointwise}
 use Rattle.std.specs.Cmp.Derive.{both_true}
-use Rattle.std.proofs.lemmas.Option.{none-some, same_Some}
+use Rattle.std.proofs.lemmas.Option.{none-some}
 use Rattle.std.proofs.lemmas.List.Elements.{All-head, All-tail}
 use Rattle.std.proofs.lemmas.Slice.Eq.{bytes_eq-Decides}
 use Rattle.ot_plain.specs.Names.{Name, same_name-Decides}
 use Rattle.ot_plain.specs.Trees.{Ty, TyVar, TyOp, Tm, Free, Con, Bound, App, Abs}
 use Rattle.ot_plain.specs.Table.{Extends, IsInjective}
-use Rattle.ot_plain.specs.Hol.{depth_ty}
 use Rattle.ot_plain.specs.Naming.{names}
-use Rattle.ot_plain.specs.Interned.{NodeLaws, IsSound, IsEntry}
+use Rattle.ot_plain.specs.Interned.{NodeLaws, IsSound}
 use Rattle.ot_plain.proofs.TableLemmas.{get_or-Extends, Extends-refl}
 use Rattle.ot_plain.proofs.InternedLemmas.{pushed, Pushed}
 use Rattle.std.specs.Map.{keys_of, lookup}
@@ -24,7 +23,7 @@ use Rattle.ot_nodes.specs.Items.{Item, NameItem, TypeItem, TermItem, as_name, as
 use Rattle.ot_nodes.specs.Items.{HasType, HasTerm, name_at, type_at, term_at, types_at, first_items}
 use Rattle.ot_nodes.specs.Below.{AreTypesBelow, AreTermsBelow, AreBelow, is_name_node, is_type_node, is_term_node}
 use Rattle.ot_nodes.specs.Table.{type_tree, term_tree, tree_of, HasTypeParts, HasTermParts}
-use Rattle.ot_nodes.specs.Table.{HasParts, IsBeside, IsTermBeside, Fits, items_of, IsTable}
+use Rattle.ot_nodes.specs.Table.{HasParts, IsBeside, Fits, items_of, IsTable}
 use Rattle.ot_nodes.specs.declared.node.TypeNode.{TypeNode}
 use Rattle.ot_nodes.specs.declared.node.TypeNode.TheVariants as ty
 use Rattle.ot_nodes.specs.declared.node.TermNode.{TermNode}
@@ -238,71 +237,22 @@ laws = record {
   same_tree = λ ts one m n d e below above fits also same. same_tree ts one m n fits.0 also.0 same;
 }
 
--- ---- what stands at a number, by what it is a number of
-module _ (ts : List Item) (i : ℕ) (n : Node) (b : Beside) (e : IsEntry tree_of AreBelow Fits ts i n b) where
-  -- the item of an entry
-  item-is : (m : Node) (x : Item) → n ≡ m → slice_get ts i ≡ Some x → tree_of ts m ≡ x
-  item-is m x is h = same_Some _ _ (sym (e.tree ∙ ap (λ n. Some (tree_of ts n)) is) ∙ h)
+-- ---- whether the node of a number is that of a name, a type, a term
+module _ (ts : List Item) (i : ℕ) where
+  pub name-kind : (n : Node) → Some (tree_of ts n) ≡ slice_get ts i → IsTrue (is_name_node n) ↔ HasName ts i
+  name-kind (node.Name m) is = (λ _. has-name ts i m (sym is), λ _. refl)
+  name-kind (node.Ty m) is = (λ p. cc, λ h. let e = is ∙ h in cc)
+  name-kind (node.Tm m) is = (λ p. cc, λ h. let e = is ∙ h in cc)
 
-  pub entry-name : (m : Name) → n ≡ node.Name m → HasName ts i → m ≡ name_at ts i
-  entry-name m is h = ap as_name (item-is (node.Name m) _ is h)
+  pub type-kind : (n : Node) → Some (tree_of ts n) ≡ slice_get ts i → IsTrue (is_type_node n) ↔ HasType ts i
+  type-kind (node.Ty m) is = (λ _. has-type ts i (type_tree ts m) (sym is), λ _. refl)
+  type-kind (node.Name m) is = (λ p. cc, λ h. let e = is ∙ h in cc)
+  type-kind (node.Tm m) is = (λ p. cc, λ h. let e = is ∙ h in cc)
 
-  pub entry-type : (m : TypeNode) → n ≡ node.Ty m → HasType ts i → type_at ts i ≡ type_tree ts m
-  entry-type m is h = sym (ap as_type (item-is (node.Ty m) _ is h))
-
-  pub entry-term : (m : TermNode) → n ≡ node.Tm m → HasTerm ts i → term_at ts i ≡ term_tree ts m
-  entry-term m is h = sym (ap as_term (item-is (node.Tm m) _ is h))
-
-  -- of a thing of another kind there is no node
-  pub name-no-type : (m : TypeNode) → n ≡ node.Ty m → HasName ts i → ⊥
-  name-no-type m is h = let p = item-is (node.Ty m) _ is h in cc
-
-  pub name-no-term : (m : TermNode) → n ≡ node.Tm m → HasName ts i → ⊥
-  name-no-term m is h = let p = item-is (node.Tm m) _ is h in cc
-
-  pub type-no-name : (m : Name) → n ≡ node.Name m → HasType ts i → ⊥
-  type-no-name m is h = let p = item-is (node.Name m) _ is h in cc
-
-  pub type-no-term : (m : TermNode) → n ≡ node.Tm m → HasType ts i → ⊥
-  type-no-term m is h = let p = item-is (node.Tm m) _ is h in cc
-
-  pub term-no-name : (m : Name) → n ≡ node.Name m → HasTerm ts i → ⊥
-  term-no-name m is h = let p = item-is (node.Name m) _ is h in cc
-
-  pub term-no-type : (m : TypeNode) → n ≡ node.Ty m → HasTerm ts i → ⊥
-  term-no-type m is h = let p = item-is (node.Ty m) _ is h in cc
-
-  -- whether it is that of a name, a type, a term
-  pub name-kind : IsTrue (is_name_node n) ↔ HasName ts i
-  name-kind = by n refl
-    where
-      by : (m : Node) → n ≡ m → IsTrue (is_name_node m) ↔ HasName ts i
-      by (node.Name m) is = (λ _. has-name ts i m (e.tree ∙ ap (λ n. Some (tree_of ts n)) is), λ _. refl)
-      by (node.Ty m) is = (λ p. cc, λ h. absurd (name-no-type m is h))
-      by (node.Tm m) is = (λ p. cc, λ h. absurd (name-no-term m is h))
-
-  pub type-kind : IsTrue (is_type_node n) ↔ HasType ts i
-  type-kind = by n refl
-    where
-      by : (m : Node) → n ≡ m → IsTrue (is_type_node m) ↔ HasType ts i
-      by (node.Ty m) is = (λ _. has-type ts i (type_tree ts m) (e.tree ∙ ap (λ n. Some (tree_of ts n)) is), λ _. refl)
-      by (node.Name m) is = (λ p. cc, λ h. absurd (type-no-name m is h))
-      by (node.Tm m) is = (λ p. cc, λ h. absurd (type-no-term m is h))
-
-  pub term-kind : IsTrue (is_term_node n) ↔ HasTerm ts i
-  term-kind = by n refl
-    where
-      by : (m : Node) → n ≡ m → IsTrue (is_term_node m) ↔ HasTerm ts i
-      by (node.Tm m) is = (λ _. has-term ts i (term_tree ts m) (e.tree ∙ ap (λ n. Some (tree_of ts n)) is), λ _. refl)
-      by (node.Name m) is = (λ p. cc, λ h. absurd (term-no-name m is h))
-      by (node.Ty m) is = (λ p. cc, λ h. absurd (term-no-type m is h))
-
-  -- what stands beside a type, and beside a term
-  pub beside-type : HasType ts i → b.depth ≡ depth_ty names (type_at ts i)
-  beside-type h = subst (λ x. IsBeside x b) (same_Some _ _ (sym e.tree ∙ h)) e.fits.1
-
-  pub beside-term : HasTerm ts i → IsTermBeside (term_at ts i) b
-  beside-term h = subst (λ x. IsBeside x b) (same_Some _ _ (sym e.tree ∙ h)) e.fits.1
+  pub term-kind : (n : Node) → Some (tree_of ts n) ≡ slice_get ts i → IsTrue (is_term_node n) ↔ HasTerm ts i
+  term-kind (node.Tm m) is = (λ _. has-term ts i (term_tree ts m) (sym is), λ _. refl)
+  term-kind (node.Name m) is = (λ p. cc, λ h. let e = is ∙ h in cc)
+  term-kind (node.Ty m) is = (λ p. cc, λ h. let e = is ∙ h in cc)
 
 -- ---- the table of the three primitive names
 module _ {S : Type 0} (a b c d : IndexMap Node Beside S) (n : Beside) where

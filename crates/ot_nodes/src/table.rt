@@ -1,5 +1,6 @@
 //! The table: its nodes, what stands beside them, and how they are made.
 ghost use Rattle.std.specs.Prelude.{◌≡◌, ◌↔◌, ◌+◌, ◌<◌, IsTrue, length, slice_get, Some, IfOk};
+ghost use Rattle.std.specs.Option.{option_map};
 ghost use Rattle.std.specs.List.{All};
 ghost use Rattle.ot_plain.specs.Table.{Extends, IsInjective};
 ghost use Rattle.ot_plain.specs.Naming.{names};
@@ -179,11 +180,9 @@ impl Nodes {
     pub fn has_name(&self, id: NameId) -> bool
         ensures { IsTrue result ↔ HasName self.now id }
     {
-        let count = self.nodes.len();
-        if id.0 < count {
-            is_name(self.entry(id.0).0)
-        } else {
-            false
+        match self.node(id.0) {
+            Some(node) => is_name(node),
+            None => false,
         }
     }
 
@@ -191,11 +190,9 @@ impl Nodes {
     pub fn has_type(&self, id: TypeId) -> bool
         ensures { IsTrue result ↔ HasType self.now id }
     {
-        let count = self.nodes.len();
-        if id.0 < count {
-            is_type(self.entry(id.0).0)
-        } else {
-            false
+        match self.node(id.0) {
+            Some(node) => is_type(node),
+            None => false,
         }
     }
 
@@ -203,11 +200,9 @@ impl Nodes {
     pub fn has_term(&self, id: TermId) -> bool
         ensures { IsTrue result ↔ HasTerm self.now id }
     {
-        let count = self.nodes.len();
-        if id.0 < count {
-            is_term(self.entry(id.0).0)
-        } else {
-            false
+        match self.node(id.0) {
+            Some(node) => is_term(node),
+            None => false,
         }
     }
 
@@ -291,6 +286,16 @@ impl Nodes {
         ensures { IsTermBeside (term_at self.now id) result }
     {
         *self.entry(id.0).1
+    }
+
+    // The node of a number, where the table has one.
+    fn node(&self, index: usize) -> Option<&Node>
+        ensures { option_map (λ n. tree_of self.now n.now) result ≡ slice_get self.now index }
+    {
+        match self.nodes.get_index(index) {
+            Some((node, _)) => Some(node),
+            None => None,
+        }
     }
 
     // The node of a number, and what stands beside it.
@@ -420,31 +425,19 @@ fn above(depth: u64) -> Result<u64, Memory>
 fn is_name(node: &Node) -> bool
     ensures { result ≡ is_name_node node.now }
 {
-    match node {
-        Node::Name(_) => true,
-        Node::Ty(_) => false,
-        Node::Tm(_) => false,
-    }
+    matches!(node, Node::Name(_))
 }
 
 // Whether the node is that of a type.
 fn is_type(node: &Node) -> bool
     ensures { result ≡ is_type_node node.now }
 {
-    match node {
-        Node::Name(_) => false,
-        Node::Ty(_) => true,
-        Node::Tm(_) => false,
-    }
+    matches!(node, Node::Ty(_))
 }
 
 // Whether the node is that of a term.
 fn is_term(node: &Node) -> bool
     ensures { result ≡ is_term_node node.now }
 {
-    match node {
-        Node::Name(_) => false,
-        Node::Ty(_) => false,
-        Node::Tm(_) => true,
-    }
+    matches!(node, Node::Tm(_))
 }

@@ -27,7 +27,7 @@ use Rattle.ot_write.specs.declared.writer.Task.TheVariants as task
 use Rattle.ot_trace.specs.declared.step.Step.{Step}
 use Rattle.ot_trace.specs.declared.step.Step.TheVariants as step
 use Rattle.ot_trace.specs.Trace.{IsBelow, IsStepTable, operand_numbers, origin_at, origins_at, origin_of}
-use Rattle.ot_write.specs.Emitting.{same, IsInside, place_of, Given, given, HasKeys, Shows, Moves, Replaces, keep}
+use Rattle.ot_write.specs.Emitting.{same, IsInside, Given, given, HasKeys, Shows, Moves, Replaces, keep}
 use Rattle.ot_write.specs.Emitting.{used, begin, close, perform, rest, cost, cost_all, task_cost, total, count_of}
 use Rattle.ot_write.proofs.Putting.{put-put}
 use Rattle.ot_write.proofs.Keys.{get-of, origin-here, once-at, count-at, count-none}
@@ -60,9 +60,6 @@ Leads g start now f whole = (max : ℕ) (t : Text ℕ) → Shows g max start t �
     × (f u ≡ whole t)
 
 module _ (g : Given) (start : Writer) where
-  pub leads-start : (f : Text ℕ → Text ℕ) → Leads g start start f f
-  leads-start f max t s = (t, s, refl)
-
   pub leads-step : (mid new : Writer) (f h f2 whole : Text ℕ → Text ℕ) → Leads g start mid f whole → Moves g mid new h
       → ((u : Text ℕ) → f2 (h u) ≡ f u) → Leads g start new f2 whole
   leads-step mid new f h f2 whole a m e = λ max t s. let b = a max t s in (h b.0, m max b.0 b.1, e b.0 ∙ b.2)
@@ -104,10 +101,6 @@ module _ (g : Given) where
         let a = h max t s in
         let b = p max a.0 a.1 in
         (b.0, b.1, b.2 ∙ sym (rest-append before (k ∷ []) a.0) ∙ ap (λ l. rest g l a.0) (sym e) ∙ a.2)
-
-    pub leads-all : (now : Writer) (ws : List Task) → ws ≡ [] → Leads g start now (rest g ws) whole
-        → Moves g start now whole
-    leads-all now ws e h = leads-end g start now (rest g ws) whole h (λ u. ap (λ l. rest g l u) e)
 
 module _ (ts : List (Origin ℕ)) where
   pub total-append : (xs ys : List Task) → total ts (xs ++ ys) ≡ total ts xs + total ts ys
@@ -200,10 +193,6 @@ pub numbered : {E : Type 0} (r : Result (Unit {0}) E) (g : Given) (old new : Wri
     → new.stored.items ≡ old.stored.items → OnOk r (Moves g old new (λ t. w.put same (w.Numeral k) t))
 numbered (Ok u) g old new k e s = λ max t h. shows-put g old new (w.Numeral k) e s max t h
 numbered (Err u) g old new k e s = tt
-
-pub nothing-to-do : {E : Type 0} (r : Result (Unit {0}) E) (g : Given) (old : Writer) (ws : List Task)
-    (f : Text ℕ → Text ℕ) → ((t : Text ℕ) → t ≡ f t) → OnOk r (Replaces g old old ws ws f)
-nothing-to-do r g old ws f e = always r (λ max t h. (t, h, ap (rest g ws) (e t)))
 
 module _ (g : Given) (old new : List Task) (id : ℕ) (c : Cmd) (ops : List ℕ)
     (e : origin_at g.trees id ≡ o.Make c (origins_at g.trees ops)) where
@@ -311,14 +300,6 @@ module _ (n : ℕ) where
   inside-append [] ys h k = k
   inside-append (x ∷ xs) ys h k = (h.0, inside-append xs ys h.1 k)
 
-  pub inside-front : (xs : List Task) (x : Task) → IsInside n (xs ++ x ∷ []) → IsInside n xs
-  inside-front [] x h = tt
-  inside-front (y ∷ xs) x h = (h.0, inside-front xs x h.1)
-
-  pub inside-last : (xs : List Task) (x : Task) → IsInside n (xs ++ x ∷ []) → place_of x < n
-  inside-last [] x h = h.0
-  inside-last (y ∷ xs) x h = inside-last xs x h.1
-
   inside-operands : (is : List ℕ) → AllByRecursion (λ i. i < n) is → IsInside n (reverse (map task.Write is))
   inside-operands [] h = tt
   inside-operands (i ∷ is) h = subst (IsInside n) (sym (reverse-append (task.Write i ∷ []) (map task.Write is)))
@@ -331,10 +312,6 @@ module _ (n : ℕ) where
   asked-inside (Ok u) old new id is h k a p =
       subst (IsInside n) (sym p) (inside-append (old ++ task.Close id ∷ []) (reverse (map task.Write is))
       (inside-append old (task.Close id ∷ []) h (k, tt)) (inside-operands is a))
-
-pub closed-cheaper : {E : Type 0} (r : Result (Unit {0}) E) (ts : List (Origin ℕ)) (ws : List Task)
-    → OnOk r (total ts ws < total ts ws + 1)
-closed-cheaper r ts ws = always r (omega arith)
 
 -- ---- what has so many uses
 

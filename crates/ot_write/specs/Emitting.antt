@@ -6,7 +6,7 @@ use Rattle.ot_plain.specs.Names.{Name}
 use Rattle.ot_plain.specs.Naming.{name_of}
 use Rattle.ot_trace.specs.Origins as o
 use Rattle.ot_trace.specs.Origins.{Origin, Origins, Roots}
-use Rattle.ot_trace.specs.Trace.{origin_at}
+use Rattle.ot_trace.specs.Trace.{IsStepTable, origin_at}
 use Rattle.ot_written.specs.Written as w
 use Rattle.ot_written.specs.Written.{Text, Line}
 use Rattle.ot_written.specs.Same.{same_origin}
@@ -73,6 +73,12 @@ pub record HasKeys (ts : List (Origin ℕ)) (keys : List (Option ℕ)) (stored :
   pub long : length keys ≡ length ts
   pub each : (i : ℕ) → i < length ts
       → slice_get keys i ≡ Some (w.key_of same (origin_at ts i) (map (origin_at ts) stored))
+
+-- the steps are a table, each with a count of its uses and the key that the writer gave it
+pub record IsReady (ts : List (Origin ℕ)) (counts : List ℕ) (x : Writer) : Type 0 where
+  pub table : IsStepTable ts
+  pub counted : length counts ≡ length ts
+  pub keys : HasKeys ts x.keys.items x.stored.items
 
 -- the end of a definition: its word, its theorems, and what it pushed below them
 abbrev pub end_definition : Given → Cmd → Origins ℕ → Text ℕ → Text ℕ

@@ -12,7 +12,7 @@ ghost use Rattle.ot_written.specs.Written as written;
 ghost use Rattle.ot_write.specs.Bytes.{AreNamed, AreRootsInside, roots_at};
 ghost use Rattle.ot_write.specs.Limited.{Bytes, limited};
 ghost use Rattle.ot_write.specs.declared.writer.Task.TheVariants as task;
-ghost use Rattle.ot_write.specs.Emitting.{Given, HasKeys, IsInside, Moves, Replaces, begin, close, cost, given};
+ghost use Rattle.ot_write.specs.Emitting.{Given, HasKeys, IsInside, IsReady, Moves, Replaces, begin, close, cost, given};
 ghost use Rattle.ot_write.specs.Emitting.{keep, used, perform, place_of, rest, same, stored_from, task_cost, total};
 
 use crate::roots::Roots;
@@ -91,11 +91,9 @@ impl Writer {
         least: u8,
         id: StepId,
     ) -> Result<(), Memory>
-        requires trace { IsStepTable trace.now }
-        requires counted { length counts.now ≡ length trace.now }
+        requires ready { IsReady trace.now counts.now self.old }
         requires inside { id < length trace.now }
-        requires keys { HasKeys trace.now self.old.keys.items self.old.stored.items }
-        ensures keys { HasKeys trace.now self.new.keys.items self.new.stored.items }
+        ensures ready { IsReady trace.now counts.now self.new }
         ensures moves { (ns : List Name) → let g = given ns trace.now counts.now in
             OnOk result (Moves g self.old self.new (stored_from g least (origin_at trace.now id))) }
     {
@@ -114,12 +112,10 @@ impl Writer {
         counts: &[u8],
         mut work: Vec<Task>,
     ) -> Result<(), Memory>
-        requires trace { IsStepTable trace.now }
+        requires ready { IsReady trace.now counts.now self.old }
         requires named { AreNamed (length names.now) trace.now }
-        requires counted { length counts.now ≡ length trace.now }
         requires work { IsInside (length trace.now) work.items }
-        requires keys { HasKeys trace.now self.old.keys.items self.old.stored.items }
-        ensures keys { HasKeys trace.now self.new.keys.items self.new.stored.items }
+        ensures ready { IsReady trace.now counts.now self.new }
         ensures moves { let g = given names.now trace.now counts.now in
             OnOk result (Moves g self.old self.new (rest g work.items)) }
     {
@@ -137,13 +133,11 @@ impl Writer {
         task: Task,
         work: &mut Vec<Task>,
     ) -> Result<(), Memory>
-        requires trace { IsStepTable trace.now }
+        requires ready { IsReady trace.now counts.now self.old }
         requires named { AreNamed (length names.now) trace.now }
-        requires counted { length counts.now ≡ length trace.now }
         requires inside { place_of task < length trace.now }
-        requires keys { HasKeys trace.now self.old.keys.items self.old.stored.items }
         requires work { IsInside (length trace.now) work.old.items }
-        ensures keys { HasKeys trace.now self.new.keys.items self.new.stored.items }
+        ensures ready { IsReady trace.now counts.now self.new }
         ensures work { OnOk result (IsInside (length trace.now) work.new.items) }
         ensures moves { let g = given names.now trace.now counts.now in
             OnOk result (Replaces g self.old self.new work.old.items work.new.items (perform g task)) }
@@ -165,13 +159,11 @@ impl Writer {
         id: StepId,
         work: &mut Vec<Task>,
     ) -> Result<(), Memory>
-        requires trace { IsStepTable trace.now }
+        requires ready { IsReady trace.now counts.now self.old }
         requires named { AreNamed (length names.now) trace.now }
-        requires counted { length counts.now ≡ length trace.now }
         requires inside { id < length trace.now }
-        requires keys { HasKeys trace.now self.old.keys.items self.old.stored.items }
         requires work { IsInside (length trace.now) work.old.items }
-        ensures keys { HasKeys trace.now self.new.keys.items self.new.stored.items }
+        ensures ready { IsReady trace.now counts.now self.new }
         ensures work { OnOk result (IsInside (length trace.now) work.new.items) }
         ensures moves { let g = given names.now trace.now counts.now in
             OnOk result (Replaces g self.old self.new work.old.items work.new.items
@@ -195,13 +187,11 @@ impl Writer {
         id: StepId,
         work: &mut Vec<Task>,
     ) -> Result<(), Memory>
-        requires trace { IsStepTable trace.now }
+        requires ready { IsReady trace.now counts.now self.old }
         requires named { AreNamed (length names.now) trace.now }
-        requires counted { length counts.now ≡ length trace.now }
         requires inside { id < length trace.now }
-        requires keys { HasKeys trace.now self.old.keys.items self.old.stored.items }
         requires work { IsInside (length trace.now) work.old.items }
-        ensures keys { HasKeys trace.now self.new.keys.items self.new.stored.items }
+        ensures ready { IsReady trace.now counts.now self.new }
         ensures work { OnOk result (IsInside (length trace.now) work.new.items) }
         ensures moves { let g = given names.now trace.now counts.now in
             OnOk result (Replaces g self.old self.new work.old.items work.new.items
@@ -223,11 +213,9 @@ impl Writer {
 
     /// Writes the line of an origin whose operands are written, and stores what is to be stored of it.
     fn close(&mut self, trace: &Trace, counts: &[u8], id: StepId) -> Result<(), Memory>
-        requires trace { IsStepTable trace.now }
-        requires counted { length counts.now ≡ length trace.now }
+        requires ready { IsReady trace.now counts.now self.old }
         requires inside { id < length trace.now }
-        requires keys { HasKeys trace.now self.old.keys.items self.old.stored.items }
-        ensures keys { HasKeys trace.now self.new.keys.items self.new.stored.items }
+        ensures ready { IsReady trace.now counts.now self.new }
         ensures moves { (ns : List Name) → let g = given ns trace.now counts.now in
             OnOk result (Moves g self.old self.new (close g (origin_at trace.now id))) }
     {
@@ -255,11 +243,9 @@ impl Writer {
         count: u8,
         id: StepId,
     ) -> Result<(), Memory>
-        requires trace { IsStepTable trace.now }
-        requires counted { length counts.now ≡ length trace.now }
+        requires ready { IsReady trace.now counts.now self.old }
         requires inside { id < length trace.now }
-        requires keys { HasKeys trace.now self.old.keys.items self.old.stored.items }
-        ensures keys { HasKeys trace.now self.new.keys.items self.new.stored.items }
+        ensures ready { IsReady trace.now counts.now self.new }
         ensures moves { (ns : List Name) → let g = given ns trace.now counts.now in
             OnOk result (Moves g self.old self.new
             (written.outcomes same (keep g) (used g) (origin_at trace.now id) count)) }
@@ -280,11 +266,9 @@ impl Writer {
         place: u8,
         id: StepId,
     ) -> Result<(), Memory>
-        requires trace { IsStepTable trace.now }
-        requires counted { length counts.now ≡ length trace.now }
+        requires ready { IsReady trace.now counts.now self.old }
         requires inside { id < length trace.now }
-        requires keys { HasKeys trace.now self.old.keys.items self.old.stored.items }
-        ensures keys { HasKeys trace.now self.new.keys.items self.new.stored.items }
+        ensures ready { IsReady trace.now counts.now self.new }
         ensures moves { (ns : List Name) → let g = given ns trace.now counts.now in
             OnOk result (Moves g self.old self.new
             (λ t. put same (written.Order words.Pop)
@@ -302,11 +286,9 @@ impl Writer {
         place: u8,
         id: StepId,
     ) -> Result<(), Memory>
-        requires trace { IsStepTable trace.now }
-        requires counted { length counts.now ≡ length trace.now }
+        requires ready { IsReady trace.now counts.now self.old }
         requires inside { id < length trace.now }
-        requires keys { HasKeys trace.now self.old.keys.items self.old.stored.items }
-        ensures keys { HasKeys trace.now self.new.keys.items self.new.stored.items }
+        ensures ready { IsReady trace.now counts.now self.new }
         ensures moves { (ns : List Name) → let g = given ns trace.now counts.now in
             OnOk result (Moves g self.old self.new
             (stored_from g 1 (origin.Outcome place (origin_at trace.now id)))) }
@@ -340,12 +322,10 @@ impl Writer {
         counts: &[u8],
         id: StepId,
     ) -> Result<(), Memory>
-        requires trace { IsStepTable trace.now }
+        requires ready { IsReady trace.now counts.now self.old }
         requires named { AreNamed (length names.now) trace.now }
-        requires counted { length counts.now ≡ length trace.now }
         requires inside { id < length trace.now }
-        requires keys { HasKeys trace.now self.old.keys.items self.old.stored.items }
-        ensures keys { HasKeys trace.now self.new.keys.items self.new.stored.items }
+        ensures ready { IsReady trace.now counts.now self.new }
         ensures moves { let g = given names.now trace.now counts.now in
             OnOk result (Moves g self.old self.new
             (emit_definition same (keep g) (used g) (origin_at trace.now id))) }
@@ -372,12 +352,10 @@ impl Writer {
         counts: &[u8],
         export: Roots,
     ) -> Result<(), Memory>
-        requires trace { IsStepTable trace.now }
+        requires ready { IsReady trace.now counts.now self.old }
         requires named { AreNamed (length names.now) trace.now }
-        requires counted { length counts.now ≡ length trace.now }
         requires inside { AreRootsInside (length trace.now) export }
-        requires keys { HasKeys trace.now self.old.keys.items self.old.stored.items }
-        ensures keys { HasKeys trace.now self.new.keys.items self.new.stored.items }
+        ensures ready { IsReady trace.now counts.now self.new }
         ensures moves { let g = given names.now trace.now counts.now in
             OnOk result (Moves g self.old self.new
             (emit_exports same (keep g) (used g) (roots_at trace.now export ∷ []))) }

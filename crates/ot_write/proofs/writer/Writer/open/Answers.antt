@@ -7,7 +7,7 @@ use Rattle.ot_write.proofs.writer.Writer.open.Goals as goal
 pub returns-in-Some-clause-moves : goal.returns-in-Some-clause-moves
 returns-in-Some-clause-moves c =
     let g = given c.args.names.now c.args.trace.now c.args.counts.now in
-    opened-some g _ _ c.requires.keys c.args.id c.requires.inside _
+    opened-some g _ _ c.requires.ready.keys c.args.id c.requires.inside _
     (read-at _ _ _ _ c.index-at.ensures c.index.ensures) c.recall.result c.args.self.now c.recall.new.self _
     c.in-Some.key refl c.in-Some.is (c.recall.ensures.moves g)
 
@@ -17,6 +17,6 @@ returns-in-Some-clause-cheaper c = cheaper-same c.recall.result _ _ _
 pub returns-in-None-clause-moves : goal.returns-in-None-clause-moves
 returns-in-None-clause-moves c =
     let g = given c.args.names.now c.args.trace.now c.args.counts.now in
-    opened-none g _ _ c.requires.keys c.args.id c.requires.inside _
+    opened-none g _ _ c.requires.ready.keys c.args.id c.requires.inside _
     (read-at _ _ _ _ c.index-at.ensures c.index.ensures) c.begin.result c.args.self.now c.begin.new.self _ _ refl
     c.in-None.is c.begin.ensures.moves

@@ -11,7 +11,7 @@ tasks-preserved c =
     let e = c.in_ok-perform.ensures in
     let g = given c.args.names.now c.args.trace.now c.args.counts.now in
     record {
-      keys = e.keys;
+      ready = e.ready;
       inside = e.work;
       so_far = leads-more g c.args.self.now (rest g c.args.work.items) c.tasks.self c.perform.new.self _ _ _
           c.in-Some.task c.in-Some.ensures.items c.tasks.invariant.so_far e.moves;

@@ -9,7 +9,7 @@ use Rattle.ot_write.proofs.writer.Writer.store_theorems.Goals as goal
 
 pub loop-left-preserved : goal.loop-left-preserved
 loop-left-preserved c = record {
-  keys = c.in_ok-store_theorem.ensures.keys;
+  ready = c.in_ok-store_theorem.ensures.ready;
   so_far = λ ns.
       let g = given ns c.args.trace.now c.args.counts.now in
       let d = origin_at c.args.trace.now c.args.id in
