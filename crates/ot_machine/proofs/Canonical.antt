@@ -25,6 +25,7 @@ use Rattle.ot_plain.specs.declared.command.Cmd.TheVariants as words
 use Rattle.ot_trace.specs.Origins.{Origin, Make, NoOrigins, make_two}
 use Rattle.ot_term.specs.declared.term.VarKey.{VarKey}
 use Rattle.ot_view.specs.Nodes.{IsKey}
+use Rattle.ot_machine.specs.RenamedLists.{list_onto}
 use Rattle.ot_machine.specs.Version5.{canon_ty, canon_tys, canon_under, canon, numbered, var_term, app, lam}
 use Rattle.ot_machine.specs.Canonical.{Binders, variable_in, canon_in, binders_at, IsBinderIn}
 use Rattle.ot_machine.specs.Canonical.{AreTypes, same_binder, same_part, IsStepOf, AreTerms, AreKnown}
@@ -146,20 +147,12 @@ types-insert s old new y i h ly li is after =
         )
     by z j false e known = h.known z j (sym (ap (λ b. cond b (Some i) (lookup (nat_eq z) old)) e) ∙ known)
 
--- ---- a list of types, from its end
-abbrev pub types_onto : kernel.State → List ℕ → Origin Name → Origin Name
-types_onto k [] o = o
-types_onto k (i ∷ is) o = make_two words.Cons (canon_ty (kernel.type_at k i)) (types_onto k is o)
-
-pub types_onto-push : (k : kernel.State) (is : List ℕ) (j : ℕ) (o : Origin Name) → types_onto k (is ++ j ∷ []) o
-    ≡ types_onto k is (make_two words.Cons (canon_ty (kernel.type_at k j)) o)
-types_onto-push k [] j o = refl
-types_onto-push k (i ∷ is) j o = ap (make_two words.Cons (canon_ty (kernel.type_at k i))) (types_onto-push k is j o)
-
-pub types_onto-whole : (k : kernel.State) (is : List ℕ) → types_onto k is (Make words.Nil NoOrigins)
+-- ---- a list of types
+pub types-listed : (k : kernel.State) (is : List ℕ)
+    → list_onto (map (λ i. canon_ty (kernel.type_at k i)) is) (Make words.Nil NoOrigins)
     ≡ canon_tys (kernel.types_at k is)
-types_onto-whole k [] = refl
-types_onto-whole k (i ∷ is) = ap (make_two words.Cons (canon_ty (kernel.type_at k i))) (types_onto-whole k is)
+types-listed k [] = refl
+types-listed k (i ∷ is) = ap (make_two words.Cons (canon_ty (kernel.type_at k i))) (types-listed k is)
 
 -- ---- one part more
 same_binder-Decides : (b c : Binder) → Decides (same_binder b c) (b ≡ c)
@@ -245,20 +238,12 @@ module _ (s t : Session) (grown : Grows s t) (run : IsRun s) where
     free = occurrences-later s.kernel t.kernel grown.kernel k.free.entries h.free;
   }
 
--- ---- a list of type variables, from its end
-abbrev pub variables_onto : List Name → Origin Name → Origin Name
-variables_onto [] o = o
-variables_onto (n ∷ ns) o = make_two words.Cons (canon_ty (TyVar n)) (variables_onto ns o)
-
-pub variables_onto-push : (ns : List Name) (n : Name) (o : Origin Name) → variables_onto (ns ++ n ∷ []) o
-    ≡ variables_onto ns (make_two words.Cons (canon_ty (TyVar n)) o)
-variables_onto-push [] n o = refl
-variables_onto-push (m ∷ ns) n o = ap (make_two words.Cons (canon_ty (TyVar m))) (variables_onto-push ns n o)
-
-pub variables_onto-whole : (ns : List Name) → variables_onto ns (Make words.Nil NoOrigins)
-    ≡ canon_tys (tys_of_vars names ns)
-variables_onto-whole [] = refl
-variables_onto-whole (n ∷ ns) = ap (make_two words.Cons (canon_ty (TyVar n))) (variables_onto-whole ns)
+-- ---- a list of type variables
+pub variables-listed : (f : ℕ → Name) (is : List ℕ)
+    → list_onto (map (λ i. canon_ty (TyVar (f i))) is) (Make words.Nil NoOrigins)
+    ≡ canon_tys (tys_of_vars names (map f is))
+variables-listed f [] = refl
+variables-listed f (i ∷ is) = ap (make_two words.Cons (canon_ty (TyVar (f i)))) (variables-listed f is)
 
 -- ---- binders whose variables don't matter
 module _ (s : Session) where

@@ -1,5 +1,6 @@
 -- A list of constants, made from its end.
-use Rattle.std.specs.Prelude.{◌≡◌, List, [], ◌∷◌, ◌++◌, Result, Ok, Err, nat_le, Bool, true, false, if◌then◌else◌}
+use Rattle.std.specs.Prelude.{◌≡◌, ℕ, List, [], ◌∷◌, ◌++◌, map, Result, Ok}
+use Rattle.std.specs.Prelude.{Err, nat_le, Bool, true, false, if◌then◌else◌}
 use Rattle.std.proofs.Common.{refl, ap}
 use Rattle.ot_plain.specs.Names.{Name}
 use Rattle.ot_plain.specs.Faults.{Fault, Nesting}
@@ -7,8 +8,9 @@ use Rattle.ot_plain.specs.Hol.{depth_limit}
 use Rattle.ot_machine.specs.Objects.{Object, Objects, list, constant, no_objects, more_objects, nesting}
 use Rattle.ot_machine.specs.Makers.{consed}
 use Rattle.ot_plain.specs.declared.command.Cmd.TheVariants as words
-use Rattle.ot_trace.specs.Origins.{Origin, Named, Make, NoOrigins, make_two, constant_origin}
+use Rattle.ot_trace.specs.Origins.{Named, Make, NoOrigins, make_one, make_two, constant_origin}
 use Rattle.ot_machine.specs.Rows.{constants_of, constants_origin}
+use Rattle.ot_machine.specs.RenamedLists.{list_onto}
 
 -- constants before other objects
 abbrev pub constants_onto : List Name → Objects → Objects
@@ -33,16 +35,9 @@ consed-made o os xs e = by (nat_le (nesting (list (more_objects o os))) depth_li
     by true e = cc
     by false e = cc
 
--- ---- its origin, made from its end
-abbrev pub constants_from : List Name → Origin Name → Origin Name
-constants_from [] o = o
-constants_from (n ∷ ns) o = make_two words.Cons (constant_origin (Named n)) (constants_from ns o)
-
-pub constants_from-start : (ns : List Name) → constants_from ns (Make words.Nil NoOrigins) ≡ constants_origin ns
-constants_from-start [] = refl
-constants_from-start (n ∷ ns) = ap (make_two words.Cons (constant_origin (Named n))) (constants_from-start ns)
-
-pub constants_from-push : (ns : List Name) (n : Name) (o : Origin Name) → constants_from (ns ++ n ∷ []) o
-    ≡ constants_from ns (make_two words.Cons (constant_origin (Named n)) o)
-constants_from-push [] n o = refl
-constants_from-push (m ∷ ns) n o = ap (make_two words.Cons (constant_origin (Named m))) (constants_from-push ns n o)
+-- ---- its origin
+pub constants-listed : (f : ℕ → Name) (is : List ℕ)
+    → list_onto (map (λ i. make_one words.Const (Named (f i))) is) (Make words.Nil NoOrigins)
+    ≡ constants_origin (map f is)
+constants-listed f [] = refl
+constants-listed f (i ∷ is) = ap (make_two words.Cons (constant_origin (Named (f i)))) (constants-listed f is)

@@ -1,7 +1,6 @@
 -- What the kernel's open definition of a type operator gives is what the row of version 5 states.
 use Rattle.std.specs.Prelude.{◌≡◌, ◌<◌, ◌++◌, ◌⊎◌, ℕ, suc, Bool, true, false}
 use Rattle.std.specs.Prelude.{List, [], ◌∷◌, length, map, Result, Ok, Err}
-use Rattle.std.specs.List.{All}
 use Rattle.std.proofs.Common.{refl, sym, ap, ◌∙◌, inl, inr, arith, length-append}
 use Rattle.ot_plain.specs.Names.{Name}
 use Rattle.ot_plain.specs.Naming.{names}
@@ -15,7 +14,8 @@ use Rattle.ot_kernel.specs.State as kernel
 use Rattle.ot_trace.specs.Origins.{Origin}
 use Rattle.ot_machine.specs.States.{Entry, RunState}
 use Rattle.ot_machine.specs.Rows.{definitions_of, theorem_entries}
-use Rattle.ot_machine.specs.Defining.{closed_defined, open_defined}
+use Rattle.ot_machine.specs.Defining as numbers
+use Rattle.ot_machine.specs.Defining.{Rule, closed_defined, open_defined, AreOperandsIn}
 use Rattle.ot_machine.specs.declared.session.Session.{Session}
 use Rattle.ot_machine.specs.Meaning.{origin_of, run_of, IsRun, Grows}
 use Rattle.ot_machine.specs.OpenTypes.{first_origin, second_origin, open_entries}
@@ -24,7 +24,7 @@ use Rattle.ot_machine.proofs.Tops.{same-ok}
 use Rattle.ot_machine.proofs.Defined.{twice-ok, first-ok, double}
 use Rattle.ot_machine.proofs.Stepped.{definitions_of-made, with_definition, defined_then, defined-refused}
 use Rattle.ot_machine.proofs.OpenRow.{open-pushed, open-refused}
-use Rattle.ot_machine.proofs.Canonical.{name-later, names-later, theorem-later}
+use Rattle.ot_machine.proofs.Canonical.{name-later, names-later, theorem-later, names-inside}
 use Rattle.ot_plain.proofs.Results.{bind-ok, unless-ok}
 
 never : {X E : Type 0} (r : Result (Unit {0}) E) (f : E) (x : X) → (r >>= λ _. Err f) ≡ Ok x → ⊥
@@ -193,32 +193,35 @@ opened-are k l e p q i j are two there first second =
     (cc, cc, d.1, d.2)
 
 -- ---- over numbers
-abbrev pub open_stated : kernel.State → (n a r : ℕ) → List ℕ → ℕ → Origin Name → RunState
-    → Result (List Entry × RunState) (Fault Name)
-open_stated k n a r vs th o run = open_defined (kernel.name_at k n) (kernel.name_at k a) (kernel.name_at k r)
-    (map (kernel.name_at k) vs) (kernel.theorem_at k th) o run
-
 -- what the numbers of a session stand for stays as it grows
-module _ (s t : Session) (grown : Grows s t) (n a r : ℕ) (vs : List ℕ) (th : ℕ) (hn : n < length s.kernel.names)
-    (ha : a < length s.kernel.names) (hr : r < length s.kernel.names) (hv : All (λ n. n < length s.kernel.names) vs)
-    (ht : th < length s.kernel.theorems) where
+module _ (s t : Session) (grown : Grows s t) (n a r : ℕ) (vs : List ℕ) (th : ℕ)
+    (h : AreOperandsIn s.kernel n a r vs th) where
+  pub operands-later : AreOperandsIn t.kernel n a r vs th
+  operands-later = record {
+    name = omega (arith, h.name, grown.kernel.names.longer);
+    abs = omega (arith, h.abs, grown.kernel.names.longer);
+    rep = omega (arith, h.rep, grown.kernel.names.longer);
+    variables = names-inside s t grown vs h.variables;
+    premise = omega (arith, h.premise, grown.kernel.theorems.longer);
+  }
+
   same : {X : Type 0} (f : (n a r : Name) → List Name → Sequent Name → X)
       → f (kernel.name_at t.kernel n) (kernel.name_at t.kernel a) (kernel.name_at t.kernel r)
       (map (kernel.name_at t.kernel) vs) (kernel.theorem_at t.kernel th)
       ≡ f (kernel.name_at s.kernel n) (kernel.name_at s.kernel a) (kernel.name_at s.kernel r)
       (map (kernel.name_at s.kernel) vs) (kernel.theorem_at s.kernel th)
   same f =
-      let x = name-later s t grown n hn in
-      let y = name-later s t grown a ha in
-      let z = name-later s t grown r hr in
-      let v = names-later s t grown vs hv in
-      let q = theorem-later s t grown th ht in
+      let x = name-later s t grown n h.name in
+      let y = name-later s t grown a h.abs in
+      let z = name-later s t grown r h.rep in
+      let v = names-later s t grown vs h.variables in
+      let q = theorem-later s t grown th h.premise in
       λ i. f (x i) (y i) (z i) (v i) (q i)
 
-  pub open-same : (o p : Origin Name) → o ≡ p → run_of t ≡ run_of s → open_stated t.kernel n a r vs th o (run_of t)
-      ≡ open_stated s.kernel n a r vs th p (run_of s)
-  open-same o p e f = (λ i. open_stated t.kernel n a r vs th (e i) (f i))
-      ∙ same (λ n a r vs q. open_defined n a r vs q p (run_of s))
+  pub stated-same : (rule : Rule) (o p : Origin Name) → o ≡ p → run_of t ≡ run_of s
+      → numbers.stated rule t.kernel n a r vs th o (run_of t) ≡ numbers.stated rule s.kernel n a r vs th p (run_of s)
+  stated-same rule o p e f = (λ i. numbers.stated rule t.kernel n a r vs th (e i) (f i))
+      ∙ same (λ n a r vs q. rule n a r vs q p (run_of s))
 
   pub origin-same : (origin : Origin Name → (abs rep : Name) → Ty Name → Tm Name → Origin Name) (o p : Origin Name)
       → o ≡ p

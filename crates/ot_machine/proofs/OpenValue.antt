@@ -28,7 +28,8 @@ use Rattle.ot_kernel.specs.Opening.{var_a, var_r}
 use Rattle.ot_machine.specs.Version5.{canon, app, lam, var_origin, abs_value, rep_value}
 use Rattle.ot_machine.proofs.MadeValue.{one-value, origin_of, shallow-low, term-value}
 use Rattle.ot_machine.proofs.CanonValue.{IsNamedForm, named-form}
-use Rattle.ot_machine.proofs.EquationRules.{Eq, Th, Low, low-of, from-low, sym-eq, trans-eq}
+use Rattle.ot_kernel.proofs.OpenLimits.{Low, low-of, from-low}
+use Rattle.ot_machine.proofs.EquationRules.{Eq, Th, sym-eq, trans-eq}
 use Rattle.ot_machine.proofs.EquationRules.{refl-eq, app-eq, beta-eq, beta-refused}
 
 -- ---- what a rule's word makes of theorems
@@ -143,8 +144,8 @@ module _ (abs rep : Name) (new old : Ty Name) (p : Tm Name) (v : Read) where
     pub limit : is_shallow names (Eq (fun_ty names old bool) same_function holds_function) ≡ true
 
   module _ (h : IsOpening) where
-    abbrev lows : Low (fun_ty names old bool) same_function holds_function
-    lows = low-of (fun_ty names old bool) same_function holds_function h.limit
+    abbrev lows : Low names tells_names (fun_ty names old bool) same_function holds_function
+    lows = low-of names tells_names (fun_ty names old bool) same_function holds_function h.limit
 
     old-depth : suc (suc (suc (depth_ty names old))) ≤ depth_limit
     old-depth = let l = (lows).ty_depth in omega (arith, l)
@@ -281,12 +282,12 @@ module _ (abs rep : Name) (new old : Ty Name) (p : Tm Name) (v : Read) where
 
     -- the limit in numbers: p lies 5 levels below it
     pub deepest-room : deepest ≡ true → suc (suc (suc (suc (suc (depth_tm names p))))) ≤ depth_limit
-    deepest-room k = let l = (low-of bool e4 (App p y) k).left_depth in omega (arith, l)
+    deepest-room k = let l = (low-of names tells_names bool e4 (App p y) k).left_depth in omega (arith, l)
 
     pub room-deepest : has_shallow_types names [] p ≡ true → suc (suc (suc (suc (suc (depth_tm names p)))))
         ≤ depth_limit → deepest ≡ true
     room-deepest types room =
-        from-low bool e4 (App p y) e4-typed holds-typed
+        from-low names tells_names bool e4 (App p y) e4-typed holds-typed
         (record {
           left_depth = omega (arith, room);
           right_depth = omega (arith, room);
@@ -296,13 +297,13 @@ module _ (abs rep : Name) (new old : Ty Name) (p : Tm Name) (v : Read) where
         })
 
     module _ (k : deepest ≡ true) where
-      abbrev deep : Low bool e4 (App p y)
-      deep = low-of bool e4 (App p y) k
+      abbrev deep : Low names tells_names bool e4 (App p y)
+      deep = low-of names tells_names bool e4 (App p y) k
 
       -- the equations on the way
       s-y : is_shallow names (Eq old y y) ≡ true
       s-y = let l = old-depth in
-          from-low old y y refl refl
+          from-low names tells_names old y y refl refl
           (record {
             left_depth = omega arith;
             right_depth = omega arith;
@@ -313,7 +314,7 @@ module _ (abs rep : Name) (new old : Ty Name) (p : Tm Name) (v : Read) where
 
       s-sym : is_shallow names (Eq bool (App p y) e4) ≡ true
       s-sym = let k = (deep).left_depth in
-          from-low bool (App p y) e4 holds-typed e4-typed
+          from-low names tells_names bool (App p y) e4 holds-typed e4-typed
           (record {
             left_depth = omega (arith, k);
             right_depth = omega (arith, k);
@@ -324,7 +325,7 @@ module _ (abs rep : Name) (new old : Ty Name) (p : Tm Name) (v : Read) where
 
       s-app : is_shallow names (Eq bool e3 e4) ≡ true
       s-app = let k = (deep).left_depth in
-          from-low bool e3 e4 e3-typed e4-typed
+          from-low names tells_names bool e3 e4 e3-typed e4-typed
           (record {
             left_depth = omega arith;
             right_depth = omega (arith, k);
@@ -335,7 +336,7 @@ module _ (abs rep : Name) (new old : Ty Name) (p : Tm Name) (v : Read) where
 
       s-back : is_shallow names (Eq bool e4 e3) ≡ true
       s-back = let k = (deep).left_depth in
-          from-low bool e4 e3 e4-typed e3-typed
+          from-low names tells_names bool e4 e3 e4-typed e3-typed
           (record {
             left_depth = k;
             right_depth = omega arith;
@@ -345,7 +346,7 @@ module _ (abs rep : Name) (new old : Ty Name) (p : Tm Name) (v : Read) where
           })
 
       s-beta : is_shallow names (Eq bool e3 same) ≡ true
-      s-beta = from-low bool e3 same e3-typed same-typed
+      s-beta = from-low names tells_names bool e3 same e3-typed same-typed
           (record {
             left_depth = omega arith;
             right_depth = omega arith;
@@ -405,8 +406,8 @@ module _ (abs rep : Name) (new old : Ty Name) (p : Tm Name) (v : Read) where
     pub return_limit : is_shallow names (Eq (fun_ty names new new) trip_function identity) ≡ true
 
   module _ (h : IsReturn) where
-    abbrev floors : Low (fun_ty names new new) trip_function identity
-    floors = low-of (fun_ty names new new) trip_function identity h.return_limit
+    abbrev floors : Low names tells_names (fun_ty names new new) trip_function identity
+    floors = low-of names tells_names (fun_ty names new new) trip_function identity h.return_limit
 
     new-depth : suc (suc (suc (depth_ty names new))) ≤ depth_limit
     new-depth = let l = (floors).ty_depth in omega (arith, l)
@@ -488,7 +489,7 @@ module _ (abs rep : Name) (new old : Ty Name) (p : Tm Name) (v : Read) where
 
     s-there : is_shallow names (Eq new e1 there) ≡ true
     s-there = let l = new-depth in
-        from-low new e1 there e1-typed there-typed
+        from-low names tells_names new e1 there e1-typed there-typed
         (record {
           left_depth = omega arith;
           right_depth = omega arith;
@@ -499,7 +500,7 @@ module _ (abs rep : Name) (new old : Ty Name) (p : Tm Name) (v : Read) where
 
     s-turned : is_shallow names (Eq new there e1) ≡ true
     s-turned = let l = new-depth in
-        from-low new there e1 there-typed e1-typed
+        from-low names tells_names new there e1 there-typed e1-typed
         (record {
           left_depth = omega arith;
           right_depth = omega arith;
@@ -510,7 +511,7 @@ module _ (abs rep : Name) (new old : Ty Name) (p : Tm Name) (v : Read) where
 
     s-x : is_shallow names (Eq new x x) ≡ true
     s-x = let l = new-depth in
-        from-low new x x refl refl
+        from-low names tells_names new x x refl refl
         (record {
           left_depth = omega arith;
           right_depth = omega arith;
@@ -521,7 +522,7 @@ module _ (abs rep : Name) (new old : Ty Name) (p : Tm Name) (v : Read) where
 
     s-applied : is_shallow names (Eq new e1 e2) ≡ true
     s-applied = let l = new-depth in
-        from-low new e1 e2 e1-typed e2-typed
+        from-low names tells_names new e1 e2 e1-typed e2-typed
         (record {
           left_depth = omega arith;
           right_depth = omega arith;
@@ -532,7 +533,7 @@ module _ (abs rep : Name) (new old : Ty Name) (p : Tm Name) (v : Read) where
 
     s-identity : is_shallow names (Eq new e2 x) ≡ true
     s-identity = let l = new-depth in
-        from-low new e2 x e2-typed refl
+        from-low names tells_names new e2 x e2-typed refl
         (record {
           left_depth = omega arith;
           right_depth = omega arith;

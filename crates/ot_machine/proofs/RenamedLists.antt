@@ -29,10 +29,11 @@ module _ {N : Type 0} where
   elements-onto [] o e = e
   elements-onto (p ∷ ps) o e = ap (λ qs. p ∷ qs) (elements-onto ps o e)
 
-  pub onto-push : (ps : List (Origin N)) (p o : Origin N) → list_onto (ps ++ p ∷ []) o
-      ≡ list_onto ps (make_two words.Cons p o)
-  onto-push [] p o = refl
-  onto-push (q ∷ ps) p o = ap (make_two words.Cons q) (onto-push ps p o)
+  -- made from its end
+  pub onto-push : {X : Type 0} (f : X → Origin N) (xs : List X) (x : X) (o : Origin N)
+      → list_onto (map f (xs ++ x ∷ [])) o ≡ list_onto (map f xs) (make_two words.Cons (f x) o)
+  onto-push f [] x o = refl
+  onto-push f (y ∷ xs) x o = ap (make_two words.Cons (f y)) (onto-push f xs x o)
 
   pub renamed-onto : (f : N → N) (ps : List (Origin N)) (o : Origin N) → renamed_pairs f o ≡ o
       → renamed_pairs f (list_onto ps o) ≡ list_onto (map (renamed_first f) ps) o

@@ -9,12 +9,12 @@ use Rattle.ot_plain.specs.Faults.{Fault}
 use Rattle.ot_plain.specs.Answers.{◌>>=◌}
 use Rattle.ot_plain.specs.declared.command.Cmd.{Cmd}
 use Rattle.ot_plain.proofs.InternedLemmas.{slice_get-last}
-use Rattle.ot_plain.specs.Table.{Extends}
 use Rattle.ot_kernel.specs.State as kernel
 use Rattle.ot_kernel.specs.Answers.{Concludes, RefusesRule}
 use Rattle.ot_kernel.specs.declared.fault.RuleFault.{RuleFault}
 use Rattle.ot_trace.specs.Origins.{Make}
 use Rattle.ot_machine.specs.declared.fault.Fault as code
+use Rattle.ot_machine.specs.declared.object.Object as code_object
 use Rattle.ot_machine.specs.declared.machine.Machine.{Machine}
 use Rattle.ot_machine.specs.declared.session.Session.{Session}
 use Rattle.ot_machine.specs.Conversions.{rule_fault}
@@ -24,7 +24,8 @@ use Rattle.ot_machine.specs.Places.{object_at, top, replaced, origins_of}
 use Rattle.ot_machine.specs.Makers.{Read, arity, made_by, maker}
 use Rattle.ot_machine.specs.Rows.{Row, making}
 use Rattle.ot_machine.specs.Step.{on_stack}
-use Rattle.ot_machine.specs.Meaning.{article_of, run_of, state_of, IsOf, Leaves}
+use Rattle.ot_machine.specs.Meaning.{object_of, lists_of, article_of, run_of, state_of, IsOf, Leaves}
+use Rattle.ot_machine.specs.Stays.{Replaces}
 use Rattle.ot_machine.specs.Answers.{Turns, Moves}
 use Rattle.ot_machine.specs.Concluding.{Gives, concluding}
 use Rattle.ot_machine.proofs.Kept.{grows-on}
@@ -105,23 +106,24 @@ module _ (s t u : Session) (m n : Machine) (w : Cmd) (stated : Stated) (r : Resu
       }
 
 -- after the kernel made the object
-pub turned : (s t u : Session) (m n : Machine) (w : Cmd) (o : Object) → Leaves s t m
-    → made_by (maker w) (λ k. object_at k (article_of s m).stack) ≡ Ok o
-    → article_of u n
-    ≡ (let a = article_of t m in record a { stack = replaced (arity (maker w)) (made_entry w a.stack o) a.stack })
-    → u.kernel ≡ t.kernel → run_of u ≡ run_of t → Extends t.trace u.trace → IsOf u n
+pub turned : {E : Type 0} {x : Unit {0}} (s t u : Session) (m n : Machine) (w : Cmd) (c : code_object.Object)
+    → Leaves s t m → made_by (maker w) (λ k. object_at k (article_of s m).stack)
+    ≡ Ok (object_of t.kernel (lists_of t m) c)
+    → Replaces {E = E} (Ok x) (arity (maker w)) c
+    (Make w (origins_of (top (arity (maker w)) (article_of t m).stack))) t m u n
     → Turns (Ok tt) (on_stack (making w)) s m u n
-turned s t u m n w o kept made ok same run longer of =
+turned s t u m n w c kept made there =
     let stack = (article_of s m).stack in
+    let o = object_of t.kernel (lists_of t m) c in
     record {
       moves = stacked (making w) (state_of s m) (replaced (arity (maker w)) (made_entry w stack o) stack)
           (ap (placed w stack) made)
           ∙ sym (λ i. Ok (record {
             article =
-                (ok ∙ (λ i. let a = kept.machine.article i in
+                (there.ok ∙ (λ i. let a = kept.machine.article i in
                 record a { stack = replaced (arity (maker w)) (made_entry w a.stack o) a.stack })) i;
-            run = (run ∙ kept.run) i;
+            run = (there.run ∙ kept.run) i;
           }));
-      grown = grows-on (leaves-grow s t m kept) (made-grow t u same longer);
-      of = of;
+      grown = grows-on (leaves-grow s t m kept) (made-grow t u there.kernel there.trace);
+      of = there.of;
     }

@@ -13,7 +13,7 @@ use Rattle.ot_plain.specs.declared.command.Cmd.TheVariants as words
 use Rattle.ot_trace.specs.Origins.{Origin, Named, Define, from_list}
 use Rattle.ot_machine.specs.States.{Entry, RunState}
 use Rattle.ot_machine.specs.Rows.{defined, origin_at, type_defining}
-use Rattle.ot_machine.specs.Defining.{closed_defined, AreOperatorSteps, IsOperatorOf}
+use Rattle.ot_machine.specs.Defining.{Rule, stated, AreOperatorSteps, IsOperatorOf}
 use Rattle.ot_machine.specs.declared.makers.definitions.OperatorSteps.{OperatorSteps}
 use Rattle.ot_machine.specs.declared.session.Session.{Session}
 use Rattle.ot_machine.specs.Meaning.{origin_of, givens_of, made_of, run_of, IsRun, Grows}
@@ -40,10 +40,6 @@ list_stated k is vs th o r =
     defined (λ ds. list_definition names ds (map (kernel.name_at k) is) (map (kernel.variable_at k) vs)
     (kernel.theorem_at k th)) o r
 
-abbrev pub type_stated : kernel.State → (n a r : ℕ) → List ℕ → ℕ → Origin Name → RunState → Stated
-type_stated k n a r vs th o run = closed_defined (kernel.name_at k n) (kernel.name_at k a) (kernel.name_at k r)
-    (map (kernel.name_at k) vs) (kernel.theorem_at k th) o run
-
 module _ (k l : kernel.State) (o p : Origin Name) (r q : RunState) (a : k ≡ l) (b : o ≡ p) (c : r ≡ q) where
   pub const-same : (n t : ℕ) → const_stated k n t o r ≡ const_stated l n t p q
   const-same n t = λ i. const_stated (a i) n t (b i) (c i)
@@ -51,8 +47,9 @@ module _ (k l : kernel.State) (o p : Origin Name) (r q : RunState) (a : k ≡ l)
   pub list-same : (is : List ℕ) (vs : List VarKey) (th : ℕ) → list_stated k is vs th o r ≡ list_stated l is vs th p q
   list-same is vs th = λ i. list_stated (a i) is vs th (b i) (c i)
 
-  pub type-same : (n x y : ℕ) (vs : List ℕ) (th : ℕ) → type_stated k n x y vs th o r ≡ type_stated l n x y vs th p q
-  type-same n x y vs th = λ i. type_stated (a i) n x y vs th (b i) (c i)
+  pub type-same : (rule : Rule) (n x y : ℕ) (vs : List ℕ) (th : ℕ) → stated rule k n x y vs th o r
+      ≡ stated rule l n x y vs th p q
+  type-same rule n x y vs th = λ i. stated rule (a i) n x y vs th (b i) (c i)
 
 -- ---- a session with more names
 module _ (s : Session) (l : kernel.State) (run : IsRun s) (kept : kernel.Keeps s.kernel l)

@@ -1,5 +1,5 @@
 -- A session that grew, where all that the machine and the run stand for stays.
-use Rattle.std.specs.Prelude.{◌≡◌, ◌<◌, ℕ, List, [], ◌∷◌, length, map}
+use Rattle.std.specs.Prelude.{◌≡◌, ◌<◌, ℕ, List, [], ◌∷◌, length, map, Result, OnErr}
 use Rattle.std.specs.List.{All}
 use Rattle.std.proofs.lemmas.List.Elements.{All-head, All-tail}
 use Rattle.std.proofs.Common.{refl, ap, ◌∙◌, arith}
@@ -9,9 +9,10 @@ use Rattle.ot_plain.specs.Hol.{nameless}
 use Rattle.ot_kernel.specs.State as kernel
 use Rattle.ot_machine.specs.declared.machine.Machine.{Machine}
 use Rattle.ot_machine.specs.declared.session.Session.{Session}
-use Rattle.ot_machine.specs.Meaning.{origin_of, IsOf, Leaves, Traces}
-use Rattle.ot_machine.specs.Stays.{Stays}
+use Rattle.ot_machine.specs.Meaning.{origin_of, run_of, IsOf, Leaves, Traces}
+use Rattle.ot_machine.specs.Stays.{Stays, Adds}
 use Rattle.ot_machine.proofs.Kept.{at-Extends, trace-same, traces-grow, grows-on, origin-kept}
+use Rattle.ot_machine.proofs.Stated.{on-err, on-err-map}
 use Rattle.ot_machine.proofs.Turning.{grows-same}
 
 pub stays-same : (s : Session) (m : Machine) → IsOf s m → Stays s s m
@@ -31,6 +32,21 @@ traces-stay {s} {t} {m} p = record { grown = traces-grow s t m p; article = p.ar
 pub stays-on : {s t u : Session} {m : Machine} → Stays s t m → Stays t u m → Stays s u m
 stays-on p q =
     record { grown = grows-on p.grown q.grown; article = q.article ∙ p.article; run = q.run ∙ p.run; of = q.of }
+
+-- ---- a call that may add to the run
+-- a refusal, where all stays
+pub stays-adds : {X E : Type 0} (r : Result X E) {s t : Session} {m : Machine} → Stays s t m → Adds r s t m
+stays-adds r h = record { refused = on-err r h.run; grown = h.grown; article = h.article; of = h.of }
+
+-- after what leaves all as it was
+pub adds-on : {X Y E F : Type 0} (r : Result X E) (q : Result Y F) {s t u : Session} {m : Machine} → Stays s t m
+    → (OnErr r (run_of u ≡ run_of t) → OnErr q (run_of u ≡ run_of t)) → Adds r t u m → Adds q s u m
+adds-on r q h same a = record {
+  refused = on-err-map q (λ e. e ∙ h.run) (same a.refused);
+  grown = grows-on h.grown a.grown;
+  article = a.article ∙ h.article;
+  of = a.of;
+}
 
 -- ---- what numbers stand for in them
 module _ (s t : Session) (m : Machine) (h : IsOf s m) (stays : Stays s t m) where

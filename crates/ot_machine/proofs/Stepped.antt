@@ -1,7 +1,7 @@
 -- A session whose kernel grew, with the steps of its assumptions and definitions.
 use Rattle.std.specs.Global.{Global}
 use Rattle.std.specs.Prelude.{◌≡◌, ◌<◌, ◌-◌, ℕ, List, [], ◌∷◌, ◌++◌, length}
-use Rattle.std.specs.Prelude.{take, slice_index_or, Vec, Result, Ok, Err}
+use Rattle.std.specs.Prelude.{take, slice_index_or, Vec, Result, Ok, Err, OnErr}
 use Rattle.std.specs.List.{All}
 use Rattle.std.proofs.Common.{refl, sym, ap, ◌∙◌, subst, arith, length-append}
 use Rattle.std.proofs.Math.Seq.{take-append_seam}
@@ -15,13 +15,18 @@ use Rattle.ot_plain.specs.Faults.{Fault}
 use Rattle.ot_plain.specs.Answers.{◌>>=◌}
 use Rattle.ot_kernel.specs.Defining.{Defining}
 use Rattle.ot_kernel.specs.State as kernel
+use Rattle.ot_kernel.specs.Answers.{RefusesBy, IsSymbolIn}
+use Rattle.ot_kernel.specs.declared.fault.RuleFault.{RuleFault}
 use Rattle.ot_trace.specs.declared.trace.StepId.{StepId}
 use Rattle.ot_machine.specs.States.{Entry, RunState}
 use Rattle.ot_machine.specs.Rows.{definitions_of, theorem_entries, defined}
 use Rattle.ot_machine.specs.declared.machine.Machine.{Machine}
 use Rattle.ot_machine.specs.declared.session.Session.{Session}
 use Rattle.ot_machine.specs.Meaning.{origin_of, givens_of, made_of, run_of, article_of, IsRun, IsOf, Grows}
-use Rattle.ot_machine.specs.Stays.{Stays}
+use Rattle.ot_machine.specs.Stays.{Stays, Adds}
+use Rattle.ot_machine.specs.Answers.{Refuses}
+use Rattle.ot_machine.specs.Conversions.{rule_fault}
+use Rattle.ot_machine.proofs.Refusals.{refuses-definition}
 use Rattle.ot_machine.proofs.Kept.{keeps-same, named-more, origin-kept, givens-kept, made-kept, article-kept, of-kept}
 
 -- ---- lists of steps
@@ -89,7 +94,7 @@ module _ (s : Session) (l : kernel.State) (a d : Vec StepId Global) (m : Machine
   pub steps-grow : Grows s with_steps
   steps-grow = record { kernel = kept; trace = Extends-refl s.trace }
 
-  pub article-with : article_of with_steps m ≡ article_of s m
+  article-with : article_of with_steps m ≡ article_of s m
   article-with = article-kept s with_steps m h steps-grow
 
   -- steps of the trace, as many as there are assumptions and definitions
@@ -132,6 +137,11 @@ module _ (s : Session) (l : kernel.State) (a d : Vec StepId Global) (m : Machine
       (subst (All (λ i. i < length s.trace)) (sym di) h.run.definitions)
       (ap length di ∙ h.run.each_definition ∙ ap length (sym same.definitions))
 
+  -- the run too, where the call was refused
+  pub adds-with : {X E : Type 0} (r : Result X E) → OnErr r (run_of with_steps ≡ run_of s) → IsOf with_steps m
+      → Adds r s with_steps m
+  adds-with r same of = record { refused = same; grown = steps-grow; article = article-with; of = of }
+
   pub stays-with : kernel.SameBasis s.kernel l → a.items ≡ s.assumption_steps.items
       → d.items ≡ s.definition_steps.items → Stays s with_steps m
   stays-with same ai di =
@@ -141,13 +151,17 @@ module _ (s : Session) (l : kernel.State) (a d : Vec StepId Global) (m : Machine
   module _ (c : Definition Name) (j : ℕ) (inside : j < length s.trace)
       (more : l.definitions ≡ s.kernel.definitions ++ c ∷ []) (same : l.assumptions ≡ s.kernel.assumptions)
       (ai : a.items ≡ s.assumption_steps.items) (di : d.items ≡ s.definition_steps.items ++ j ∷ []) where
-    pub defined-of : IsOf with_steps m
+    defined-of : IsOf with_steps m
     defined-of =
         of-with (subst (All (λ i. i < length s.trace)) (sym ai) h.run.assumptions)
         (ap length ai ∙ h.run.each_assumption ∙ ap length (sym same))
         (push-inside (length s.trace) s.definition_steps.items d.items j di inside h.run.definitions)
         (push-length s.definition_steps.items d.items j s.kernel.definitions l.definitions c di more
         h.run.each_definition)
+
+    pub defined-adds : {X E : Type 0} (r : Result X E) → OnErr r (run_of with_steps ≡ run_of s)
+        → Adds r s with_steps m
+    defined-adds r same = adds-with r same defined-of
 
     defined-run : run_of with_steps ≡ with_definition s j c
     defined-run =
@@ -175,6 +189,13 @@ defined-refused s run rule j f refused =
     ap (λ dl. rule dl >>= defined_then s j)
     (definitions_of-made s s.kernel.definitions s.definition_steps.items run.each_definition)
     ∙ ap (λ r. r >>= defined_then s j) refused
+
+pub refused-definition : (s : Session) (l : kernel.State) (run : IsRun s)
+    (rule : List (Definition Name) → Defining names) (j : ℕ) (e : RuleFault)
+    → RefusesBy (kernel.name_at l) e (rule s.kernel.definitions) → IsSymbolIn (length l.names) e
+    → Refuses l (rule_fault e) (defined rule (origin_of s j) (run_of s))
+refused-definition s l run rule j e h symbol =
+    refuses-definition l e _ (h.0, λ f q. defined-refused s run rule j f (h.1 f q)) symbol
 
 -- over the same kernel
 pub stays-beside : (s : Session) (a d : Vec StepId Global) (m : Machine) → IsOf s m

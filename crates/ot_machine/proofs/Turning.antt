@@ -25,7 +25,8 @@ use Rattle.ot_machine.specs.Contexts.{context_of}
 use Rattle.ot_machine.specs.declared.session.Session.{Session}
 use Rattle.ot_machine.specs.Objects.{Object, Objects, list}
 use Rattle.ot_machine.specs.Objects.{no_objects, more_objects}
-use Rattle.ot_machine.specs.States.{Entry, Version, ArticleState, RunState, State, Context}
+use Rattle.ot_machine.specs.States.{Entry, Version, open_version, version_5}
+use Rattle.ot_machine.specs.States.{version_6, ArticleState, RunState, State, Context}
 use Rattle.ot_machine.specs.Places.{as_each, as_term, list_entry, list_on, name_on, names_on, term_on}
 use Rattle.ot_machine.specs.Places.{theorem_on, top, pushed, dropped, replaced, exchanged, origins_of}
 use Rattle.ot_machine.specs.DefinitionLists.{pairs_of}
@@ -35,8 +36,8 @@ use Rattle.ot_machine.specs.Rows.{list_defining, define_const_list_row, define_t
 use Rattle.ot_machine.specs.Discharge.{element_entries, discharged, axiom_row}
 use Rattle.ot_machine.specs.Version5.{open_theorems, define_type_op_5_row}
 use Rattle.ot_machine.specs.Assumptions.{term_entries, used}
-use Rattle.ot_machine.specs.Defining.{closed_defined, open_defined}
-use Rattle.ot_machine.specs.Step.{Command, command_of, version_rule, on_stack, row, counted, step}
+use Rattle.ot_machine.specs.Defining.{closed_defined, defined_in}
+use Rattle.ot_machine.specs.Step.{Command, command_of, version_rule, define_type_row, on_stack, row, counted, step}
 use Rattle.ot_machine.specs.Meaning.{article_of, run_of, state_of, IsOf, Grows, Leaves}
 use Rattle.ot_machine.specs.Answers.{Refuses, Moves, Turns}
 use Rattle.ot_machine.proofs.Kept.{at-Extends, keeps-same, trace-same}
@@ -123,25 +124,9 @@ refused-turn result e row s m t n is same refuses grown of =
     subst (λ r. Turns r row s m t n) (sym is) (record { moves = (same, refuses); grown = grown; of = of })
 
 -- the row of a type operator, after what it reads
-abbrev pub type_op_after : State → Sequent Name → List Name → (rep abs n : Name) → Result State (Fault Name)
-type_op_after s th vars rep abs n =
-    closed_defined n abs rep vars th (type_defining n abs rep s.article.stack) s.run
-    >>= λ made. Ok (with_defined 5 (type_op_entry n ∷ constant_entry abs ∷ constant_entry rep ∷ []) made s)
-
-pub type_op-read : (c : Context) (s : State) (th : Sequent Name) (vars : List Name) (rep abs n r a op : Name)
-    → theorem_on 0 s.article.stack ≡ Ok th → names_on 1 s.article.stack ≡ Ok vars → name_on 2 s.article.stack ≡ Ok rep
-    → name_on 3 s.article.stack ≡ Ok abs → name_on 4 s.article.stack ≡ Ok n
-    → r ≡ renamed names c.interpretation.constants rep → a ≡ renamed names c.interpretation.constants abs
-    → op ≡ renamed names c.interpretation.type_ops n → define_type_op_row c s ≡ type_op_after s th vars r a op
-type_op-read c s th vars rep abs n r a op p q x y z u v w =
-    bind-to _ _ th _ p
-    (bind-to _ _ vars _ q
-    (bind-to _ _ rep _ x
-    (bind-to _ _ abs _ y (bind-to _ _ n _ z (λ i. type_op_after s th vars (sym u i) (sym v i) (sym w i))))))
-
--- and in version 5
-abbrev pub type_op_5_after : State → Sequent Name → List Name → (rep abs n : Name) → Result State (Fault Name)
-type_op_5_after s th vars rep abs n = open_defined n abs rep vars th (type_defining n abs rep s.article.stack) s.run
+abbrev pub type_op_after : Version → State → Sequent Name → List Name → (rep abs n : Name) → Result State (Fault Name)
+type_op_after version s th vars rep abs n =
+    defined_in version n abs rep vars th (type_defining n abs rep s.article.stack) s.run
     >>= λ made. Ok (with_defined 5 (type_op_entry n ∷ constant_entry abs ∷ constant_entry rep ∷ []) made s)
 
 joined : {A B C E : Type 0} (r : Result A E) (f : A → Result B E) (g : B → Result C E)
@@ -157,24 +142,33 @@ open-joined (Ok made) opened s symbols =
     joined (opened made.0) (λ ths. Ok (ths, made.1)) (λ made. Ok (with_defined 5 symbols made s))
 open-joined (Err e) opened s symbols = refl
 
-pub type_op_5-read : (c : Context) (s : State) (th : Sequent Name) (vars : List Name) (rep abs n r a op : Name)
-    → theorem_on 0 s.article.stack ≡ Ok th → names_on 1 s.article.stack ≡ Ok vars → name_on 2 s.article.stack ≡ Ok rep
-    → name_on 3 s.article.stack ≡ Ok abs → name_on 4 s.article.stack ≡ Ok n
-    → r ≡ renamed names c.interpretation.constants rep → a ≡ renamed names c.interpretation.constants abs
-    → op ≡ renamed names c.interpretation.type_ops n → define_type_op_5_row c s ≡ type_op_5_after s th vars r a op
-type_op_5-read c s th vars rep abs n r a op p q x y z u v w =
-    bind-to _ _ th _ p (bind-to _ _ vars _ q (bind-to _ _ rep _ x (bind-to _ _ abs _ y (bind-to _ _ n _ z (
-    open-joined
-    (closed_defined (renamed names c.interpretation.type_ops n) (renamed names c.interpretation.constants abs)
-    (renamed names c.interpretation.constants rep) vars th
-    (type_defining (renamed names c.interpretation.type_ops n) (renamed names c.interpretation.constants abs)
-    (renamed names c.interpretation.constants rep) s.article.stack) s.run)
-    (open_theorems (renamed names c.interpretation.constants abs) (renamed names c.interpretation.constants rep)
-    (TyOp (renamed names c.interpretation.type_ops n) (tys_of_vars names vars)) th.concl) s
-    (type_op_entry (renamed names c.interpretation.type_ops n)
-    ∷ constant_entry (renamed names c.interpretation.constants abs)
-    ∷ constant_entry (renamed names c.interpretation.constants rep) ∷ [])
-    ∙ (λ i. type_op_5_after s th vars (sym u i) (sym v i) (sym w i)))))))
+module _ (c : Context) (s : State) (th : Sequent Name) (vars : List Name) (rep abs n r a op : Name)
+    (p : theorem_on 0 s.article.stack ≡ Ok th) (q : names_on 1 s.article.stack ≡ Ok vars)
+    (x : name_on 2 s.article.stack ≡ Ok rep) (y : name_on 3 s.article.stack ≡ Ok abs)
+    (z : name_on 4 s.article.stack ≡ Ok n) (u : r ≡ renamed names c.interpretation.constants rep)
+    (v : a ≡ renamed names c.interpretation.constants abs) (w : op ≡ renamed names c.interpretation.type_ops n) where
+  closed-read : define_type_op_row c s ≡ type_op_after version_6 s th vars r a op
+  closed-read = bind-to _ _ th _ p
+      (bind-to _ _ vars _ q
+      (bind-to _ _ rep _ x
+      (bind-to _ _ abs _ y
+      (bind-to _ _ n _ z (λ i. type_op_after version_6 s th vars (sym u i) (sym v i) (sym w i))))))
+
+  open-read : define_type_op_5_row c s ≡ type_op_after version_5 s th vars r a op
+  open-read =
+      let b = renamed names c.interpretation.constants rep in
+      let d = renamed names c.interpretation.constants abs in
+      let o = renamed names c.interpretation.type_ops n in
+      bind-to _ _ th _ p (bind-to _ _ vars _ q (bind-to _ _ rep _ x (bind-to _ _ abs _ y (bind-to _ _ n _ z (
+      open-joined (closed_defined o d b vars th (type_defining o d b s.article.stack) s.run)
+      (open_theorems d b (TyOp o (tys_of_vars names vars)) th.concl) s
+      (type_op_entry o ∷ constant_entry d ∷ constant_entry b ∷ [])
+      ∙ (λ i. type_op_after version_5 s th vars (sym u i) (sym v i) (sym w i)))))))
+
+  pub type_op-read : (version : Version) → define_type_row version c s ≡ type_op_after version s th vars r a op
+  type_op-read version_6 = closed-read
+  type_op-read version_5 = open-read
+  type_op-read open_version = open-read
 
 -- what is stated of a list of constants, over numbers
 abbrev pub list_stated : Session → Machine → code_context.Context → List ℕ → List VarKey → ℕ

@@ -1,18 +1,20 @@
 // How what stands on the stack was made: its steps in the trace of this session, and what a word makes of them.
-ghost use Rattle.std.specs.Prelude.{◌≡◌, ◌<◌, ◌≤◌, Result, length, map, IfOk, IfErr, OnOk, OnErr, vec_len};
+ghost use Rattle.std.specs.Prelude.{◌≡◌, ◌<◌, ◌≤◌, Result, length, map, IfOk, IfErr, vec_len};
 ghost use Rattle.std.specs.List.{All};
-ghost use Rattle.ot_plain.specs.Table.{Extends};
 ghost use Rattle.ot_plain.specs.Names.{Name};
 ghost use Rattle.ot_plain.specs.Trees.{Sequent};
 ghost use Rattle.ot_plain.specs.Faults.{Fault as StatedFault};
+ghost use Rattle.ot_plain.specs.declared.command.Cmd.TheVariants as words;
 ghost use Rattle.ot_kernel.specs.State.{name_at};
 ghost use Rattle.ot_trace.specs.Origins.{Number, Named, Make, Define, Outcome, MoreOrigins};
 ghost use Rattle.ot_trace.specs.Origins.{NoOrigins, from_list, make_one, operand, symbols};
 ghost use Rattle.ot_trace.specs.Trace.{origin_at as number_origin, origins_at};
-ghost use Rattle.ot_machine.specs.Meaning.{object_of, origin_of, origin_or, lists_of, article_of};
-ghost use Rattle.ot_machine.specs.Meaning.{run_of, IsOf, IsIn, IsNumber, HasStep, Traces};
-ghost use Rattle.ot_machine.specs.Places.{replaced, top, origins_of};
+ghost use Rattle.ot_machine.specs.Meaning.{origin_of, origin_or, article_of};
+ghost use Rattle.ot_machine.specs.Meaning.{IsOf, IsIn, IsNumber, HasStep, Traces};
+ghost use Rattle.ot_machine.specs.Stays.{MakesStep, Replaces};
+ghost use Rattle.ot_machine.specs.Places.{top, origins_of};
 ghost use Rattle.ot_machine.specs.Rows.{origin_at};
+ghost use Rattle.ot_machine.specs.RenamedLists.{list_onto};
 ghost use Rattle.ot_machine.specs.Step.{on_stack};
 ghost use Rattle.ot_machine.specs.Concluding.{Gives, concluding};
 ghost use Rattle.ot_machine.specs.Answers.{Turns};
@@ -44,10 +46,9 @@ impl Session {
     pub(crate) fn operand_at(&mut self, machine: &Machine, place: usize) -> Result<StepId, Memory>
         requires of { IsOf self.old machine.now }
         requires there { place < vec_len machine.now.stack }
-        ensures made { IfOk result
-            (λ i. origin_of self.new i ≡ origin_at place (article_of self.old machine.now).stack) }
-        ensures inside { IfOk result (λ i. i < length self.new.trace) }
-        ensures kept { Traces self.old self.new machine.now }
+        ensures { MakesStep result
+            (origin_at place (article_of self.old machine.now).stack)
+            self.old self.new machine.now }
     {
         match self.step_on(machine, place) {
             Ok(step) => Ok(step),
@@ -78,9 +79,7 @@ impl Session {
     /// The step of a number.
     fn number_step(&mut self, machine: &Machine, number: i64) -> Result<StepId, Memory>
         requires of { IsOf self.old machine.now }
-        ensures made { IfOk result (λ i. origin_of self.new i ≡ Number number) }
-        ensures inside { IfOk result (λ i. i < length self.new.trace) }
-        ensures kept { Traces self.old self.new machine.now }
+        ensures { MakesStep result (Number number) self.old self.new machine.now }
     {
         Ok(self.trace.add(Step::Number(number))?)
     }
@@ -106,9 +105,7 @@ impl Session {
     ) -> Result<StepId, Memory>
         requires of { IsOf self.old machine.now }
         requires inside { definition < length self.old.trace }
-        ensures made { IfOk result (λ i. origin_of self.new i ≡ Outcome place (origin_of self.old definition)) }
-        ensures inside { IfOk result (λ i. i < length self.new.trace) }
-        ensures kept { Traces self.old self.new machine.now }
+        ensures { MakesStep result (Outcome place (origin_of self.old definition)) self.old self.new machine.now }
     {
         Ok(self.trace.add(Step::Outcome(place, definition))?)
     }
@@ -152,6 +149,30 @@ impl Session {
         Ok((operand, symbol))
     }
 
+    /// The step of the list of the symbols that a word makes of these names.
+    pub(crate) fn symbol_list_step(
+        &mut self,
+        machine: &Machine,
+        word: Cmd,
+        names: &[NameId],
+    ) -> Result<StepId, Memory>
+        requires of { IsOf self.old machine.now }
+        requires inside { All (λ n. n < length self.old.kernel.names) names.now }
+        ensures { MakesStep result
+            (list_onto (map (λ n. make_one word (Named (name_at self.old.kernel n))) names.now)
+            (Make words.Nil NoOrigins))
+            self.old self.new machine.now }
+    {
+        let mut list = self.made_of(machine, Cmd::Nil, &[])?;
+        let mut rest = names;
+        'symbols: while let Some((name, front)) = rest.split_last() {
+            let (_, head) = self.symbol_steps(machine, word, *name)?;
+            list = self.made_of(machine, Cmd::Cons, &[head, list])?;
+            rest = front;
+        }
+        Ok(list)
+    }
+
     /// The step of a definition by a word and the objects of these steps, the lowest first. `defined` are the steps
     /// of the symbols that these name.
     pub(crate) fn defining_step(
@@ -166,10 +187,9 @@ impl Session {
         requires defined { All (λ i. i < length self.old.trace) defined.now }
         requires symbols { map (number_origin self.old.trace) defined.now
             ≡ symbols (Define word (origins_at self.old.trace operands.now)) }
-        ensures made { IfOk result
-            (λ i. origin_of self.new i ≡ Define word (from_list (map (origin_of self.old) operands.now))) }
-        ensures inside { IfOk result (λ i. i < length self.new.trace) }
-        ensures kept { Traces self.old self.new machine.now }
+        ensures { MakesStep result
+            (Define word (from_list (map (origin_of self.old) operands.now)))
+            self.old self.new machine.now }
     {
         Ok(self.trace.define(word, operands, defined)?)
     }
@@ -195,22 +215,8 @@ impl Session {
         requires of { IsOf self.old machine.old }
         requires inside { IsIn self.old.kernel (length machine.old.cells.items) object }
         requires there { 1 ≤ vec_len machine.old.stack }
-        ensures ok { OnOk result
-            (article_of self.new machine.new
-            ≡ (let s = article_of self.old machine.old in
-            record s {
-              stack = replaced 1
-                  (record {
-                    object = object_of self.old.kernel (lists_of self.old machine.old) object;
-                    origin = Make word
-                        (origins_of (top 1 s.stack));
-                  }) s.stack;
-            })) }
-        ensures err { OnErr result (article_of self.new machine.new ≡ article_of self.old machine.old) }
-        ensures kernel { self.new.kernel ≡ self.old.kernel }
-        ensures run { run_of self.new ≡ run_of self.old }
-        ensures trace { Extends self.old.trace self.new.trace }
-        ensures of { IsOf self.new machine.new }
+        ensures { Replaces result 1 object (Make word (origins_of (top 1 (article_of self.old machine.old).stack)))
+            self.old machine.old self.new machine.new }
     {
         let operand = self.operand_at(machine, 0)?;
         let step = self.made_of(machine, word, &[operand])?;
@@ -229,22 +235,8 @@ impl Session {
         requires of { IsOf self.old machine.old }
         requires inside { IsIn self.old.kernel (length machine.old.cells.items) object }
         requires there { 2 ≤ vec_len machine.old.stack }
-        ensures ok { OnOk result
-            (article_of self.new machine.new
-            ≡ (let s = article_of self.old machine.old in
-            record s {
-              stack = replaced 2
-                  (record {
-                    object = object_of self.old.kernel (lists_of self.old machine.old) object;
-                    origin = Make word
-                        (origins_of (top 2 s.stack));
-                  }) s.stack;
-            })) }
-        ensures err { OnErr result (article_of self.new machine.new ≡ article_of self.old machine.old) }
-        ensures kernel { self.new.kernel ≡ self.old.kernel }
-        ensures run { run_of self.new ≡ run_of self.old }
-        ensures trace { Extends self.old.trace self.new.trace }
-        ensures of { IsOf self.new machine.new }
+        ensures { Replaces result 2 object (Make word (origins_of (top 2 (article_of self.old machine.old).stack)))
+            self.old machine.old self.new machine.new }
     {
         let upper = self.operand_at(machine, 0)?;
         let lower = self.operand_at(machine, 1)?;
@@ -305,22 +297,8 @@ impl Session {
         requires inside { IsIn self.old.kernel (length machine.old.cells.items) object }
         requires name { name < length self.old.kernel.names }
         requires there { 1 ≤ vec_len machine.old.stack }
-        ensures ok { OnOk result
-            (article_of self.new machine.new
-            ≡ (let s = article_of self.old machine.old in
-            record s {
-              stack = replaced 1
-                  (record {
-                    object = object_of self.old.kernel (lists_of self.old machine.old) object;
-                    origin = Make word
-                        (MoreOrigins (Named (name_at self.old.kernel name)) NoOrigins);
-                  }) s.stack;
-            })) }
-        ensures err { OnErr result (article_of self.new machine.new ≡ article_of self.old machine.old) }
-        ensures kernel { self.new.kernel ≡ self.old.kernel }
-        ensures run { run_of self.new ≡ run_of self.old }
-        ensures trace { Extends self.old.trace self.new.trace }
-        ensures of { IsOf self.new machine.new }
+        ensures { Replaces result 1 object (Make word (MoreOrigins (Named (name_at self.old.kernel name)) NoOrigins)) self.old machine.old
+            self.new machine.new }
     {
         let operand = self.name_step(machine, name)?;
         let step = self.made_of(machine, word, &[operand])?;

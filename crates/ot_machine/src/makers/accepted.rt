@@ -1,13 +1,14 @@
 // Definitions that the kernel accepts for a machine of this session. Each has its step from then on; after a refusal
 // the run is as before.
-ghost use Rattle.std.specs.Prelude.{◌≡◌, ◌<◌, ◌∷◌, [], length, map, IfOk, OnErr};
+ghost use Rattle.std.specs.Prelude.{◌≡◌, ◌<◌, ◌∷◌, [], length, map, IfOk};
 ghost use Rattle.std.specs.List.{All};
 ghost use Rattle.ot_plain.specs.Naming.{names};
 ghost use Rattle.ot_kernel.specs.State.{name_at, variable_at, term_at, theorem_at};
 ghost use Rattle.ot_kernel.specs.Defining.{const_definition, list_definition};
 ghost use Rattle.ot_machine.specs.Rows.{defined, theorem_entries};
-ghost use Rattle.ot_machine.specs.Defining.{closed_defined};
-ghost use Rattle.ot_machine.specs.Meaning.{article_of, origin_of, run_of, IsOf, Grows};
+ghost use Rattle.ot_machine.specs.Defining.{closed_defined, stated, AreOperandsIn};
+ghost use Rattle.ot_machine.specs.Meaning.{origin_of, run_of, IsOf};
+ghost use Rattle.ot_machine.specs.Stays.{Adds};
 ghost use Rattle.ot_machine.specs.Answers.{Makes};
 
 use crate::fault::Fault;
@@ -39,11 +40,8 @@ impl Session {
             )) result
             (defined (λ ds. const_definition names ds (name_at self.old.kernel name) (term_at self.old.kernel term))
             (origin_of self.old definition) (run_of self.old)) }
-        ensures refused { OnErr result (run_of self.new ≡ run_of self.old) }
         ensures theorem { IfOk result (λ th. th < length self.new.kernel.theorems) }
-        ensures grown { Grows self.old self.new }
-        ensures article { article_of self.new machine.now ≡ article_of self.old machine.now }
-        ensures of { IsOf self.new machine.now }
+        ensures adds { Adds result self.old self.new machine.now }
     {
         self.definition_steps.push(definition)?;
         match self.kernel.define_const(name, term) {
@@ -80,11 +78,8 @@ impl Session {
             (defined (λ ds. list_definition names ds (map (name_at self.old.kernel) constants.now)
             (map (variable_at self.old.kernel) variables.now) (theorem_at self.old.kernel premise))
             (origin_of self.old definition) (run_of self.old)) }
-        ensures refused { OnErr result (run_of self.new ≡ run_of self.old) }
         ensures theorem { IfOk result (λ th. th < length self.new.kernel.theorems) }
-        ensures grown { Grows self.old self.new }
-        ensures article { article_of self.new machine.now ≡ article_of self.old machine.now }
-        ensures of { IsOf self.new machine.now }
+        ensures adds { Adds result self.old self.new machine.now }
     {
         self.definition_steps.push(definition)?;
         match self.kernel.define_list(constants, variables, premise) {
@@ -108,11 +103,7 @@ impl Session {
         definition: StepId,
     ) -> Result<(ThmId, ThmId), Fault>
         requires of { IsOf self.old machine.now }
-        requires name { name < length self.old.kernel.names }
-        requires abs { abs < length self.old.kernel.names }
-        requires rep { rep < length self.old.kernel.names }
-        requires variables { All (λ n. n < length self.old.kernel.names) variables.now }
-        requires premise { premise < length self.old.kernel.theorems }
+        requires operands { AreOperandsIn self.old.kernel name abs rep variables.now premise }
         requires definition { definition < length self.old.trace }
         ensures made { Makes self.new.kernel
             (λ p. (
@@ -120,15 +111,11 @@ impl Session {
                   (theorem_at self.new.kernel p.0 ∷ theorem_at self.new.kernel p.1 ∷ []),
               run_of self.new,
             )) result
-            (closed_defined (name_at self.old.kernel name) (name_at self.old.kernel abs) (name_at self.old.kernel rep)
-            (map (name_at self.old.kernel) variables.now) (theorem_at self.old.kernel premise)
+            (stated closed_defined self.old.kernel name abs rep variables.now premise
             (origin_of self.old definition) (run_of self.old)) }
-        ensures refused { OnErr result (run_of self.new ≡ run_of self.old) }
         ensures first { IfOk result (λ p. p.0 < length self.new.kernel.theorems) }
         ensures second { IfOk result (λ p. p.1 < length self.new.kernel.theorems) }
-        ensures grown { Grows self.old self.new }
-        ensures article { article_of self.new machine.now ≡ article_of self.old machine.now }
-        ensures of { IsOf self.new machine.now }
+        ensures adds { Adds result self.old self.new machine.now }
     {
         self.definition_steps.push(definition)?;
         match self.kernel.define_type(name, abs, rep, variables, premise) {

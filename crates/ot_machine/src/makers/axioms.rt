@@ -1,6 +1,6 @@
 // What the run takes for a sequent that an article states as an axiom.
 ghost use Rattle.std.specs.Prelude.{◌≡◌, ◌<◌, ◌≤◌, length, map, None, Ok, Err};
-ghost use Rattle.std.specs.Prelude.{IfOk, IfSome, OnErr, MatchBool, vec_len};
+ghost use Rattle.std.specs.Prelude.{IfOk, IfSome, MatchBool, vec_len};
 ghost use Rattle.std.specs.List.{All};
 ghost use Rattle.std.specs.Option.{option_map};
 ghost use Rattle.ot_plain.specs.Faults.{NotBool};
@@ -14,8 +14,8 @@ ghost use Rattle.ot_machine.specs.Places.{top, origins_of};
 ghost use Rattle.ot_machine.specs.Rows.{given_as, theorem_entry};
 ghost use Rattle.ot_machine.specs.Discharge.{given_for};
 ghost use Rattle.ot_machine.specs.Assumptions.{assumed_new, used};
-ghost use Rattle.ot_machine.specs.Meaning.{article_of, origin_of, run_of, IsRun, IsOf, Grows};
-ghost use Rattle.ot_machine.specs.Stays.{Stays};
+ghost use Rattle.ot_machine.specs.Meaning.{article_of, origin_of, run_of, IsRun, IsOf};
+ghost use Rattle.ot_machine.specs.Stays.{Stays, Adds};
 ghost use Rattle.ot_machine.specs.Contexts.{given_of, context_of, IsContextOf};
 ghost use Rattle.ot_machine.specs.Answers.{Makes};
 
@@ -49,12 +49,9 @@ impl Session {
             (used (context_of self.old ctx.now) (map (term_at self.old.kernel) hyps.now)
             (term_at self.old.kernel concl) (origin_of self.old list_step)
             (origins_of (top 2 (article_of self.old machine.now).stack)) (run_of self.old)) }
-        ensures refused { OnErr result (run_of self.new ≡ run_of self.old) }
         ensures theorem { IfOk result (λ g. g.th < length self.new.kernel.theorems) }
         ensures step { IfOk result (λ g. g.step < length self.new.trace) }
-        ensures grown { Grows self.old self.new }
-        ensures article { article_of self.new machine.now ≡ article_of self.old machine.now }
-        ensures of { IsOf self.new machine.now }
+        ensures adds { Adds result self.old self.new machine.now }
     {
         let proper = self.is_proper(machine, hyps, concl)?;
         if !proper {
@@ -107,12 +104,9 @@ impl Session {
             (used (context_of self.old ctx.now) (map (term_at self.old.kernel) hyps.now)
             (term_at self.old.kernel concl) (origin_of self.old list_step)
             (origins_of (top 2 (article_of self.old machine.now).stack)) (run_of self.old)) }
-        ensures refused { OnErr result (run_of self.new ≡ run_of self.old) }
         ensures theorem { IfOk result (λ g. g.th < length self.new.kernel.theorems) }
         ensures step { IfOk result (λ g. g.step < length self.new.trace) }
-        ensures grown { Grows self.old self.new }
-        ensures article { article_of self.new machine.now ≡ article_of self.old machine.now }
-        ensures of { IsOf self.new machine.now }
+        ensures adds { Adds result self.old self.new machine.now }
     {
         if let Some(given) = self.given_for(ctx, hyps, concl) {
             return self.weakened(machine, given, hyps, list_step);
@@ -170,12 +164,9 @@ impl Session {
         ensures made { Makes self.new.kernel (λ g. (theorem_entry (given_of self.new g), run_of self.new)) result
             (assumed_new (map (term_at self.old.kernel) hyps.now) (term_at self.old.kernel concl)
             (Make words.Axiom (origins_of (top 2 (article_of self.old machine.now).stack))) (run_of self.old)) }
-        ensures refused { OnErr result (run_of self.new ≡ run_of self.old) }
         ensures theorem { IfOk result (λ g. g.th < length self.new.kernel.theorems) }
         ensures step { IfOk result (λ g. g.step < length self.new.trace) }
-        ensures grown { Grows self.old self.new }
-        ensures article { article_of self.new machine.now ≡ article_of self.old machine.now }
-        ensures of { IsOf self.new machine.now }
+        ensures adds { Adds result self.old self.new machine.now }
     {
         let upper = self.operand_at(machine, 0)?;
         let lower = self.operand_at(machine, 1)?;
@@ -204,12 +195,9 @@ impl Session {
         ensures made { Makes self.new.kernel (λ g. (theorem_entry (given_of self.new g), run_of self.new)) result
             (assumed_new (map (term_at self.old.kernel) hyps.now) (term_at self.old.kernel concl)
             (origin_of self.old step) (run_of self.old)) }
-        ensures refused { OnErr result (run_of self.new ≡ run_of self.old) }
         ensures theorem { IfOk result (λ g. g.th < length self.new.kernel.theorems) }
         ensures step { IfOk result (λ g. g.step < length self.new.trace) }
-        ensures grown { Grows self.old self.new }
-        ensures article { article_of self.new machine.now ≡ article_of self.old machine.now }
-        ensures of { IsOf self.new machine.now }
+        ensures adds { Adds result self.old self.new machine.now }
     {
         self.assumption_steps.push(step)?;
         match self.kernel.axiom(hyps, concl) {

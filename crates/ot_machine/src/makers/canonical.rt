@@ -14,7 +14,7 @@ ghost use Rattle.ot_machine.specs.Occurrences.{AreOccurrences};
 ghost use Rattle.ot_machine.specs.Version5.{canon_ty, canon_tys, var_origin};
 ghost use Rattle.ot_machine.specs.Canonical.{variable_in, canon_in, binders_at, IsBinderIn, AreTypes, AreKnown};
 ghost use Rattle.ot_machine.specs.Meaning.{origin_of, IsOf, Leaves, Traces};
-ghost use Rattle.ot_machine.specs.Stays.{Stays};
+ghost use Rattle.ot_machine.specs.Stays.{Stays, MakesStep};
 
 use crate::machine::Machine;
 use crate::makers::occurrences::{Occurrence, is_free};
@@ -161,10 +161,9 @@ impl Session {
         requires of { IsOf self.old machine.now }
         requires name { name < length self.old.kernel.names }
         requires ty { ty < length self.old.trace }
-        ensures made { IfOk result (λ i. origin_of self.new i
-            ≡ make_two words.Var (Named (name_at self.old.kernel name)) (origin_of self.old ty)) }
-        ensures inside { IfOk result (λ i. i < length self.new.trace) }
-        ensures kept { Traces self.old self.new machine.now }
+        ensures { MakesStep result
+            (make_two words.Var (Named (name_at self.old.kernel name)) (origin_of self.old ty))
+            self.old self.new machine.now }
     {
         let spelled = self.name_step(machine, name)?;
         Ok(self.made_of(machine, Cmd::Var, &[spelled, ty])?)
@@ -180,11 +179,9 @@ impl Session {
         requires of { IsOf self.old machine.now }
         requires name { name < length self.old.kernel.names }
         requires ty { ty < length self.old.trace }
-        ensures made { IfOk result
-            (λ i. origin_of self.new i ≡ make_two words.ConstTerm
-            (constant_origin (Named (name_at self.old.kernel name))) (origin_of self.old ty)) }
-        ensures inside { IfOk result (λ i. i < length self.new.trace) }
-        ensures kept { Traces self.old self.new machine.now }
+        ensures { MakesStep result
+            (make_two words.ConstTerm (constant_origin (Named (name_at self.old.kernel name))) (origin_of self.old ty))
+            self.old self.new machine.now }
     {
         let (_, constant) = self.symbol_steps(machine, Cmd::Const, name)?;
         Ok(self.made_of(machine, Cmd::ConstTerm, &[constant, ty])?)

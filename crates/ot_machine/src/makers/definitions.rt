@@ -1,6 +1,6 @@
 // Definitions that the kernel accepts for a machine of this session, with their steps. Each names its symbols, so
 // numbers keep their names.
-ghost use Rattle.std.specs.Prelude.{◌≡◌, ◌<◌, ◌∷◌, [], length, map, IfOk, OnErr};
+ghost use Rattle.std.specs.Prelude.{◌≡◌, ◌<◌, ◌∷◌, [], length, map, IfOk};
 ghost use Rattle.std.specs.List.{All};
 ghost use Rattle.ot_plain.specs.Naming.{names};
 ghost use Rattle.ot_kernel.specs.State.{name_at, variable_at, term_at, theorem_at};
@@ -10,15 +10,17 @@ ghost use Rattle.ot_interp.specs.Interpretation.{renamed};
 ghost use Rattle.ot_trace.specs.Origins.{Named, Define, from_list, constant_origin, renamed_pairs};
 ghost use Rattle.ot_machine.specs.Objects.{theorem};
 ghost use Rattle.ot_machine.specs.Rows.{defined, const_defining, list_defining};
-ghost use Rattle.ot_machine.specs.Rows.{type_defining, constants_origin, origin_at};
-ghost use Rattle.ot_machine.specs.Defining.{closed_defined, operator_theorems, AreOperatorSteps, IsOperatorOf};
+ghost use Rattle.ot_machine.specs.Rows.{type_defining, origin_at};
+ghost use Rattle.ot_machine.specs.Defining.{closed_defined, defined_in, stated, operator_theorems};
+ghost use Rattle.ot_machine.specs.Defining.{AreOperandsIn, AreOperatorSteps, IsOperatorOf};
 ghost use Rattle.ot_machine.specs.Contexts.{context_of, IsContextOf};
-ghost use Rattle.ot_machine.specs.Meaning.{article_of, origin_of, run_of, IsOf, Grows, Traces};
+ghost use Rattle.ot_machine.specs.Meaning.{article_of, origin_of, run_of, version_of, IsOf, Traces};
+ghost use Rattle.ot_machine.specs.Stays.{Adds, MakesStep};
 ghost use Rattle.ot_machine.specs.Answers.{Makes};
 
 use crate::context::Context;
 use crate::fault::Fault;
-use crate::machine::Machine;
+use crate::machine::{Machine, Version};
 use crate::session::Session;
 use ot_kernel::ThmId;
 use ot_plain::{Cmd, Memory, NameId};
@@ -84,15 +86,12 @@ impl Session {
             (run_of self.old)) }
         ensures symbol { IfOk result (λ d. origin_of self.new d.symbol
             ≡ constant_origin (Named (name_at self.old.kernel name))) }
-        ensures refused { OnErr result (run_of self.new ≡ run_of self.old) }
         ensures name { name_at self.new.kernel name ≡ name_at self.old.kernel name }
         ensures inside { name < length self.new.kernel.names }
         ensures symbol_step { IfOk result (λ d. d.symbol < length self.new.trace) }
         ensures theorem { IfOk result (λ d. d.theorem < length self.new.kernel.theorems) }
         ensures step { IfOk result (λ d. d.step < length self.new.trace) }
-        ensures grown { Grows self.old self.new }
-        ensures article { article_of self.new machine.now ≡ article_of self.old machine.now }
-        ensures of { IsOf self.new machine.now }
+        ensures adds { Adds result self.old self.new machine.now }
     {
         let (symbol, definition) = self.constant_defining(machine, name, term_step)?;
         let step = self.outcome_step(machine, 1, definition)?;
@@ -131,29 +130,6 @@ impl Session {
         Ok((symbol, definition))
     }
 
-    /// The step of the list of these constants.
-    pub(crate) fn constants_step(
-        &mut self,
-        machine: &Machine,
-        constants: &[NameId],
-    ) -> Result<StepId, Memory>
-        requires of { IsOf self.old machine.now }
-        requires inside { All (λ n. n < length self.old.kernel.names) constants.now }
-        ensures made { IfOk result
-            (λ i. origin_of self.new i ≡ constants_origin (map (name_at self.old.kernel) constants.now)) }
-        ensures inside { IfOk result (λ i. i < length self.new.trace) }
-        ensures kept { Traces self.old self.new machine.now }
-    {
-        let mut list = self.made_of(machine, Cmd::Nil, &[])?;
-        let mut rest = constants;
-        'names: while let Some((name, front)) = rest.split_last() {
-            let (_, head) = self.symbol_steps(machine, Cmd::Const, *name)?;
-            list = self.made_of(machine, Cmd::Cons, &[head, list])?;
-            rest = front;
-        }
-        Ok(list)
-    }
-
     /// The theorem of constants that are defined for the variables of the theorem on the top of the stack, with its
     /// step. Below it stands the list of their names and variables. The run has the definition from then on.
     pub(crate) fn list_definition(
@@ -186,12 +162,9 @@ impl Session {
             (defined (λ ds. list_definition names ds (map (name_at self.old.kernel) constants.now)
             (map (variable_at self.old.kernel) variables.now) (theorem_at self.old.kernel premise))
             (list_defining (context_of self.old ctx.now) (article_of self.old machine.now).stack) (run_of self.old)) }
-        ensures refused { OnErr result (run_of self.new ≡ run_of self.old) }
         ensures theorem { IfOk result (λ d. d.0 < length self.new.kernel.theorems) }
         ensures step { IfOk result (λ d. d.1 < length self.new.trace) }
-        ensures grown { Grows self.old self.new }
-        ensures article { article_of self.new machine.now ≡ article_of self.old machine.now }
-        ensures of { IsOf self.new machine.now }
+        ensures adds { Adds result self.old self.new machine.now }
     {
         let definition = self.list_defining(machine, ctx, list_step, premise_step)?;
         let step = self.outcome_step(machine, 1, definition)?;
@@ -211,13 +184,11 @@ impl Session {
         requires context { IsContextOf self.old ctx.now }
         requires list_step { list_step < length self.old.trace }
         requires premise_step { premise_step < length self.old.trace }
-        ensures made { IfOk result
-            (λ i. origin_of self.new i
-            ≡ Define words.DefineConstList
-            (from_list (renamed_pairs (renamed names (context_of self.old ctx.now).interpretation.constants)
-            (origin_of self.old list_step) ∷ origin_of self.old premise_step ∷ []))) }
-        ensures inside { IfOk result (λ i. i < length self.new.trace) }
-        ensures kept { Traces self.old self.new machine.now }
+        ensures { MakesStep result
+            (Define words.DefineConstList (from_list (renamed_pairs (renamed names
+            (context_of self.old ctx.now).interpretation.constants)
+            (origin_of self.old list_step) ∷ origin_of self.old premise_step ∷ [])))
+            self.old self.new machine.now }
     {
         let (list, symbols) = self.renamed_list(machine, ctx, list_step)?;
         Ok(self.defining_step(
@@ -230,8 +201,58 @@ impl Session {
 
     /// The two theorems of a type operator that is taken from a type, and of the constants between the two types, by
     /// the theorem on the top of the stack and the list of type variables below it. The run has the definition from
-    /// then on.
+    /// then on. The theorems are those of an article of this version.
     pub(crate) fn type_definition(
+        &mut self,
+        machine: &Machine,
+        version: Version,
+        name: NameId,
+        abs: NameId,
+        rep: NameId,
+        variables: &[NameId],
+        list_step: StepId,
+        premise: ThmId,
+        premise_step: StepId,
+    ) -> Result<DefinedOperator, Fault>
+        requires of { IsOf self.old machine.now }
+        requires operands { AreOperandsIn self.old.kernel name abs rep variables.now premise }
+        requires list_step { list_step < length self.old.trace }
+        requires list_origin { origin_of self.old list_step ≡ origin_at 1 (article_of self.old machine.now).stack }
+        requires premise_step { premise_step < length self.old.trace }
+        requires premise_origin { origin_of self.old premise_step ≡ origin_at 0 (article_of self.old machine.now).stack }
+        ensures made { Makes self.new.kernel (λ d. (operator_theorems self.new d, run_of self.new)) result
+            (stated (defined_in (version_of version)) self.old.kernel name abs rep variables.now premise
+            (type_defining (name_at self.old.kernel name) (name_at self.old.kernel abs) (name_at self.old.kernel rep)
+            (article_of self.old machine.now).stack) (run_of self.old)) }
+        ensures operator { IfOk result (IsOperatorOf self.old self.new name abs rep) }
+        ensures adds { Adds result self.old self.new machine.now }
+    {
+        match version {
+            Version::Six => self.closed_type_definition(
+                machine,
+                name,
+                abs,
+                rep,
+                variables,
+                list_step,
+                premise,
+                premise_step,
+            ),
+            Version::Open | Version::Five => self.open_type_definition(
+                machine,
+                name,
+                abs,
+                rep,
+                variables,
+                list_step,
+                premise,
+                premise_step,
+            ),
+        }
+    }
+
+    // In an article of version 6: equations of abstractions.
+    fn closed_type_definition(
         &mut self,
         machine: &Machine,
         name: NameId,
@@ -243,25 +264,17 @@ impl Session {
         premise_step: StepId,
     ) -> Result<DefinedOperator, Fault>
         requires of { IsOf self.old machine.now }
-        requires name { name < length self.old.kernel.names }
-        requires abs { abs < length self.old.kernel.names }
-        requires rep { rep < length self.old.kernel.names }
-        requires variables { All (λ n. n < length self.old.kernel.names) variables.now }
-        requires premise { premise < length self.old.kernel.theorems }
+        requires operands { AreOperandsIn self.old.kernel name abs rep variables.now premise }
         requires list_step { list_step < length self.old.trace }
         requires list_origin { origin_of self.old list_step ≡ origin_at 1 (article_of self.old machine.now).stack }
         requires premise_step { premise_step < length self.old.trace }
         requires premise_origin { origin_of self.old premise_step ≡ origin_at 0 (article_of self.old machine.now).stack }
         ensures made { Makes self.new.kernel (λ d. (operator_theorems self.new d, run_of self.new)) result
-            (closed_defined (name_at self.old.kernel name) (name_at self.old.kernel abs) (name_at self.old.kernel rep)
-            (map (name_at self.old.kernel) variables.now) (theorem_at self.old.kernel premise)
+            (stated closed_defined self.old.kernel name abs rep variables.now premise
             (type_defining (name_at self.old.kernel name) (name_at self.old.kernel abs) (name_at self.old.kernel rep)
             (article_of self.old machine.now).stack) (run_of self.old)) }
         ensures operator { IfOk result (IsOperatorOf self.old self.new name abs rep) }
-        ensures refused { OnErr result (run_of self.new ≡ run_of self.old) }
-        ensures grown { Grows self.old self.new }
-        ensures article { article_of self.new machine.now ≡ article_of self.old machine.now }
-        ensures of { IsOf self.new machine.now }
+        ensures adds { Adds result self.old self.new machine.now }
     {
         let steps = self.type_defining(machine, name, abs, rep, list_step, premise_step)?;
         let abs_rep_step = self.outcome_step(machine, 1, steps.definition)?;

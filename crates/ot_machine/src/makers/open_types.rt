@@ -1,20 +1,18 @@
 // The two theorems of a type operator in an article of version 5, with the steps that derive them from its definition.
-ghost use Rattle.std.specs.Prelude.{◌≡◌, ◌<◌, ◌∷◌, [], codes, length, map, IfOk, OnErr};
-ghost use Rattle.std.specs.List.{All};
-ghost use Rattle.ot_plain.specs.Hol.{tys_of_vars};
+ghost use Rattle.std.specs.Prelude.{◌≡◌, ◌<◌, [], length, IfOk};
 ghost use Rattle.ot_plain.specs.Naming.{names};
-ghost use Rattle.ot_plain.specs.Trees.{TyOp};
 ghost use Rattle.ot_plain.specs.declared.command.Cmd.TheVariants as words;
 ghost use Rattle.ot_kernel.specs.State.{name_at, theorem_at};
-ghost use Rattle.ot_trace.specs.Origins.{Named, make_one, make_two, type_op_origin};
-ghost use Rattle.ot_machine.specs.Defining.{open_defined, operator_theorems, IsOperatorOf};
+ghost use Rattle.ot_trace.specs.Origins.{Named, make_two, type_op_origin};
+ghost use Rattle.ot_machine.specs.Defining.{open_defined, stated, origin_by, operator_theorems};
+ghost use Rattle.ot_machine.specs.Defining.{AreOperandsIn, IsOperatorOf};
 ghost use Rattle.ot_machine.specs.Rows.{type_defining, origin_at};
-ghost use Rattle.ot_machine.specs.Version5.{app, canon_tys};
+ghost use Rattle.ot_machine.specs.Version5.{app};
 ghost use Rattle.ot_machine.specs.OpenTypes.{fun_origin, bool_origin, constant_at, variable_at, term_of, redex};
 ghost use Rattle.ot_machine.specs.OpenTypes.{composed, outcome_at, reduced, returned_origin, opened_origin};
 ghost use Rattle.ot_machine.specs.OpenTypes.{AreConstants, first_origin, second_origin, open_entries};
-ghost use Rattle.ot_machine.specs.Meaning.{article_of, origin_of, run_of, IsOf, Grows, Traces};
-ghost use Rattle.ot_machine.specs.Stays.{Stays};
+ghost use Rattle.ot_machine.specs.Meaning.{article_of, origin_of, run_of, IsOf, Traces};
+ghost use Rattle.ot_machine.specs.Stays.{Stays, Adds, MakesStep};
 ghost use Rattle.ot_machine.specs.Answers.{Makes};
 
 use crate::fault::Fault;
@@ -47,10 +45,9 @@ impl Session {
         requires of { IsOf self.old machine.now }
         requires op { op < length self.old.kernel.names }
         requires list { list < length self.old.trace }
-        ensures made { IfOk result (λ i. origin_of self.new i
-            ≡ make_two words.OpType (type_op_origin (Named (name_at self.old.kernel op))) (origin_of self.old list)) }
-        ensures inside { IfOk result (λ i. i < length self.new.trace) }
-        ensures kept { Traces self.old self.new machine.now }
+        ensures { MakesStep result
+            (make_two words.OpType (type_op_origin (Named (name_at self.old.kernel op))) (origin_of self.old list))
+            self.old self.new machine.now }
     {
         let (_, symbol) = self.symbol_steps(machine, Cmd::TypeOp, op)?;
         Ok(self.made_of(machine, Cmd::OpType, &[symbol, list])?)
@@ -66,10 +63,9 @@ impl Session {
         requires of { IsOf self.old machine.now }
         requires from { from < length self.old.trace }
         requires to { to < length self.old.trace }
-        ensures made { IfOk result
-            (λ i. origin_of self.new i ≡ fun_origin (origin_of self.old from) (origin_of self.old to)) }
-        ensures inside { IfOk result (λ i. i < length self.new.trace) }
-        ensures kept { Traces self.old self.new machine.now }
+        ensures { MakesStep result
+            (fun_origin (origin_of self.old from) (origin_of self.old to))
+            self.old self.new machine.now }
     {
         self.kernel.sound();
         let nil = self.made_of(machine, Cmd::Nil, &[])?;
@@ -81,9 +77,7 @@ impl Session {
     // The step of the type of propositions.
     fn boolean_step(&mut self, machine: &Machine) -> Result<StepId, Memory>
         requires of { IsOf self.old machine.now }
-        ensures made { IfOk result (λ i. origin_of self.new i ≡ bool_origin) }
-        ensures inside { IfOk result (λ i. i < length self.new.trace) }
-        ensures kept { Traces self.old self.new machine.now }
+        ensures { MakesStep result bool_origin self.old self.new machine.now }
     {
         self.kernel.sound();
         let nil = self.made_of(machine, Cmd::Nil, &[])?;
@@ -94,11 +88,10 @@ impl Session {
     fn equality_step(&mut self, machine: &Machine, ty: StepId) -> Result<StepId, Memory>
         requires of { IsOf self.old machine.now }
         requires ty { ty < length self.old.trace }
-        ensures made { IfOk result
-            (λ i. origin_of self.new i ≡ constant_at names.equals
-            (fun_origin (origin_of self.old ty) (fun_origin (origin_of self.old ty) bool_origin))) }
-        ensures inside { IfOk result (λ i. i < length self.new.trace) }
-        ensures kept { Traces self.old self.new machine.now }
+        ensures { MakesStep result
+            (constant_at names.equals (fun_origin (origin_of self.old ty) (fun_origin
+            (origin_of self.old ty) bool_origin)))
+            self.old self.new machine.now }
     {
         self.kernel.sound();
         let truth = self.boolean_step(machine)?;
@@ -137,29 +130,6 @@ impl Session {
         })
     }
 
-    // The step of the list of the type variables of these names.
-    fn type_variables_step(
-        &mut self,
-        machine: &Machine,
-        variables: &[NameId],
-    ) -> Result<StepId, Memory>
-        requires of { IsOf self.old machine.now }
-        requires inside { All (λ n. n < length self.old.kernel.names) variables.now }
-        ensures made { IfOk result (λ i. origin_of self.new i
-            ≡ canon_tys (tys_of_vars names (map (name_at self.old.kernel) variables.now))) }
-        ensures inside { IfOk result (λ i. i < length self.new.trace) }
-        ensures kept { Traces self.old self.new machine.now }
-    {
-        let mut list = self.made_of(machine, Cmd::Nil, &[])?;
-        let mut rest = variables;
-        'names: while let Some((name, front)) = rest.split_last() {
-            let (_, head) = self.symbol_steps(machine, Cmd::VarType, *name)?;
-            list = self.made_of(machine, Cmd::Cons, &[head, list])?;
-            rest = front;
-        }
-        Ok(list)
-    }
-
     // The steps of the variable of a name at the type of a step, and of it as a term.
     fn variable_steps(
         &mut self,
@@ -195,10 +165,9 @@ impl Session {
         requires variable { variable < length self.old.trace }
         requires body { body < length self.old.trace }
         requires argument { argument < length self.old.trace }
-        ensures made { IfOk result (λ i. origin_of self.new i
-            ≡ redex (origin_of self.old variable) (origin_of self.old body) (origin_of self.old argument)) }
-        ensures inside { IfOk result (λ i. i < length self.new.trace) }
-        ensures kept { Traces self.old self.new machine.now }
+        ensures { MakesStep result
+            (redex (origin_of self.old variable) (origin_of self.old body) (origin_of self.old argument))
+            self.old self.new machine.now }
     {
         let function = self.made_of(machine, Cmd::AbsTerm, &[variable, body])?;
         Ok(self.made_of(machine, Cmd::AppTerm, &[function, argument])?)
@@ -216,10 +185,9 @@ impl Session {
         requires outer { outer < length self.old.trace }
         requires inner { inner < length self.old.trace }
         requires argument { argument < length self.old.trace }
-        ensures made { IfOk result (λ i. origin_of self.new i
-            ≡ composed (origin_of self.old outer) (origin_of self.old inner) (origin_of self.old argument)) }
-        ensures inside { IfOk result (λ i. i < length self.new.trace) }
-        ensures kept { Traces self.old self.new machine.now }
+        ensures { MakesStep result
+            (composed (origin_of self.old outer) (origin_of self.old inner) (origin_of self.old argument))
+            self.old self.new machine.now }
     {
         let value = self.made_of(machine, Cmd::AppTerm, &[inner, argument])?;
         Ok(self.made_of(machine, Cmd::AppTerm, &[outer, value])?)
@@ -236,10 +204,9 @@ impl Session {
         requires of { IsOf self.old machine.now }
         requires definition { definition < length self.old.trace }
         requires argument { argument < length self.old.trace }
-        ensures made { IfOk result (λ i. origin_of self.new i ≡ outcome_at place (origin_of self.old definition)
-            (origin_of self.old argument)) }
-        ensures inside { IfOk result (λ i. i < length self.new.trace) }
-        ensures kept { Traces self.old self.new machine.now }
+        ensures { MakesStep result
+            (outcome_at place (origin_of self.old definition) (origin_of self.old argument))
+            self.old self.new machine.now }
     {
         let theorem = self.outcome_step(machine, place, definition)?;
         let same = self.made_of(machine, Cmd::Refl, &[argument])?;
@@ -258,10 +225,9 @@ impl Session {
         requires left { left < length self.old.trace }
         requires theorem { theorem < length self.old.trace }
         requires right { right < length self.old.trace }
-        ensures made { IfOk result (λ i. origin_of self.new i
-            ≡ reduced (origin_of self.old left) (origin_of self.old theorem) (origin_of self.old right)) }
-        ensures inside { IfOk result (λ i. i < length self.new.trace) }
-        ensures kept { Traces self.old self.new machine.now }
+        ensures { MakesStep result
+            (reduced (origin_of self.old left) (origin_of self.old theorem) (origin_of self.old right))
+            self.old self.new machine.now }
     {
         let conversion = self.made_of(machine, Cmd::BetaConv, &[left])?;
         let turned = self.made_of(machine, Cmd::Sym, &[conversion])?;
@@ -284,10 +250,10 @@ impl Session {
         requires abs { abs < length self.old.trace }
         requires rep { rep < length self.old.trace }
         requires new { new < length self.old.trace }
-        ensures made { IfOk result (λ i. origin_of self.new i ≡ returned_origin (origin_of self.old definition)
-            (origin_of self.old abs) (origin_of self.old rep) (origin_of self.old new)) }
-        ensures inside { IfOk result (λ i. i < length self.new.trace) }
-        ensures kept { Traces self.old self.new machine.now }
+        ensures { MakesStep result
+            (returned_origin (origin_of self.old definition) (origin_of self.old abs) (origin_of self.old rep)
+            (origin_of self.old new))
+            self.old self.new machine.now }
     {
         self.kernel.sound();
         let (variable, a) = self.variable_steps(machine, NameId::A, new)?;
@@ -310,13 +276,10 @@ impl Session {
         requires rep { constants.rep < length self.old.trace }
         requires equality { constants.equality < length self.old.trace }
         requires r { r < length self.old.trace }
-        ensures made { IfOk result
-            (λ i. origin_of self.new i
-            ≡ app (app (origin_of self.old constants.equality)
-            (composed (origin_of self.old constants.rep) (origin_of self.old constants.abs) (origin_of self.old r)))
-            (origin_of self.old r)) }
-        ensures inside { IfOk result (λ i. i < length self.new.trace) }
-        ensures kept { Traces self.old self.new machine.now }
+        ensures { MakesStep result
+            (app (app (origin_of self.old constants.equality) (composed (origin_of self.old constants.rep)
+            (origin_of self.old constants.abs) (origin_of self.old r))) (origin_of self.old r))
+            self.old self.new machine.now }
     {
         let round = self.composed_step(machine, constants.rep, constants.abs, r)?;
         let left = self.made_of(machine, Cmd::AppTerm, &[constants.equality, round])?;
@@ -339,12 +302,11 @@ impl Session {
         requires equality { constants.equality < length self.old.trace }
         requires predicate { predicate < length self.old.trace }
         requires old { old < length self.old.trace }
-        ensures made { IfOk result
-            (λ i. origin_of self.new i ≡ opened_origin (origin_of self.old definition)
-            (origin_of self.old constants.abs) (origin_of self.old constants.rep)
-            (origin_of self.old constants.equality) (origin_of self.old predicate) (origin_of self.old old)) }
-        ensures inside { IfOk result (λ i. i < length self.new.trace) }
-        ensures kept { Traces self.old self.new machine.now }
+        ensures { MakesStep result
+            (opened_origin (origin_of self.old definition) (origin_of self.old constants.abs)
+            (origin_of self.old constants.rep) (origin_of self.old constants.equality)
+            (origin_of self.old predicate) (origin_of self.old old))
+            self.old self.new machine.now }
     {
         self.kernel.sound();
         let (variable, r) = self.variable_steps(machine, NameId::R, old)?;
@@ -370,20 +332,12 @@ impl Session {
         definition: StepId,
     ) -> Result<(StepId, StepId), Memory>
         requires of { IsOf self.old machine.now }
-        requires name { name < length self.old.kernel.names }
-        requires abs { abs < length self.old.kernel.names }
-        requires rep { rep < length self.old.kernel.names }
-        requires variables { All (λ n. n < length self.old.kernel.names) variables.now }
-        requires premise { premise < length self.old.kernel.theorems }
+        requires operands { AreOperandsIn self.old.kernel name abs rep variables.now premise }
         requires definition { definition < length self.old.trace }
-        ensures first { IfOk result (λ p. origin_of self.new p.0 ≡ first_origin (origin_of self.old definition)
-            (name_at self.old.kernel abs) (name_at self.old.kernel rep)
-            (TyOp (name_at self.old.kernel name) (tys_of_vars names (map (name_at self.old.kernel) variables.now)))
-            (theorem_at self.old.kernel premise).concl) }
-        ensures second { IfOk result (λ p. origin_of self.new p.1 ≡ second_origin (origin_of self.old definition)
-            (name_at self.old.kernel abs) (name_at self.old.kernel rep)
-            (TyOp (name_at self.old.kernel name) (tys_of_vars names (map (name_at self.old.kernel) variables.now)))
-            (theorem_at self.old.kernel premise).concl) }
+        ensures first { IfOk result (λ p. origin_of self.new p.0
+            ≡ origin_by first_origin self.old.kernel name abs rep variables.now premise (origin_of self.old definition)) }
+        ensures second { IfOk result (λ p. origin_of self.new p.1
+            ≡ origin_by second_origin self.old.kernel name abs rep variables.now premise (origin_of self.old definition)) }
         ensures first_step { IfOk result (λ p. p.0 < length self.new.trace) }
         ensures second_step { IfOk result (λ p. p.1 < length self.new.trace) }
         ensures kept { Stays self.old self.new machine.now }
@@ -394,7 +348,7 @@ impl Session {
                 let ty = type_of(&self.kernel, t);
                 let predicate = self.term_origin(machine, 0, &[], p, &mut known)?;
                 let old = self.type_origin(machine, ty, &mut known.types)?;
-                let list = self.type_variables_step(machine, variables)?;
+                let list = self.symbol_list_step(machine, Cmd::VarType, variables)?;
                 let new = self.operated_step(machine, name, list)?;
                 let constants = self.constants_between(machine, abs, rep, old, new)?;
                 let first = self.returned_step(
@@ -423,36 +377,20 @@ impl Session {
         definition: StepId,
     ) -> Result<(ThmId, ThmId), Fault>
         requires of { IsOf self.old machine.now }
-        requires name { name < length self.old.kernel.names }
-        requires abs { abs < length self.old.kernel.names }
-        requires rep { rep < length self.old.kernel.names }
-        requires variables { All (λ n. n < length self.old.kernel.names) variables.now }
-        requires premise { premise < length self.old.kernel.theorems }
+        requires operands { AreOperandsIn self.old.kernel name abs rep variables.now premise }
         requires definition { definition < length self.old.trace }
         ensures made { Makes self.new.kernel (λ p. (
           open_entries
-              (first_origin (origin_of self.old definition) (name_at self.old.kernel abs)
-              (name_at self.old.kernel rep)
-              (TyOp (name_at self.old.kernel name)
-              (tys_of_vars names (map (name_at self.old.kernel) variables.now)))
-              (theorem_at self.old.kernel premise).concl)
-              (second_origin (origin_of self.old definition) (name_at self.old.kernel abs)
-              (name_at self.old.kernel rep)
-              (TyOp (name_at self.old.kernel name)
-              (tys_of_vars names (map (name_at self.old.kernel) variables.now)))
-              (theorem_at self.old.kernel premise).concl)
+              (origin_by first_origin self.old.kernel name abs rep variables.now premise (origin_of self.old definition))
+              (origin_by second_origin self.old.kernel name abs rep variables.now premise (origin_of self.old definition))
               (theorem_at self.new.kernel p.0) (theorem_at self.new.kernel p.1),
           run_of self.new,
         )) result
-            (open_defined (name_at self.old.kernel name) (name_at self.old.kernel abs) (name_at self.old.kernel rep)
-            (map (name_at self.old.kernel) variables.now) (theorem_at self.old.kernel premise)
+            (stated open_defined self.old.kernel name abs rep variables.now premise
             (origin_of self.old definition) (run_of self.old)) }
-        ensures refused { OnErr result (run_of self.new ≡ run_of self.old) }
         ensures first { IfOk result (λ p. p.0 < length self.new.kernel.theorems) }
         ensures second { IfOk result (λ p. p.1 < length self.new.kernel.theorems) }
-        ensures grown { Grows self.old self.new }
-        ensures article { article_of self.new machine.now ≡ article_of self.old machine.now }
-        ensures of { IsOf self.new machine.now }
+        ensures adds { Adds result self.old self.new machine.now }
     {
         self.kernel.sound();
         self.definition_steps.push(definition)?;
@@ -468,8 +406,7 @@ impl Session {
         }
     }
 
-    /// As `type_definition`, with the two theorems that an article of version 5 has: with variables in the place of
-    /// binders.
+    /// In an article of version 5: equations for variables, in the place of abstractions.
     pub(crate) fn open_type_definition(
         &mut self,
         machine: &Machine,
@@ -482,25 +419,17 @@ impl Session {
         premise_step: StepId,
     ) -> Result<DefinedOperator, Fault>
         requires of { IsOf self.old machine.now }
-        requires name { name < length self.old.kernel.names }
-        requires abs { abs < length self.old.kernel.names }
-        requires rep { rep < length self.old.kernel.names }
-        requires variables { All (λ n. n < length self.old.kernel.names) variables.now }
-        requires premise { premise < length self.old.kernel.theorems }
+        requires operands { AreOperandsIn self.old.kernel name abs rep variables.now premise }
         requires list_step { list_step < length self.old.trace }
         requires list_origin { origin_of self.old list_step ≡ origin_at 1 (article_of self.old machine.now).stack }
         requires premise_step { premise_step < length self.old.trace }
         requires premise_origin { origin_of self.old premise_step ≡ origin_at 0 (article_of self.old machine.now).stack }
         ensures made { Makes self.new.kernel (λ d. (operator_theorems self.new d, run_of self.new)) result
-            (open_defined (name_at self.old.kernel name) (name_at self.old.kernel abs) (name_at self.old.kernel rep)
-            (map (name_at self.old.kernel) variables.now) (theorem_at self.old.kernel premise)
+            (stated open_defined self.old.kernel name abs rep variables.now premise
             (type_defining (name_at self.old.kernel name) (name_at self.old.kernel abs) (name_at self.old.kernel rep)
             (article_of self.old machine.now).stack) (run_of self.old)) }
         ensures operator { IfOk result (IsOperatorOf self.old self.new name abs rep) }
-        ensures refused { OnErr result (run_of self.new ≡ run_of self.old) }
-        ensures grown { Grows self.old self.new }
-        ensures article { article_of self.new machine.now ≡ article_of self.old machine.now }
-        ensures of { IsOf self.new machine.now }
+        ensures adds { Adds result self.old self.new machine.now }
     {
         let steps = self.type_defining(machine, name, abs, rep, list_step, premise_step)?;
         let (abs_rep_step, rep_abs_step) = self.open_steps(

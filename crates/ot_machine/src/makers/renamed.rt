@@ -11,6 +11,7 @@ ghost use Rattle.ot_trace.specs.Origins.{elements, operand, constant_origin, mak
 ghost use Rattle.ot_trace.specs.Trace.{origin_at};
 ghost use Rattle.ot_machine.specs.Contexts.{context_of, IsContextOf};
 ghost use Rattle.ot_machine.specs.Meaning.{origin_of, IsOf, Traces};
+ghost use Rattle.ot_machine.specs.Stays.{MakesStep};
 ghost use Rattle.ot_machine.specs.RenamedLists.{cons_numbers, list_onto, read_by, BeginsWith};
 
 use crate::context::Context;
@@ -116,10 +117,9 @@ impl Session {
         requires of { IsOf self.old machine.now }
         requires context { IsContextOf self.old ctx.now }
         requires inside { pair < length self.old.trace }
-        ensures made { IfOk result
-            (λ i. origin_of self.new i ≡ renamed_first (read_by self.old ctx.now) (origin_of self.old pair)) }
-        ensures inside { IfOk result (λ i. i < length self.new.trace) }
-        ensures kept { Traces self.old self.new machine.now }
+        ensures { MakesStep result
+            (renamed_first (read_by self.old ctx.now) (origin_of self.old pair))
+            self.old self.new machine.now }
     {
         match self.begin_of(machine, pair) {
             Some(name) => {
@@ -160,10 +160,9 @@ impl Session {
         requires inside { pair < length self.old.trace }
         requires begun { (n : ℕ) × BeginsWith (origin_at self.old.trace pair) n }
         requires name { name < length self.old.kernel.names }
-        ensures made { IfOk result (λ i. origin_of self.new i
-            ≡ renamed_first (λ n. name_at self.old.kernel name) (origin_of self.old pair)) }
-        ensures inside { IfOk result (λ i. i < length self.new.trace) }
-        ensures kept { Traces self.old self.new machine.now }
+        ensures { MakesStep result
+            (renamed_first (λ n. name_at self.old.kernel name) (origin_of self.old pair))
+            self.old self.new machine.now }
     {
         let begin = self.name_step(machine, name)?;
         let parts = cons_operands(self.trace.step(pair));

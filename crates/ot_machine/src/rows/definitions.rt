@@ -2,8 +2,7 @@
 ghost use Rattle.ot_machine.specs.Meaning.{version_of, IsOf};
 ghost use Rattle.ot_machine.specs.Answers.{Turns};
 ghost use Rattle.ot_machine.specs.Contexts.{context_of, IsContextOf};
-ghost use Rattle.ot_machine.specs.Rows.{define_const_row, define_const_list_row, define_type_op_row};
-ghost use Rattle.ot_machine.specs.Version5.{define_type_op_5_row};
+ghost use Rattle.ot_machine.specs.Rows.{define_const_row, define_const_list_row};
 ghost use Rattle.ot_machine.specs.Step.{define_type_row};
 
 use crate::context::Context;
@@ -12,6 +11,7 @@ use crate::fault::Fault;
 use crate::machine::{Machine, Version};
 use crate::object::{Entry, Object};
 use crate::session::Session;
+use ot_plain::Cmd;
 use std::alloc::Global;
 
 /// `defineConst` defines a constant as a term.
@@ -64,7 +64,7 @@ pub fn define_const_list(
     let variables = variables_of(alloc, &pairs)?;
     // The list of the constants is made first, so that nothing is refused after the definition.
     let constants = session.constants(machine, &names)?;
-    let step = session.constants_step(machine, &names)?;
+    let step = session.symbol_list_step(machine, Cmd::Const, &names)?;
     let (theorem, theorem_step) = session.list_definition(
         machine,
         ctx,
@@ -104,25 +104,6 @@ pub fn define_type(
     ensures { Turns result (define_type_row (version_of version) (context_of session.old ctx.now)) session.old
         machine.old session.new machine.new }
 {
-    match version {
-        Version::Six => define_type_op(alloc, session, machine, ctx),
-        Version::Open => define_type_op_5(alloc, session, machine, ctx),
-        Version::Five => define_type_op_5(alloc, session, machine, ctx),
-    }
-}
-
-/// In an article of version 6: equations of abstractions.
-fn define_type_op(
-    alloc: Global,
-    session: &mut Session,
-    machine: &mut Machine,
-    ctx: &Context<'_>,
-) -> Result<(), Fault>
-    requires of { IsOf session.old machine.old }
-    requires context { IsContextOf session.old ctx.now }
-    ensures { Turns result (define_type_op_row (context_of session.old ctx.now)) session.old machine.old session.new
-        machine.new }
-{
     let (premise, premise_step) = session.theorem_entry(machine, 0)?;
     let (variables, list_step) = session.names_on(alloc, machine, 1)?;
     let rep = session.name_on(machine, 2)?;
@@ -133,64 +114,7 @@ fn define_type_op(
     let name = session.type_op_named(ctx, name);
     let defined = session.type_definition(
         machine,
-        name,
-        abs,
-        rep,
-        &variables,
-        list_step,
-        premise,
-        premise_step,
-    )?;
-    session.exchange(
-        machine,
-        &[
-            Entry {
-                object: Object::TypeOp(name),
-                step: Some(defined.op),
-            },
-            Entry {
-                object: Object::Const(abs),
-                step: Some(defined.abs),
-            },
-            Entry {
-                object: Object::Const(rep),
-                step: Some(defined.rep),
-            },
-            Entry {
-                object: Object::Theorem(defined.abs_rep),
-                step: Some(defined.abs_rep_step),
-            },
-            Entry {
-                object: Object::Theorem(defined.rep_abs),
-                step: Some(defined.rep_abs_step),
-            },
-        ],
-    );
-    Ok(())
-}
-
-/// In an article of version 5: equations for variables.
-fn define_type_op_5(
-    alloc: Global,
-    session: &mut Session,
-    machine: &mut Machine,
-    ctx: &Context<'_>,
-) -> Result<(), Fault>
-    requires of { IsOf session.old machine.old }
-    requires context { IsContextOf session.old ctx.now }
-    ensures { Turns result (define_type_op_5_row (context_of session.old ctx.now)) session.old machine.old session.new
-        machine.new }
-{
-    let (premise, premise_step) = session.theorem_entry(machine, 0)?;
-    let (variables, list_step) = session.names_on(alloc, machine, 1)?;
-    let rep = session.name_on(machine, 2)?;
-    let abs = session.name_on(machine, 3)?;
-    let name = session.name_on(machine, 4)?;
-    let rep = session.constant_named(ctx, rep);
-    let abs = session.constant_named(ctx, abs);
-    let name = session.type_op_named(ctx, name);
-    let defined = session.open_type_definition(
-        machine,
+        version,
         name,
         abs,
         rep,

@@ -16,6 +16,7 @@ use Rattle.ot_machine.specs.Rows.{constants_of, constants_origin, constants_entr
 use Rattle.ot_machine.specs.Rows.{origin_at, with_defined, define_const_list_row}
 use Rattle.ot_machine.specs.Contexts.{context_of}
 use Rattle.ot_machine.specs.Meaning.{list_at, origin_of, state_of}
+use Rattle.ot_machine.proofs.Constants.{constants-listed}
 use Rattle.ot_machine.proofs.Kept.{lists, origin-kept, traces-grow, grows-on}
 use Rattle.ot_machine.proofs.Traced.{traced-origin}
 use Rattle.ot_machine.proofs.InContext.{context-kept, of_context-kept}
@@ -54,8 +55,8 @@ pub constants-requires-clause-names : goal.constants-requires-clause-names
 constants-requires-clause-names c =
     subst (All (IsNameIn c.args.session.now.kernel)) (sym c.deref-3.ensures.value) c.in_ok-names.ensures.inside
 
-pub constants_step-requires-clause-inside : goal.constants_step-requires-clause-inside
-constants_step-requires-clause-inside c =
+pub symbol_list_step-requires-clause-inside : goal.symbol_list_step-requires-clause-inside
+symbol_list_step-requires-clause-inside c =
     subst (All (IsNameIn c.args.session.now.kernel)) (sym c.deref-4.ensures.value) c.in_ok-names.ensures.inside
 
 -- the kernel is as it was before the steps of the constants
@@ -74,13 +75,13 @@ list_definition-requires-clause-variables c =
 
 pub list_definition-requires-clause-context : goal.list_definition-requires-clause-context
 list_definition-requires-clause-context c =
-    of_context-kept c.args.session.now c.constants_step.new.self c.requires.of.run
+    of_context-kept c.args.session.now c.symbol_list_step.new.self c.requires.of.run
     (traces-grow _ _ _ c.in_ok-step.ensures.kept) c.args.ctx.now c.requires.context
 
 pub list_definition-requires-clause-list_origin : goal.list_definition-requires-clause-list_origin
 list_definition-requires-clause-list_origin c =
     let s = c.args.session.now in
-    traced-origin s c.constants_step.new.self c.constants.new.machine c.in_ok-constants.ensures.of
+    traced-origin s c.symbol_list_step.new.self c.constants.new.machine c.in_ok-constants.ensures.of
     c.in_ok-step.ensures.kept c.in_ok-list.list_step c.in_ok-list.ensures.step
     ∙ c.in_ok-list.ensures.origin
     ∙ ap (λ a. origin_at 1 a.stack) (sym (c.in_ok-step.ensures.kept.article ∙ c.in_ok-constants.ensures.kept))
@@ -88,7 +89,7 @@ list_definition-requires-clause-list_origin c =
 pub list_definition-requires-clause-premise_origin : goal.list_definition-requires-clause-premise_origin
 list_definition-requires-clause-premise_origin c =
     let s = c.args.session.now in
-    traced-origin s c.constants_step.new.self c.constants.new.machine c.in_ok-constants.ensures.of
+    traced-origin s c.symbol_list_step.new.self c.constants.new.machine c.in_ok-constants.ensures.of
     c.in_ok-step.ensures.kept c.in_ok-premise.premise_step c.in_ok-premise.ensures.step
     ∙ c.in_ok-premise.ensures.origin
     ∙ ap (λ a. origin_at 0 a.stack) (sym (c.in_ok-step.ensures.kept.article ∙ c.in_ok-constants.ensures.kept))
@@ -97,7 +98,7 @@ pub returns-in_err-theorem : goal.returns-in_err-theorem
 returns-in_err-theorem c =
     let s = c.args.session.now in
     let k = s.kernel in
-    let t0 = c.constants_step.new.self in
+    let t0 = c.symbol_list_step.new.self in
     let t = c.list_definition.new.self in
     let m = c.args.machine.now in
     let made = c.constants.new.machine in
@@ -119,21 +120,21 @@ returns-in_err-theorem c =
     (traced.article ∙ c.in_ok-constants.ensures.kept) traced.run in
     refused-turn _ c.in_err-theorem.field-0.0 (define_const_list_row ctx) s m t made (search rules)
     (λ i. record {
-      article = (there.article ∙ traced.article ∙ c.in_ok-constants.ensures.kept) i;
-      run = (there.refused ∙ traced.run) i;
+      article = (there.adds.article ∙ traced.article ∙ c.in_ok-constants.ensures.kept) i;
+      run = (there.adds.refused ∙ traced.run) i;
     }) (
       there.made.0,
       λ f p. row
           ∙ ap (λ r. r >>= λ d. Ok (with_defined 2 (constants_entry (map (name_at k) is) ∷ []) d st))
           (sym same ∙ there.made.1 f p),
     )
-    (grows-on grown there.grown) there.of
+    (grows-on grown there.adds.grown) there.adds.of
 
 pub returns : goal.returns
 returns c =
     let s = c.args.session.now in
     let k = s.kernel in
-    let t0 = c.constants_step.new.self in
+    let t0 = c.symbol_list_step.new.self in
     let t = c.list_definition.new.self in
     let m = c.args.machine.now in
     let made = c.constants.new.machine in
@@ -161,17 +162,17 @@ returns c =
     } in
     let constants =
     ap (λ cs. list_at cs c.in_ok-constants.constants)
-    (lists s t made c.in_ok-constants.ensures.of (grows-on grown there.grown)) ∙ c.in_ok-constants.ensures.made
+    (lists s t made c.in_ok-constants.ensures.of (grows-on grown there.adds.grown)) ∙ c.in_ok-constants.ensures.made
     ∙ ap (λ is. constants_of (map (name_at k) is)) (c.deref-3.ensures.value ∙ sym c.deref-5.ensures.value) in
-    let origin = origin-kept t0 t traced.of.run there.grown c.in_ok-step.step c.in_ok-step.ensures.inside
-    ∙ c.in_ok-step.ensures.made
+    let origin = origin-kept t0 t traced.of.run there.adds.grown c.in_ok-step.step c.in_ok-step.ensures.inside
+    ∙ c.in_ok-step.ensures.made ∙ constants-listed _ _
     ∙ ap (λ is. constants_origin (map (name_at k) is)) (c.deref-4.ensures.value ∙ sym c.deref-5.ensures.value) in
     record {
       moves = row
           ∙ ap (λ r. r >>= λ d. Ok (with_defined 2 (constants_entry ns ∷ []) d st)) (sym same ∙ there.made)
           ∙ ap Ok (state-defined s t m made c.exchange.new.machine 2 _ (constants_entry ns ∷ []) (q ∷ [])
-          (there.article ∙ traced.article ∙ c.in_ok-constants.ensures.kept) c.exchange.ensures.changed
+          (there.adds.article ∙ traced.article ∙ c.in_ok-constants.ensures.kept) c.exchange.ensures.changed
           (λ i. record { object = list (constants i); origin = origin i } ∷ q ∷ []));
-      grown = grows-on grown there.grown;
+      grown = grows-on grown there.adds.grown;
       of = c.exchange.ensures.of;
     }

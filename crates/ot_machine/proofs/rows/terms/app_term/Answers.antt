@@ -22,8 +22,7 @@ returns-in_err-make_two c =
 
 pub returns : goal.returns
 returns c =
-    let there = c.in_ok-make_two.ensures in
     turned _ _ _ _ _ words.AppTerm _ (leaves _ _ _ c.requires c.app.ensures.keeps c.app.ensures.same.basis)
     (bind-to _ _ _ _ c.in_ok-argument.ensures.found
     (bind-to _ _ _ _ c.in_ok-function.ensures.found (bind-to _ _ _ _ c.in_ok-term.ensures.made.1 refl)))
-    there.ok there.kernel there.run there.trace there.of
+    c.in_ok-make_two.ensures

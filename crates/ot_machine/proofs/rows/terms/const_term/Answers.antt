@@ -25,9 +25,8 @@ returns-in_err-make_two c =
 
 pub returns : goal.returns
 returns c =
-    let there = c.in_ok-make_two.ensures in
     turned _ _ _ _ _ words.ConstTerm _
     (leaves _ _ _ c.requires c.constant.ensures.keeps c.constant.ensures.same.basis)
     (bind-to _ _ _ _ c.in_ok-ty.ensures.found
     (bind-to _ _ _ _ c.in_ok-name.ensures.found (ap (λ t. Ok (term t)) (sym c.in_ok-term.ensures.ok))))
-    there.ok there.kernel there.run there.trace there.of
+    c.in_ok-make_two.ensures

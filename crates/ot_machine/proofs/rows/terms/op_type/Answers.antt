@@ -29,10 +29,9 @@ returns-in_err-make_two c =
 pub returns : goal.returns
 returns c =
     let k = c.args.session.now.kernel in
-    let there = c.in_ok-make_two.ensures in
     let args = sym (types_at-arguments k c.in_ok-args.args.items) ∙ ap (types_at k) (sym c.deref.ensures.value) in
     let made = ap (op_rule names (name_at k c.in_ok-name.name)) args ∙ c.in_ok-ty.ensures.made.1 in
     turned _ _ _ _ _ words.OpType _ (leaves _ _ _ c.requires c.type_op.ensures.keeps c.type_op.ensures.same.basis)
     (bind-to _ _ _ _ c.in_ok-args.ensures.found
     (bind-to _ _ _ _ c.in_ok-name.ensures.found (bind-to _ _ _ _ made refl)))
-    there.ok there.kernel there.run there.trace there.of
+    c.in_ok-make_two.ensures

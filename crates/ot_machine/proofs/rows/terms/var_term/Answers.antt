@@ -24,7 +24,6 @@ returns-in_err-make_one c =
 
 pub returns : goal.returns
 returns c =
-    let there = c.in_ok-make_one.ensures in
     turned _ _ _ _ _ words.VarTerm _ (leaves _ _ _ c.requires c.var.ensures.keeps c.var.ensures.same.basis)
     (bind-to _ _ _ _ c.in_ok-variable.ensures.found (ap (λ t. Ok (term t)) (sym c.in_ok-term.ensures.ok)))
-    there.ok there.kernel there.run there.trace there.of
+    c.in_ok-make_one.ensures

@@ -27,9 +27,8 @@ returns-in_err-make_one c =
 
 pub returns : goal.returns
 returns c =
-    let there = c.in_ok-make_one.ensures in
     turned _ _ _ _ _ words.VarType _ (leaves _ _ _ c.requires c.type_var.ensures.keeps c.type_var.ensures.same.basis)
     (bind-to _ _ _ _ c.in_ok-name.ensures.found
     (ap (λ t. Ok (a_type t))
     (sym (get_or_from_slice_get c.type_var.new.self.types c.in_ok-ty.ty _ (TyVar []) c.in_ok-ty.ensures.ok))))
-    there.ok there.kernel there.run there.trace there.of
+    c.in_ok-make_one.ensures

@@ -22,14 +22,14 @@ returns-in_err-given c =
     c.in_ok-concl.ensures.found c.in_ok-list.ensures.entry
     (c.in_ok-hyps.ensures.found ∙ ap (λ is. Ok (map (term_at k) is)) (sym c.deref.ensures.value)) in
     refused-turn _ c.in_err-given.field-0.0 (axiom_row (context_of s c.args.ctx.now)) s m t m (search rules)
-    (λ i. record { article = there.article i; run = there.refused i }) (
+    (λ i. record { article = there.adds.article i; run = there.adds.refused i }) (
       there.made.0,
       λ f p. row
           ∙ ap (λ r. r >>= λ e.
           Ok (record { article = record st.article { stack = replaced 2 e.0 st.article.stack }; run = e.1 }))
           (there.made.1 f p),
     )
-    there.grown there.of
+    there.adds.grown there.adds.of
 
 pub returns : goal.returns
 returns c =
@@ -51,7 +51,7 @@ returns c =
             run = e.1;
           })) there.made
           ∙ sym (ap (λ a. Ok (record { article = a; run = run_of t })) (c.replace.ensures.changed
-          ∙ (λ i. let a = there.article i in record a { stack = replaced 2 e a.stack })));
-      grown = there.grown;
+          ∙ (λ i. let a = there.adds.article i in record a { stack = replaced 2 e a.stack })));
+      grown = there.adds.grown;
       of = c.replace.ensures.of;
     }

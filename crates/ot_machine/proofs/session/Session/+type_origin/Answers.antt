@@ -1,17 +1,17 @@
-use Rattle.std.proofs.Common.{◌<◌, ℕ, List, [], ◌∷◌, ◌++◌, ◌+◌, refl, sym}
-use Rattle.std.proofs.Common.{ap, subst, ◌∙◌, length, arith, length-append}
+use Rattle.std.proofs.Common.{◌<◌, ℕ, [], ◌∷◌, map, refl, sym, ap, subst, ◌∙◌, length, arith}
 use Rattle.std.specs.List.{All}
-use Rattle.std.proofs.lemmas.List.{take_at, get_or-append-add}
+use Rattle.std.proofs.lemmas.List.{take_at}
 use Rattle.std.proofs.lemmas.List.Elements.{All-take, All-nil, All-cons}
 use Rattle.ot_plain.specs.declared.command.Cmd.TheVariants as words
 use Rattle.ot_kernel.specs.State.{type_at, types_at}
 use Rattle.ot_trace.specs.Origins.{Named, make_two, type_op_origin}
+use Rattle.ot_machine.specs.RenamedLists.{list_onto}
 use Rattle.ot_machine.specs.Version5.{canon_ty, canon_tys}
 use Rattle.ot_machine.specs.Meaning.{origin_of}
 use Rattle.ot_machine.proofs.Kept.{traces-grow}
+use Rattle.ot_machine.proofs.RenamedLists.{All-last, onto-push}
 use Rattle.ot_machine.proofs.Traced.{traces-on, traced-origin, origin-number}
-use Rattle.ot_machine.proofs.Canonical.{types-later, types-insert, types_onto}
-use Rattle.ot_machine.proofs.Canonical.{types_onto-push, types_onto-whole, rest-empty}
+use Rattle.ot_machine.proofs.Canonical.{types-later, types-insert, types-listed, rest-empty}
 use Rattle.ot_machine.proofs.session.Session.+type_origin.Goals as goal
 
 pub type_origin-returns-in-Some-clause-inside : goal.type_origin-returns-in-Some-clause-inside
@@ -91,13 +91,9 @@ types_origin-types-init t c =
           c.requires.of.run c.args.known.now.entries c.requires.known;
       inside = c.in_ok-list.ensures.inside;
       below = c.requires.below;
-      so_far = ap (types_onto s.kernel c.args.ids.now) c.in_ok-list.ensures.made
-          ∙ types_onto-whole s.kernel c.args.ids.now;
+      so_far = ap (list_onto (map (λ i. canon_ty (type_at s.kernel i)) c.args.ids.now)) c.in_ok-list.ensures.made
+          ∙ types-listed s.kernel c.args.ids.now;
     }
-
-All-last : (P : ℕ → Type 0) (xs : List ℕ) (x : ℕ) → All P (xs ++ x ∷ []) → P x
-All-last P xs x all =
-    subst P (get_or-append-add xs (x ∷ []) 0 x) (all (length xs + 0) x (omega (arith, length-append xs (x ∷ []))))
 
 pub types_origin-type_origin-requires : goal.types_origin-type_origin-requires
 types_origin-type_origin-requires t c =
@@ -149,6 +145,7 @@ types_origin-types-preserved t c =
     let P = λ (i : ℕ). i < c.args.bound in
     let front = c.in-Some.front.now in
     let id = c.in-Some.id.now in
+    let at = λ (i : ℕ). canon_ty (type_at k i) in
     let head = c.in_ok-head.ensures.made ∙ ap (λ k. canon_ty (type_at k id)) before.kernel in
     let list = traced-origin t0 t1 m before.of one c.types.list c.types.invariant.inside in
     record {
@@ -158,15 +155,17 @@ types_origin-types-preserved t c =
       inside = c.in_ok-list-2.ensures.inside;
       below = subst (All P) (take_at front (id ∷ []) _ refl)
           (All-take P (length front) _ (subst (All P) split c.types.invariant.below));
-      so_far = ap (types_onto k front) (c.in_ok-list-2.ensures.made ∙ (λ i. make_two words.Cons (head i) (list i)))
-          ∙ sym (types_onto-push k front id (origin_of t0 c.types.list))
-          ∙ ap (λ is. types_onto k is (origin_of t0 c.types.list)) (sym split)
+      so_far = ap (list_onto (map at front))
+          (c.in_ok-list-2.ensures.made ∙ (λ i. make_two words.Cons (head i) (list i)))
+          ∙ sym (onto-push at front id (origin_of t0 c.types.list))
+          ∙ ap (λ is. list_onto (map at is) (origin_of t0 c.types.list)) (sym split)
           ∙ c.types.invariant.so_far;
     }
 
 pub types_origin-returns-clause-made : goal.types_origin-returns-clause-made
 types_origin-returns-clause-made t c =
-    ap (λ is. types_onto c.args.self.now.kernel is (origin_of c.types.self c.types.list))
+    ap (λ is. list_onto (map (λ i. canon_ty (type_at c.args.self.now.kernel i)) is)
+    (origin_of c.types.self c.types.list))
     (sym (rest-empty c.types.rest.now c.in_default.ensures.cases)) ∙ c.types.invariant.so_far
 
 pub types_origin-returns-clause-inside : goal.types_origin-returns-clause-inside

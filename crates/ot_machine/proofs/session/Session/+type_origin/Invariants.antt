@@ -1,10 +1,10 @@
-use Rattle.std.proofs.Common.{◌≡◌, ◌<◌, ◌+◌, ◌*◌, length}
+use Rattle.std.proofs.Common.{◌≡◌, ◌<◌, ◌+◌, ◌*◌, length, map}
 use Rattle.std.specs.List.{All}
-use Rattle.ot_kernel.specs.State.{types_at}
-use Rattle.ot_machine.specs.Version5.{canon_tys}
+use Rattle.ot_kernel.specs.State.{type_at, types_at}
+use Rattle.ot_machine.specs.Version5.{canon_ty, canon_tys}
+use Rattle.ot_machine.specs.RenamedLists.{list_onto}
 use Rattle.ot_machine.specs.Canonical.{AreTypes}
 use Rattle.ot_machine.specs.Meaning.{origin_of, Traces}
-use Rattle.ot_machine.proofs.Canonical.{types_onto}
 use Rattle.ot_machine.proofs.session.Session.+type_origin.Given as goal
 
 abbrev pub decreases-type_origin : goal.decreases-type_origin
@@ -22,7 +22,8 @@ invariant-types_origin-types l = record {
   known : AreTypes l.self l.known.entries;
   inside : l.list < length l.self.trace;
   below : All (λ i. i < l.fn.bound) l.rest;
-  so_far : types_onto l.fn.self.kernel l.rest (origin_of l.self l.list) ≡ canon_tys (types_at l.fn.self.kernel l.ids);
+  so_far : list_onto (map (λ i. canon_ty (type_at l.fn.self.kernel i)) l.rest) (origin_of l.self l.list)
+      ≡ canon_tys (types_at l.fn.self.kernel l.ids);
 }
 
 abbrev pub decreases-types_origin-types : goal.decreases-types_origin-types

@@ -6,9 +6,9 @@ use Rattle.ot_plain.specs.Naming.{names}
 use Rattle.ot_kernel.specs.State.{name_at, variable_at, theorem_at}
 use Rattle.ot_kernel.specs.Defining.{Defining, list_definition}
 use Rattle.ot_machine.proofs.Defined.{list-theorem}
-use Rattle.ot_machine.proofs.Stepped.{steps-grow, article-with, stays-with, stays-beside}
-use Rattle.ot_machine.proofs.Stepped.{defined-of, defined-is, defined-refused, popped}
-use Rattle.ot_machine.proofs.Refusals.{refuses-definition}
+use Rattle.ot_machine.proofs.Stepped.{stays-with, stays-beside}
+use Rattle.ot_machine.proofs.Stepped.{defined-adds, defined-is, refused-definition, popped}
+use Rattle.ot_machine.proofs.Staying.{stays-adds}
 use Rattle.ot_machine.proofs.session.Session.accept_list.Goals as goal
 use Rattle.ot_machine.proofs.session.Session.accept_list.Goals.{Start}
 
@@ -19,11 +19,8 @@ Rule c ds =
     list_definition names ds (map (name_at k) c.args.constants.now) (map (variable_at k) c.args.variables.now)
     (theorem_at k c.args.premise)
 
-pub returns-in_err-push-clause-grown : goal.returns-in_err-push-clause-grown
-returns-in_err-push-clause-grown c = (stays-beside _ _ _ _ c.requires.of refl c.in_err-push.ensures.items).grown
-
-pub returns-in_err-push-clause-of : goal.returns-in_err-push-clause-of
-returns-in_err-push-clause-of c = (stays-beside _ _ _ _ c.requires.of refl c.in_err-push.ensures.items).of
+pub returns-in_err-push-clause-adds : goal.returns-in_err-push-clause-adds
+returns-in_err-push-clause-adds c = stays-adds _ (stays-beside _ _ _ _ c.requires.of refl c.in_err-push.ensures.items)
 
 pub returns-in-Ok : goal.returns-in-Ok
 returns-in-Ok c =
@@ -38,12 +35,9 @@ returns-in-Ok c =
       made = defined-is s l s.assumption_steps c.push.new.self c.args.machine.now c.requires.of keeps a.0
           c.args.definition c.requires.definition a.2 a.5 refl c.in_ok-push.ensures.items
           (Rule (goal.at.returns-in-Ok c).Start) _ a.1 theorems.0;
-      refused = tt;
       theorem = theorems.1;
-      grown = steps-grow s l s.assumption_steps c.push.new.self c.args.machine.now c.requires.of keeps;
-      article = article-with s l s.assumption_steps c.push.new.self c.args.machine.now c.requires.of keeps;
-      of = defined-of s l s.assumption_steps c.push.new.self c.args.machine.now c.requires.of keeps a.0
-          c.args.definition c.requires.definition a.2 a.5 refl c.in_ok-push.ensures.items;
+      adds = defined-adds s l s.assumption_steps c.push.new.self c.args.machine.now c.requires.of keeps a.0
+          c.args.definition c.requires.definition a.2 a.5 refl c.in_ok-push.ensures.items _ tt;
     }
 
 -- the step is taken off again
@@ -57,14 +51,9 @@ returns-in-Err c =
     (popped _ c.push.new.self _ _ c.in_ok-push.ensures.items c.pop.ensures.rest) in
     record {
       made = rw c.from.ensures
-          (refuses-definition l _ _ (
-            there.1.0,
-            λ f q. defined-refused s c.requires.of.run (Rule (goal.at.returns-in-Err c).Start) c.args.definition f
-                (there.1.1 f q),
-          ) c.in-Err.ensures.symbols);
-      refused = stays.run;
+          (refused-definition s l c.requires.of.run (Rule (goal.at.returns-in-Err c).Start) c.args.definition _
+          there.1
+          c.in-Err.ensures.symbols);
       theorem = tt;
-      grown = stays.grown;
-      article = stays.article;
-      of = stays.of;
+      adds = stays-adds _ stays;
     }

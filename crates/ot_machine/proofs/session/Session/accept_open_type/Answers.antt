@@ -9,8 +9,9 @@ use Rattle.ot_kernel.specs.Defining.{type_definition}
 use Rattle.ot_machine.specs.OpenTypes.{first_origin, second_origin, open_entries}
 use Rattle.ot_machine.specs.Meaning.{origin_of, run_of}
 use Rattle.ot_machine.proofs.OpenAccepted.{is-accepted, opened-are, stated-made, stated-refused}
-use Rattle.ot_machine.proofs.Stepped.{with_steps, steps-grow, article-with, stays-with, stays-beside}
-use Rattle.ot_machine.proofs.Stepped.{defined-of, defined-is, popped}
+use Rattle.ot_machine.proofs.Stepped.{with_steps, stays-with, stays-beside}
+use Rattle.ot_machine.proofs.Stepped.{defined-adds, defined-is, popped}
+use Rattle.ot_machine.proofs.Staying.{stays-adds}
 use Rattle.ot_machine.proofs.Refusals.{refuses-definition}
 use Rattle.ot_machine.proofs.session.Session.accept_open_type.Goals as goal
 use Rattle.ot_machine.proofs.session.Session.accept_open_type.Goals.{Start, After-sound}
@@ -34,13 +35,10 @@ Q c = theorem_at c.args.self.now.kernel c.args.premise
 -- the premise is a proposition
 typed : (c : After-sound) → HasType names (Q (goal.at.After-sound c).Start).concl (bool_ty names)
 typed c = (c.sound.ensures.theorems c.args.premise (record { hyps = []; concl = Bound 0 })
-    c.requires.premise).sequent.concl
+    c.requires.operands.premise).sequent.concl
 
-pub returns-in_err-push-clause-grown : goal.returns-in_err-push-clause-grown
-returns-in_err-push-clause-grown c = (stays-beside _ _ _ _ c.requires.of refl c.in_err-push.ensures.items).grown
-
-pub returns-in_err-push-clause-of : goal.returns-in_err-push-clause-of
-returns-in_err-push-clause-of c = (stays-beside _ _ _ _ c.requires.of refl c.in_err-push.ensures.items).of
+pub returns-in_err-push-clause-adds : goal.returns-in_err-push-clause-adds
+returns-in_err-push-clause-adds c = stays-adds _ (stays-beside _ _ _ _ c.requires.of refl c.in_err-push.ensures.items)
 
 pub returns-in-Ok : goal.returns-in-Ok
 returns-in-Ok c =
@@ -71,13 +69,10 @@ returns-in-Ok c =
             open_entries (first_origin o b r new q.concl) (second_origin o b r new q.concl) (are.0 i) (are.1 i),
             run_of (with_steps s l s.assumption_steps c.push.new.self m c.requires.of keeps),
           ));
-      refused = tt;
       first = are.2;
       second = are.3;
-      grown = steps-grow s l s.assumption_steps c.push.new.self m c.requires.of keeps;
-      article = article-with s l s.assumption_steps c.push.new.self m c.requires.of keeps;
-      of = defined-of s l s.assumption_steps c.push.new.self m c.requires.of keeps a.0 j c.requires.definition a.2 a.5
-          refl c.in_ok-push.ensures.items;
+      adds = defined-adds s l s.assumption_steps c.push.new.self m c.requires.of keeps a.0 j c.requires.definition a.2
+          a.5 refl c.in_ok-push.ensures.items _ tt;
     }
 
 -- the step is taken off again
@@ -97,10 +92,7 @@ returns-in-Err c =
             λ f p. stated-refused s c.requires.of.run (N at.Start) (B at.Start) (R at.Start) (Vs at.Start)
                 (Q at.Start) c.args.definition (typed at.After-sound) f (there.1.1 f p),
           ) c.in-Err.ensures.symbols);
-      refused = stays.run;
       first = tt;
       second = tt;
-      grown = stays.grown;
-      article = stays.article;
-      of = stays.of;
+      adds = stays-adds _ stays;
     }

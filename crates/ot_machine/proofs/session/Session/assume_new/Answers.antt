@@ -4,8 +4,9 @@ use Rattle.ot_plain.specs.Names.{Name}
 use Rattle.ot_plain.specs.Trees.{Tm}
 use Rattle.ot_kernel.specs.State.{term_at}
 use Rattle.ot_machine.specs.Meaning.{run_of, origin_of}
+use Rattle.ot_machine.proofs.Staying.{stays-adds}
 use Rattle.ot_machine.proofs.Refusals.{refuses-rule}
-use Rattle.ot_machine.proofs.Stepped.{steps-grow, article-with, stays-with, stays-beside, popped}
+use Rattle.ot_machine.proofs.Stepped.{adds-with, stays-with, stays-beside, popped}
 use Rattle.ot_machine.proofs.Assuming.{known-new, assumed-of, assumed-made, once-is, new-refused, kernel-nowhere}
 use Rattle.ot_machine.proofs.session.Session.assume_new.Goals as goal
 use Rattle.ot_machine.proofs.session.Session.assume_new.Goals.{Start}
@@ -17,11 +18,8 @@ Hyps c = map (term_at c.args.self.now.kernel) c.args.hyps.now
 abbrev P : Start → Tm Name
 P c = term_at c.args.self.now.kernel c.args.concl
 
-pub returns-in_err-push-clause-grown : goal.returns-in_err-push-clause-grown
-returns-in_err-push-clause-grown c = (stays-beside _ _ _ _ c.requires.of c.in_err-push.ensures.items refl).grown
-
-pub returns-in_err-push-clause-of : goal.returns-in_err-push-clause-of
-returns-in_err-push-clause-of c = (stays-beside _ _ _ _ c.requires.of c.in_err-push.ensures.items refl).of
+pub returns-in_err-push-clause-adds : goal.returns-in_err-push-clause-adds
+returns-in_err-push-clause-adds c = stays-adds _ (stays-beside _ _ _ _ c.requires.of c.in_err-push.ensures.items refl)
 
 pub returns-in-Ok : goal.returns-in-Ok
 returns-in-Ok c =
@@ -37,13 +35,11 @@ returns-in-Ok c =
       made = assumed-made s l c.push.new.self s.definition_steps m c.requires.of keeps a.0 c.args.step
           c.requires.step (a.4 ∙ new.1) a.5 c.in_ok-push.ensures.items refl (Hyps at) (P at) c.in-Ok.th a.1
           (a.3 ∙ new.0);
-      refused = tt;
       theorem = a.2;
       step = c.requires.step;
-      grown = steps-grow s l c.push.new.self s.definition_steps m c.requires.of keeps;
-      article = article-with s l c.push.new.self s.definition_steps m c.requires.of keeps;
-      of = assumed-of s l c.push.new.self s.definition_steps m c.requires.of keeps a.0 c.args.step c.requires.step
-          (a.4 ∙ new.1) a.5 c.in_ok-push.ensures.items refl;
+      adds = adds-with s l c.push.new.self s.definition_steps m c.requires.of keeps _ tt
+          (assumed-of s l c.push.new.self s.definition_steps m c.requires.of keeps a.0 c.args.step c.requires.step
+          (a.4 ∙ new.1) a.5 c.in_ok-push.ensures.items refl);
     }
 
 -- the step is taken off again
@@ -62,10 +58,7 @@ returns-in-Err c =
             (there.1 read).0,
             λ f q. new-refused (Hyps at) (P at) (origin_of s c.args.step) (run_of s) f ((there.1 read).1 f q),
           )));
-      refused = stays.run;
       theorem = tt;
       step = tt;
-      grown = stays.grown;
-      article = stays.article;
-      of = stays.of;
+      adds = stays-adds _ stays;
     }

@@ -6,42 +6,46 @@ use Rattle.ot_trace.specs.Origins.{Make, MoreOrigins, NoOrigins}
 use Rattle.ot_machine.specs.Answers.{Makes}
 use Rattle.ot_machine.specs.Rows.{given_as, theorem_entry, origin_at}
 use Rattle.ot_machine.specs.Contexts.{given_of}
-use Rattle.ot_machine.specs.Meaning.{run_of, article_of, entry_of, lists_of}
-use Rattle.ot_machine.proofs.Kept.{traces-grow, grows-on}
+use Rattle.ot_machine.specs.Meaning.{run_of, article_of, entry_of, lists_of, Traces}
+use Rattle.ot_machine.proofs.Staying.{traces-stay, stays-adds, adds-on}
 use Rattle.ot_machine.proofs.Traced.{traces-on, two-origins, traced-origin}
 use Rattle.ot_machine.proofs.Taken.{stated, assumed-same}
 use Rattle.ot_machine.proofs.session.Session.assume_stated.Goals as goal
+use Rattle.ot_machine.proofs.session.Session.assume_stated.Goals.{In_ok-step}
+
+traced : (c : In_ok-step) → Traces c.args.self.now c.made_of.new.self c.args.machine.now
+traced c =
+    traces-on _ _ _ _ (traces-on _ _ _ _ c.in_ok-upper.ensures.kept c.in_ok-lower.ensures.kept)
+    c.in_ok-step.ensures.kept
 
 pub assume_new-requires-clause-new : goal.assume_new-requires-clause-new
 assume_new-requires-clause-new c =
-    let s = c.args.self.now in
-    let m = c.args.machine.now in
-    let traced =
-    traces-on s c.operand_at-2.new.self c.made_of.new.self m
-    (traces-on s c.operand_at.new.self c.operand_at-2.new.self m c.in_ok-upper.ensures.kept
-    c.in_ok-lower.ensures.kept) c.in_ok-step.ensures.kept in
+    let there = traced (goal.at.assume_new-requires-clause-new c).In_ok-step in
     c.requires.new
     ∙ sym (λ i. given_as
-    (stated (map (term_at (traced.kernel i)) c.args.hyps.now) (term_at (traced.kernel i) c.args.concl))
-    (traced.run i).assumptions)
+    (stated (map (term_at (there.kernel i)) c.args.hyps.now) (term_at (there.kernel i) c.args.concl))
+    (there.run i).assumptions)
 
-pub returns-in_err-upper-clause-grown : goal.returns-in_err-upper-clause-grown
-returns-in_err-upper-clause-grown c = traces-grow _ _ _ c.in_err-upper.ensures.kept
+pub returns-in_err-upper-clause-adds : goal.returns-in_err-upper-clause-adds
+returns-in_err-upper-clause-adds c = stays-adds _ (traces-stay c.in_err-upper.ensures.kept)
 
-pub returns-in_err-lower-clause-grown : goal.returns-in_err-lower-clause-grown
-returns-in_err-lower-clause-grown c =
-    grows-on (traces-grow _ _ _ c.in_ok-upper.ensures.kept) (traces-grow _ _ _ c.in_err-lower.ensures.kept)
+pub returns-in_err-lower-clause-adds : goal.returns-in_err-lower-clause-adds
+returns-in_err-lower-clause-adds c =
+    stays-adds _ (traces-stay (traces-on _ _ _ _ c.in_ok-upper.ensures.kept c.in_err-lower.ensures.kept))
 
-pub returns-in_err-step-clause-grown : goal.returns-in_err-step-clause-grown
-returns-in_err-step-clause-grown c =
-    grows-on (grows-on (traces-grow _ _ _ c.in_ok-upper.ensures.kept) (traces-grow _ _ _ c.in_ok-lower.ensures.kept))
-    (traces-grow _ _ _ c.in_err-step.ensures.kept)
+pub returns-in_err-step-clause-adds : goal.returns-in_err-step-clause-adds
+returns-in_err-step-clause-adds c =
+    let two = traces-on _ _ _ _ c.in_ok-upper.ensures.kept c.in_ok-lower.ensures.kept in
+    stays-adds _ (traces-stay (traces-on _ _ _ _ two c.in_err-step.ensures.kept))
+
+pub returns-clause-adds : goal.returns-clause-adds
+returns-clause-adds c = adds-on _ _ (traces-stay (traced (goal.at.returns-clause-adds c).In_ok-step)) (λ e. e)
+    c.assume_new.ensures.adds
 
 pub returns-clause-made : goal.returns-clause-made
 returns-clause-made c =
     let s = c.args.self.now in
     let m = c.args.machine.now in
-    let t = c.made_of.new.self in
     let u = c.assume_new.new.self in
     let stack = (article_of s m).stack in
     let le : 2 ≤ length stack =
@@ -51,18 +55,11 @@ returns-clause-made c =
     let upper = traced-origin c.operand_at.new.self c.operand_at-2.new.self m one.of two c.in_ok-upper.upper
     c.in_ok-upper.ensures.inside ∙ c.in_ok-upper.ensures.made in
     let lower = c.in_ok-lower.ensures.made ∙ ap (λ a. origin_at 1 a.stack) one.article in
-    let traced = traces-on s c.operand_at-2.new.self t m
-    (traces-on s c.operand_at.new.self c.operand_at-2.new.self m one two) c.in_ok-step.ensures.kept in
+    let there = traced (goal.at.returns-clause-made c).In_ok-step in
     let origin = c.in_ok-step.ensures.made
     ∙ sym (ap (Make words.Axiom)
     (two-origins stack le ∙ (λ i. MoreOrigins (sym lower i) (MoreOrigins (sym upper i) NoOrigins)))) in
-    let is = assumed-same _ _ _ _ _ _ _ _ (ap (λ k. map (term_at k) c.args.hyps.now) traced.kernel)
-    (ap (λ k. term_at k c.args.concl) traced.kernel) origin traced.run in
+    let is = assumed-same _ _ _ _ _ _ _ _ (ap (λ k. map (term_at k) c.args.hyps.now) there.kernel)
+    (ap (λ k. term_at k c.args.concl) there.kernel) origin there.run in
     subst (Makes u.kernel (λ g. (theorem_entry (given_of u g), run_of u)) c.assume_new.result) is
     c.assume_new.ensures.made
-
-pub returns-clause-grown : goal.returns-clause-grown
-returns-clause-grown c =
-    grows-on (grows-on
-    (grows-on (traces-grow _ _ _ c.in_ok-upper.ensures.kept) (traces-grow _ _ _ c.in_ok-lower.ensures.kept))
-    (traces-grow _ _ _ c.in_ok-step.ensures.kept)) c.assume_new.ensures.grown

@@ -9,12 +9,10 @@ use Rattle.ot_machine.specs.Places.{top, origins_of}
 use Rattle.ot_machine.specs.Rows.{theorem_entry}
 use Rattle.ot_machine.specs.Contexts.{context_of, given_of}
 use Rattle.ot_machine.specs.Meaning.{origin_of, run_of, article_of}
-use Rattle.ot_machine.proofs.Kept.{grows-on}
 use Rattle.ot_machine.proofs.InContext.{context-kept, of_context-kept}
 use Rattle.ot_machine.proofs.Refusals.{refuses-named}
-use Rattle.ot_machine.proofs.Stated.{on-err-map}
 use Rattle.ot_machine.proofs.Taken.{once, used-refused, used-same}
-use Rattle.ot_machine.proofs.Staying.{stays-origin, stays-term, stays-terms, terms-inside}
+use Rattle.ot_machine.proofs.Staying.{stays-adds, adds-on, stays-origin, stays-term, stays-terms, terms-inside}
 use Rattle.ot_machine.proofs.session.Session.axiom.Goals as goal
 
 pub returns-then-not-proper-clause-made : goal.returns-then-not-proper-clause-made
@@ -28,8 +26,8 @@ returns-then-not-proper-clause-made c =
     (used-refused (context_of s c.args.ctx.now) (run_of s) hs p (origin_of s c.args.list_step)
     (origins_of (top 2 (article_of s c.args.machine.now).stack)) faults.NotBool rule)
 
-pub returns-then-not-proper-clause-grown : goal.returns-then-not-proper-clause-grown
-returns-then-not-proper-clause-grown c = c.in_ok-proper.ensures.stays.grown
+pub returns-then-not-proper-clause-adds : goal.returns-then-not-proper-clause-adds
+returns-then-not-proper-clause-adds c = stays-adds _ c.in_ok-proper.ensures.stays
 
 pub proper_axiom-requires-clause-context : goal.proper_axiom-requires-clause-context
 proper_axiom-requires-clause-context c = of_context-kept c.args.self.now c.is_proper.new.self c.requires.of.run
@@ -69,9 +67,5 @@ returns-clause-made c =
     subst (Makes u.kernel (λ g. (theorem_entry (given_of u g), run_of u)) c.proper_axiom.result) same
     c.proper_axiom.ensures.made
 
-pub returns-clause-refused : goal.returns-clause-refused
-returns-clause-refused c = on-err-map c.proper_axiom.result (λ e. e ∙ c.in_ok-proper.ensures.stays.run)
-    c.proper_axiom.ensures.refused
-
-pub returns-clause-grown : goal.returns-clause-grown
-returns-clause-grown c = grows-on c.in_ok-proper.ensures.stays.grown c.proper_axiom.ensures.grown
+pub returns-clause-adds : goal.returns-clause-adds
+returns-clause-adds c = adds-on _ _ c.in_ok-proper.ensures.stays (λ e. e) c.proper_axiom.ensures.adds

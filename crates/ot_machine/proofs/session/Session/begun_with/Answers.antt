@@ -31,17 +31,19 @@ made_of-requires-clause-inside c =
     c.deref.result.now c.in_ok-begin.begin there c.step.ensures.below c.in_ok-begin.ensures.inside
     (changed (goal.at.made_of-requires-clause-inside c).After-deref)
 
-pub returns-clause-made : goal.returns-clause-made
-returns-clause-made c =
+pub returns : goal.returns
+returns c =
     let s = c.args.self.now in
     let t = c.name_step.new.self in
+    let u = c.made_of.new.self in
+    let m = c.args.machine.now in
+    let one = c.in_ok-begin.ensures.kept in
     let same =
-    begun-made s t c.args.machine.now c.requires.of c.in_ok-begin.ensures.kept c.args.pair c.requires.begun.0
-    c.requires.inside c.requires.begun.1 c.step.result.now c.step.ensures.origin
-    c.deref.result.now c.in_ok-begin.begin (name_at s.kernel c.args.name) c.in_ok-begin.ensures.made
-    (changed (goal.at.returns-clause-made c).After-deref) in
-    subst (λ o. IfOk c.made_of.result (λ i. origin_of c.made_of.new.self i ≡ o)) same c.made_of.ensures.made
-
-pub returns-clause-kept : goal.returns-clause-kept
-returns-clause-kept c = traces-on c.args.self.now c.name_step.new.self c.made_of.new.self c.args.machine.now
-    c.in_ok-begin.ensures.kept c.made_of.ensures.kept
+    begun-made s t m c.requires.of one c.args.pair c.requires.begun.0 c.requires.inside c.requires.begun.1
+    c.step.result.now c.step.ensures.origin c.deref.result.now c.in_ok-begin.begin (name_at s.kernel c.args.name)
+    c.in_ok-begin.ensures.made (changed (goal.at.returns c).After-deref) in
+    record {
+      made = subst (λ o. IfOk c.made_of.result (λ i. origin_of u i ≡ o)) same c.made_of.ensures.made;
+      inside = c.made_of.ensures.inside;
+      kept = traces-on s t u m one c.made_of.ensures.kept;
+    }

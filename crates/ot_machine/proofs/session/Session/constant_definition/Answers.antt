@@ -5,20 +5,48 @@ use Rattle.ot_kernel.specs.State.{name_at, theorem_at}
 use Rattle.ot_trace.specs.Origins.{Named, Define, Outcome, from_list}
 use Rattle.ot_machine.specs.Objects.{theorem}
 use Rattle.ot_machine.specs.Answers.{Refuses}
-use Rattle.ot_machine.specs.Meaning.{run_of}
+use Rattle.ot_machine.specs.Meaning.{run_of, Traces}
 use Rattle.ot_machine.proofs.Kept.{origin-kept, traces-grow, grows-on}
 use Rattle.ot_machine.proofs.Refusals.{refused}
 use Rattle.ot_machine.proofs.Stated.{on-err, const-same}
 use Rattle.ot_machine.proofs.Traced.{traces-on, traced-origin}
+use Rattle.ot_machine.proofs.Staying.{traces-stay, stays-adds, adds-on}
 use Rattle.ot_machine.proofs.Turning.{name-kept}
 use Rattle.ot_machine.proofs.session.Session.constant_definition.Goals as goal
+use Rattle.ot_machine.proofs.session.Session.constant_definition.Goals.{In_ok-step}
 
-pub returns-in_err-symbol-clause-grown : goal.returns-in_err-symbol-clause-grown
-returns-in_err-symbol-clause-grown c = traces-grow _ _ _ c.in_err-symbol.ensures.kept
+-- ---- the steps before the definition is accepted
+traced : (c : In_ok-step) → Traces c.args.self.now c.outcome_step.new.self c.args.machine.now
+traced c = traces-on _ _ _ _ c.in_ok-symbol.ensures.kept c.in_ok-step.ensures.kept
 
-pub returns-in_err-step-clause-grown : goal.returns-in_err-step-clause-grown
-returns-in_err-step-clause-grown c =
-    grows-on (traces-grow _ _ _ c.in_ok-symbol.ensures.kept) (traces-grow _ _ _ c.in_err-step.ensures.kept)
+-- ---- the session of each answer
+pub returns-in_err-symbol-clause-adds : goal.returns-in_err-symbol-clause-adds
+returns-in_err-symbol-clause-adds c = stays-adds _ (traces-stay c.in_err-symbol.ensures.kept)
+
+pub returns-in_err-step-clause-adds : goal.returns-in_err-step-clause-adds
+returns-in_err-step-clause-adds c =
+    stays-adds _ (traces-stay (traces-on _ _ _ _ c.in_ok-symbol.ensures.kept c.in_err-step.ensures.kept))
+
+pub returns-in_err-theorem-clause-adds : goal.returns-in_err-theorem-clause-adds
+returns-in_err-theorem-clause-adds c =
+    adds-on _ _ (traces-stay (traced (goal.at.returns-in_err-theorem-clause-adds c).In_ok-step)) (on-err _)
+    c.in_err-theorem.ensures.adds
+
+pub returns-clause-adds : goal.returns-clause-adds
+returns-clause-adds c = adds-on _ _ (traces-stay (traced (goal.at.returns-clause-adds c).In_ok-step)) (λ e. tt)
+    c.in_ok-theorem.ensures.adds
+
+pub returns-in_err-theorem-clause-name : goal.returns-in_err-theorem-clause-name
+returns-in_err-theorem-clause-name c =
+    let one = traces-grow _ _ _ (traced (goal.at.returns-in_err-theorem-clause-name c).In_ok-step) in
+    name-kept c.args.self.now.kernel c.accept_constant.new.self.kernel
+    (grows-on one c.in_err-theorem.ensures.adds.grown).kernel c.args.name c.requires.name
+
+pub returns-clause-name : goal.returns-clause-name
+returns-clause-name c =
+    let one = traces-grow _ _ _ (traced (goal.at.returns-clause-name c).In_ok-step) in
+    name-kept c.args.self.now.kernel c.accept_constant.new.self.kernel
+    (grows-on one c.in_ok-theorem.ensures.adds.grown).kernel c.args.name c.requires.name
 
 -- the definition is stated of the session as it was
 pub returns-in_err-theorem-clause-made : goal.returns-in_err-theorem-clause-made
@@ -41,22 +69,6 @@ returns-in_err-theorem-clause-made c =
     refused t.kernel _ _ c.in_err-theorem.field-0.0 _ (search rules)
     (subst (Refuses t.kernel c.in_err-theorem.field-0.0) same c.in_err-theorem.ensures.made)
 
-pub returns-in_err-theorem-clause-refused : goal.returns-in_err-theorem-clause-refused
-returns-in_err-theorem-clause-refused c = on-err c.from_residual-in_err-theorem.result
-    (c.in_err-theorem.ensures.refused ∙ c.in_ok-step.ensures.kept.run ∙ c.in_ok-symbol.ensures.kept.run)
-
-pub returns-in_err-theorem-clause-grown : goal.returns-in_err-theorem-clause-grown
-returns-in_err-theorem-clause-grown c =
-    grows-on (grows-on (traces-grow _ _ _ c.in_ok-symbol.ensures.kept) (traces-grow _ _ _ c.in_ok-step.ensures.kept))
-    c.in_err-theorem.ensures.grown
-
-pub returns-in_err-theorem-clause-name : goal.returns-in_err-theorem-clause-name
-returns-in_err-theorem-clause-name c =
-    let all =
-    grows-on (grows-on (traces-grow _ _ _ c.in_ok-symbol.ensures.kept)
-    (traces-grow _ _ _ c.in_ok-step.ensures.kept)) c.in_err-theorem.ensures.grown in
-    name-kept c.args.self.now.kernel c.accept_constant.new.self.kernel all.kernel c.args.name c.requires.name
-
 pub returns-clause-made : goal.returns-clause-made
 returns-clause-made c =
     let s = c.args.self.now in
@@ -75,7 +87,7 @@ returns-clause-made c =
     c.requires.origin in
     let same = const-same t2.kernel s.kernel _ _ (run_of t2) (run_of s) traced.kernel origin traced.run c.args.name
     c.args.term in
-    let step = origin-kept t2 t two.of.run there.grown c.in_ok-step.step c.in_ok-step.ensures.inside
+    let step = origin-kept t2 t two.of.run there.adds.grown c.in_ok-step.step c.in_ok-step.ensures.inside
     ∙ c.in_ok-step.ensures.made ∙ ap (Outcome 1) (sym later) in
     sym same ∙ there.made
     ∙ (λ i. Ok (
@@ -92,18 +104,6 @@ returns-clause-symbol c =
     let t = c.accept_constant.new.self in
     let one = c.in_ok-symbol.ensures.kept in
     let two = c.in_ok-step.ensures.kept in
-    let all = grows-on (traces-grow t1 t2 m two) c.in_ok-theorem.ensures.grown in
+    let all = grows-on (traces-grow t1 t2 m two) c.in_ok-theorem.ensures.adds.grown in
     origin-kept t1 t one.of.run all c.in_ok-symbol.symbol c.in_ok-symbol.ensures.symbol_step
     ∙ c.in_ok-symbol.ensures.symbol
-
-pub returns-clause-grown : goal.returns-clause-grown
-returns-clause-grown c =
-    grows-on (grows-on (traces-grow _ _ _ c.in_ok-symbol.ensures.kept) (traces-grow _ _ _ c.in_ok-step.ensures.kept))
-    c.in_ok-theorem.ensures.grown
-
-pub returns-clause-name : goal.returns-clause-name
-returns-clause-name c =
-    let all =
-    grows-on (grows-on (traces-grow _ _ _ c.in_ok-symbol.ensures.kept)
-    (traces-grow _ _ _ c.in_ok-step.ensures.kept)) c.in_ok-theorem.ensures.grown in
-    name-kept c.args.self.now.kernel c.accept_constant.new.self.kernel all.kernel c.args.name c.requires.name

@@ -1,10 +1,15 @@
+use Rattle.std.proofs.lemmas.Option.{slice_get_within}
 use Rattle.ot_machine.proofs.Traced.{traces-defined, origin-defined}
 use Rattle.ot_machine.proofs.session.Session.defining_step.Goals as goal
 
-pub returns-clause-kept : goal.returns-clause-kept
-returns-clause-kept c = traces-defined c.args.self.now c.args.machine.now c.args.word c.args.operands.now
-    c.define.new.self c.requires.of c.requires.inside c.in_ok-define.ensures.grown
-
-pub returns-clause-made : goal.returns-clause-made
-returns-clause-made c = origin-defined c.args.self.now c.args.machine.now c.args.word c.args.operands.now
-    c.define.new.self c.in_ok-define.field-0 c.in_ok-define.ensures.ok
+pub returns : goal.returns
+returns c =
+    let s = c.args.self.now in
+    let m = c.args.machine.now in
+    record {
+      made = origin-defined s m c.args.word c.args.operands.now c.define.new.self c.in_ok-define.field-0
+          c.in_ok-define.ensures.ok;
+      inside = slice_get_within _ _ _ c.in_ok-define.ensures.ok;
+      kept = traces-defined s m c.args.word c.args.operands.now c.define.new.self c.requires.of c.requires.inside
+          c.in_ok-define.ensures.grown;
+    }

@@ -1,6 +1,5 @@
-use Rattle.std.proofs.Common.{ℕ, ◌<◌, [], ◌∷◌, length, map, sym, ap, subst, ◌∙◌, arith}
+use Rattle.std.proofs.Common.{ℕ, ◌<◌, length, map, sym, ap, subst, ◌∙◌, arith}
 use Rattle.std.specs.List.{All}
-use Rattle.std.proofs.lemmas.List.{map-append}
 use Rattle.std.proofs.lemmas.List.Elements.{All-push}
 use Rattle.ot_trace.specs.Trace.{origin_at}
 use Rattle.ot_machine.specs.RenamedLists.{list_onto}
@@ -21,8 +20,7 @@ elements-preserved c =
           (All-push P found head c.elements.invariant.inside
           (omega (arith, c.in-Some.ensures.head, c.elements.invariant.rest_inside)));
       so_far = ap (λ xs. list_onto (map at xs) (at tail)) items
-          ∙ ap (λ ps. list_onto ps (at tail)) (map-append at found (head ∷ []))
-          ∙ onto-push (map at found) (at head) (at tail)
+          ∙ onto-push at found head (at tail)
           ∙ ap (list_onto (map at found)) (sym c.in-Some.ensures.some)
           ∙ c.elements.invariant.so_far;
     }

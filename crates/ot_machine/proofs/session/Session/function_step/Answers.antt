@@ -1,5 +1,5 @@
 use Rattle.std.specs.Prelude.{[]}
-use Rattle.std.proofs.Common.{refl, ap, ◌∙◌}
+use Rattle.std.proofs.Common.{rules, refl, ap, ◌∙◌}
 use Rattle.std.proofs.lemmas.Option.{get_or_from_slice_get}
 use Rattle.ot_plain.specs.declared.command.Cmd.TheVariants as words
 use Rattle.ot_kernel.specs.State.{name_at}
@@ -7,8 +7,8 @@ use Rattle.ot_trace.specs.Origins.{Named, make_two, type_op_origin}
 use Rattle.ot_machine.proofs.Traced.{traces-on, traced-origin}
 use Rattle.ot_machine.proofs.session.Session.function_step.Goals as goal
 
-pub returns-clause-made : goal.returns-clause-made
-returns-clause-made c =
+pub returns : goal.returns
+returns c =
     let s = c.args.self.now in
     let m = c.args.machine.now in
     let t1 = c.made_of.new.self in
@@ -31,6 +31,9 @@ returns-clause-made c =
     let x4_0out = e_both in
     let n4out = ap (λ k. name_at k 0) a0_3.kernel
     ∙ get_or_from_slice_get s.kernel.names 0 _ [] (c.sound.ensures.names.first.keeps 0 _ refl) in
-    let e_out = c.in_ok-operated_step.ensures.made
-    ∙ (λ i. make_two words.OpType (type_op_origin (Named (n4out i))) (x4_0out i)) in
-    e_out
+    record {
+      made = c.in_ok-operated_step.ensures.made
+          ∙ (λ i. make_two words.OpType (type_op_origin (Named (n4out i))) (x4_0out i));
+      inside = c.in_ok-operated_step.ensures.inside;
+      kept = search rules;
+    }

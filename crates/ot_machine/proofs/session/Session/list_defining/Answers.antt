@@ -14,16 +14,17 @@ pub defining_step-requires-clause-symbols : goal.defining_step-requires-clause-s
 defining_step-requires-clause-symbols c = ap (map (origin_at c.renamed_list.new.self.trace)) c.deref.ensures.value
     ∙ c.in_ok-list.ensures.symbols
 
-pub returns-clause-made : goal.returns-clause-made
-returns-clause-made c =
+pub returns : goal.returns
+returns c =
     let s = c.args.self.now in
+    let u = c.renamed_list.new.self in
     let m = c.args.machine.now in
-    let premise = traced-origin s c.renamed_list.new.self m c.requires.of c.in_ok-list.ensures.kept
-    c.args.premise_step c.requires.premise_step in
-    c.in_ok-defining_step.ensures.made
-    ∙ (λ i. Define words.DefineConstList
-    (MoreOrigins (c.in_ok-list.ensures.made i) (MoreOrigins (premise i) NoOrigins)))
-
-pub returns-clause-kept : goal.returns-clause-kept
-returns-clause-kept c = traces-on c.args.self.now c.renamed_list.new.self c.defining_step.new.self c.args.machine.now
-    c.in_ok-list.ensures.kept c.in_ok-defining_step.ensures.kept
+    let one = c.in_ok-list.ensures.kept in
+    let premise = traced-origin s u m c.requires.of one c.args.premise_step c.requires.premise_step in
+    record {
+      made = c.in_ok-defining_step.ensures.made
+          ∙ (λ i. Define words.DefineConstList
+          (MoreOrigins (c.in_ok-list.ensures.made i) (MoreOrigins (premise i) NoOrigins)));
+      inside = c.in_ok-defining_step.ensures.inside;
+      kept = traces-on s u c.defining_step.new.self m one c.in_ok-defining_step.ensures.kept;
+    }

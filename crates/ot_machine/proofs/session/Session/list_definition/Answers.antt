@@ -8,20 +8,37 @@ use Rattle.ot_trace.specs.Origins.{Define, Outcome, from_list, renamed_pairs}
 use Rattle.ot_machine.specs.Objects.{theorem}
 use Rattle.ot_machine.specs.Contexts.{context_of}
 use Rattle.ot_machine.specs.Answers.{Refuses}
-use Rattle.ot_machine.specs.Meaning.{run_of}
-use Rattle.ot_machine.proofs.Kept.{origin-kept, traces-grow, grows-on}
+use Rattle.ot_machine.specs.Meaning.{run_of, Traces}
+use Rattle.ot_machine.proofs.Kept.{origin-kept}
 use Rattle.ot_machine.proofs.Refusals.{refused}
 use Rattle.ot_machine.proofs.Stated.{on-err, list-same}
 use Rattle.ot_machine.proofs.Traced.{traces-on, traced-origin}
+use Rattle.ot_machine.proofs.Staying.{traces-stay, stays-adds, adds-on}
 use Rattle.ot_machine.proofs.session.Session.list_definition.Goals as goal
+use Rattle.ot_machine.proofs.session.Session.list_definition.Goals.{In_ok-step}
 
-pub returns-in_err-definition-clause-grown : goal.returns-in_err-definition-clause-grown
-returns-in_err-definition-clause-grown c = traces-grow _ _ _ c.in_err-definition.ensures.kept
+-- ---- the steps before the definition is accepted
+traced : (c : In_ok-step) → Traces c.args.self.now c.outcome_step.new.self c.args.machine.now
+traced c = traces-on _ _ _ _ c.in_ok-definition.ensures.kept c.in_ok-step.ensures.kept
 
-pub returns-in_err-step-clause-grown : goal.returns-in_err-step-clause-grown
-returns-in_err-step-clause-grown c =
-    grows-on (traces-grow _ _ _ c.in_ok-definition.ensures.kept) (traces-grow _ _ _ c.in_err-step.ensures.kept)
+-- ---- the session of each answer
+pub returns-in_err-definition-clause-adds : goal.returns-in_err-definition-clause-adds
+returns-in_err-definition-clause-adds c = stays-adds _ (traces-stay c.in_err-definition.ensures.kept)
 
+pub returns-in_err-step-clause-adds : goal.returns-in_err-step-clause-adds
+returns-in_err-step-clause-adds c =
+    stays-adds _ (traces-stay (traces-on _ _ _ _ c.in_ok-definition.ensures.kept c.in_err-step.ensures.kept))
+
+pub returns-in_err-theorem-clause-adds : goal.returns-in_err-theorem-clause-adds
+returns-in_err-theorem-clause-adds c =
+    adds-on _ _ (traces-stay (traced (goal.at.returns-in_err-theorem-clause-adds c).In_ok-step)) (on-err _)
+    c.in_err-theorem.ensures.adds
+
+pub returns-clause-adds : goal.returns-clause-adds
+returns-clause-adds c = adds-on _ _ (traces-stay (traced (goal.at.returns-clause-adds c).In_ok-step)) (λ e. tt)
+    c.in_ok-theorem.ensures.adds
+
+-- ---- the theorem
 pub returns-in_err-theorem-clause-made : goal.returns-in_err-theorem-clause-made
 returns-in_err-theorem-clause-made c =
     let s = c.args.self.now in
@@ -43,15 +60,6 @@ returns-in_err-theorem-clause-made c =
     refused t.kernel _ _ c.in_err-theorem.field-0.0 _ (search rules)
     (subst (Refuses t.kernel c.in_err-theorem.field-0.0) same c.in_err-theorem.ensures.made)
 
-pub returns-in_err-theorem-clause-refused : goal.returns-in_err-theorem-clause-refused
-returns-in_err-theorem-clause-refused c = on-err c.from_residual-in_err-theorem.result
-    (c.in_err-theorem.ensures.refused ∙ c.in_ok-step.ensures.kept.run ∙ c.in_ok-definition.ensures.kept.run)
-
-pub returns-in_err-theorem-clause-grown : goal.returns-in_err-theorem-clause-grown
-returns-in_err-theorem-clause-grown c =
-    grows-on (grows-on (traces-grow _ _ _ c.in_ok-definition.ensures.kept)
-    (traces-grow _ _ _ c.in_ok-step.ensures.kept)) c.in_err-theorem.ensures.grown
-
 pub returns-clause-made : goal.returns-clause-made
 returns-clause-made c =
     let s = c.args.self.now in
@@ -71,7 +79,7 @@ returns-clause-made c =
     (from_list (read (c.requires.list_origin i) ∷ c.requires.premise_origin i ∷ []))) in
     let same = list-same t2.kernel s.kernel _ _ (run_of t2) (run_of s) traced.kernel origin traced.run
     c.args.constants.now c.args.variables.now c.args.premise in
-    let step = origin-kept t2 t two.of.run there.grown c.in_ok-step.step c.in_ok-step.ensures.inside
+    let step = origin-kept t2 t two.of.run there.adds.grown c.in_ok-step.step c.in_ok-step.ensures.inside
     ∙ c.in_ok-step.ensures.made ∙ ap (Outcome 1) (sym later) in
     sym same ∙ there.made
     ∙ (λ i. Ok (
@@ -79,8 +87,3 @@ returns-clause-made c =
           ∷ [],
       run_of t,
     ))
-
-pub returns-clause-grown : goal.returns-clause-grown
-returns-clause-grown c =
-    grows-on (grows-on (traces-grow _ _ _ c.in_ok-definition.ensures.kept)
-    (traces-grow _ _ _ c.in_ok-step.ensures.kept)) c.in_ok-theorem.ensures.grown

@@ -1,6 +1,6 @@
 use Rattle.std.proofs.Common.{◌<◌, ℕ, [], ◌∷◌, map, sym, ap, subst, ◌∙◌, refl, length, arith}
 use Rattle.std.specs.List.{All}
-use Rattle.std.proofs.lemmas.List.{map-append, take_at}
+use Rattle.std.proofs.lemmas.List.{take_at}
 use Rattle.std.proofs.lemmas.List.Elements.{All-nil, All-cons, All-take}
 use Rattle.ot_plain.specs.declared.command.Cmd.TheVariants as words
 use Rattle.ot_trace.specs.Origins.{make_two}
@@ -41,17 +41,16 @@ elements-preserved c =
     let split = c.in-Some.ensures.cases.0 in
     let element = c.in-Some.element.now in
     let P = λ (n : ℕ). n < length s.trace in
-    let front = map at c.in-Some.front.now in
-    let view = ap (map at) split ∙ map-append at c.in-Some.front.now (element ∷ []) in
+    let front = c.in-Some.front.now in
     let head = number-later s t m before element (here (goal.at.elements-preserved c).In-Some) in
     record {
       kept = traces-on s t u m before one;
       list_inside = c.in_ok-list.ensures.inside;
-      inside = subst (All P) (take_at c.in-Some.front.now (element ∷ []) _ refl)
-          (All-take P (length c.in-Some.front.now) _ (subst (All P) split c.elements.invariant.inside));
-      so_far = ap (list_onto front) (c.in_ok-list.ensures.number
+      inside = subst (All P) (take_at front (element ∷ []) _ refl)
+          (All-take P (length front) _ (subst (All P) split c.elements.invariant.inside));
+      so_far = ap (list_onto (map at front)) (c.in_ok-list.ensures.number
           ∙ (λ i. make_two words.Cons (head i) (origin_at t.trace c.elements.list)))
-          ∙ sym (onto-push front (at element) (origin_at t.trace c.elements.list))
-          ∙ ap (λ ps. list_onto ps (origin_at t.trace c.elements.list)) (sym view)
+          ∙ sym (onto-push at front element (origin_at t.trace c.elements.list))
+          ∙ ap (λ is. list_onto (map at is) (origin_at t.trace c.elements.list)) (sym split)
           ∙ c.elements.invariant.so_far;
     }

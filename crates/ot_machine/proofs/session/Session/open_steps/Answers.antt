@@ -16,14 +16,14 @@ use Rattle.ot_machine.specs.Stays.{Stays}
 use Rattle.ot_machine.proofs.Kept.{origin-kept}
 use Rattle.ot_machine.proofs.Traced.{traces-on, traced-origin}
 use Rattle.ot_machine.proofs.Staying.{traces-stay, stays-on}
-use Rattle.ot_machine.proofs.Canonical.{canon-is, type-is, name-later, names-later, type-later}
+use Rattle.ot_machine.proofs.Canonical.{canon-is, type-is, variables-listed, name-later, names-later, type-later}
 use Rattle.ot_machine.proofs.session.Session.open_steps.Goals as goal
 use Rattle.ot_machine.proofs.session.Session.open_steps.Goals.{Start, In-App, In_ok-predicate-in-App}
 use Rattle.ot_machine.proofs.session.Session.open_steps.Goals.{In_ok-old-in-App, In_ok-list-in-App, In_ok-new-in-App}
 use Rattle.ot_machine.proofs.session.Session.open_steps.Goals.{In_ok-constants-in-App, In_ok-first-in-App}
 
 -- ---- the trace alone grows after the predicate's step
-since_list : (c : In_ok-list-in-App) → Traces c.term_origin.new.self c.type_variables_step.new.self c.args.machine.now
+since_list : (c : In_ok-list-in-App) → Traces c.term_origin.new.self c.symbol_list_step.new.self c.args.machine.now
 since_list c = traces-on _ _ _ _ c.in_ok-old-in-App.ensures.kept c.in_ok-list-in-App.ensures.kept
 
 since_new : (c : In_ok-new-in-App) → Traces c.term_origin.new.self c.operated_step.new.self c.args.machine.now
@@ -79,9 +79,11 @@ new_is c =
     let at = goal.at.In_ok-new-in-App c in
     let grown = λ (t : Session) (h : Traces c.term_origin.new.self t c.args.machine.now).
     (stays at.In_ok-predicate-in-App t h).grown in
-    let name = name-later s _ (grown _ (since_list at.In_ok-list-in-App)) c.args.name c.requires.name in
-    let vars = names-later s _ (grown _ c.in_ok-old-in-App.ensures.kept) c.args.variables.now c.requires.variables in
-    let list = c.in_ok-list-in-App.ensures.made ∙ (λ i. canon_tys (tys_of_vars names (vars i))) in
+    let name = name-later s _ (grown _ (since_list at.In_ok-list-in-App)) c.args.name c.requires.operands.name in
+    let vars = names-later s _ (grown _ c.in_ok-old-in-App.ensures.kept) c.args.variables.now
+    c.requires.operands.variables in
+    let list = c.in_ok-list-in-App.ensures.made ∙ variables-listed _ _
+    ∙ (λ i. canon_tys (tys_of_vars names (vars i))) in
     c.in_ok-new-in-App.ensures.made ∙ (λ i. make_two words.OpType (type_op_origin (Named (name i))) (list i))
 
 -- the constants, over the two types
@@ -104,8 +106,8 @@ made c =
     let at = goal.at.In_ok-constants-in-App c in
     let are = c.in_ok-constants-in-App.ensures.made in
     let grown = (stays at.In_ok-predicate-in-App _ (since_new at.In_ok-new-in-App)).grown in
-    let abs = name-later s _ grown c.args.abs c.requires.abs in
-    let rep = name-later s _ grown c.args.rep c.requires.rep in
+    let abs = name-later s _ grown c.args.abs c.requires.operands.abs in
+    let rep = name-later s _ grown c.args.rep c.requires.operands.rep in
     let old = traced-origin _ _ _ c.in_ok-old-in-App.ensures.kept.of (old_new at.In_ok-new-in-App)
     c.in_ok-old-in-App.old c.in_ok-old-in-App.ensures.inside ∙ old_is at.In_ok-old-in-App in
     let new = new_is at.In_ok-new-in-App in

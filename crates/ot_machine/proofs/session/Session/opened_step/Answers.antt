@@ -1,5 +1,5 @@
 use Rattle.std.specs.Prelude.{[]}
-use Rattle.std.proofs.Common.{refl, ◌∙◌}
+use Rattle.std.proofs.Common.{rules, refl, ◌∙◌}
 use Rattle.std.proofs.lemmas.Option.{get_or_from_slice_get}
 use Rattle.ot_plain.specs.declared.command.Cmd.TheVariants as words
 use Rattle.ot_trace.specs.Origins.{make_one, make_two}
@@ -9,8 +9,8 @@ use Rattle.ot_machine.specs.Meaning.{origin_of}
 use Rattle.ot_machine.proofs.Traced.{traces-on, traced-origin}
 use Rattle.ot_machine.proofs.session.Session.opened_step.Goals as goal
 
-pub returns-clause-made : goal.returns-clause-made
-returns-clause-made c =
+pub returns : goal.returns
+returns c =
     let s = c.args.self.now in
     let m = c.args.machine.now in
     let t1 = c.variable_steps.new.self in
@@ -72,5 +72,8 @@ returns-clause-made c =
     let x8_0out = traced-origin t3 t7 m k3.of a3_7 c.in_ok-left.left c.in_ok-left.ensures.inside ∙ e_left in
     let x8_1out = e_turned in
     let x8_2out = traced-origin t5 t7 m k5.of a5_7 c.in_ok-right.right c.in_ok-right.ensures.inside ∙ e_right in
-    let e_out = c.in_ok-reduced_step.ensures.made ∙ (λ i. reduced (x8_0out i) (x8_1out i) (x8_2out i)) in
-    e_out
+    record {
+      made = c.in_ok-reduced_step.ensures.made ∙ (λ i. reduced (x8_0out i) (x8_1out i) (x8_2out i));
+      inside = c.in_ok-reduced_step.ensures.inside;
+      kept = search rules;
+    }

@@ -6,7 +6,7 @@ use Rattle.ot_machine.specs.Rows.{theorem_entry}
 use Rattle.ot_machine.specs.Contexts.{context_of, given_of}
 use Rattle.ot_machine.specs.Meaning.{origin_of, run_of, article_of}
 use Rattle.ot_machine.proofs.Taken.{used-given, used-there, used-assumes}
-use Rattle.ot_machine.proofs.Turning.{grows-same}
+use Rattle.ot_machine.proofs.Staying.{stays-same, stays-adds}
 use Rattle.ot_machine.proofs.Weakening.{with-run}
 use Rattle.ot_machine.proofs.session.Session.proper_axiom.Goals as goal
 
@@ -31,8 +31,11 @@ returns-in-Some-assumed-clause-made c =
     (given_of s c.in-Some-assumed.given) (rw c.in_default.is at c.given_for.ensures.first)
     (rw c.in-Some-assumed.is at c.assumed.ensures.first)
 
-pub returns-in-Some-assumed-clause-grown : goal.returns-in-Some-assumed-clause-grown
-returns-in-Some-assumed-clause-grown c = grows-same c.args.self.now
+pub returns-in-Some-clause-adds : goal.returns-in-Some-clause-adds
+returns-in-Some-clause-adds c = stays-adds _ c.weakened.ensures.stays
+
+pub returns-in-Some-assumed-clause-adds : goal.returns-in-Some-assumed-clause-adds
+returns-in-Some-assumed-clause-adds c = stays-adds _ (stays-same c.args.self.now c.args.machine.now c.requires.of)
 
 pub returns-clause-made : goal.returns-clause-made
 returns-clause-made c =

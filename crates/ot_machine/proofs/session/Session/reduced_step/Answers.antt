@@ -1,11 +1,11 @@
-use Rattle.std.proofs.Common.{◌∙◌}
+use Rattle.std.proofs.Common.{rules, ◌∙◌}
 use Rattle.ot_plain.specs.declared.command.Cmd.TheVariants as words
 use Rattle.ot_trace.specs.Origins.{make_one, make_two}
 use Rattle.ot_machine.proofs.Traced.{traces-on, traced-origin}
 use Rattle.ot_machine.proofs.session.Session.reduced_step.Goals as goal
 
-pub returns-clause-made : goal.returns-clause-made
-returns-clause-made c =
+pub returns : goal.returns
+returns c =
     let s = c.args.self.now in
     let m = c.args.machine.now in
     let t1 = c.made_of.new.self in
@@ -30,5 +30,8 @@ returns-clause-made c =
     let e_end = c.in_ok-end.ensures.made ∙ (λ i. make_one words.BetaConv (x4_0end i)) in
     let x5_0out = traced-origin t3 t4 m k3.of k4 c.in_ok-start.start c.in_ok-start.ensures.inside ∙ e_start in
     let x5_1out = e_end in
-    let e_out = c.in_ok-made_of.ensures.made ∙ (λ i. make_two words.Trans (x5_0out i) (x5_1out i)) in
-    e_out
+    record {
+      made = c.in_ok-made_of.ensures.made ∙ (λ i. make_two words.Trans (x5_0out i) (x5_1out i));
+      inside = c.in_ok-made_of.ensures.inside;
+      kept = search rules;
+    }

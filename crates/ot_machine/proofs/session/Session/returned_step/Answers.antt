@@ -1,13 +1,13 @@
 use Rattle.std.specs.Prelude.{[]}
-use Rattle.std.proofs.Common.{refl, ◌∙◌}
+use Rattle.std.proofs.Common.{rules, refl, ◌∙◌}
 use Rattle.std.proofs.lemmas.Option.{get_or_from_slice_get}
 use Rattle.ot_machine.specs.OpenTypes.{variable_at, term_of, redex, composed, outcome_at, reduced}
 use Rattle.ot_machine.specs.Meaning.{origin_of}
 use Rattle.ot_machine.proofs.Traced.{traces-on, traced-origin}
 use Rattle.ot_machine.proofs.session.Session.returned_step.Goals as goal
 
-pub returns-clause-made : goal.returns-clause-made
-returns-clause-made c =
+pub returns : goal.returns
+returns c =
     let s = c.args.self.now in
     let m = c.args.machine.now in
     let t1 = c.variable_steps.new.self in
@@ -51,5 +51,8 @@ returns-clause-made c =
     let x6_0out = traced-origin t3 t5 m k3.of a3_5 c.in_ok-left.left c.in_ok-left.ensures.inside ∙ e_left in
     let x6_1out = traced-origin t4 t5 m k4.of k5 c.in_ok-theorem.theorem c.in_ok-theorem.ensures.inside ∙ e_theorem in
     let x6_2out = e_right in
-    let e_out = c.in_ok-reduced_step.ensures.made ∙ (λ i. reduced (x6_0out i) (x6_1out i) (x6_2out i)) in
-    e_out
+    record {
+      made = c.in_ok-reduced_step.ensures.made ∙ (λ i. reduced (x6_0out i) (x6_1out i) (x6_2out i));
+      inside = c.in_ok-reduced_step.ensures.inside;
+      kept = search rules;
+    }
