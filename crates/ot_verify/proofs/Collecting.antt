@@ -1,5 +1,5 @@
 -- A list that a record asks for, element after element; and two things that are asked for together.
-use Rattle.std.specs.Prelude.{Ok, Err, Option, Some, None}
+use Rattle.std.specs.Prelude.{Result, Ok, Err, IsErrAnd, Option, Some, None}
 use Rattle.std.proofs.Common.{◌≡◌, ℕ, suc, List, [], ◌∷◌, ◌++◌, sym, ap, subst, ◌∙◌, append_assoc, arith}
 use Rattle.std.proofs.lemmas.List.{append-nil}
 use Rattle.ot_plain.specs.Names.{Name}
@@ -138,18 +138,28 @@ module _ {A B C X Y Z : Type 0} (st : LogState Name) (ask : (A → RecordForm na
     λ first next. g.2 first (λ a. also (λ b. next (pair a b))) ∙ h.2 first (λ b. next (pair g.0 b)),
   )
 
-  -- the second was not read
-  pub second-stop : (is : X → A → Type 0) (are : Y → B → Type 0) (all : Z → C → Type 0)
+  second-stops : (is : X → A → Type 0) (are : Y → B → Type 0) (all : Z → C → Type 0)
       (x : X) (e : VerifyFault) (old mid new : Reader) (l m n : Option (List ℕ))
       → AnsweredFrom st ask is (Ok x) old mid l m → AnsweredFrom st also are (Err e) mid new m n
       → AnsweredFrom st (λ next. ask (λ a. also (λ b. next (pair a b)))) all (Err e) old new l n
-  second-stop is are all x e old mid new None m n g h = tt
-  second-stop is are all x e old mid new (Some l) None n g h = absurd g
-  second-stop is are all x e old mid new (Some l) (Some m) None g h = h
-  second-stop is are all x (verify.At line f) old mid new (Some l) (Some m) (Some n) g h =
+  second-stops is are all x e old mid new None m n g h = tt
+  second-stops is are all x e old mid new (Some l) None n g h = absurd g
+  second-stops is are all x e old mid new (Some l) (Some m) None g h = h
+  second-stops is are all x (verify.At line f) old mid new (Some l) (Some m) (Some n) g h =
       λ first next. g.2 first (λ a. also (λ b. next (pair a b))) ∙ h first (λ b. next (pair g.0 b))
-  second-stop is are all x verify.ReadFault old mid new (Some l) (Some m) (Some n) g h = tt
-  second-stop is are all x verify.Memory old mid new (Some l) (Some m) (Some n) g h = tt
+  second-stops is are all x verify.ReadFault old mid new (Some l) (Some m) (Some n) g h = tt
+  second-stops is are all x verify.Memory old mid new (Some l) (Some m) (Some n) g h = tt
+
+  -- the second was not read: its fault is handed on
+  pub second-stop : (is : X → A → Type 0) (are : Y → B → Type 0) (all : Z → C → Type 0)
+      (x : X) (e : VerifyFault) (r : Result Z VerifyFault) (old mid new : Reader) (l m n : Option (List ℕ))
+      → IsErrAnd r (λ f. f ≡ e)
+      → AnsweredFrom st ask is (Ok x) old mid l m → AnsweredFrom st also are (Err e) mid new m n
+      → AnsweredFrom st (λ next. ask (λ a. also (λ b. next (pair a b)))) all r old new l n
+  second-stop is are all x e (Ok z) old mid new l m n same g h = absurd same
+  second-stop is are all x e (Err f) old mid new l m n same g h =
+      subst (λ d. AnsweredFrom st (λ next. ask (λ a. also (λ b. next (pair a b)))) all (Err d) old new l n) (sym same)
+      (second-stops is are all x e old mid new l m n g h)
 
 -- further lines were taken
 pub advances-then : (old mid new : Reader) → Advances old mid → Advances mid new → Advances old new

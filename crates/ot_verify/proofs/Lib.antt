@@ -10,6 +10,7 @@ pub mod Collecting
 pub mod Meeting
 pub mod Sound
 pub mod Logging
+pub mod Stepping
 pub mod Adding
 pub mod Found
 pub mod Places

@@ -1,5 +1,6 @@
 -- What was found for the elements of a list, one after another.
-use Rattle.std.proofs.Common.{◌≡◌, Option, Some, None, refl, Err, ℕ, zero, suc, ◌+◌, ◌<◌, ◌≤◌}
+use Rattle.std.specs.Prelude.{IsErrAnd}
+use Rattle.std.proofs.Common.{◌≡◌, Option, Some, None, refl, Result, Ok, Err, ℕ, zero, suc, ◌+◌, ◌<◌, ◌≤◌}
 use Rattle.std.proofs.Common.{List, [], ◌∷◌, ◌++◌, length, get_or, take, sym, subst, arith}
 use Rattle.std.proofs.lemmas.List.{take_more, take_all}
 use Rattle.ot_plain.specs.Names.{Name}
@@ -42,11 +43,12 @@ module _ {X Y : Type 0} (is : X → Y → Type 0) where
   each-none (z ∷ xs) zero x h p fails (y ∷ ys) a = fails y (subst (λ w. is w y) (sym p) a.0)
   each-none (z ∷ xs) (suc i) x h p fails (y ∷ ys) a = each-none xs i x (omega arith) p fails ys a.1
 
--- a refusal of what stands for something can only be want of memory
+-- a refusal of what stands for something, handed on, can only be want of memory
 pub missed : {X Y : Type 0} (is : X → Y → Type 0) (e : Refusal) (xs : List X) (c : Change names)
-    (old new : LogState Name)
-    → FindsEach is (Err e) xs → (ys : List Y) × AreEach is xs ys → MadeBy (Err e) c old new
-missed is refusals.NoSuch xs c old new f g = absurd (f g.0 g.1)
-missed is refusals.Memory xs c old new f g = tt
-missed is refusals.BadStep xs c old new f g = absurd f
-missed is refusals.LogNesting xs c old new f g = absurd f
+    (old new : LogState Name) (r : Result (Unit {0}) Refusal)
+    → IsErrAnd r (λ x. x ≡ e) → FindsEach is (Err e) xs → (ys : List Y) × AreEach is xs ys → MadeBy r c old new
+missed is e xs c old new (Ok u) h f g = absurd h
+missed is refusals.NoSuch xs c old new (Err x) h f g = absurd (f g.0 g.1)
+missed is refusals.Memory xs c old new (Err x) h f g = subst (λ z. MadeBy (Err z) c old new) (sym h) tt
+missed is refusals.BadStep xs c old new (Err x) h f g = absurd f
+missed is refusals.LogNesting xs c old new (Err x) h f g = absurd f

@@ -175,10 +175,7 @@ impl Operand for TermPair {
         source: &mut S,
     ) -> Result<TermPair, VerifyFault> {
         let variable = named_type(alloc, log, reader, source)?;
-        let term = match term_number(alloc, log, reader, source) {
-            Ok(term) => term,
-            Err(fault) => return Err(fault),
-        };
+        let term = term_number(alloc, log, reader, source)?;
         Ok(TermPair { variable, term })
     }
 
@@ -203,10 +200,7 @@ impl Operand for ConstantPair {
         source: &mut S,
     ) -> Result<ConstantPair, VerifyFault> {
         let constant = name_number(alloc, log, reader, source)?;
-        let variable = match named_type(alloc, log, reader, source) {
-            Ok(variable) => variable,
-            Err(fault) => return Err(fault),
-        };
+        let variable = named_type(alloc, log, reader, source)?;
         Ok(ConstantPair { constant, variable })
     }
 

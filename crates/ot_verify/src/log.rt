@@ -223,10 +223,7 @@ impl Log {
         if !self.nodes.has_name(name) {
             return Err(Refusal::NoSuch);
         }
-        let args = match each_at(self.nodes.allocator(), &self.types, args) {
-            Ok(found) => found,
-            Err(refusal) => return Err(refusal),
-        };
+        let args = each_at(self.nodes.allocator(), &self.types, args)?;
         let id = self.nodes.type_op(name, &args)?;
         self.add_type(id)
     }
@@ -383,14 +380,8 @@ impl Log {
     {
         let a = at(&self.sequents, sequent)?;
         let alloc = self.nodes.allocator();
-        let types = match type_pairs_at(alloc, &self.nodes, &self.types, types) {
-            Ok(pairs) => pairs,
-            Err(refusal) => return Err(refusal),
-        };
-        let terms = match term_pairs_at(alloc, &self.nodes, &self.types, &self.terms, terms) {
-            Ok(pairs) => pairs,
-            Err(refusal) => return Err(refusal),
-        };
+        let types = type_pairs_at(alloc, &self.nodes, &self.types, types)?;
+        let terms = term_pairs_at(alloc, &self.nodes, &self.types, &self.terms, terms)?;
         let made = subst(&mut self.nodes, &mut self.typings, &types, &terms, a);
         self.add_sequent(made)
     }
@@ -402,10 +393,7 @@ impl Log {
             → MadeBy result (makes_assumption names (assumption_step names hs p)) self.old.state self.new.state }
     {
         let concl = *at(&self.terms, concl)?;
-        let hyps = match each_at(self.nodes.allocator(), &self.terms, hyps) {
-            Ok(found) => found,
-            Err(refusal) => return Err(refusal),
-        };
+        let hyps = each_at(self.nodes.allocator(), &self.terms, hyps)?;
         let made = assumption(&mut self.nodes, &mut self.typings, &hyps, concl);
         self.add_assumed(&hyps, concl, made)
     }
@@ -442,10 +430,7 @@ impl Log {
             self.old.state self.new.state }
     {
         let alloc = self.nodes.allocator();
-        let pairs = match constant_pairs_at(alloc, &self.nodes, &self.types, pairs) {
-            Ok(found) => found,
-            Err(refusal) => return Err(refusal),
-        };
+        let pairs = constant_pairs_at(alloc, &self.nodes, &self.types, pairs)?;
         let from = at(&self.sequents, premise)?;
         let premise = copied(alloc, from)?;
         let made = constants(&mut self.nodes, &self.signature, &pairs, &premise);

@@ -103,9 +103,6 @@ pub(crate) fn named_type<S: Source>(
     ensures kept { KeepsSource S.folder S.faults S.misses S.at source.old source.new }
 {
     let name = name_number(alloc, log, reader, source)?;
-    let ty = match type_number(alloc, log, reader, source) {
-        Ok(ty) => ty,
-        Err(fault) => return Err(fault),
-    };
+    let ty = type_number(alloc, log, reader, source)?;
     Ok(NamedType { name, ty })
 }

@@ -7,7 +7,6 @@ use Rattle.ot_verify.specs.Asking.{AnsweredFrom}
 use Rattle.ot_verify.specs.Logged.{IsNamed, IsVariable, IsConstantPair}
 use Rattle.ot_verify.specs.Later.{named-later}
 use Rattle.ot_verify.specs.declared.operand.NamedType.{NamedType}
-use Rattle.ot_verify.specs.declared.operand.ConstantPair.{ConstantPair}
 use Rattle.ot_verify.proofs.Collecting.{both-read, second-stop}
 use Rattle.ot_verify.proofs.Meeting.{meets-then}
 use Rattle.ot_verify.proofs.lists.ConstantPairOperand.read.Goals as goal
@@ -23,20 +22,20 @@ returns-clause-answered g c =
     let new = c.named_type.new.reader in
     let meets = c.in_ok-constant.ensures.meets in
     let second = subst (λ (s : LogState Name). AnsweredFrom s ask_variable
-    (IsVariable c.named_type.new.log) (Ok c.in-Ok.variable) mid new m n)
-    meets.state c.in-Ok.ensures.variable in
+    (IsVariable c.named_type.new.log) (Ok c.in_ok-variable.variable) mid new m n)
+    meets.state c.in_ok-variable.ensures.variable in
     both-read st AskName ask_variable (λ x v. (x, v)) (IsNamed c.name_number.new.log)
     (IsVariable c.named_type.new.log) (IsConstantPair c.named_type.new.log) c.in_ok-constant.constant
-    c.in-Ok.variable (record { constant = c.in_ok-constant.constant; variable = c.in-Ok.variable })
+    c.in_ok-variable.variable (record { constant = c.in_ok-constant.constant; variable = c.in_ok-variable.variable })
     old mid new l m n c.in_ok-constant.ensures.answered second
     (λ a b h k. (
       named-later c.name_number.new.log c.named_type.new.log c.in_ok-constant.constant a
-          c.in-Ok.ensures.meets h,
+          c.in_ok-variable.ensures.meets h,
       k,
     ))
 
-pub returns-in-Err-clause-answered : goal.returns-in-Err-clause-answered
-returns-in-Err-clause-answered g c =
+pub returns-in_err-variable-clause-answered : goal.returns-in_err-variable-clause-answered
+returns-in_err-variable-clause-answered g c =
     let st = c.args.log.now.state in
     let l = g.S.Source.left c.args.source.now in
     let m = g.S.Source.left c.name_number.new.source in
@@ -46,18 +45,19 @@ returns-in-Err-clause-answered g c =
     let new = c.named_type.new.reader in
     let meets = c.in_ok-constant.ensures.meets in
     let second = subst (λ (s : LogState Name). AnsweredFrom {X = NamedType} s
-    ask_variable (IsVariable c.named_type.new.log) (Err c.in-Err.fault) mid new m n)
-    meets.state c.in-Err.ensures.variable in
-    second-stop {Z = ConstantPair} st AskName ask_variable (λ x v. (x, v)) (IsNamed c.name_number.new.log)
+    ask_variable (IsVariable c.named_type.new.log) (Err c.in_err-variable.field-0.0) mid new m n)
+    meets.state c.in_err-variable.ensures.variable in
+    second-stop st AskName ask_variable (λ x v. (x, v)) (IsNamed c.name_number.new.log)
     (IsVariable c.named_type.new.log) (IsConstantPair c.named_type.new.log) c.in_ok-constant.constant
-    c.in-Err.fault old mid new l m n c.in_ok-constant.ensures.answered second
+    c.in_err-variable.field-0.0 c.from_residual-in_err-variable.result old mid new l m n
+    c.from_residual-in_err-variable.ensures.1 c.in_ok-constant.ensures.answered second
 
 pub returns-clause-meets : goal.returns-clause-meets
 returns-clause-meets g c =
     meets-then c.args.log.now c.name_number.new.log c.named_type.new.log c.in_ok-constant.ensures.meets
-    c.in-Ok.ensures.meets
+    c.in_ok-variable.ensures.meets
 
-pub returns-in-Err-clause-meets : goal.returns-in-Err-clause-meets
-returns-in-Err-clause-meets g c =
+pub returns-in_err-variable-clause-meets : goal.returns-in_err-variable-clause-meets
+returns-in_err-variable-clause-meets g c =
     meets-then c.args.log.now c.name_number.new.log c.named_type.new.log c.in_ok-constant.ensures.meets
-    c.in-Err.ensures.meets
+    c.in_err-variable.ensures.meets

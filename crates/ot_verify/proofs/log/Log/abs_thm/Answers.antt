@@ -1,17 +1,16 @@
 use Rattle.std.proofs.Common.{ℕ, List, sym, subst}
 use Rattle.ot_plain.specs.Naming.{names}
 use Rattle.ot_laws.proofs.Tests.{tells_names}
-use Rattle.ot_records.specs.State.{makes_sequent}
 use Rattle.ot_records.specs.Steps.{abs_thm_step}
 use Rattle.ot_records.proofs.StepSound.{abs_thm-sound}
 use Rattle.ot_nodes.specs.Changing.{variable_at}
 use Rattle.ot_rules.specs.Statements.{sequent_at}
 use Rattle.ot_verify.specs.Finding.{IsFoundVariable}
 use Rattle.ot_verify.specs.Held.{view_of}
-use Rattle.ot_verify.specs.Logged.{MadeBy}
 use Rattle.ot_verify.proofs.Found.{variable-found, variable-there, variable-held}
-use Rattle.ot_verify.proofs.Logging.{at-same, held_of, log-kept, state-then, sequent-here, no-sequent}
-use Rattle.ot_verify.proofs.Logging.{made-sequent, supported, theorem-here, statement-here}
+use Rattle.ot_verify.proofs.Logging.{at-same, held_of, log-kept, sequent-here, no-sequent}
+use Rattle.ot_verify.proofs.Logging.{supported, theorem-here, statement-here}
+use Rattle.ot_verify.proofs.Stepping.{stepped}
 use Rattle.ot_verify.proofs.log.Log.abs_thm.Goals as goal
 
 pub returns-in_default : goal.returns-in_default
@@ -55,21 +54,13 @@ add_sequent-requires c =
 pub returns : goal.returns
 returns c = λ w s h k.
     let l = c.self.inside in
-    let us = c.abs_thm-made.new.nodes in
     let g = subst (λ (is : List ℕ). IsFoundVariable l.nodes is c.args.v c.in-Some.v) c.deref.ensures.value
     c.in-Some.ensures in
-    let v = variable_at l.nodes c.in-Some.v in
-    let a = sequent_at l.nodes c.in_ok-a.a.now in
     let variable = variable-found l c.args.self.now c.self.view_is c.self.invariant c.args.v c.in-Some.v w g h in
     let sequent = sequent-here l c.args.self.now c.self.view_is c.args.equation
     c.in_ok-a.a.now s (at-same _ _ _ _ c.deref-2.ensures.value c.in_ok-a.ensures) k in
-    subst (λ z. MadeBy c.add_sequent.result (makes_sequent names (abs_thm_step names z s))
-    c.args.self.now.state c.add_sequent.new.self.state)
-    variable
-    (subst (λ z. MadeBy c.add_sequent.result (makes_sequent names (abs_thm_step names v z))
-    c.args.self.now.state c.add_sequent.new.self.state)
-    sequent
-    (made-sequent c.abs_thm-made.result (abs_thm_step names v a) c.add_sequent.result
-    c.args.self.now.state (view_of us (held_of l)) c.add_sequent.new.self
-    (state-then l us c.args.self.now c.self.view_is c.abs_thm-made.ensures.extends c.self.invariant)
-    c.abs_thm-made.ensures.gives c.add_sequent.ensures))
+    stepped l c.args.self.now c.self.view_is c.self.invariant c.abs_thm-made.new.nodes
+    c.abs_thm-made.ensures.extends c.abs_thm-made.result
+    (abs_thm_step names (variable_at l.nodes c.in-Some.v) (sequent_at l.nodes c.in_ok-a.a.now))
+    (abs_thm_step names w s) (λ i. abs_thm_step names (variable i) (sequent i)) c.abs_thm-made.ensures.gives
+    c.add_sequent.result c.add_sequent.new.self c.add_sequent.ensures

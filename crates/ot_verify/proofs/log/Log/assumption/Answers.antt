@@ -23,22 +23,23 @@ returns-in_err-concl c =
     λ p hs h k. absurd (no-term c.self.inside c.args.self.now c.self.view_is
     c.args.concl p (at-same _ _ _ _ c.deref.ensures.value c.in_err-concl.ensures.1) h)
 
-pub returns-in-Err : goal.returns-in-Err
-returns-in-Err c = λ p hs h k.
+pub returns-in_err-hyps : goal.returns-in_err-hyps
+returns-in_err-hyps c = λ p hs h k.
     let l = c.self.inside in
-    missed (IsAt l.terms.items) c.in-Err.refusal c.args.hyps.now
+    missed (IsAt l.terms.items) c.in_err-hyps.field-0.0 c.args.hyps.now
     (makes_assumption names (assumption_step names hs p)) c.args.self.now.state _
-    (subst (λ (is : List ℕ). FindsEach {Y = ℕ} (IsAt is) (Err c.in-Err.refusal) c.args.hyps.now)
-    c.deref-2.ensures.value c.in-Err.ensures)
+    c.from_residual-in_err-hyps.result c.from_residual-in_err-hyps.ensures.1
+    (subst (λ (is : List ℕ). FindsEach {Y = ℕ} (IsAt is) (Err c.in_err-hyps.field-0.0) c.args.hyps.now)
+    c.deref-2.ensures.value c.in_err-hyps.ensures)
     (terms-there l c.args.self.now c.self.view_is c.self.invariant c.args.hyps.now hs k)
 
 pub assumption-made-requires-clause-hyps : goal.assumption-made-requires-clause-hyps
 assumption-made-requires-clause-hyps c =
     let l = c.self.inside in
-    let found = subst (λ (is : List ℕ). AreEach (IsAt is) c.args.hyps.now c.in-Ok.found.items)
-    c.deref-2.ensures.value c.in-Ok.ensures in
+    let found = subst (λ (is : List ℕ). AreEach (IsAt is) c.args.hyps.now c.in_ok-hyps.hyps.items)
+    c.deref-2.ensures.value c.in_ok-hyps.ensures in
     subst (All (HasTerm l.nodes)) (sym c.deref-3.ensures.value)
-    (terms-held l c.args.self.now c.self.view_is c.self.invariant c.args.hyps.now c.in-Ok.found.items found)
+    (terms-held l c.args.self.now c.self.view_is c.self.invariant c.args.hyps.now c.in_ok-hyps.hyps.items found)
 
 pub assumption-made-requires-clause-concl : goal.assumption-made-requires-clause-concl
 assumption-made-requires-clause-concl c =
@@ -58,11 +59,11 @@ pub add_assumed-requires-clause-hyps : goal.add_assumed-requires-clause-hyps
 add_assumed-requires-clause-hyps c =
     let l = c.self.inside in
     let us = c.assumption-made.new.nodes in
-    let found = subst (λ (is : List ℕ). AreEach (IsAt is) c.args.hyps.now c.in-Ok.found.items)
-    c.deref-2.ensures.value c.in-Ok.ensures in
+    let found = subst (λ (is : List ℕ). AreEach (IsAt is) c.args.hyps.now c.in_ok-hyps.hyps.items)
+    c.deref-2.ensures.value c.in_ok-hyps.ensures in
     subst (All (HasTerm us)) (sym c.deref-4.ensures.value)
-    (still-terms l.nodes us c.assumption-made.ensures.extends c.in-Ok.found.items
-    (terms-held l c.args.self.now c.self.view_is c.self.invariant c.args.hyps.now c.in-Ok.found.items found))
+    (still-terms l.nodes us c.assumption-made.ensures.extends c.in_ok-hyps.hyps.items
+    (terms-held l c.args.self.now c.self.view_is c.self.invariant c.args.hyps.now c.in_ok-hyps.hyps.items found))
 
 pub add_assumed-requires-clause-concl : goal.add_assumed-requires-clause-concl
 add_assumed-requires-clause-concl c =
@@ -75,14 +76,14 @@ pub add_assumed-requires-clause-gives : goal.add_assumed-requires-clause-gives
 add_assumed-requires-clause-gives c =
     let l = c.self.inside in
     let us = c.assumption-made.new.nodes in
-    let found = subst (λ (is : List ℕ). AreEach (IsAt is) c.args.hyps.now c.in-Ok.found.items)
-    c.deref-2.ensures.value c.in-Ok.ensures in
-    let held = terms-held l c.args.self.now c.self.view_is c.self.invariant c.args.hyps.now c.in-Ok.found.items
+    let found = subst (λ (is : List ℕ). AreEach (IsAt is) c.args.hyps.now c.in_ok-hyps.hyps.items)
+    c.deref-2.ensures.value c.in_ok-hyps.ensures in
+    let held = terms-held l c.args.self.now c.self.view_is c.self.invariant c.args.hyps.now c.in_ok-hyps.hyps.items
     found in
     let one = held-here l c.self.invariant c.args.concl c.in_ok-concl.field-0.now
     (at-same _ _ _ _ c.deref.ensures.value c.in_ok-concl.ensures) in
     let hyps = ap (terms_at l.nodes) c.deref-3.ensures.value
-    ∙ sym (terms-stay l.nodes us c.assumption-made.ensures.extends c.in-Ok.found.items held)
+    ∙ sym (terms-stay l.nodes us c.assumption-made.ensures.extends c.in_ok-hyps.hyps.items held)
     ∙ ap (terms_at us) (sym c.deref-4.ensures.value) in
     let concl = sym (term-stays l.nodes us c.assumption-made.ensures.extends c.in_ok-concl.field-0.now one) in
     subst (λ z. Gives c.assumption-made.result z us)
@@ -94,14 +95,14 @@ returns c = λ p hs h k.
     let us = c.assumption-made.new.nodes in
     let now = c.args.self.now in
     let e = c.assumption-made.ensures.extends in
-    let found = subst (λ (is : List ℕ). AreEach (IsAt is) c.args.hyps.now c.in-Ok.found.items)
-    c.deref-2.ensures.value c.in-Ok.ensures in
-    let held = terms-held l now c.self.view_is c.self.invariant c.args.hyps.now c.in-Ok.found.items found in
+    let found = subst (λ (is : List ℕ). AreEach (IsAt is) c.args.hyps.now c.in_ok-hyps.hyps.items)
+    c.deref-2.ensures.value c.in_ok-hyps.ensures in
+    let held = terms-held l now c.self.view_is c.self.invariant c.args.hyps.now c.in_ok-hyps.hyps.items found in
     let one = held-here l c.self.invariant c.args.concl c.in_ok-concl.field-0.now
     (at-same _ _ _ _ c.deref.ensures.value c.in_ok-concl.ensures) in
     let hyps = ap (terms_at us) c.deref-4.ensures.value
-    ∙ terms-stay l.nodes us e c.in-Ok.found.items held
-    ∙ terms-found l now c.self.view_is c.self.invariant c.args.hyps.now c.in-Ok.found.items hs found k in
+    ∙ terms-stay l.nodes us e c.in_ok-hyps.hyps.items held
+    ∙ terms-found l now c.self.view_is c.self.invariant c.args.hyps.now c.in_ok-hyps.hyps.items hs found k in
     let concl = term-stays l.nodes us e c.in_ok-concl.field-0.now one
     ∙ term-here l now c.self.view_is c.args.concl c.in_ok-concl.field-0.now
     p (at-same _ _ _ _ c.deref.ensures.value c.in_ok-concl.ensures) h in

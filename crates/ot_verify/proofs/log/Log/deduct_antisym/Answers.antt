@@ -1,14 +1,9 @@
-use Rattle.std.proofs.Common.{subst}
 use Rattle.ot_plain.specs.Naming.{names}
 use Rattle.ot_laws.proofs.Tests.{tells_names}
-use Rattle.ot_records.specs.State.{makes_sequent}
 use Rattle.ot_records.specs.Steps.{deduct_antisym_step}
 use Rattle.ot_records.proofs.StepSound.{deduct_antisym-sound}
-use Rattle.ot_rules.specs.Statements.{sequent_at}
-use Rattle.ot_verify.specs.Held.{view_of}
-use Rattle.ot_verify.specs.Logged.{MadeBy}
-use Rattle.ot_verify.proofs.Logging.{at-same, held_of, log-kept, state-then, sequent-here, no-sequent}
-use Rattle.ot_verify.proofs.Logging.{made-sequent, supported, theorem-here, statement-here}
+use Rattle.ot_verify.proofs.Logging.{at-same, log-kept, no-sequent, statement-here}
+use Rattle.ot_verify.proofs.Stepping.{sequents-follow, sequents-stepped}
 use Rattle.ot_verify.proofs.log.Log.deduct_antisym.Goals as goal
 
 pub returns-in_err-a : goal.returns-in_err-a
@@ -37,36 +32,18 @@ invariant_of-self c =
 
 pub add_sequent-requires : goal.add_sequent-requires
 add_sequent-requires c =
-    let l = c.self.inside in
-    let us = c.deduct_antisym-made.new.nodes in
-    let mid = view_of us (held_of l) in
-    let first = theorem-here l us c.deduct_antisym-made.ensures.extends c.self.invariant
-    c.args.left c.in_ok-a.a.now (at-same _ _ _ _ c.deref.ensures.value c.in_ok-a.ensures) in
-    let second = theorem-here l us c.deduct_antisym-made.ensures.extends c.self.invariant
-    c.args.right c.in_ok-b.b.now (at-same _ _ _ _ c.deref-2.ensures.value c.in_ok-b.ensures) in
-    supported c.deduct_antisym-made.result (deduct_antisym_step names
-    (sequent_at l.nodes c.in_ok-a.a.now) (sequent_at l.nodes c.in_ok-b.b.now))
-    mid c.deduct_antisym-made.ensures.gives
-    (λ q h. deduct_antisym-sound names tells_names mid.state.assumptions mid.state.definitions
-    (sequent_at l.nodes c.in_ok-a.a.now) (sequent_at l.nodes c.in_ok-b.b.now) q first second h)
+    sequents-follow c.self.inside c.args.self.now c.self.view_is c.self.invariant c.deduct_antisym-made.new.nodes
+    c.deduct_antisym-made.ensures.extends c.deduct_antisym-made.result (deduct_antisym_step names)
+    c.args.left c.args.right c.in_ok-a.a.now c.in_ok-b.b.now
+    (at-same _ _ _ _ c.deref.ensures.value c.in_ok-a.ensures)
+    (at-same _ _ _ _ c.deref-2.ensures.value c.in_ok-b.ensures) c.deduct_antisym-made.ensures.gives
+    (deduct_antisym-sound names tells_names)
 
 pub returns : goal.returns
 returns c = λ x y h k.
-    let l = c.self.inside in
-    let us = c.deduct_antisym-made.new.nodes in
-    let first = sequent-here l c.args.self.now c.self.view_is c.args.left
-    c.in_ok-a.a.now x (at-same _ _ _ _ c.deref.ensures.value c.in_ok-a.ensures) h in
-    let second = sequent-here l c.args.self.now c.self.view_is c.args.right
-    c.in_ok-b.b.now y (at-same _ _ _ _ c.deref-2.ensures.value c.in_ok-b.ensures) k in
-    subst (λ z. MadeBy c.add_sequent.result (makes_sequent names (deduct_antisym_step names z y))
-    c.args.self.now.state c.add_sequent.new.self.state)
-    first
-    (subst (λ z. MadeBy c.add_sequent.result (makes_sequent names
-    (deduct_antisym_step names (sequent_at l.nodes c.in_ok-a.a.now) z))
-    c.args.self.now.state c.add_sequent.new.self.state)
-    second
-    (made-sequent c.deduct_antisym-made.result
-    (deduct_antisym_step names (sequent_at l.nodes c.in_ok-a.a.now) (sequent_at l.nodes c.in_ok-b.b.now))
-    c.add_sequent.result c.args.self.now.state (view_of us (held_of l)) c.add_sequent.new.self
-    (state-then l us c.args.self.now c.self.view_is c.deduct_antisym-made.ensures.extends c.self.invariant)
-    c.deduct_antisym-made.ensures.gives c.add_sequent.ensures))
+    sequents-stepped c.self.inside c.args.self.now c.self.view_is c.self.invariant c.deduct_antisym-made.new.nodes
+    c.deduct_antisym-made.ensures.extends c.deduct_antisym-made.result (deduct_antisym_step names)
+    c.args.left c.args.right c.in_ok-a.a.now c.in_ok-b.b.now
+    (at-same _ _ _ _ c.deref.ensures.value c.in_ok-a.ensures)
+    (at-same _ _ _ _ c.deref-2.ensures.value c.in_ok-b.ensures) c.deduct_antisym-made.ensures.gives
+    x y h k c.add_sequent.result c.add_sequent.new.self c.add_sequent.ensures

@@ -26,15 +26,16 @@ use Rattle.ot_verify.proofs.Logging.{at-same, held_of, log-kept, state-then, seq
 use Rattle.ot_verify.proofs.Logging.{no-sequent, theorem-here, theorem-now, statement-here}
 use Rattle.ot_verify.proofs.log.Log.define_constants.Goals as goal
 
-pub returns-in-Err : goal.returns-in-Err
-returns-in-Err c = λ ps a h k.
+pub returns-in_err-pairs : goal.returns-in_err-pairs
+returns-in_err-pairs c = λ ps a h k.
     let l = c.self.inside in
-    missed (IsFoundConstantPair l.nodes l.types.items) c.in-Err.refusal c.args.pairs.now
+    missed (IsFoundConstantPair l.nodes l.types.items) c.in_err-pairs.field-0.0 c.args.pairs.now
     (makes_definition names (λ dl. constants_step names dl ps a)) c.args.self.now.state _
+    c.from_residual.result c.from_residual.ensures.1
     (subst
-    (λ (is : List ℕ). FindsEach {Y = ℕ × VariableNode} (IsFoundConstantPair l.nodes is) (Err c.in-Err.refusal)
+    (λ (is : List ℕ). FindsEach {Y = ℕ × VariableNode} (IsFoundConstantPair l.nodes is) (Err c.in_err-pairs.field-0.0)
     c.args.pairs.now)
-    c.deref.ensures.value c.in-Err.ensures)
+    c.deref.ensures.value c.in_err-pairs.ensures)
     (constant_pairs-there l c.args.self.now c.self.view_is c.self.invariant c.args.pairs.now ps h)
 
 pub returns-in_err-from : goal.returns-in_err-from
@@ -45,10 +46,12 @@ returns-in_err-from c =
 pub constants-made-requires-clause-pairs : goal.constants-made-requires-clause-pairs
 constants-made-requires-clause-pairs c =
     let l = c.self.inside in
-    let found = subst (λ (is : List ℕ). AreEach (IsFoundConstantPair l.nodes is) c.args.pairs.now c.in-Ok.found.items)
-    c.deref.ensures.value c.in-Ok.ensures in
+    let found = subst
+    (λ (is : List ℕ). AreEach (IsFoundConstantPair l.nodes is) c.args.pairs.now c.in_ok-pairs.pairs.items)
+    c.deref.ensures.value c.in_ok-pairs.ensures in
     subst (HasPairs l.nodes) (sym c.deref-3.ensures.value)
-    (constant_pairs-held l c.args.self.now c.self.view_is c.self.invariant c.args.pairs.now c.in-Ok.found.items found)
+    (constant_pairs-held l c.args.self.now c.self.view_is c.self.invariant c.args.pairs.now
+    c.in_ok-pairs.pairs.items found)
 
 pub constants-made-requires-clause-premise : goal.constants-made-requires-clause-premise
 constants-made-requires-clause-premise c =
@@ -74,29 +77,31 @@ invariant_of-self c = log-kept c.self.inside c.constants-made.new.nodes c.consta
 pub add_definition-requires-clause-definition : goal.add_definition-requires-clause-definition
 add_definition-requires-clause-definition c =
     let l = c.self.inside in
-    let found = subst (λ (is : List ℕ). AreEach (IsFoundConstantPair l.nodes is) c.args.pairs.now c.in-Ok.found.items)
-    c.deref.ensures.value c.in-Ok.ensures in
+    let found = subst
+    (λ (is : List ℕ). AreEach (IsFoundConstantPair l.nodes is) c.args.pairs.now c.in_ok-pairs.pairs.items)
+    c.deref.ensures.value c.in_ok-pairs.ensures in
     let pairs = constant_pairs-held l c.args.self.now c.self.view_is
-    c.self.invariant c.args.pairs.now c.in-Ok.found.items found in
+    c.self.invariant c.args.pairs.now c.in_ok-pairs.pairs.items found in
     let premise = copy-held l.nodes c.in_ok-from.from.now
     c.in_ok-premise.premise c.in_ok-premise.ensures.0 c.in_ok-premise.ensures.1
     (statement-here l c.self.invariant c.args.premise c.in_ok-from.from.now
     (at-same _ _ _ _ c.deref-2.ensures.value c.in_ok-from.ensures))
     in
     still-definition l.nodes c.constants-made.new.nodes c.constants-made.ensures.extends
-    (kind.Constants c.in-Ok.found c.in_ok-premise.premise) (pairs, premise)
+    (kind.Constants c.in_ok-pairs.pairs c.in_ok-premise.premise) (pairs, premise)
 
 pub add_definition-requires-clause-made : goal.add_definition-requires-clause-made
 add_definition-requires-clause-made c =
     let l = c.self.inside in
     let us = c.constants-made.new.nodes in
     let mid = view_of us (held_of l) in
-    let d : code.Definition = kind.Constants c.in-Ok.found c.in_ok-premise.premise in
+    let d : code.Definition = kind.Constants c.in_ok-pairs.pairs c.in_ok-premise.premise in
     let at = at-same _ _ _ _ c.deref-2.ensures.value c.in_ok-from.ensures in
-    let found = subst (λ (is : List ℕ). AreEach (IsFoundConstantPair l.nodes is) c.args.pairs.now c.in-Ok.found.items)
-    c.deref.ensures.value c.in-Ok.ensures in
+    let found = subst
+    (λ (is : List ℕ). AreEach (IsFoundConstantPair l.nodes is) c.args.pairs.now c.in_ok-pairs.pairs.items)
+    c.deref.ensures.value c.in_ok-pairs.ensures in
     let pairs = constant_pairs-held l c.args.self.now c.self.view_is
-    c.self.invariant c.args.pairs.now c.in-Ok.found.items found in
+    c.self.invariant c.args.pairs.now c.in_ok-pairs.pairs.items found in
     let premise = copy-held l.nodes c.in_ok-from.from.now c.in_ok-premise.premise c.in_ok-premise.ensures.0
     c.in_ok-premise.ensures.1 (statement-here l c.self.invariant c.args.premise c.in_ok-from.from.now at) in
     let same = copy-same l.nodes c.in_ok-from.from.now c.in_ok-premise.premise
@@ -124,11 +129,12 @@ returns c = λ ps a h k.
     let us = c.constants-made.new.nodes in
     let now = c.args.self.now in
     let mid = view_of us (held_of l) in
-    let d : code.Definition = kind.Constants c.in-Ok.found c.in_ok-premise.premise in
+    let d : code.Definition = kind.Constants c.in_ok-pairs.pairs c.in_ok-premise.premise in
     let at = at-same _ _ _ _ c.deref-2.ensures.value c.in_ok-from.ensures in
-    let found = subst (λ (is : List ℕ). AreEach (IsFoundConstantPair l.nodes is) c.args.pairs.now c.in-Ok.found.items)
-    c.deref.ensures.value c.in-Ok.ensures in
-    let pairs = constant_pairs-held l now c.self.view_is c.self.invariant c.args.pairs.now c.in-Ok.found.items
+    let found = subst
+    (λ (is : List ℕ). AreEach (IsFoundConstantPair l.nodes is) c.args.pairs.now c.in_ok-pairs.pairs.items)
+    c.deref.ensures.value c.in_ok-pairs.ensures in
+    let pairs = constant_pairs-held l now c.self.view_is c.self.invariant c.args.pairs.now c.in_ok-pairs.pairs.items
     found in
     let premise = copy-held l.nodes c.in_ok-from.from.now c.in_ok-premise.premise c.in_ok-premise.ensures.0
     c.in_ok-premise.ensures.1 (statement-here l c.self.invariant c.args.premise c.in_ok-from.from.now at) in
@@ -145,7 +151,8 @@ returns c = λ ps a h k.
     let grown = defines-grown l us c.constants-made.ensures.extends
     c.self.invariant d (pairs, premise) c.constants-made.result case given in
     let is_ps = ap (pairs_at l.nodes) c.deref-3.ensures.value
-    ∙ constant_pairs-found l now c.self.view_is c.self.invariant c.args.pairs.now c.in-Ok.found.items ps found h in
+    ∙ constant_pairs-found l now c.self.view_is c.self.invariant c.args.pairs.now c.in_ok-pairs.pairs.items ps
+    found h in
     let is_a = same ∙ sequent-here l now c.self.view_is c.args.premise c.in_ok-from.from.now a at k in
     subst (λ (z : Steps). MadeBy c.add_definition.result (makes_definition names z) now.state
     c.add_definition.new.self.state)

@@ -25,14 +25,15 @@ returns-then-not-has_name c = λ n ts h k.
     n (named-here l c.args.self.now c.self.view_is c.args.name n h)))
     ∙ c.if-not-has_name.true))
 
-pub returns-in-Err : goal.returns-in-Err
-returns-in-Err c = λ n ts h k.
+pub returns-in_err-args : goal.returns-in_err-args
+returns-in_err-args c = λ n ts h k.
     let l = c.self.inside in
     let there = types-there l c.args.self.now c.self.view_is c.self.invariant c.args.args.now ts k in
-    missed (IsAt l.types.items) c.in-Err.refusal c.args.args.now
+    missed (IsAt l.types.items) c.in_err-args.field-0.0 c.args.args.now
     (makes_type names (TyOp n (arguments ts))) c.args.self.now.state _
-    (subst (λ (is : List ℕ). FindsEach {Y = ℕ} (IsAt is) (Err c.in-Err.refusal) c.args.args.now)
-    c.deref.ensures.value c.in-Err.ensures)
+    c.from_residual.result c.from_residual.ensures.1
+    (subst (λ (is : List ℕ). FindsEach {Y = ℕ} (IsAt is) (Err c.in_err-args.field-0.0) c.args.args.now)
+    c.deref.ensures.value c.in_err-args.ensures)
     there
 
 pub type_op-requires-clause-name : goal.type_op-requires-clause-name
@@ -41,10 +42,10 @@ type_op-requires-clause-name c = c.has_name.ensures.0 c.if-not-has_name.false
 pub type_op-requires-clause-args : goal.type_op-requires-clause-args
 type_op-requires-clause-args c =
     let l = c.self.inside in
-    let found = subst (λ (is : List ℕ). AreEach (IsAt is) c.args.args.now c.in-Ok.found.items)
-    c.deref.ensures.value c.in-Ok.ensures in
+    let found = subst (λ (is : List ℕ). AreEach (IsAt is) c.args.args.now c.in_ok-args.args.items)
+    c.deref.ensures.value c.in_ok-args.ensures in
     subst (All (HasType l.nodes)) (sym c.deref-2.ensures.value)
-    (types-held l c.args.self.now c.self.view_is c.self.invariant c.args.args.now c.in-Ok.found.items found)
+    (types-held l c.args.self.now c.self.view_is c.self.invariant c.args.args.now c.in_ok-args.args.items found)
 
 pub invariant_of-self : goal.invariant_of-self
 invariant_of-self c = log-kept c.self.inside c.type_op.new.self c.type_op.ensures.extends c.self.invariant
@@ -60,12 +61,12 @@ returns c = λ n ts h k.
     let l = c.self.inside in
     let us = c.type_op.new.self in
     let name = name-is l.nodes c.args.name n (named-here l c.args.self.now c.self.view_is c.args.name n h) in
-    let found = subst (λ (is : List ℕ). AreEach (IsAt is) c.args.args.now c.in-Ok.found.items)
-    c.deref.ensures.value c.in-Ok.ensures in
+    let found = subst (λ (is : List ℕ). AreEach (IsAt is) c.args.args.now c.in_ok-args.args.items)
+    c.deref.ensures.value c.in_ok-args.ensures in
     let all = ap (types_at l.nodes) c.deref-2.ensures.value
-    ∙ types-as l.nodes c.in-Ok.found.items
+    ∙ types-as l.nodes c.in_ok-args.args.items
     ∙ ap arguments (types-found l c.args.self.now c.self.view_is
-    c.self.invariant c.args.args.now c.in-Ok.found.items ts found k) in
+    c.self.invariant c.args.args.now c.in_ok-args.args.items ts found k) in
     made-type (TyOp n (arguments ts)) (type_at us c.in_ok-id.id) c.add_type.result c.args.self.now.state
     (state_of us (held_of l))
     c.add_type.new.self.state
