@@ -203,14 +203,8 @@ fn separator(text: &[u8]) -> Result<(bool, &[u8]), Halt<'_>>
     ensures { Gives (λ x. x.0) (λ x. x.1.now) result (separator_at text.now) }
 {
     match behind(44, text) {
-        Some(after) => match literal(after, b" ") {
-            Err(halt) => Err(halt),
-            Ok(next) => Ok((true, next)),
-        },
-        None => match literal(text, b" |- ") {
-            Err(halt) => Err(halt),
-            Ok(next) => Ok((false, next)),
-        },
+        Some(after) => Ok((true, literal(after, b" ")?)),
+        None => Ok((false, literal(text, b" |- ")?)),
     }
 }
 

@@ -247,16 +247,10 @@ pub(crate) fn variable_word(alloc: Global, text: &[u8]) -> Result<(Name, &[u8]),
 fn quoted_variable(alloc: Global, text: &[u8]) -> Result<(Name, &[u8]), Halt<'_>>
     ensures { Gives (λ x. x.0) (λ x. x.1.now) result (quoted_at (λ n. not (bare_test n)) text.now) }
 {
-    match spelled(alloc, text) {
-        Err(halt) => Err(halt),
-        Ok((name, end)) => {
-            if is_bare(&name) {
-                return Err(Halt::Syntax(end));
-            }
-            match literal(end, b"\"") {
-                Ok(rest) => Ok((name, rest)),
-                Err(halt) => Err(halt),
-            }
-        }
+    let (name, end) = spelled(alloc, text)?;
+    if is_bare(&name) {
+        return Err(Halt::Syntax(end));
     }
+    let rest = literal(end, b"\"")?;
+    Ok((name, rest))
 }

@@ -45,18 +45,12 @@ fn quoted_symbol<'a>(
     ensures { Gives (λ x. x.0) (λ x. x.1.now) result
         (quoted_at (λ n. spelled_test notation.now (symbol_of (kind, n))) text.now) }
 {
-    match spelled(alloc, text) {
-        Err(halt) => Err(halt),
-        Ok((name, end)) => {
-            if !notation.is_spelled(kind, &name) {
-                return Err(Halt::Syntax(end));
-            }
-            match literal(end, b"\"") {
-                Ok(rest) => Ok((name, rest)),
-                Err(halt) => Err(halt),
-            }
-        }
+    let (name, end) = spelled(alloc, text)?;
+    if !notation.is_spelled(kind, &name) {
+        return Err(Halt::Syntax(end));
     }
+    let rest = literal(end, b"\"")?;
+    Ok((name, rest))
 }
 
 // The symbol whose bare word stands at the front.
@@ -69,18 +63,12 @@ fn bare_symbol<'a>(
     ensures { Gives (λ x. x.0) (λ x. x.1.now) result
         (bare_symbol_at notation.now (λ n. symbol_of (kind, n)) text.now) }
 {
-    match bare(alloc, text) {
-        Err(halt) => Err(halt),
-        Ok((name, rest)) => {
-            if notation.is_hidden(kind, &name) {
-                return Err(Halt::Syntax(rest));
-            }
-            match notation.settle(alloc, kind, name) {
-                Ok(symbol) => Ok((symbol, rest)),
-                Err(_) => Err(Halt::Memory),
-            }
-        }
+    let (name, rest) = bare(alloc, text)?;
+    if notation.is_hidden(kind, &name) {
+        return Err(Halt::Syntax(rest));
     }
+    let symbol = notation.settle(alloc, kind, name)?;
+    Ok((symbol, rest))
 }
 
 /// The constant whose word stands at the front, and the bytes behind it.

@@ -204,13 +204,9 @@ fn place_front<'a>(
     ensures { let l = around (frames_of frames.now) in IsLeaf l
         (mapped (bound_of l (place_at total text.now)) (part_at text.now)) result }
 {
-    match part(text) {
-        Err(halt) => Err(halt),
-        Ok((name, rest)) => {
-            let bound = bound_part(alloc, frames, place_of(total, text), name)?;
-            Ok(Front::Leaf(bound, rest))
-        }
-    }
+    let (name, rest) = part(text)?;
+    let bound = bound_part(alloc, frames, place_of(total, text), name)?;
+    Ok(Front::Leaf(bound, rest))
 }
 
 // The term of the innermost abstraction with this name, at this place.
@@ -258,13 +254,9 @@ fn constant_front<'a>(
     ensures { (k : ℕ) (l : Around)
         → IsLeaf l (mapped (raw notation.now l k) (closed_constant_at notation.now room text.now)) result }
 {
-    match constant(alloc, notation, room, text) {
-        Err(halt) => Err(halt),
-        Ok((name, ty, rest)) => {
-            let value = constant_value(alloc, name, ty)?;
-            Ok(Front::Leaf(Meant::Value(value), rest))
-        }
-    }
+    let (name, ty, rest) = constant(alloc, notation, room, text)?;
+    let value = constant_value(alloc, name, ty)?;
+    Ok(Front::Leaf(Meant::Value(value), rest))
 }
 
 // A constant's name and type.
@@ -277,19 +269,11 @@ fn constant<'a>(
     ensures { Gives (λ x. ConAs x.0 (type_of_tree x.1)) (λ x. x.2.now) result
         (closed_constant_at notation.now room text.now) }
 {
-    match constant_word(alloc, notation, text) {
-        Err(halt) => Err(halt),
-        Ok((name, end)) => match literal(end, b" : ") {
-            Err(halt) => Err(halt),
-            Ok(rest) => match read_type(alloc, notation, room, rest) {
-                Err(halt) => Err(halt),
-                Ok((ty, behind)) => match literal(behind, b"}") {
-                    Err(halt) => Err(halt),
-                    Ok(after) => Ok((name, ty, after)),
-                },
-            },
-        },
-    }
+    let (name, end) = constant_word(alloc, notation, text)?;
+    let rest = literal(end, b" : ")?;
+    let (ty, behind) = read_type(alloc, notation, room, rest)?;
+    let after = literal(behind, b"}")?;
+    Ok((name, ty, after))
 }
 
 // What a parenthesis at this place opens, with room for so many inside.
@@ -345,13 +329,9 @@ fn binding_front<'a>(
         (mapped (raw notation.now l k) (binding_reading notation.now room text.now)) result }
 {
     notation.sound();
-    match binder(alloc, notation, room, text) {
-        Err(halt) => Err(halt),
-        Ok((name, ty, body)) => {
-            let place = place_of(total, body);
-            Ok(Front::Inside(Open::Body(place, name, ty), body))
-        }
-    }
+    let (name, ty, body) = binder(alloc, notation, room, text)?;
+    let place = place_of(total, body);
+    Ok(Front::Inside(Open::Body(place, name, ty), body))
 }
 
 // The variable of an abstraction.
@@ -363,19 +343,11 @@ fn binder<'a>(
 ) -> Result<(&'a [u8], Ty, &'a [u8]), Halt<'a>>
     ensures { Gives (λ x. (x.0.now, type_of_tree x.1)) (λ x. x.2.now) result (binder_at notation.now room text.now) }
 {
-    match part(text) {
-        Err(halt) => Err(halt),
-        Ok((name, end)) => match literal(end, b" : ") {
-            Err(halt) => Err(halt),
-            Ok(rest) => match read_type(alloc, notation, room, rest) {
-                Err(halt) => Err(halt),
-                Ok((ty, behind)) => match literal(behind, b" . ") {
-                    Err(halt) => Err(halt),
-                    Ok(body) => Ok((name, ty, body)),
-                },
-            },
-        },
-    }
+    let (name, end) = part(text)?;
+    let rest = literal(end, b" : ")?;
+    let (ty, behind) = read_type(alloc, notation, room, rest)?;
+    let body = literal(behind, b" . ")?;
+    Ok((name, ty, body))
 }
 
 // A free variable whose name is quoted.
@@ -388,13 +360,9 @@ fn variable_front<'a>(
     ensures { (k : ℕ) (l : Around)
         → IsLeaf l (mapped (raw notation.now l k) (closed_variable_at notation.now room text.now)) result }
 {
-    match quoted_variable(alloc, notation, room, text) {
-        Err(halt) => Err(halt),
-        Ok((name, ty, rest)) => {
-            let value = free_value(alloc, name, ty)?;
-            Ok(Front::Leaf(Meant::Value(value), rest))
-        }
-    }
+    let (name, ty, rest) = quoted_variable(alloc, notation, room, text)?;
+    let value = free_value(alloc, name, ty)?;
+    Ok(Front::Leaf(Meant::Value(value), rest))
 }
 
 fn quoted_variable<'a>(
@@ -406,13 +374,9 @@ fn quoted_variable<'a>(
     ensures { Gives (λ x. FreeAs x.0 (type_of_tree x.1)) (λ x. x.2.now) result
         (closed_variable_at notation.now room text.now) }
 {
-    match variable_word(alloc, text) {
-        Err(halt) => Err(halt),
-        Ok((name, end)) => match literal(end, b" ") {
-            Err(halt) => Err(halt),
-            Ok(rest) => free(alloc, notation, room, name, rest),
-        },
-    }
+    let (name, end) = variable_word(alloc, text)?;
+    let rest = literal(end, b" ")?;
+    free(alloc, notation, room, name, rest)
 }
 
 // The type of a free variable, and its end.
@@ -426,16 +390,10 @@ fn free<'a>(
     ensures { Gives (λ x. FreeAs x.0 (type_of_tree x.1)) (λ x. x.2.now) result
         (closed_free_at notation.now room name text.now) }
 {
-    match literal(text, b": ") {
-        Err(halt) => Err(halt),
-        Ok(rest) => match read_type(alloc, notation, room, rest) {
-            Err(halt) => Err(halt),
-            Ok((ty, behind)) => match literal(behind, b")") {
-                Err(halt) => Err(halt),
-                Ok(after) => Ok((name, ty, after)),
-            },
-        },
-    }
+    let rest = literal(text, b": ")?;
+    let (ty, behind) = read_type(alloc, notation, room, rest)?;
+    let after = literal(behind, b")")?;
+    Ok((name, ty, after))
 }
 
 // A free variable, or a bound place as the first term.
@@ -454,22 +412,14 @@ fn named<'a>(
         result }
 {
     notation.sound();
-    match bare(alloc, text) {
-        Err(halt) => Err(halt),
-        Ok((name, end)) => match literal(end, b" ") {
-            Err(halt) => Err(halt),
-            Ok(rest) => {
-                if is_free(&name, rest) {
-                    return free_front(alloc, notation, room, name, rest);
-                }
-                let place = place_of(total, text);
-                match bound_part(alloc, frames, place, first_of(&name)) {
-                    Err(_) => Err(Halt::Memory),
-                    Ok(bound) => Ok(Front::Head(Open::First(at, place), bound, end)),
-                }
-            }
-        },
+    let (name, end) = bare(alloc, text)?;
+    let rest = literal(end, b" ")?;
+    if is_free(&name, rest) {
+        return free_front(alloc, notation, room, name, rest);
     }
+    let place = place_of(total, text);
+    let bound = bound_part(alloc, frames, place, first_of(&name))?;
+    Ok(Front::Head(Open::First(at, place), bound, end))
 }
 
 // Whether a bare word and a space before this text begin a free variable.
@@ -499,13 +449,9 @@ fn free_front<'a>(
     ensures { (k : ℕ) (l : Around)
         → IsLeaf l (mapped (raw notation.now l k) (closed_free_at notation.now room name text.now)) result }
 {
-    match free(alloc, notation, room, name, text) {
-        Err(halt) => Err(halt),
-        Ok((name, ty, rest)) => {
-            let value = free_value(alloc, name, ty)?;
-            Ok(Front::Leaf(Meant::Value(value), rest))
-        }
-    }
+    let (name, ty, rest) = free(alloc, notation, room, name, text)?;
+    let value = free_value(alloc, name, ty)?;
+    Ok(Front::Leaf(Meant::Value(value), rest))
 }
 
 // The first component.
@@ -589,10 +535,8 @@ fn back_of_first<'a>(
     ensures { (h : List (Symbol NameValue)) (m : ℕ) (l : Around) → place ≡ at + 1 → IsMeant l part → length text.now
         ≤ total → IsBack total h m l (after total h m l (First at) (meant_of part) text.now) result }
 {
-    match literal(text, b" ") {
-        Err(halt) => Err(halt),
-        Ok(rest) => behind_first(total, at, place, part, rest),
-    }
+    let rest = literal(text, b" ")?;
+    behind_first(total, at, place, part, rest)
 }
 
 // The same behind the space.
@@ -630,17 +574,11 @@ fn operator<'a>(
     ensures { (h : List (Symbol NameValue)) (m : ℕ) (l : Around) → place ≡ at + 1 → IsMeant l part → length text.now
         ≤ total → IsBack total h m l (closed (operated total h m l at (meant_of part) text.now)) result }
 {
-    match signs(text) {
-        Err(halt) => Err(halt),
-        Ok((word, end)) => match literal(end, b" ") {
-            Err(halt) => Err(halt),
-            Ok(rest) => {
-                let left = whole(is_relation(word), place, part);
-                let next = place_of(total, rest);
-                Ok(Back::Further(Open::Right(at, next, word, left), rest))
-            }
-        },
-    }
+    let (word, end) = signs(text)?;
+    let rest = literal(end, b" ")?;
+    let left = whole(is_relation(word), place, part);
+    let next = place_of(total, rest);
+    Ok(Back::Further(Open::Right(at, next, word, left), rest))
 }
 
 // Behind the right side the operation ends.
@@ -657,14 +595,10 @@ fn back_of_right<'a>(
     ensures { (n m : ℕ) (l : Around) → IsMeant l left → IsMeant l part → length text.now ≤ n → IsBack n notation.now m
         l (after n notation.now m l (Right at place operator.now (meant_of left)) (meant_of part) text.now) result }
 {
-    match literal(text, b")") {
-        Err(halt) => Err(halt),
-        Ok(rest) => {
-            let right = whole(is_relation(operator), place, part);
-            let sides = sides_of(alloc, notation, at, operator, left, right)?;
-            Ok(Back::Whole(sides, rest))
-        }
-    }
+    let rest = literal(text, b")")?;
+    let right = whole(is_relation(operator), place, part);
+    let sides = sides_of(alloc, notation, at, operator, left, right)?;
+    Ok(Back::Whole(sides, rest))
 }
 
 // What the sides of an operator stand for, in a part that begins at this place.
@@ -734,12 +668,8 @@ fn back_of_body<'a>(
         → IsBack n h m l (after n h m l (Body place name.now (type_of_tree ty)) (meant_of part) text.now) result }
 {
     let _ = name;
-    match literal(text, b")") {
-        Err(halt) => Err(halt),
-        Ok(rest) => {
-            let body = whole(false, place, part);
-            let abstraction = abstraction(alloc, ty, body)?;
-            Ok(Back::Whole(abstraction, rest))
-        }
-    }
+    let rest = literal(text, b")")?;
+    let body = whole(false, place, part);
+    let abstraction = abstraction(alloc, ty, body)?;
+    Ok(Back::Whole(abstraction, rest))
 }

@@ -139,10 +139,8 @@ fn front_of<'a>(
 fn variable_front(alloc: Global, text: &[u8]) -> Result<Front<'_>, Halt<'_>>
     ensures { IsLeafOf (mapped TyVar (variable_at text.now)) result }
 {
-    match variable_word(alloc, text) {
-        Ok((name, rest)) => Ok(Front::Leaf(Ty::Var(name), rest)),
-        Err(halt) => Err(halt),
-    }
+    let (name, rest) = variable_word(alloc, text)?;
+    Ok(Front::Leaf(Ty::Var(name), rest))
 }
 
 // An operator without arguments.
@@ -153,10 +151,8 @@ fn operator_front<'a>(
 ) -> Result<Front<'a>, Halt<'a>>
     ensures { IsLeafOf (mapped (λ n. TyOp n NoTys) (operator_at notation.now text.now)) result }
 {
-    match operator_word(alloc, notation, text) {
-        Ok((name, rest)) => Ok(Front::Leaf(Ty::Op(name, Vec::new(alloc)), rest)),
-        Err(halt) => Err(halt),
-    }
+    let (name, rest) = operator_word(alloc, notation, text)?;
+    Ok(Front::Leaf(Ty::Op(name, Vec::new(alloc)), rest))
 }
 
 // What a parenthesis opens.
@@ -191,13 +187,9 @@ fn inside_word<'a>(
     ensures { (m : ℕ) → IsInsideOf (closed (word_first notation.now (type_at notation.now m) text.now)) notation.now m
         result }
 {
-    match operator_word(alloc, notation, text) {
-        Err(halt) => Err(halt),
-        Ok((name, end)) => match literal(end, b" ") {
-            Err(halt) => Err(halt),
-            Ok(rest) => behind_word(alloc, notation, name, rest),
-        },
-    }
+    let (name, end) = operator_word(alloc, notation, text)?;
+    let rest = literal(end, b" ")?;
+    behind_word(alloc, notation, name, rest)
 }
 
 // Behind an operator's word and a space.
@@ -217,13 +209,9 @@ fn behind_word<'a>(
             if *byte != 45 {
                 return Ok(Front::Inside(Open::Argument(name, Vec::new(alloc)), text));
             }
-            match literal(text, b"-> ") {
-                Err(halt) => Err(halt),
-                Ok(rest) => {
-                    let domain = Ty::Op(name, Vec::new(alloc));
-                    Ok(Front::Inside(Open::Range(domain), rest))
-                }
-            }
+            let rest = literal(text, b"-> ")?;
+            let domain = Ty::Op(name, Vec::new(alloc));
+            Ok(Front::Inside(Open::Range(domain), rest))
         }
     }
 }

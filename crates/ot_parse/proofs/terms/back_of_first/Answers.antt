@@ -1,17 +1,21 @@
 use Rattle.std.proofs.Common.{sym, subst, arith}
+use Rattle.std.proofs.lemmas.Result.{err_from_is_err_and}
 use Rattle.ot_parse.specs.Values.{meant_of}
 use Rattle.ot_parse.specs.TermCode.{IsBack}
 use Rattle.ot_parse.proofs.Lengths.{space-length}
 use Rattle.ot_parse.proofs.TermBacks.{no-space, space-goes}
 use Rattle.ot_parse.proofs.terms.back_of_first.Goals as goal
 
-pub returns-in-Err : goal.returns-in-Err
-returns-in-Err c = λ h m l d x w. no-space c.args.total h m l c.args.at (meant_of c.args.part) c.args.text.now
-    c.in-Err.halt c.in-Err.ensures
+pub returns-in_err-rest : goal.returns-in_err-rest
+returns-in_err-rest c = λ h m l d x w.
+    let p = err_from_is_err_and c.from_residual.result c.from_residual.ensures.1 in
+    rw (p.1, p.2)
+    (no-space c.args.total h m l c.args.at (meant_of c.args.part) c.args.text.now
+    c.in_err-rest.field-0.0 c.in_err-rest.ensures)
 
-pub returns-in-Ok : goal.returns-in-Ok
-returns-in-Ok c = λ h m l d x w.
-    let a = space-length c.args.text.now c.in-Ok.rest.now c.in-Ok.ensures in
+pub returns : goal.returns
+returns c = λ h m l d x w.
+    let a = space-length c.args.text.now c.in_ok-rest.rest.now c.in_ok-rest.ensures in
     subst (λ o. IsBack c.args.total h m l o c.behind_first.result)
-    (sym (space-goes c.args.total h m l c.args.at (meant_of c.args.part) c.args.text.now c.in-Ok.rest.now
-    c.in-Ok.ensures)) (c.behind_first.ensures h m l d x (omega (arith, a, w)))
+    (sym (space-goes c.args.total h m l c.args.at (meant_of c.args.part) c.args.text.now c.in_ok-rest.rest.now
+    c.in_ok-rest.ensures)) (c.behind_first.ensures h m l d x (omega (arith, a, w)))

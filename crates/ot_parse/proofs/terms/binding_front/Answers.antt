@@ -1,11 +1,15 @@
+use Rattle.std.proofs.lemmas.Result.{err_from_is_err_and}
 use Rattle.ot_parse.proofs.TermOpens.{body-in, no-binder}
 use Rattle.ot_parse.proofs.terms.binding_front.Goals as goal
 
-pub returns-in-Err : goal.returns-in-Err
-returns-in-Err c = λ k l h d. no-binder c.args.total c.args.notation.now l c.args.room c.sound.ensures k
-    c.args.text.now c.in-Err.halt c.in-Err.ensures
+pub returns-in_err-name : goal.returns-in_err-name
+returns-in_err-name c = λ k l h d.
+    let p = err_from_is_err_and c.from_residual.result c.from_residual.ensures.1 in
+    rw (p.1, p.2)
+    (no-binder c.args.total c.args.notation.now l c.args.room c.sound.ensures k
+    c.args.text.now c.in_err-name.field-0.0 c.in_err-name.ensures)
 
-pub returns-in-Ok : goal.returns-in-Ok
-returns-in-Ok c = λ k l h d.
+pub returns : goal.returns
+returns c = λ k l h d.
     body-in c.args.total c.args.notation.now l c.args.room c.sound.ensures k c.place_of-place.result c.args.text.now
-    c.in-Ok.name c.in-Ok.ty c.in-Ok.body.now h d c.place_of-place.ensures c.in-Ok.ensures
+    c.in_ok-name.name c.in_ok-name.ty c.in_ok-name.body.now h d c.place_of-place.ensures c.in_ok-name.ensures
