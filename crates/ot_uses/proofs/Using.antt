@@ -8,6 +8,7 @@ use Rattle.ot_plain.specs.Names.{Name, same_name-Decides}
 use Rattle.ot_plain.specs.Naming.{names}
 use Rattle.ot_plain.specs.Lists.{IsMember, IsPart}
 use Rattle.ot_plain.specs.Trees.{Sequent, Definition}
+use Rattle.ot_plain.specs.Hol.{IsSequent}
 use Rattle.ot_plain.specs.Faults.{Fault}
 use Rattle.ot_plain.specs.declared.command.Cmd.{Cmd}
 use Rattle.ot_plain.specs.declared.command.Cmd.TheVariants as words
@@ -18,7 +19,7 @@ use Rattle.ot_trace.specs.Origins.{Outcome, NoOrigins, MoreOrigins, listed}
 use Rattle.ot_trace.specs.Reach.{IsReached, Root, Operand, OfTheorem}
 use Rattle.ot_written.specs.Needed.{is_among, needed_definitions, needed_origins}
 use Rattle.ot_written.specs.Laws.{Tells}
-use Rattle.ot_written.proofs.Filters.{filter-from}
+use Rattle.ot_written.proofs.Filters.{filter-to, filter-from}
 use Rattle.ot_written.proofs.Kept.{kept, kept-is}
 use Rattle.ot_written.proofs.NeededDefinitions.{needed-reached, reached-needed, reached-origin}
 use Rattle.ot_written.proofs.NeededLaw.{among-to, among-from}
@@ -36,6 +37,7 @@ use Rattle.ot_uses.proofs.Parted.{IsInOrder}
 use Rattle.ot_uses.proofs.Resting.{IsAssumed, StandsOn, AllStand, StandsMade, Suffice}
 use Rattle.ot_uses.proofs.Suffices.{parts_suffice, get-map, ok_if, value-axiom, IsProposed}
 use Rattle.ot_plain.proofs.Members.{IsMember-at, IsMember-map, IsMember-map_back, IsPart-take, IsMember-place}
+use Rattle.ot_plain.proofs.Members.{All-from_members}
 use Rattle.ot_plain.proofs.Results.{same_Ok}
 
 all-member : {A : Type 0} (P : A → Type 0) (xs : List A) → All P xs → (x : A) → IsMember x xs → P x
@@ -196,6 +198,7 @@ same_theorem p q e = cc
 
 pub uses_suffice : (IsNamed : Name → Type 0) → UsesSuffice IsNamed
 uses_suffice IsNamed r lawful acc e law = record {
+  assumptions = All-from_members (IsSequent names) bl used-sequent;
   accepted = s.accepted;
   theorem = s.theorems o e.sequent stands law.proved.value_is;
 }
@@ -228,15 +231,22 @@ uses_suffice IsNamed r lawful acc e law = record {
         definition-fewer [] (definitions_of (take k ms)) (none-fewer (definitions_of (take k ms)))
         m.definition m.origin (lawful.definitions k m at).accepted
 
+    given-sequent : (g : Given) → IsMember g r.assumptions → IsSequent names g.sequent
+    given-sequent g m =
+        let (os, made) = all-member (λ g. (os : Origins Name) × (g.origin ≡ Make words.Axiom os))
+        r.assumptions lawful.axioms g m in
+        (ok_if (value (Make words.Axiom os)) IsProposed (value-axiom os) (theorem g.sequent)
+        (ap value (sym made) ∙ given g m)).0
+
     seqs : AreSequents names al
     seqs i q at =
         let (g, here, is) = get-map (λ g. g.sequent) r.assumptions i q at in
-        let m = IsMember-at r.assumptions i g here in
-        let (os, made) = all-member (λ g. (os : Origins Name) × (g.origin ≡ Make words.Axiom os))
-        r.assumptions lawful.axioms g m in
-        let v : value (Make words.Axiom os) ≡ Ok (theorem q) = ap value (sym made) ∙ given g m
-        ∙ ap (λ z. Ok (theorem z)) is in
-        (ok_if (value (Make words.Axiom os)) IsProposed (value-axiom os) (theorem q) v).0
+        subst (IsSequent names) is (given-sequent g (IsMember-at r.assumptions i g here))
+
+    used-sequent : (q : Sequent Name) → IsMember q bl → IsSequent names q
+    used-sequent q m =
+        let (g, here, is) = IsMember-map_back (λ g. g.sequent) q (used_assumptions r o) m in
+        subst (IsSequent names) is (given-sequent g (filter-to (is_assumed r o) g r.assumptions here).0)
 
     held : (g : Given) → IsMember g r.assumptions → IsReached (o ∷ []) ds g.origin → IsMember g.sequent bl
     held g m reach =

@@ -1,16 +1,19 @@
 -- The law that what a theorem rests on suffices for it.
 use Rattle.std.specs.Prelude.{map}
+use Rattle.std.specs.List.{All}
 use Rattle.ot_plain.specs.Names.{Name}
 use Rattle.ot_plain.specs.Naming.{names}
-use Rattle.ot_plain.specs.Hol.{Accepted}
+use Rattle.ot_plain.specs.Hol.{IsSequent, Accepted}
 use Rattle.ot_laws.specs.Theorem.{IsTheorem}
 use Rattle.ot_machine.specs.States.{Export, RunState}
 use Rattle.ot_machine.specs.Rows.{definitions_of}
 use Rattle.ot_machine.specs.Lawful.{IsLawfulRun, IsLawfulExport, run_basis}
 use Rattle.ot_uses.specs.Used.{Support, support_of}
 
--- its definitions are accepted over its assumptions, and it is derivable from its assumptions under its definitions
+-- its assumptions are of propositions alone, its definitions are accepted over them, and it is derivable from its
+-- assumptions under its definitions
 pub record IsSupported (s : Support) : Type 0 where
+  pub assumptions : All (IsSequent names) s.assumptions
   pub accepted : Accepted names s.assumptions s.definitions
   pub theorem : IsTheorem names s.assumptions s.definitions s.theorem
 

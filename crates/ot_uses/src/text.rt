@@ -15,8 +15,8 @@ use crate::places::Uses;
 use ot_kernel::{Kernel, ThmId};
 use ot_machine::{Export, Session};
 use ot_plain::Memory;
-use ot_print::{PrintFault, Printable, gathered};
-use ot_text::Page;
+use ot_print::InKernel;
+use ot_text::{Page, PrintFault, Printable, gathered, put_indented};
 use std::alloc::Global;
 use std::collections::BTreeSet;
 
@@ -92,13 +92,14 @@ fn put_support(
     page.put(b"theorem ");
     page.put_number(number);
     page.put(b": ");
-    th.put(page, alloc, kernel);
+    let table = InKernel { kernel };
+    th.put(page, alloc, &table);
     page.put(b"\n");
     put_assumptions(page, alloc, kernel, &used.assumptions);
     put_items(
         page,
         alloc,
-        kernel,
+        &table,
         b"definitions",
         kernel.definitions(),
         &used.definitions,
@@ -139,7 +140,7 @@ fn assumption_texts(
     for place in places {
         used.push(assumptions[*place])?;
     }
-    gathered(alloc, kernel, &used, max)
+    gathered(alloc, &InKernel { kernel }, &used, max)
 }
 
 // How many texts there are, and each.
@@ -147,31 +148,27 @@ fn put_texts(page: &mut Page, title: &[u8], texts: &BTreeSet<Vec<u8>>)
     ensures { IsPut (counted_text title.now (texts_of texts.now)) (printed page.old) (printed page.new) }
 {
     put_count(page, title, texts.len());
-    for text in texts {
-        page.put(b"    ");
-        page.put(text.as_slice());
-        page.put(b"\n");
-    }
+    put_indented(page, texts);
 }
 
 // How many items there are at these places, and each.
-fn put_items<T: Printable>(
+fn put_items<Table, T: Printable<Table>>(
     page: &mut Page,
     alloc: Global,
-    kernel: &Kernel,
+    table: &Table,
     title: &[u8],
     items: &[T],
     places: &[usize],
 )
-    requires items { All (T.is_inside kernel.now) items.now }
+    requires items { All (T.is_inside table.now) items.now }
     requires places { All (λ i. i < length items.now) places.now }
-    ensures { IsPut (counted_text title.now (map (T.text kernel.now) (picked items.now places.now)))
+    ensures { IsPut (counted_text title.now (map (T.text table.now) (picked items.now places.now)))
         (printed page.old) (printed page.new) }
 {
     put_count(page, title, places.len());
     for place in places {
         page.put(b"    ");
-        items[*place].put(page, alloc, kernel);
+        items[*place].put(page, alloc, table);
         page.put(b"\n");
     }
 }

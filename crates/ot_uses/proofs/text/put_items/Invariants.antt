@@ -5,5 +5,5 @@ use Rattle.ot_uses.proofs.text.put_items.Given as goal
 
 abbrev pub invariant-loop-place : goal.invariant-loop-place
 invariant-loop-place g l =
-    Puts (lines_at (g.T.Printable.text l.kernel) l.items) l.places l.place-index (printed l.initial.page)
+    Puts (lines_at (g.T.Printable.text l.table) l.items) l.places l.place-index (printed l.initial.page)
     (printed l.page)
