@@ -66,6 +66,7 @@ counts_are s es r = (
 pub is_proved : (s : Session) (es : List Export) → IsRun s → IsSoundState s.kernel → All (IsExportIn s) es
     → IsProved (run_lists (ran_from s es))
 is_proved s es r sound within = record {
+  assumptions = rw (assumptions_are s es r) sound.assumptions;
   accepted = rw (assumptions_are s es r, definitions_are s es r) sound.accepted;
   theorems =
       rw (assumptions_are s es r, definitions_are s es r, exports_are s es)

@@ -5,7 +5,7 @@ use Rattle.std.specs.List.{All}
 use Rattle.std.specs.Io.KnownBytes.{Appends}
 use Rattle.ot_plain.specs.Naming.{names}
 use Rattle.ot_plain.specs.Lists.{IsMember}
-use Rattle.ot_plain.specs.Hol.{Accepted as AcceptedLists}
+use Rattle.ot_plain.specs.Hol.{IsSequent, Accepted as AcceptedLists}
 use Rattle.ot_laws.specs.Theorem.{IsTheorem}
 use Rattle.ot_io.specs.Causes.{Rose}
 use Rattle.ot_io.specs.Folder.{Folder, path_asked}
@@ -71,8 +71,10 @@ IsVerdict Memory = ⊥
 
 -- ---- what a text says of a task's end, as far as that is told
 
--- each theorem is derivable from the assumptions under the definitions, and these are accepted
+-- each assumption is of propositions alone, the definitions are accepted over them, and each theorem is derivable from
+-- the assumptions under the definitions
 pub record IsProved (l : Lists) : Type 0 where
+  pub assumptions : All (IsSequent names) l.assumptions
   pub accepted : AcceptedLists names l.assumptions l.definitions
   pub theorems : All (IsTheorem names l.assumptions l.definitions) l.theorems
 
