@@ -18,14 +18,14 @@ use repetitions::{DOUBLED, REPEATED, Repeated, TOO_LARGE};
 use std::alloc::Global;
 use std::process::Abort;
 use std::test::Fail;
-use tables::{ARTICLES, FAULTS, FIRST, NONE, ONE, PARTS, SUMMARIES};
+use tables::{ARTICLES, FAULTS, FIRST, NEEDED, NONE, ONE, PARTS, SUMMARIES};
 use theories::{
     ASSUMED_ONE, ASSUMES, BAD_LINE, CHAIN, CYCLE, Entry, FAR, GONE, IMPORT_CYCLE, IMPORTS,
     IMPORTS_LATE, IMPORTS_NONE, NO_ARTICLE, NO_THEORY, NOT_EQUATION, NOT_EQUATION_FAR, RENAMED,
     RENAMES, SHOWN, SHOWS, SYMMETRIC, THEORY_FAILED, TOO_DEEP, UNREADABLE, WEAKENED, WEAKENS,
     WEAKENS_NONE,
 };
-use written::{LEAN, LINKED, SAMPLES, WRITTEN};
+use written::{LEAN, LINKED, NEEDLESS, NEEDLESS_COUNTS, SAME_THEOREMS, SAMPLES, WRITTEN};
 
 /// What the program answers: its status, and what stands on both sinks.
 #[derive(Drop)]
@@ -210,13 +210,20 @@ fn says(
 ) -> Result<bool, Fail>
     requires { IsTrue (has_distinct_paths (map (λ e. (e.0.now, e.1.now ++ e.2.now)) entries.now)) }
 {
+    let answer = answered_in(alloc, words, entries, fail)?;
+    Ok(answer.is(status, text))
+}
+
+/// Runs the program so.
+fn answered_in(alloc: Global, words: &[&str], entries: &[Entry], fail: u64) -> Result<Answer, Fail>
+    requires { IsTrue (has_distinct_paths (map (λ e. (e.0.now, e.1.now ++ e.2.now)) entries.now)) }
+{
     let files = files_of(alloc, entries)?;
     let outside = Outside {
         read: (65536, fail),
         ..FINE
     };
-    let answer = answered_over(alloc, words, files, b"", outside)?;
-    Ok(answer.is(status, text))
+    answered_over(alloc, words, files, b"", outside)
 }
 
 fn source(alloc: Global, article: &[u8], calls: (usize, u64)) -> Result<MemSource, Fail>
@@ -420,17 +427,19 @@ fn minimised(rt: HostRuntime) -> Result<(), Fail> {
     for &(parts, text) in WRITTEN {
         assert!(rt; is_written(rt.alloc(), parts, text)?, "{parts:?}");
     }
+    let needless = joined(rt.alloc(), &[NEEDLESS])?;
     let lean = joined(rt.alloc(), &[LEAN])?;
     assert!(rt; lean.len() == 97);
-    assert!(rt;
-        answers(
-            rt.alloc(),
-            &["check", "a.art"],
-            &lean,
-            Status::Accepted,
-            ONE
-        )?
-    );
+    check_lean(&rt, rt.alloc(), &needless, &lean)
+}
+
+fn check_lean(rt: &impl Abort, alloc: Global, needless: &[u8], lean: &[u8]) -> Result<(), Fail> {
+    let check = &["check", "a.art"];
+    let theorems = &["info", "--theorems", "a.art"];
+    assert!(rt; answers(alloc, check, needless, Status::Accepted, NEEDLESS_COUNTS)?);
+    assert!(rt; answers(alloc, check, lean, Status::Accepted, ONE)?);
+    assert!(rt; answers(alloc, theorems, needless, Status::Accepted, SAME_THEOREMS)?);
+    assert!(rt; answers(alloc, theorems, lean, Status::Accepted, SAME_THEOREMS)?);
     Ok(())
 }
 
@@ -449,7 +458,40 @@ fn linked(rt: HostRuntime) -> Result<(), Fail> {
     Ok(())
 }
 
-/// The sample article, and what it comes to.
+/// Whether `info` prints this summary of the article that `minimise` writes of an article.
+fn rewrites(alloc: Global, parts: &[&[u8]], summary: &[u8]) -> Result<bool, Fail> {
+    let article = joined(alloc, parts)?;
+    let lean = answered(alloc, &["minimise", "-"], &article, FINE)?;
+    answers(alloc, &["info", "-"], &lean.out, Status::Accepted, summary)
+}
+
+/// An article that is written prints as what it was written of: also of version 5, and of a theory whose theorem has one
+/// hypothesis more.
+#[test]
+fn rewritten(rt: HostRuntime) -> Result<(), Fail> {
+    for place in NEEDED {
+        match SUMMARIES.get(place) {
+            Some((parts, _, summary)) => {
+                assert!(rt; rewrites(rt.alloc(), parts, summary)?, "{parts:?}");
+            }
+            None => assert!(rt; false, "no summary {place}"),
+        }
+    }
+    let linked = answered_in(rt.alloc(), &["link", "t.thy"], &WEAKENS, 0)?;
+    let theorems = &["info", "--theorems", "-"];
+    assert!(rt;
+        answers(
+            rt.alloc(),
+            theorems,
+            &linked.out,
+            Status::Accepted,
+            WEAKENED
+        )?
+    );
+    Ok(())
+}
+
+/// The sample article, and the line on it.
 #[test]
 fn samples(rt: HostRuntime) -> Result<(), Fail> {
     for &(size, line) in SAMPLES {

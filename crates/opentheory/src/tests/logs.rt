@@ -1,5 +1,5 @@
 //! Proof logs.
-use super::tables::{FIRST, SUMMARIES};
+use super::tables::{FIRST, NEEDED, SUMMARIES};
 use super::{FINE, Outside, answered, answers, joined};
 use ot_program::Status;
 use std::alloc::Global;
@@ -73,9 +73,6 @@ fn logs(rt: HostRuntime) -> Result<(), Fail> {
     }
     Ok(())
 }
-
-/// The places of articles among the summaries whose definitions and assumptions are all needed.
-const NEEDED: [usize; 7] = [2, 4, 11, 14, 17, 18, 20];
 
 /// Whether `verify` prints this summary of the log that `prove` writes of an article.
 fn proves(alloc: Global, parts: &[&[u8]], summary: &[u8]) -> Result<bool, Fail> {

@@ -98,19 +98,22 @@ fn lines(rt: HostRuntime) -> Result<(), Fail> {
     Ok(())
 }
 
-/// Calls that fail: the theory file's two readings, the article's, and the text's.
+/// Calls that fail: the theory file's two readings, the article's, and the text's; and of an article on the input its own
+/// and the text's.
 #[test]
 fn failures(rt: HostRuntime) -> Result<(), Fail> {
-    let rows: [(u64, &[u8]); 3] = [
-        (1, b"opentheory: t.thy: read fault\n"),
-        (7, b"opentheory: truth.art: read fault\n"),
-        (10, b"opentheory: short.txt: read fault\n"),
+    let rows: [(&str, u64, &[u8]); 5] = [
+        ("t.thy", 1, b"opentheory: t.thy: read fault\n"),
+        ("t.thy", 7, b"opentheory: truth.art: read fault\n"),
+        ("t.thy", 10, b"opentheory: short.txt: read fault\n"),
+        ("-", 1, b"opentheory: -: read fault\n"),
+        ("-", 2, b"opentheory: short.txt: read fault\n"),
     ];
-    for (call, line) in rows {
-        let words = &["read", "t.thy", "short.txt"];
+    for (input, call, line) in rows {
+        let words = &["read", input, "short.txt"];
         assert!(rt;
             says(rt.alloc(), words, &FILES, call, Status::ReadFault, line)?,
-            "{call}"
+            "{input} {call}"
         );
     }
     Ok(())

@@ -415,6 +415,9 @@ pub const SUMMARIES: &[(&[&[u8]], &[&str], &[u8])] = &[
     ),
 ];
 
+/// The places of articles among the summaries whose definitions and assumptions are all needed.
+pub const NEEDED: [usize; 7] = [2, 4, 11, 14, 17, 18, 20];
+
 /// Whole articles in parts, a space for the end of a line.
 pub const PARTS: &[(&[&[u8]], Status, &[u8])] = &[
     (

@@ -13,6 +13,11 @@ pub const NEEDLESS: &[u8] =
 pub const LEAN: &[u8] =
     b"6 version \"p\" \"bool\" typeOp nil 0 def opType var varTerm 1 def assume 1 ref 0 ref cons 1 ref thm";
 
+pub const NEEDLESS_COUNTS: &[u8] = b"accepted: 1 theorems, 1 assumptions, 1 definitions\n";
+
+/// The theorems of both.
+pub const SAME_THEOREMS: &[u8] = b"theorems: 1\n  \"p\":\"bool\" |- \"p\":\"bool\"\n";
+
 pub const WRITTEN: &[Written] = &[
     (&[NEEDLESS], LEAN),
     (&[LEAN], LEAN),
