@@ -1,5 +1,5 @@
-//! The outside: where bytes come from and go to, and the causes of its failures. Objects in memory
-//! stand in for it in tests, and thin adapters over std are the real one.
+//! Input and output: where bytes come from and go to, and the causes of failures. Objects in memory
+//! stand in for the real ones in tests, which are thin adapters over std.
 #![tactic(auto)]
 
 mod adapters;
