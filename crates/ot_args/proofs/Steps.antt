@@ -90,16 +90,6 @@ option_before v s o w (Some a) h =
 
 -- ---- the words of a slice
 
--- an option without a value is first
-pub flag_loop : (v : Verb) (words : List (String Global)) (name : String Global) (text : List ℕ) (s : SettingsValue)
-    (o : OptionValue) (w : Option SettingsValue) → 1 ≤ length words → name ≡ get_or words 0 name
-    → text ≡ string_bytes name → bytes_eq text packages_name ≡ false → Some o ≡ flag_named text → w ≡ set_one v s o
-    → read_after v s (texts_of words) ≡ read_on v (arguments (texts_of (behind words))) w
-flag_loop v words name text s o w h e same other flag set =
-    ap (read_after v s) (first_text words name text h e same)
-    ∙ ap (option_and_then (given_after v s)) (flag_first text o (texts_of (behind words)) other (sym flag))
-    ∙ option_before v s o w (arguments (texts_of (behind words))) (sym set)
-
 -- the option for the folder is first, and a folder behind it
 folder_step : (v : Verb) (s : SettingsValue) (name next : List ℕ) (words : List (List ℕ)) (w : Option SettingsValue)
     → bytes_eq name packages_name ≡ true → set_one v s (Packages next) ≡ w → read_after v s (name ∷ next ∷ words)
@@ -128,22 +118,6 @@ no_folder v words name text s h e same named none =
     ap (read_after v s) (first_text words name text h e same)
     ∙ ap (λ (ws : List (List ℕ)). read_after v s (text ∷ ws)) (no_words (behind words) none)
     ∙ folder_alone v s text named
-
--- an operand is first
-pub operands_loop : (v : Verb) (words : List (String Global)) (name : String Global) (text : List ℕ)
-    (s : SettingsValue) → 1 ≤ length words → name ≡ get_or words 0 name → text ≡ string_bytes name
-    → bytes_eq text packages_name ≡ false → None ≡ flag_named text → read_after v s (texts_of words)
-    ≡ Some (with_operands (texts_of words) s)
-operands_loop v words name text s h e same other none =
-    let first = first_text words name text h e same in
-    ap (read_after v s) first
-    ∙ ap (option_and_then (given_after v s)) (operand_first text (texts_of (behind words)) other (sym none))
-    ∙ ap (λ (ws : List (List ℕ)). Some (with_operands ws s)) (sym first)
-
--- no word is left
-pub operands_end : (v : Verb) (words : List (String Global)) (s : SettingsValue) → length words ≤ 0
-    → read_after v s (texts_of words) ≡ Some (with_operands (texts_of words) s)
-operands_end v words s none = rw (no_words words none) refl
 
 -- an answer that is refused
 pub refused : (r : Result Given Usage) → IsErr r → given_answer r ≡ None

@@ -75,11 +75,6 @@ pub term-pure : (o : Object) (t : Tm Name) → as_term o ≡ Ok t → IsPure o
 term-pure (term t) u h = tt
 term-pure _ u h = absurd (cc)
 
-theorem-pure : {A : Type 0} (o : Object) (f : _ → Result A (Fault Name)) (a : A) → (as_theorem o >>= f) ≡ Ok a
-    → IsPure o
-theorem-pure (theorem q) f a h = tt
-theorem-pure _ f a h = absurd (cc)
-
 list-pure : (o : Object) (os : Objects) → as_list o ≡ Ok os → ArePure os → IsPure o
 list-pure (list os) ps h p = let e : os ≡ ps = cc in subst ArePure (sym e) p
 list-pure _ ps h p = absurd (cc)

@@ -1,5 +1,4 @@
 -- The text of the matches, one source and one theorem after another.
-use Rattle.std.specs.Prelude.{codes}
 use Rattle.std.proofs.Common.{◌≡◌, ℕ, ◌+◌, ◌-◌, ◌<◌, ◌≤◌, Bool, true, false, cond, nat_le, List, []}
 use Rattle.std.proofs.Common.{◌∷◌, ◌++◌, map, length, take, get_or, Option, Some, None, refl, sym, ap}
 use Rattle.std.proofs.Common.{◌∙◌, subst, append_assoc, append-nil, length-append, inl, inr, arith}
@@ -10,7 +9,6 @@ use Rattle.std.proofs.lemmas.List.{take_more, map-append}
 use Rattle.ot_plain.specs.Names.{Name}
 use Rattle.ot_plain.specs.Naming.{names}
 use Rattle.ot_plain.specs.Trees.{Tm, Sequent}
-use Rattle.ot_text.specs.Texts.{number_text}
 use Rattle.ot_text.specs.Pages.{Printed, Bytes, Full, NoMemory, put, is_stopped, IsPut, IsCopied, printed}
 use Rattle.ot_text.proofs.Putting.{then, same-text, stays}
 use Rattle.ot_kernel.specs.State.{State}
@@ -18,7 +16,7 @@ use Rattle.ot_match.specs.Matching.{matched}
 use Rattle.ot_match.specs.Found.{types_of, terms_of, maps_of}
 use Rattle.ot_match.specs.declared.find.Match.{Match}
 use Rattle.ot_find.specs.Matches.{Found, found, matches_in}
-use Rattle.ot_find.specs.Texts.{found_text, matches_text, find_text, HasFound}
+use Rattle.ot_find.specs.Texts.{found_text, matches_text, HasFound}
 use Rattle.ot_find.specs.declared.search.Search.{Search}
 
 -- ---- lists of matches
@@ -192,15 +190,3 @@ module _ (k : State) (p : Tm Name) (source : List ℕ) (q : Sequent Name) (t : T
         n (omega (arith, few)))
         in
         subst (λ gs. HasFound new (fs ++ gs)) some (found-more old new fs (one ∷ []) same text count h)
-
--- what is put on a last page
-pub whole-text : (count : ℕ) (fs : List Found) (body : List ℕ) → count ≡ length fs → body ≡ matches_text fs
-    → codes "matches: " ++ number_text count ++ codes "\n" ++ body ≡ find_text fs
-whole-text count fs body n b =
-    (λ j. codes "matches: " ++ number_text (n j) ++ codes "\n" ++ b j)
-    ∙ append_assoc (codes "matches: " ++ number_text (length fs)) (10 ∷ []) (matches_text fs)
-
--- the whole has more bytes than the matches
-pub whole-long : (fs : List Found) → length (matches_text fs) ≤ length (find_text fs)
-whole-long fs = let n = length-append (codes "matches: " ++ number_text (length fs)) (10 ∷ matches_text fs) in
-    omega arith

@@ -62,11 +62,6 @@ abbrev mutual
   bare_on (b ∷ s) = cond (is_inner b) (mapped (before b) (bare_on s))
       (cond (b == 46) (mapped (λ n. [] ∷ n) (bare_at s)) (Got ([] ∷ []) (b ∷ s)))
 
--- the further parts of a bare word, each behind a dot
-abbrev pub bare_rest : List ℕ → Reading Name
-bare_rest [] = Got [] []
-bare_rest (b ∷ s) = cond (b == 46) (bare_at s) (Got [] (b ∷ s))
-
 -- a quote, a backslash or a dot
 abbrev pub is_special : ℕ → Bool
 is_special b = (b == 34) || ((b == 92) || (b == 46))

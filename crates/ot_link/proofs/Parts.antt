@@ -82,8 +82,3 @@ module _ {A : Type 0} (k : kernel.State) (rest whole : Linked A) (is : IsRest re
 pub told-as : {X : Type 0} {P Q : X → Type 0} (o : Option X) → ((x : X) → P x → Q x) → IfSome o P → IfSome o Q
 told-as None f h = tt
 told-as (Some x) f h = f x h
-
-pub told-both : {X : Type 0} {P Q R : X → Type 0} (o p : Option X) → p ≡ o → ((x : X) → P x → Q x → R x) → IfSome o P
-    → IfSome p Q → IfSome o R
-told-both None p e f h i = tt
-told-both {X} {P} {Q} (Some x) p e f h i = f x h (rw e at i)

@@ -1,7 +1,7 @@
 -- The theorems of definitions, and their numbers.
 use Rattle.std.specs.Prelude.{IfNone}
 use Rattle.std.specs.List.{All}
-use Rattle.std.proofs.Common.{◌≡◌, ◌≢◌, ℕ, suc, ◌+◌, ◌<◌, List, [], ◌∷◌, ◌++◌}
+use Rattle.std.proofs.Common.{◌≡◌, ◌≢◌, ℕ, suc, ◌<◌, List, [], ◌∷◌}
 use Rattle.std.proofs.Common.{map, length, get_or, slice_get, Option, None}
 use Rattle.std.proofs.Common.{Some, Ok, refl, sym, ap, subst, ◌∙◌, arith}
 use Rattle.ot_plain.specs.Names.{Name}
@@ -61,26 +61,6 @@ theorems-made s old new w id ids qs p e j q at = record {
       let one : t.0 ≡ sequent_at new.nodes q = cc in
       sym (same_Ok (theorem t.0) v t.2) ∙ ap theorem one;
 }
-
--- one theorem, and two
-pub only-one : {X : Type 0} (xs ys : List X) (x : X) → length xs ≡ 1 → xs ≡ ys ++ x ∷ [] → slice_get xs 0 ≡ Some x
-only-one xs [] x n e = ap (λ l. slice_get l 0) e
-only-one xs (y ∷ ys) x n e = let m = ap length e in let h = some-long ys x in absurd (omega (arith, m, n, h))
-  where
-    some-long : {X : Type 0} (ys : List X) (x : X) → 0 < length (ys ++ x ∷ [])
-    some-long [] x = omega arith
-    some-long (y ∷ ys) x = omega arith
-
-pub only-two : {X : Type 0} (xs ys zs : List X) (x y : X) → length xs ≡ 2 → xs ≡ ys ++ y ∷ [] → ys ≡ zs ++ x ∷ []
-    → (slice_get xs 0 ≡ Some x) × (slice_get xs 1 ≡ Some y)
-only-two xs ys [] x y n e f = let g = e ∙ ap (λ l. l ++ y ∷ []) f in
-    (ap (λ l. slice_get l 0) g, ap (λ l. slice_get l 1) g)
-only-two xs ys (z ∷ zs) x y n e f = let g = ap length (e ∙ ap (λ l. l ++ y ∷ []) f) in let h =
-    two-long zs x y in absurd (omega (arith, g, n, h))
-  where
-    two-long : {X : Type 0} (zs : List X) (x y : X) → 1 < length ((zs ++ x ∷ []) ++ y ∷ [])
-    two-long [] x y = omega arith
-    two-long (z ∷ zs) x y = let h = two-long zs x y in omega arith
 
 -- ---- their numbers
 

@@ -74,9 +74,6 @@ steps-more c [] w s t u e h = last-step c w s t u e h
 steps-more c (v ∷ vs) w s t u e h = then-more c w t u (step c s v) (steps c vs) (steps c (vs ++ w ∷ []))
     (λ x k. steps-more c vs w x t u k h) e
 
-pub leads-none : (c : Context) (s : State) → LeadsTo c s s
-leads-none c s = record { words = []; said = tt; passed = refl }
-
 leads-word : (c : Context) (s t u : State) (text : List ℕ) (r : Result WordValue (Fault Name)) → IsLineText text
     → word text ≡ r → LeadsTo c s t → r >>= step c t ≡ Ok u → LeadsTo c s u
 leads-word c s t u text (Ok w) h q l e =

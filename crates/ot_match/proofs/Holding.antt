@@ -17,7 +17,7 @@ use Rattle.ot_plain.specs.Trees.{Bound, App, Abs, Named, NVar, NConst, NApp, NAb
 use Rattle.ot_plain.specs.Hol.{IsFreeIn, place, at_place, nameless, nameless_in, type_in, named_type}
 use Rattle.ot_laws.proofs.Typing.{type-nameless}
 use Rattle.ot_laws.proofs.Tests.{tells_names}
-use Rattle.ot_match.specs.Walk.{◌>>=◌, put, put_term, walk_type, walk_types, walk_var, walk_in_type, walk_term, Maps}
+use Rattle.ot_match.specs.Walk.{◌>>=◌, put, put_term, walk_type, walk_types, walk_var, walk_term, Maps}
 use Rattle.ot_view.specs.Nodes.{IsNoApplication, IsNoAbstraction}
 use Rattle.ot_kernel.specs.State.{State, type_at, types_at}
 use Rattle.ot_plain.specs.PlainTrees.{tys_of}
@@ -171,14 +171,6 @@ module _ (e : List (Variable Name)) (w : Maps names) where
           paired false = refl
 
 -- ---- types in a row
-
-pub in_type : (t u : Ty Name) (s r : List (Name × Ty Name)) (m : List (Variable Name × Tm Name)) (b : Bool)
-    → walk_type names t u s ≡ answered b r → walk_in_type names t u (s, m) ≡ answered b (r, m)
-in_type t u s r m b e = ap (λ o. ◌>>=◌ {B = Maps names} o (λ s. Some (s, m))) e ∙ paired b where
-  paired : (c : Bool) → ◌≡◌ {A = Option (Maps names)} (◌>>=◌ {B = Maps names} (answered c r) (λ s. Some (s, m)))
-      (answered c (r, m))
-  paired true = refl
-  paired false = refl
 
 -- ---- lists from a place on
 

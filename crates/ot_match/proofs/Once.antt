@@ -71,12 +71,6 @@ module _ {A : Type 0} (same : A → A → Bool) (tells : (x y : A) → Decides (
     ]
   ]
 
--- and back
-pub agree-map : {A B : Type 0} (f g : A → B) (xs : List A) → map f xs ≡ map g xs → (x : A) → IsMember x xs → f x ≡ g x
-agree-map f g [] h x i = absurd i
-agree-map f g (y ∷ xs) h x (inl e) = let k : f y ≡ g y = (cc h) in rw (← e) k
-agree-map f g (y ∷ xs) h x (inr i) = let k : map f xs ≡ map g xs = (cc h) in agree-map f g xs k x i
-
 -- a map of which the first pair for a key counts
 module _ {K X : Type 0} (same : K → K → Bool) (tells : (x y : K) → Decides (same x y) (x ≡ y)) (at : List (K × X) → K
     → X) (step : (p : K × X) (m : List (K × X)) (k : K) → at (p ∷ m) k ≡ cond (same k p.0) p.1 (at m k)) where

@@ -115,11 +115,6 @@ other-variable ts one c v w k id is has here e term =
     (sym (ap (λ c. changed (changing ts c) k (Free (variable_at ts v))) is
     ∙ ap (λ b. cond b (Bound k) (Free (variable_at ts v))) test))
 
-pub opened-variable : (ts : List Item) (c : Change) (v : VariableNode) (u k id : ℕ) → c ≡ change.Open u
-    → IsTerm ts id (Free (variable_at ts v)) → IsTerm ts id (changed (changing ts c) k (Free (variable_at ts v)))
-opened-variable ts c v u k id is term =
-    term ∙ ap (λ t. Some (TermItem t)) (sym (ap (λ c. changed (changing ts c) k (Free (variable_at ts v))) is))
-
 -- ---- a free variable that a substitution holds, or not: its type has an instance in the table us
 module _ (ts us : List Item) (d : Extends ts us) (one : IsInjective us) (c : Change) (v : VariableNode)
     (types : List (ℕ × ℕ)) (terms : List (VariableNode × ℕ))

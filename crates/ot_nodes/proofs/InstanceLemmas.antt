@@ -1,7 +1,7 @@
 -- Instances of the types of a table, one after another.
 use Rattle.std.proofs.Common.{◌≡◌, ℕ, List, [], ◌∷◌, ◌++◌, None, Some, refl, sym, ap, subst, ◌∙◌}
 use Rattle.std.specs.Map.{lookup}
-use Rattle.std.proofs.lemmas.List.Elements.{All-nil, All-push}
+use Rattle.std.proofs.lemmas.List.Elements.{All-push}
 use Rattle.ot_plain.specs.Names.{Name}
 use Rattle.ot_plain.specs.Naming.{names}
 use Rattle.ot_plain.specs.Table.{Extends, IsInjective}
@@ -52,9 +52,6 @@ inst-push : (s : TypeMap names) (us : Tys Name) (t : Ty Name) → inst_all names
 unfolding one_more
 inst-push s NoTys t = refl
 inst-push s (MoreTys u us) t = ap (MoreTys (inst names s u)) (inst-push s us t)
-
-pub instances-none : (ts : List Item) (s : TypeMap names) → HasInstances ts ts s [] []
-instances-none ts s = record { types = refl; each = All-nil (HasType ts) }
 
 pub instances-push : (ts us ws : List Item) (s : TypeMap names) (ids found : List ℕ) (i r : ℕ)
     → HasInstances ts us s ids found → Extends us ws → IsType ws r (inst names s (type_at ts i))

@@ -224,10 +224,6 @@ typing-abstraction ts us l ty b body fun r e h is typed =
       parts = typed.all ∙ (λ i. is_within_type names (sym type i) && h.parts i);
     }
 
-pub typing-no_abstraction : (l : List (Ty Name)) (t : Ty Name) (b : Tm Name) → type_in names (t ∷ l) b ≡ None
-    → type_in names l (Abs t b) ≡ None
-typing-no_abstraction l t b h = ap (option_map (fun_ty names t)) h
-
 -- nothing is known
 pub typings-nothing : (ts : List Item) → AreTypings ts []
 typings-nothing ts = record { known = λ s r h. absurd (none-some r h) }

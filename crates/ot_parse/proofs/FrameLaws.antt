@@ -45,11 +45,6 @@ pub mapped-same : {A B : Type 0} (v w : A → B) (o : Reading A) → ((x : A) �
 mapped-same v w (Got x s) h = ap (λ z. Got z s) (h x)
 mapped-same v w (Halted k s) h = refl
 
-pub next-same : {A B : Type 0} (o : Reading A) (f g : A → List ℕ → Reading B) → ((x : A) (s : List ℕ) → f x s ≡ g x s)
-    → next o f ≡ next o g
-next-same (Got x s) f g h = h x s
-next-same (Halted k s) f g h = refl
-
 module _ (hidden : List (Symbol Name)) where
   -- reading that halts inside halts the whole
   pub halts : (m : ℕ) (fs : List Frame) (k : Reason) (r : List ℕ) → resume hidden m fs (Halted k r) ≡ Halted k r

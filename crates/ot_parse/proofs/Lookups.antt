@@ -1,19 +1,19 @@
 -- Hidden symbols that are looked up by their names and base names.
 use Rattle.std.specs.Prelude.{◌≡◌, ◌<◌, ◌≤◌, ℕ, Bool, true, false, cond, ◌&&◌, ◌||◌}
-use Rattle.std.specs.Prelude.{◌==◌, nat_le, List, [], ◌∷◌, ◌++◌, map, length, Option, Some, None}
+use Rattle.std.specs.Prelude.{◌==◌, nat_le, List, [], ◌∷◌, ◌++◌, map, length, Some, None}
 use Rattle.std.specs.List.{list_any, list_all}
 use Rattle.std.specs.Option.{unwrap_or}
-use Rattle.std.proofs.Common.{◌+◌, refl, sym, ◌∙◌, ap, arith, get_or, append_assoc}
+use Rattle.std.proofs.Common.{◌+◌, refl, sym, ◌∙◌, ap, arith, get_or}
 use Rattle.std.proofs.lemmas.Bool.{and_parts}
 use Rattle.ot_plain.specs.Names.{Name}
 use Rattle.ot_plain.specs.Trees.{Symbol, ConSymbol, OpSymbol}
 use Rattle.ot_forms.specs.Words.{IsNotation, is_letter, is_inner, is_sign, is_part, is_operator}
 use Rattle.ot_forms.specs.Words.{is_short, dotted, base, symbol_name, same_kind, same_text, is_taken}
-use Rattle.ot_forms.specs.Reading.{with_base, settled, operators, ended}
+use Rattle.ot_forms.specs.Reading.{with_base, settled, ended}
 use Rattle.ot_forms.proofs.Hiding.{taken-base}
 use Rattle.ot_parse.specs.declared.notation.WordKind.{WordKind}
 use Rattle.ot_parse.specs.declared.notation.WordKind.TheVariants as kinds
-use Rattle.ot_parse.specs.Symbols.{symbol_of, has_base, operator_base}
+use Rattle.ot_parse.specs.Symbols.{symbol_of}
 
 -- the kind alone counts
 pub taken-kind : (h : List (Symbol Name)) (k : WordKind) (n m : Name) (x : List ℕ) → is_taken h (symbol_of (k, n)) x
@@ -95,12 +95,6 @@ several-taken f h nt s n (x ∷ []) e k w = absurd (w x refl)
 several-taken f h nt s n (x ∷ y ∷ xs) e k w = ap (λ z. is_taken h s (dotted z)) (sym e)
     ∙ not-taken h nt s (f x) (f y) (map f xs)
 
-pub several-settled : {X : Type 0} (f : X → List ℕ) (h : List (Symbol Name)) (k : Name → Symbol Name) (n : Name)
-    (xs : List X) → map f xs ≡ n → ((x : X) → xs ≡ x ∷ [] → ⊥) → n ≡ settled h k n
-several-settled f h k n [] e w = ap (λ z. z) (sym e) ∙ ap (settled h k) e
-several-settled f h k n (x ∷ []) e w = absurd (w x refl)
-several-settled f h k n (x ∷ y ∷ xs) e w = sym e ∙ ap (settled h k) e
-
 pub any-map : {X Y : Type 0} (p : Y → Bool) (f : X → Y) (xs : List X) → list_any (λ x. p (f x)) xs
     ≡ list_any p (map f xs)
 any-map p f [] = refl
@@ -108,42 +102,11 @@ any-map p f (x ∷ xs) = ap (λ b. p (f x) || b) (any-map p f xs)
 
 -- ---- over the code's list, from the front
 
-pub with-other : (t : Symbol Name) (h : List (Symbol Name)) (s : Symbol Name) (x : List ℕ) → has_base s x t ≡ false
-    → with_base (t ∷ h) s x ≡ with_base h s x
-with-other t h s x e = ap (λ b. cond b (Some (symbol_name t)) (with_base h s x)) e
-
-pub with-this : (t : Symbol Name) (h : List (Symbol Name)) (s : Symbol Name) (x : List ℕ) → has_base s x t ≡ true
-    → with_base (t ∷ h) s x ≡ Some (symbol_name t)
-with-this t h s x e = ap (λ b. cond b (Some (symbol_name t)) (with_base h s x)) e
-
 pub name-of : (k : WordKind) (n : Name) → symbol_name (symbol_of (k, n)) ≡ n
 name-of kinds.Con n = refl
 name-of kinds.TyOp n = refl
 
-pub push-operator : (t : Symbol Name) (ws : List (List ℕ × Name)) (h : List (Symbol Name)) (w : List ℕ)
-    → operator_base t ≡ Some w → ws ++ operators (t ∷ h) ≡ (ws ++ (w, symbol_name t) ∷ []) ++ operators h
-push-operator (OpSymbol n) ws h w e = cc
-push-operator (ConSymbol n) ws h w e = go (is_operator (base n)) e where
-  go : (b : Bool) → ◌≡◌ {A = Option (List ℕ)} (cond b (Some (base n)) None) (Some w)
-      → ws ++ cond b ((base n, n) ∷ operators h) (operators h) ≡ (ws ++ (w, n) ∷ []) ++ operators h
-  go true k = let p : base n ≡ w = cc in
-      (λ i. ws ++ (p i, n) ∷ operators h) ∙ sym (append_assoc ws ((w, n) ∷ []) (operators h))
-  go false k = cc
-
-pub skip-operator : (t : Symbol Name) (h : List (Symbol Name)) → operator_base t ≡ None
-    → operators (t ∷ h) ≡ operators h
-skip-operator (OpSymbol n) h e = refl
-skip-operator (ConSymbol n) h e = go (is_operator (base n)) e where
-  go : (b : Bool) → ◌≡◌ {A = Option (List ℕ)} (cond b (Some (base n)) None) None
-      → cond b ((base n, n) ∷ operators h) (operators h) ≡ operators h
-  go true k = cc
-  go false k = refl
-
 -- ---- a text of one component is looked up
-pub single-taken : {X : Type 0} (f : X → List ℕ) (h : List (Symbol Name)) (k : WordKind) (n : Name) (x : X)
-    → map f (x ∷ []) ≡ n → is_taken h (symbol_of (k, [])) (f x) ≡ is_taken h (symbol_of (k, n)) (dotted n)
-single-taken f h k n x e = taken-kind h k [] (f x ∷ []) (f x) ∙ ap (λ m. is_taken h (symbol_of (k, m)) (dotted m)) e
-
 pub single-settled : {X : Type 0} (f : X → List ℕ) (h : List (Symbol Name)) (k : WordKind) (n m : Name) (x : X)
     → map f (x ∷ []) ≡ n → with_base h (symbol_of (k, [])) (f x) ≡ Some m → m ≡ settled h (λ j. symbol_of (k, j)) n
 single-settled f h k n m x e w = sym (ap (λ o. unwrap_or o (f x ∷ [])) (based-kind h k (f x ∷ []) [] (f x) ∙ w))

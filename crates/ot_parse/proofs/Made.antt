@@ -6,7 +6,7 @@ use Rattle.ot_plain.specs.Answers.{◌>>=◌, some_or}
 use Rattle.ot_plain.specs.Names.{Name}
 use Rattle.ot_plain.specs.Naming.{names}
 use Rattle.ot_plain.specs.Trees.{Ty, Tm, Con, App, Symbol}
-use Rattle.ot_plain.specs.Hol.{bool_ty, same_ty, type_in, applied}
+use Rattle.ot_plain.specs.Hol.{bool_ty, same_ty, type_in}
 use Rattle.ot_plain.specs.declared.memory.Memory.{Memory}
 use Rattle.ot_forms.specs.declared.fault.TextFault.TheVariants.{BadTypes, TooDeep, UnknownOperator}
 use Rattle.ot_forms.specs.Meaning.{Around, types_around, constant_of, has_type, is_typed}
@@ -15,20 +15,12 @@ use Rattle.ot_parse.specs.declared.values.Value.{Value}
 use Rattle.ot_parse.specs.declared.values.Meant.{Meant as Part}
 use Rattle.ot_parse.specs.declared.values.Meant.TheVariants as parts
 use Rattle.ot_plain.specs.PlainTrees.{type_of_tree, term_of_tree}
-use Rattle.ot_parse.specs.Meant.{equal_of, infix_of, apply_of, relation_of, related_at}
+use Rattle.ot_parse.specs.Meant.{equal_of, infix_of, related_at}
 use Rattle.ot_parse.specs.Values.{IsValue, Means, IsWholly, IsMade, IsRelated}
-use Rattle.ot_parse.proofs.ValueLaws.{typed-test, not-wanted, too-deep, is-whole, applied-right}
-use Rattle.ot_parse.proofs.ValueLaws.{applied-wrong, alike-typed, equated-is, equal-right, equal-wrong}
+use Rattle.ot_parse.proofs.ValueLaws.{typed-test, too-deep}
+use Rattle.ot_parse.proofs.ValueLaws.{alike-typed, equated-is, equal-right, equal-wrong}
 
 -- ---- whole parts
-pub wrong-type : (l : Around) (k : ℕ) (v : Value) (w b : Bool) → IsValue l v → b ≡ same_ty names (type_of_tree v.ty)
-    (bool_ty names) → w ≡ true → b ≡ false → IsWholly l w k (Ok (term_of_tree v.term)) (parts.Wrong k BadTypes)
-wrong-type l k v w b h e d c = record {
-  means = sym (ap (λ x. whole l x k (term_of_tree v.term)) d ∙ not-wanted l k (term_of_tree v.term)
-      (typed-test l (term_of_tree v.term) (type_of_tree v.ty) (bool_ty names) h.typed ∙ sym e ∙ c));
-  kept = tt;
-}
-
 -- a proposition where one is wanted
 abbrev pub IsWanted : Around → Bool → Value → Type 0
 IsWanted l w v = (not w || has_type l (term_of_tree v.term) (bool_ty names)) ≡ true
@@ -43,39 +35,8 @@ pub deep : (l : Around) (k : ℕ) (v : Value) (w b : Bool) → IsWanted l w v �
     → b ≡ false → IsWholly l w k (Ok (term_of_tree v.term)) (parts.Wrong k TooDeep)
 deep l k v w b h e d = record { means = sym (too-deep l w k (term_of_tree v.term) h (sym e ∙ d)); kept = tt }
 
-pub whole-value : (l : Around) (k : ℕ) (v : Value) (w b : Bool) → IsValue l v → IsWanted l w v
-    → b ≡ fits l (term_of_tree v.term) → b ≡ true → IsWholly l w k (Ok (term_of_tree v.term)) (parts.Value v)
-whole-value l k v w b h g e d = record { means = sym (is-whole l w k (term_of_tree v.term) g (sym e ∙ d)); kept = h }
-
 -- ---- applications
-pub apply-made : (l : Around) (k : ℕ) (f x v : Value) → IsRelated l (App (term_of_tree f.term) (term_of_tree x.term))
-    (Ok (Some v)) → Means l (apply_of l k (Ok (term_of_tree f.term)) (Ok (term_of_tree x.term))) (parts.Value v)
-apply-made l k f x v h = record {
-  means = ap Ok h.0
-      ∙ sym (applied-right l k (term_of_tree f.term) (term_of_tree x.term) (type_of_tree v.ty)
-      (ap (type_in names (types_around l)) (sym h.0) ∙ h.1.typed));
-  kept = h.1;
-}
-
-pub apply-wrong : (l : Around) (k : ℕ) (f x : Value) → is_typed l (App (term_of_tree f.term) (term_of_tree x.term))
-    ≡ false → Means l (apply_of l k (Ok (term_of_tree f.term)) (Ok (term_of_tree x.term))) (parts.Wrong k BadTypes)
-apply-wrong l k f x e =
-    record { means = sym (applied-wrong l k (term_of_tree f.term) (term_of_tree x.term) e); kept = tt }
-
 -- ---- relations
-pub half-untyped : (l : Around) (f a b : Tm Name) → is_typed l (App f a) ≡ false → is_typed l (App (App f a) b)
-    ≡ false
-half-untyped l f a b e = go (type_in names (types_around l) (App f a)) (type_in names (types_around l) b) e where
-  go : (o p : Option (Ty Name)) → (elim o as (λ _. Bool) [ None ↦ false | Some t ↦ true ]) ≡ false
-      → (elim (applied names o p) as (λ _. Bool) [ None ↦ false | Some t ↦ true ]) ≡ false
-  go None p e = refl
-  go (Some t) p e = cc
-
--- a half that was made, at its second term
-pub at-second : (l : Around) (n : Name) (t : Ty Name) (a b f : Tm Name) (r : Result (Option Value) Memory)
-    → f ≡ App (Con n (relation_of t)) a → IsRelated l (App f b) r → IsRelated l (related_at n t a b) r
-at-second l n t a b f r e h = subst (λ g. IsRelated l (App g b) r) e h
-
 pub at-first : (l : Around) (c a : Tm Name) (n : Name) (t : Ty Name) (r : Result (Option Value) Memory) → c ≡ Con n t
     → IsRelated l (App c a) r → IsRelated l (App (Con n t) a) r
 at-first l c a n t r e h = subst (λ g. IsRelated l (App g a) r) e h

@@ -6,7 +6,7 @@ use Rattle.std.proofs.lemmas.Bool.Decides.{nat_tests}
 use Rattle.std.proofs.lemmas.List.{length-map}
 use Rattle.ot_plain.specs.Names.{Name, spelled, same_name, same_name-Decides}
 use Rattle.ot_plain.specs.Naming.{names}
-use Rattle.ot_plain.specs.Trees.{Ty, TyVar, TyOp, NoTys, MoreTys, Tm, Con, App}
+use Rattle.ot_plain.specs.Trees.{Ty, TyVar, TyOp, NoTys, MoreTys, Tm, App}
 use Rattle.ot_plain.specs.Hol.{same_ty, same_tys, fun_ty, bool_ty}
 use Rattle.ot_laws.proofs.Tests.{tells_names, same_ty-is}
 use Rattle.ot_plain.specs.declared.tree.Ty as types
@@ -139,20 +139,6 @@ and-false : (e : Bool) → false ≡ (e && false)
 and-false true = refl
 and-false false = refl
 
--- `=` counts at a type a -> (a -> bool)
-pub equality-test : (n : Name) (t : Ty Name) (a b : Tm Name) → is_equation names (App (App (Con n t) a) b)
-    ≡ (same_name n (codes "=" ∷ []) && equality_test t)
-equality-test n (TyVar v) a b = and-false (same_name n (codes "=" ∷ []))
-equality-test n (TyOp m NoTys) a b = and-false (same_name n (codes "=" ∷ []))
-equality-test n (TyOp m (MoreTys u NoTys)) a b = and-false (same_name n (codes "=" ∷ []))
-equality-test n (TyOp m (MoreTys u (MoreTys v NoTys))) a b =
-    go (same_name n (codes "=" ∷ []) && same_ty names (TyOp m (MoreTys u (MoreTys v NoTys)))
-    (fun_ty names u (fun_ty names u (bool_ty names)))) where
-      go : (e : Bool) → is_some {T = Ty Name × Tm Name × Tm Name} (cond e (Some (u, a, b)) None) ≡ e
-      go true = refl
-      go false = refl
-equality-test n (TyOp m (MoreTys u (MoreTys v (MoreTys w ws)))) a b = and-false (same_name n (codes "=" ∷ []))
-
 -- ---- types that are equality's
 -- lists of different lengths
 pub tys-lengths : {X : Type 0} (f : X → Ty Name) (xs ys : List X) → (length xs ≡ length ys → ⊥)
@@ -189,21 +175,6 @@ and-true : (e : Bool) → (e && true) ≡ e
 and-true true = refl
 and-true false = refl
 
-pub no-result : (t a r : Ty Name) → t ≡ fun_ty names a r → is_function names r ≡ false → false ≡ equality_test t
-no-result t a r p h = never r h ∙ sym (and-true (same_ty names r (fun_ty names a (bool_ty names))))
-    ∙ sym (with-result a r) ∙ ap equality_test (sym p) where
-      never : (r : Ty Name) → is_function names r ≡ false → false ≡ same_ty names r (fun_ty names a (bool_ty names))
-      never (TyVar v) h = refl
-      never (TyOp m NoTys) h = and-false (same_name m names.arrow)
-      never (TyOp m (MoreTys b NoTys)) h = and-false (same_name m names.arrow)
-          ∙ ap (λ e. same_name m names.arrow && e) (and-false (same_ty names b a))
-      never (TyOp m (MoreTys b (MoreTys v NoTys))) h =
-          let e : same_name m names.arrow ≡ false = sym (arrow-pair m b v) ∙ h in
-          ap (λ z. z && same_tys names (MoreTys b (MoreTys v NoTys)) (MoreTys a (MoreTys (bool_ty names) NoTys))) (sym e)
-      never (TyOp m (MoreTys b (MoreTys v (MoreTys w ws)))) h =
-          and-false (same_name m names.arrow) ∙ ap (λ e. same_name m names.arrow && e) (and-false (same_ty names b a)
-          ∙ ap (λ e. same_ty names b a && e) (and-false (same_ty names v (bool_ty names))))
-
 both-functions : (t a r b v : Ty Name) → t ≡ fun_ty names a r → r ≡ fun_ty names b v
     → equality_test t ≡ (same_ty names b a && (same_ty names v (bool_ty names) && true))
 both-functions t a r b v p q =
@@ -211,11 +182,6 @@ both-functions t a r b v p q =
     ∙ ap (λ z. same_ty names z (fun_ty names a (bool_ty names))) q
     ∙ (λ i. (same_name-Decides names.arrow names.arrow).1 refl i
     && (same_ty names b a && (same_ty names v (bool_ty names) && true)))
-
-pub other-argument : (t a r b v : Ty Name) → t ≡ fun_ty names a r → r ≡ fun_ty names b v → same_ty names b a ≡ false
-    → false ≡ equality_test t
-other-argument t a r b v p q h = ap (λ e. e && (same_ty names v (bool_ty names) && true)) (sym h)
-    ∙ sym (both-functions t a r b v p q)
 
 pub bool-result : (t a r b v : Ty Name) → t ≡ fun_ty names a r → r ≡ fun_ty names b v → same_ty names b a ≡ true
     → same_ty names v (bool_ty names) ≡ equality_test t

@@ -2,7 +2,7 @@
 use Rattle.std.specs.Prelude.{◌≡◌, ℕ, suc, ◌+◌, ◌≤◌, ◌<◌, ◌&&◌, ◌||◌, not, max, min}
 use Rattle.std.specs.Prelude.{◌==◌, Bool, true, false, cond, nat_le, List, [], ◌∷◌, ◌++◌}
 use Rattle.std.specs.Prelude.{map, length, take, Some, None, Ok, Err}
-use Rattle.std.specs.Option.{option_map, unwrap_or}
+use Rattle.std.specs.Option.{unwrap_or}
 use Rattle.std.proofs.Common.{refl, sym, ◌∙◌, ap, arith, get_or}
 use Rattle.std.proofs.Math.Seq.{take-suc}
 use Rattle.std.proofs.lemmas.Bool.Decides.{nat_tests}
@@ -10,8 +10,8 @@ use Rattle.std.proofs.lemmas.List.{take_all}
 use Rattle.ot_plain.specs.Answers.{◌>>=◌}
 use Rattle.ot_plain.specs.Names.{Name}
 use Rattle.ot_plain.specs.Naming.{names}
-use Rattle.ot_plain.specs.Trees.{Ty, TyOp, Tm, Free}
-use Rattle.ot_plain.specs.Trees.{Con, Bound, App, Abs, Symbol, ConSymbol, OpSymbol}
+use Rattle.ot_plain.specs.Trees.{Ty, TyOp, Tm}
+use Rattle.ot_plain.specs.Trees.{Con, App, Symbol, ConSymbol, OpSymbol}
 use Rattle.ot_plain.specs.Hol.{fun_ty, bool_ty, same_ty, type_in, applied, result_ty, depth_tm, depth_ty}
 use Rattle.ot_plain.specs.Hol.{depth_all, depth_limit, has_shallow_types, is_shallow_ty, is_shallow_type}
 use Rattle.ot_plain.specs.declared.tree.Ty as types
@@ -27,7 +27,7 @@ use Rattle.ot_parse.specs.declared.values.Value.{Value}
 use Rattle.ot_parse.specs.declared.values.Meant.TheVariants as parts
 use Rattle.ot_plain.specs.PlainTrees.{type_of_tree, term_of_tree, tys_of}
 use Rattle.ot_parse.specs.Meant.{equal_of, apply_of, relation_of, related_at}
-use Rattle.ot_parse.specs.Values.{IsValue, deeper, IsBoundTo}
+use Rattle.ot_parse.specs.Values.{IsValue, deeper}
 use Rattle.ot_parse.proofs.Components.{map-push}
 
 -- ---- limits
@@ -91,30 +91,10 @@ leaf l v t ty e p one own q d k r =
     (k ∙ ap (λ u. min (depth_ty names u) (suc depth_limit)) (sym q))
     (r ∙ shallow-type ty v.type_depth k ∙ ap (is_shallow_type names) (sym p) ∙ own)
 
-pub free-value : (l : Around) (v : Value) (n : Name) (ty : Ty Name)
-    → term_of_tree v.term ≡ Free (record { name = n; ty = ty }) → type_of_tree v.ty ≡ ty → v.depth ≡ 1 → v.type_depth
-    ≡ min (depth_ty names ty) (suc depth_limit) → v.has_shallow_types ≡ nat_le v.type_depth depth_limit → IsValue l v
-free-value l v n ty e q d k r = leaf l v (Free (record { name = n; ty = ty })) ty e refl refl refl q d k r
-
-pub constant-value : (l : Around) (v : Value) (n : Name) (ty : Ty Name) → term_of_tree v.term ≡ Con n ty
-    → type_of_tree v.ty ≡ ty → v.depth ≡ 1 → v.type_depth ≡ min (depth_ty names ty) (suc depth_limit)
-    → v.has_shallow_types ≡ nat_le v.type_depth depth_limit → IsValue l v
-constant-value l v n ty e q d k r = leaf l v (Con n ty) ty e refl refl refl q d k r
-
-pub bound-value : (l : Around) (v : Value) (j : ℕ) (ty : Ty Name) → term_of_tree v.term ≡ Bound j
-    → type_of_tree v.ty ≡ ty → v.depth ≡ 1 → v.type_depth ≡ min (depth_ty names ty) (suc depth_limit)
-    → v.has_shallow_types ≡ nat_le v.type_depth depth_limit → IsBoundTo l j ty → IsValue l v
-bound-value l v j ty e q d k r h = leaf l v (Bound j) ty e h refl refl q d k r
-
 -- ---- whole parts
 pub typed-test : (l : Around) (t : Tm Name) (ty u : Ty Name) → type_in names (types_around l) t ≡ Some ty
     → has_type l t u ≡ same_ty names ty u
 typed-test l t ty u e = ap (λ o. same_ty names (unwrap_or o (bool_ty names)) u) e
-
-pub fits-test : (l : Around) (v : Value) → IsValue l v → (nat_le v.depth depth_limit && v.has_shallow_types)
-    ≡ fits l (term_of_tree v.term)
-fits-test l v h = λ i. (ap (λ d. nat_le d depth_limit) h.depth ∙ capped (depth_tm names (term_of_tree v.term))) i
-    && h.shallow i
 
 pub not-wanted : (l : Around) (k : ℕ) (t : Tm Name) → has_type l t (bool_ty names) ≡ false
     → whole l true k t ≡ Err (k, BadTypes)
@@ -143,26 +123,6 @@ typed-some l t ty e = ap (λ o. elim o as (λ _. Bool) [ None ↦ false | Some u
 typed-none : (l : Around) (t : Tm Name) → type_in names (types_around l) t ≡ None → is_typed l t ≡ false
 typed-none l t e = ap (λ o. elim o as (λ _. Bool) [ None ↦ false | Some u ↦ true ]) e
 
-pub no-application : (l : Around) (f x : Value) → IsValue l f → IsValue l x → result_ty names (type_of_tree f.ty)
-    (type_of_tree x.ty) ≡ None → is_typed l (App (term_of_tree f.term) (term_of_tree x.term)) ≡ false
-no-application l f x h g e = typed-none l (App (term_of_tree f.term) (term_of_tree x.term))
-    (application-type l (term_of_tree f.term) (term_of_tree x.term) _ _ h.typed g.typed ∙ e)
-
-pub application-value : (l : Around) (f x v : Value) → IsValue l f → IsValue l x
-    → term_of_tree v.term ≡ App (term_of_tree f.term) (term_of_tree x.term)
-    → result_ty names (type_of_tree f.ty) (type_of_tree x.ty) ≡ Some (type_of_tree v.ty)
-    → v.depth ≡ deeper f.depth x.depth → v.type_depth ≡ min (depth_ty names (type_of_tree v.ty)) (suc depth_limit)
-    → v.has_shallow_types ≡ (nat_le v.type_depth depth_limit && (f.has_shallow_types && x.has_shallow_types))
-    → IsValue l v
-application-value l f x v h g e p q k r =
-    let ty : type_in names (types_around l) (App (term_of_tree f.term) (term_of_tree x.term)) ≡ Some (type_of_tree v.ty) = application-type l (term_of_tree f.term) (term_of_tree x.term) _ _ h.typed g.typed ∙ p in
-    made l v (App (term_of_tree f.term) (term_of_tree x.term)) e ty
-    (q ∙ (λ i. deeper (h.depth i) (g.depth i))
-    ∙ deeper-is (depth_tm names (term_of_tree f.term)) (depth_tm names (term_of_tree x.term)))
-    k
-    (r ∙ (λ i. (shallow-type (type_of_tree v.ty) v.type_depth k ∙ ap (is_shallow_type names) (sym ty)) i
-    && (h.shallow i && g.shallow i)))
-
 pub applied-right : (l : Around) (k : ℕ) (g y : Tm Name) (ty : Ty Name) → type_in names (types_around l) (App g y)
     ≡ Some ty → apply_of l k (Ok g) (Ok y) ≡ Ok (App g y)
 applied-right l k g y ty e = ap (λ b. check k BadTypes b >>= (λ _. Ok (App g y))) (typed-some l (App g y) ty e)
@@ -179,23 +139,6 @@ function-depth : (t b : Ty Name) → min (suc (max (depth_ty names t) (depth_ty 
     ≡ min (depth_ty names (fun_ty names t b)) (suc depth_limit)
 function-depth t b = let k : max (depth_ty names b) 0 ≡ depth_ty names b = omega arith in
     ap (λ n. min (suc (max (depth_ty names t) n)) (suc depth_limit)) (sym k)
-
-pub abstraction-value : (l : Around) (x : List ℕ) (t : Ty Name) (b v : Value) (d : ℕ) → IsValue ((x, t) ∷ l) b
-    → term_of_tree v.term ≡ Abs t (term_of_tree b.term) → type_of_tree v.ty ≡ fun_ty names t (type_of_tree b.ty)
-    → d ≡ min (depth_ty names t) (suc depth_limit) → v.depth ≡ deeper b.depth b.depth → v.type_depth ≡ deeper d
-    b.type_depth → v.has_shallow_types ≡ (nat_le v.type_depth depth_limit && b.has_shallow_types) → IsValue l v
-abstraction-value l x t b v d h e p c q k r =
-    let ty : type_in names (types_around l) (Abs t (term_of_tree b.term)) ≡ Some (type_of_tree v.ty) =
-    ap (option_map (fun_ty names t)) h.typed ∙ ap Some (sym p) in
-    let kept : v.type_depth ≡ min (depth_ty names (type_of_tree v.ty)) (suc depth_limit) =
-    k ∙ (λ i. deeper (c i) (h.type_depth i)) ∙ deeper-is (depth_ty names t) (depth_ty names (type_of_tree b.ty))
-    ∙ function-depth t (type_of_tree b.ty) ∙ ap (λ u. min (depth_ty names u) (suc depth_limit)) (sym p) in
-    made l v (Abs t (term_of_tree b.term)) e ty
-    (q ∙ (λ i. deeper (h.depth i) (h.depth i)) ∙ deeper-is (depth_tm names (term_of_tree b.term))
-    (depth_tm names (term_of_tree b.term)) ∙ twice-max (depth_tm names (term_of_tree b.term)))
-    kept
-    (r ∙ (λ i. (shallow-type (type_of_tree v.ty) v.type_depth kept ∙ ap (is_shallow_type names) (sym ty)) i
-    && h.shallow i))
 
 -- ---- equations and operators
 same-turned : (a b : Ty Name) → same_ty names a b ≡ same_ty names b a

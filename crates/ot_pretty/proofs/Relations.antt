@@ -61,11 +61,6 @@ no-function t c d h = go (same_ty names t (fun_ty names c d)) refl where
       let yes = ap (is_function names) same ∙ ap is_some (as_fun_ty-fun names tells_names c d) in
       cc
 
--- the parts of a type that passes so far, or doesn't
-pub not-first : (a b t c d : Ty Name) → t ≡ fun_ty names a b → same_ty names a c ≡ false
-    → false ≡ same_ty names t (fun_ty names c d)
-not-first a b t c d p h = ap (λ e. e && same_ty names b d) (sym h) ∙ function-same a b t c d p
-
 pub not-second : (a b t c d : Ty Name) → t ≡ fun_ty names a b → false ≡ same_ty names b d
     → false ≡ same_ty names t (fun_ty names c d)
 not-second a b t c d p h = sym (and-false (same_ty names a c)) ∙ ap (λ e. same_ty names a c && e) h
@@ -75,19 +70,9 @@ pub not-range : (a b t c d e : Ty Name) → t ≡ fun_ty names a b → is_functi
     → false ≡ same_ty names t (fun_ty names c (fun_ty names d e))
 not-range a b t c d e p h = not-second a b t c (fun_ty names d e) p (no-function b d e h)
 
-pub then-second : (a b t c d : Ty Name) → t ≡ fun_ty names a b → same_ty names a c ≡ true
-    → same_ty names b d ≡ same_ty names t (fun_ty names c d)
-then-second a b t c d p h = ap (λ e. e && same_ty names b d) (sym h) ∙ function-same a b t c d p
-
 -- the tests of a constant, one after another
 pub not-hidden : (a b c : Bool) → a ≡ false → false ≡ (a && (b && c))
 not-hidden a b c h = ap (λ e. e && (b && c)) (sym h)
-
-pub not-operator : (a b c : Bool) → b ≡ false → false ≡ (a && (b && c))
-not-operator a b c h = sym (and-false a) ∙ ap (λ e. a && (e && c)) (sym h)
-
-pub then-type : (a b c : Bool) → a ≡ true → b ≡ true → c ≡ (a && (b && c))
-then-type a b c h g = λ i. sym h i && (sym g i && c)
 
 -- ---- a term is a relation that is applied to one term
 module _ (hidden : List (Symbol Name)) (e : List (Variable Name)) where

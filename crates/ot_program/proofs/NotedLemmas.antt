@@ -36,13 +36,12 @@ use Rattle.ot_program.specs.Texts.{large_line}
 use Rattle.ot_program.specs.Reply.{RunInput, ShowReadable, Noted, limits, theory_shown, shown_at, noted_told}
 use Rattle.ot_program.specs.Reply.{opened_first, opened_at, is_standard, readable, notation, assumptions_of}
 use Rattle.ot_program.specs.Reply.{definitions_of, exports_of, run_lists, summary_limit, stop_status}
-use Rattle.ot_program.specs.Answer.{IsProved, IsInputStop, FailedAt, LastInput, LeavesOther, ClosesFiles, AreReadBack}
+use Rattle.ot_program.specs.Answer.{IsProved, IsInputStop, LeavesOther, ClosesFiles, AreReadBack}
 use Rattle.ot_program.specs.Verdicts.{End, Finished, Stopped, Failed, ran_from, noted_from, noted_end, end_at}
 use Rattle.ot_program.specs.Verdicts.{IsAnswer, IsPlace, HasCause, IsSaid, IsStopVerdict, IsVerdictOf, ReadableEndsAs}
 use Rattle.ot_program.specs.declared.report.Verdict.{Verdict}
 use Rattle.ot_program.specs.declared.status.Status.TheVariants.{Accepted, Refused}
 use Rattle.ot_program.specs.declared.task.View.{View}
-use Rattle.ot_program.proofs.InputLemmas.{theory_cause}
 use Rattle.ot_program.proofs.RunLemmas.{assumptions_are, definitions_are, exports_are}
 use Rattle.ot_program.proofs.LimitLemmas.{text_printed, text_too_large}
 use Rattle.ot_plain.proofs.Members.{IsMember-left, IsMember-right}
@@ -240,27 +239,6 @@ causes names P Q P' Q' None failed missed cause = tt
 causes names P Q P' Q' (Some (Finished r)) failed missed cause = tt
 causes names P Q P' Q' (Some (Stopped s)) failed missed cause = λ is. missed (cause is)
 causes names P Q P' Q' (Some (Failed p)) failed missed cause = failed cause
-
--- of a stop before the run
-pub stop_causes : (s : Session) (e : LinkFault) (path : List ℕ) (at : Option (List ℕ)) (m m' f f' i j : ℕ)
-    → is_theory path ≡ true
-    → HasLinkCause e m m' f f' at
-    → IfSome (option_map (noted_end []) (end_at s.kernel e))
-    (HasCause stop_status (FailedAt path i j f f') (Rose m m'))
-stop_causes s e path at m m' f f' i j theory cause =
-    causes [] (Rose f f') (Rose m m') (FailedAt path i j f f') (Rose m m') (end_at s.kernel e)
-    (λ r. rw (no_standard path theory) r) (λ r. r) (theory_cause s (Err e) at m m' f f' cause)
-
--- the path that was asked for last
-pub lasts : (P : Type 0) (names : List Name) (o : Option (End Ran Stop)) → IfSome o (λ _. P)
-    → IfSome (option_map (noted_end names) o) (λ _. P)
-lasts P names None last = tt
-lasts P names (Some e) last = last
-
-pub stop_last : {X : Type 0} (path : List ℕ) (folder : Option Folder) (at : Option (List ℕ)) (o : Option X)
-    → is_theory path ≡ true → IfSome o (λ _. LastInput path folder at)
-stop_last path folder at None theory = tt
-stop_last path folder at (Some x) theory = rw (no_standard path theory, theory) tt
 
 -- a device that failed later failed since
 pub rose_later : (a b c : ℕ) → a ≤ b → Rose b c → Rose a c

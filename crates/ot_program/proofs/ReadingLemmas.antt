@@ -16,7 +16,6 @@ use Rattle.ot_machine.specs.declared.machine.Export.{Export}
 use Rattle.ot_machine.specs.declared.session.Session.{Session}
 use Rattle.ot_link.specs.Stops.{Stop}
 use Rattle.ot_link.specs.Blocks.{Ran}
-use Rattle.ot_text.specs.Laws.{OneSequent, OneSequentInFront}
 use Rattle.ot_parse.specs.declared.readable.Readable.{Readable}
 use Rattle.ot_parse.specs.Plain.{sequent_of}
 use Rattle.ot_theory.specs.Lines.{LineText}
@@ -28,11 +27,11 @@ use Rattle.ot_read.specs.Lines.{lines_read, term_read}
 use Rattle.ot_read.specs.Laws.{TermsReadByForms, LinesReadByForms, TextsReadByForms, AreRead, StandFor}
 use Rattle.ot_read.proofs.Alike.{term-alike, lines-alike}
 use Rattle.ot_program.specs.Reply.{ShowReadable, ReadLines, Noted, Readings, ReadStop, InInput}
-use Rattle.ot_program.specs.Reply.{TextTooLarge, notation, run_lists, is_standard, text_limit}
+use Rattle.ot_program.specs.Reply.{TextTooLarge, notation, is_standard, text_limit}
 use Rattle.ot_program.specs.Reply.{text_in, read_in, read_behind, stop_status, read_status}
-use Rattle.ot_program.specs.Answer.{IsProved, LeavesOther, LeavesAlone, LastInput, LastOf}
+use Rattle.ot_program.specs.Answer.{LastInput, LastOf}
 use Rattle.ot_program.specs.Verdicts.{End, Finished, Stopped, Failed, IsAnswer, IsPlace, HasCause, noted_from}
-use Rattle.ot_program.specs.Verdicts.{noted_end, stop_end, read_end_of, IsStopVerdict, IsVerdictOf, IsPrintedAs}
+use Rattle.ot_program.specs.Verdicts.{noted_end, stop_end, read_end_of, IsStopVerdict, IsVerdictOf}
 use Rattle.ot_program.specs.declared.report.Verdict.{Verdict}
 use Rattle.ot_program.specs.declared.reading.LinesRead.{LinesRead}
 use Rattle.ot_program.specs.declared.reading.ReadingRefusal.{ReadingRefusal}
@@ -156,28 +155,7 @@ pub input_verdict : {E : Type 0} (packages path text : List ℕ) (a : Result Ver
 input_verdict packages path text (Err e) o said = tt
 input_verdict packages path text (Ok v) o said = input_verdict_on packages path text v o said
 
--- on lines that were read
-pub lines_verdict : {E : Type 0} (packages path text : List ℕ) (r : Readings) (a : Result Verdict E)
-    → IfOk a (IsPrintedAs path r.sequents) → IsProved (run_lists r.noted.ran)
-    → StandFor (notation r.noted) r.lines r.sequents → OneSequent → OneSequentInFront
-    → IfOk a (IsVerdictOf (ReadLines packages path text) (Some (Finished r)))
-lines_verdict packages path text r (Err e) said proved stand one front = tt
-lines_verdict packages path text r (Ok v) said proved stand one front = record {
-  ends = said;
-  proved = proved;
-  promised = λ fit. stand;
-  one_text = one;
-  one_in_front = front;
-}
-
 -- ---- the devices
-
-pub leaves_alone : {F S : Type 0} (packages path text : List ℕ) (f g h : F) (i j : S) → LeavesOther path f g i j
-    → LeavesAlone (ReadLines packages path text) f h i j
-leaves_alone packages path text f g h i j other = go (is_standard path) other where
-  go : (b : Bool) → MatchBool b (g ≡ f) (j ≡ i) → MatchBool b (Unit {0}) (j ≡ i)
-  go true h = tt
-  go false h = h
 
 -- ---- the lines under the notation of a run
 

@@ -1,22 +1,18 @@
 -- The verdict on a sample.
-use Rattle.std.proofs.Common.{◌≡◌, ◌≤◌, ℕ, List, [], refl, subst, arith}
+use Rattle.std.proofs.Common.{◌≡◌, ◌≤◌, ℕ, List, subst, arith}
 use Rattle.std.specs.Global.{Global}
 use Rattle.std.specs.Prelude.{true, Vec, Option, Some, None, Result, Ok, Err, IfOk, IfSome, OnOk}
-use Rattle.std.proofs.lemmas.List.Elements.{All-nil}
 use Rattle.ot_io.specs.Causes.{Rose}
 use Rattle.ot_io.specs.Folder.{Folder}
-use Rattle.ot_plain.specs.Naming.{names}
-use Rattle.ot_plain.specs.Hol.{Accepted as AcceptedLists}
-use Rattle.ot_laws.specs.Theorem.{IsTheorem}
 use Rattle.ot_link.specs.Stops.{Stop}
 use Rattle.ot_link.specs.Blocks.{Ran, article_end}
 use Rattle.ot_sample.specs.Sample.{sample}
 use Rattle.ot_text.specs.Laws.{OneSequent, OneSequentInFront}
-use Rattle.ot_program.specs.Reply.{RunSample, MakeSample, sample_path, outcome, run_lists}
+use Rattle.ot_program.specs.Reply.{RunSample, sample_path, outcome, run_lists}
 use Rattle.ot_program.specs.Reply.{article_fits, article_text, sample_line, stop_status}
-use Rattle.ot_program.specs.Answer.{IsProved, IsRewritten, Says}
+use Rattle.ot_program.specs.Answer.{IsProved, IsRewritten}
 use Rattle.ot_program.specs.Verdicts.{End, Finished, Stopped, Failed, IsAnswer, IsEnd, IsPlace}
-use Rattle.ot_program.specs.Verdicts.{IsOwnEnd, HasCause, IsSaid, EndsAs, IsVerdictOf}
+use Rattle.ot_program.specs.Verdicts.{IsOwnEnd, HasCause, EndsAs, IsVerdictOf}
 use Rattle.ot_program.specs.declared.report.Verdict.{Verdict}
 use Rattle.ot_program.specs.declared.status.Status.TheVariants.{Accepted}
 
@@ -77,20 +73,3 @@ sample_cause (Some (Failed path)) cause = never cause
 pub unasked : (o : Option (End Ran Stop)) → IfSome o (λ _. Unit {0})
 unasked None = tt
 unasked (Some e) = tt
-
--- a sample that is made alone
-pub sample_made : (n : ℕ) (folder : Option Folder) (input at : Option (List ℕ)) (v : Verdict)
-    → IsSaid v Accepted (sample n)
-    → OneSequent → OneSequentInFront → AcceptedLists names [] []
-    → Says v.status (MakeSample n) folder input at v.text.items
-sample_made n folder input at v said one front none =
-    rw said.status_is (record {
-      made = tt;
-      ended = refl;
-      proved = record { accepted = none; theorems = All-nil (IsTheorem names [] []) };
-      promised = tt;
-      one_text = one;
-      one_in_front = front;
-      fits_is = refl;
-      text_is = said.text_is;
-    })

@@ -114,16 +114,6 @@ task_of words = option_map task (command_of words)
 abbrev pub sample_path : List ℕ
 sample_path = codes "sample"
 
--- the path of the input, or of the log
-abbrev pub input_of : TaskValue → List ℕ
-input_of (RunInput packages path view) = path
-input_of (RunSample n) = sample_path
-input_of (MakeSample n) = sample_path
-input_of (CheckLog path) = path
-input_of (ShowReadable packages path) = path
-input_of (ReadLines packages path text) = path
-input_of (FindPattern packages pattern path) = path
-
 -- `-` is standard input; any other name is a file's
 abbrev pub is_standard : List ℕ → Bool
 is_standard path = bytes_eq path (codes "-")

@@ -7,8 +7,8 @@ use Rattle.std.proofs.lemmas.Bool.{and_from}
 use Rattle.ot_plain.specs.Names.{Name}
 use Rattle.ot_plain.specs.Naming.{names}
 use Rattle.ot_plain.specs.Trees.{Ty, Variable, Tm, Sequent}
-use Rattle.ot_plain.specs.Hol.{depth_limit, depth_ty, fun_ty, bool_ty, HasType}
-use Rattle.ot_plain.specs.Hol.{TypeMap, TermMap, IsTyped, once_each, equation}
+use Rattle.ot_plain.specs.Hol.{depth_limit, depth_ty, bool_ty, HasType}
+use Rattle.ot_plain.specs.Hol.{TypeMap, TermMap, IsTyped, once_each}
 use Rattle.ot_plain.specs.Answers.{◌>>=◌, unless}
 use Rattle.ot_plain.specs.Rules.{abs_thm_rule, subst_rule}
 use Rattle.ot_plain.specs.declared.command.Cmd.{Cmd}
@@ -83,10 +83,6 @@ makes-two w v x st i j a b q step n s k h l f g =
     (record { nodes = tt; operands = (number-low x st i a s h, (number-low x st j b s l, tt)) }) f g.1 g.2
 
 -- ---- absThm: the variable's type is in the theorem
-
-abs_thm-depth : (v : Variable Name) (ty : Ty Name) (c d : Tm Name)
-    → Fits names depth_limit (equation names (fun_ty names v.ty ty) c d) → depth_ty names v.ty ≤ depth_limit
-abs_thm-depth v ty c d f = let h = f.types.1.1 in omega (arith, h)
 
 pub abs_thm-makes : (x : Log) (st : LogState Name) (i : ℕ) (v : Variable Name) (a r q : Sequent Name) → Stands x st
     → IsKept q

@@ -5,7 +5,7 @@ use Rattle.std.specs.List.{list_any}
 use Rattle.std.specs.Option.{option_or}
 use Rattle.std.specs.Str.{bytes_eq}
 use Rattle.std.specs.Cmp.Lexicographic.{bytes_decides}
-use Rattle.std.proofs.Common.{◌≡◌, ℕ, Bool, true, false, cond, List, [], ◌∷◌, ◌++◌, map, Ok, Err}
+use Rattle.std.proofs.Common.{◌≡◌, ℕ, Bool, true, false, cond, List, [], ◌∷◌, ◌++◌, map, Err}
 use Rattle.std.proofs.Common.{Some, None, inl, inr, refl, sym, ap, subst, ◌∙◌, append_assoc}
 use Rattle.std.specs.Prelude.{◌||◌}
 use Rattle.std.proofs.lemmas.Bool.{cases_Bool}
@@ -33,9 +33,6 @@ pub record Listed (all left : List LineText) (names : List (List ℕ)) : Type 0 
   pub are : names ≡ line_texts before
   pub full : find is_bad before ≡ None
 
-pub listed_first : (all : List LineText) → Listed all all []
-listed_first all = record { before = []; cut = refl; are = refl; full = refl }
-
 find_none : (lines more : List LineText) → find is_bad lines ≡ None → find is_bad (lines ++ more) ≡ find is_bad more
 find_none lines more e = find-append is_bad lines more ∙ ap (λ o. option_or o (find is_bad more)) e
 
@@ -57,16 +54,6 @@ listed_bad path all left next line names s at bad =
     let first : find is_bad (line ∷ next) ≡ Some line = rw bad refl in
     ap (names_of path) (s.cut ∙ ap (λ z. s.before ++ z) at)
     ∙ ap (full_names path (s.before ++ line ∷ next)) (find_none s.before (line ∷ next) s.full ∙ first)
-
-pub listed_all : (path : List ℕ) (all left : List LineText) (names : List (List ℕ)) → Listed all left names
-    → left ≡ [] → names_of path all ≡ Ok names
-listed_all path all left names s none =
-    let same : all ≡ s.before = s.cut ∙ ap (λ z. s.before ++ z) none ∙ nothing s.before in
-    ap (names_of path) same ∙ ap (full_names path s.before) s.full ∙ ap Ok (sym s.are)
-  where
-    nothing : (xs : List LineText) → xs ++ [] ≡ xs
-    nothing [] = refl
-    nothing (x ∷ xs) = ap (λ z. x ∷ z) (nothing xs)
 
 pub packages_more : (names : List (List ℕ)) (full : List ℕ) → ArePackages names → is_package full ≡ true
     → ArePackages (names ++ full ∷ [])

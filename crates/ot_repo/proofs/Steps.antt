@@ -282,10 +282,6 @@ no_edges file e = ap (λ rs. map (edge_at (string_bytes file.path)) (reverse rs)
 pub pushed : {X : Type 0} (more xs : List X) (x : X) → more ≡ xs ++ x ∷ [] → reverse more ≡ x ∷ reverse xs
 pushed more xs x e = ap reverse e ∙ reverse-append xs (x ∷ [])
 
-pub no_stack : {X : Type 0} (xs : List X) → length xs ≡ 0 → reverse xs ≡ []
-no_stack [] e = refl
-no_stack (x ∷ xs) e = absurd (omega (arith, e))
-
 -- a refusal of one answer is that of the other
 pub carried : {A B : Type 0} (e : RepoFault) (r : Result A Refusal) (s : Result B Refusal)
     → ((fault : Refusal) → r ≡ Err fault → s ≡ Err fault) → Refuses e r → Refuses e s

@@ -1,6 +1,5 @@
 -- The symbols of a signature, and whether further ones may be defined.
 use Rattle.std.specs.Prelude.{Result, OnOk, Ok, Err}
-use Rattle.std.specs.Prelude.{◌↔◌}
 use Rattle.std.specs.List.{All, flat_map}
 use Rattle.std.proofs.Common.{◌≡◌, ℕ, Bool, true, false, ◌&&◌, ◌||◌, not, List, [], ◌∷◌, ◌++◌, map}
 use Rattle.std.proofs.Common.{get_or, nat_eq, refl, sym, ap, ◌∙◌, subst, inl, inr, append_assoc}
@@ -278,15 +277,6 @@ signature-same ts dl s r h k = record {
   has_used = subst (All (HasMark ts)) (sym k.used) h.has_used;
   defined = subst (λ ks. HasSymbols (all_defined names dl) (map (mark_at ts) ks)) (sym k.defined) h.defined;
   used = subst (λ ks. HasSymbols (all_used names dl) (map (mark_at ts) ks)) (sym k.used) h.used;
-}
-
-pub signature-none : (ts : List Item) (s : Signature) → s.defined.keys ≡ [] → s.used.keys ≡ [] → IsSignature ts [] s
-signature-none ts s d u = record {
-  has_defined = subst (All (HasMark ts)) (sym d) (All-nil (HasMark ts));
-  has_used = subst (All (HasMark ts)) (sym u) (All-nil (HasMark ts));
-  defined =
-      record { is = λ x. subst (λ ks. IsMember (mark_of x) (map (mark_at ts) ks) ↔ ⊥) (sym d) (λ m. m, λ m. m) };
-  used = record { is = λ x. subst (λ ks. IsMember (mark_of x) (map (mark_at ts) ks) ↔ ⊥) (sym u) (λ m. m, λ m. m) };
 }
 
 -- ---- the marks of constants

@@ -110,10 +110,3 @@ module _ (ts : List Item) (one : IsInjective ts) where
       ∙ ap (λ x. map (sequent_at ts) qs ++ x ∷ []) same
       ∙ sym (ap (λ c. if c then map (sequent_at ts) qs else map (sequent_at ts) qs ++ sequent_at ts q ∷ [])
       (sym e ∙ contrary))
-
--- a key more
-pub keys-push : (ks ls : List Key) (qs us : List Statement) (k : Key) (q : Statement) → map parts_of ks ≡ map parts_at
-    qs → parts_of k ≡ parts_at q → ls ≡ ks ++ k ∷ [] → us ≡ qs ++ q ∷ [] → map parts_of ls ≡ map parts_at us
-keys-push ks ls qs us k q keys is a b =
-    ap (map parts_of) a ∙ map-append parts_of ks (k ∷ []) ∙ (λ i. keys i ++ is i ∷ [])
-    ∙ sym (map-append parts_at qs (q ∷ [])) ∙ sym (ap (map parts_at) b)

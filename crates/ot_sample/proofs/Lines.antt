@@ -1,6 +1,6 @@
 -- The loops over words, and over the doubled terms.
-use Rattle.std.specs.Prelude.{◌≡◌, ℕ, suc, ◌+◌, ◌*◌, ◌<◌, ◌==◌, cond, List, [], ◌∷◌, ◌++◌, length, take}
-use Rattle.std.proofs.Common.{sym, ◌∙◌, ap, arith, append_assoc, get_or}
+use Rattle.std.specs.Prelude.{◌≡◌, ℕ, ◌+◌, ◌*◌, ◌<◌, ◌==◌, cond, List, [], ◌∷◌, ◌++◌, length, take}
+use Rattle.std.proofs.Common.{◌∙◌, ap, append_assoc, get_or}
 use Rattle.std.proofs.lemmas.List.{take_more, map-append}
 use Rattle.ot_sample.specs.Sample.{lines, opening, doubled, doublings, redex, equality, exported, sample}
 
@@ -8,22 +8,6 @@ pub lines-more : (words : List ℕ) (i d : ℕ) → i < length words → lines (
     ++ cond (get_or words i d == 32) 10 (get_or words i d) ∷ []
 lines-more words i d lt = ap lines (take_more words i d lt)
     ∙ map-append (λ b. cond (b == 32) 10 b) (take i words) (get_or words i d ∷ [])
-
-pub doublings-more : (k : ℕ) (old mid new : List ℕ) → old ≡ opening ++ doublings k → mid ≡ old ++ doubled (6 + 2 * k)
-    (8 + 2 * k) → new ≡ mid ++ doubled (7 + 2 * k) (9 + 2 * k) → new ≡ opening ++ doublings (k + 1)
-doublings-more k old mid new e f g =
-    let one = doubled (6 + 2 * k) (8 + 2 * k) in
-    let two = doubled (7 + 2 * k) (9 + 2 * k) in
-    let a : 4 + 2 * suc k ≡ 6 + 2 * k = omega arith in
-    let b : 6 + 2 * suc k ≡ 8 + 2 * k = omega arith in
-    let c : 5 + 2 * suc k ≡ 7 + 2 * k = omega arith in
-    let d : 7 + 2 * suc k ≡ 9 + 2 * k = omega arith in
-    let n : suc k ≡ k + 1 = omega arith in
-    let more : doublings (suc k) ≡ (doublings k ++ one) ++ two = λ i. (doublings k ++ doubled (a i) (b i))
-    ++ doubled (c i) (d i) in
-    g ∙ ap (λ z. z ++ two) (f ∙ ap (λ z. z ++ one) e)
-    ∙ ap (λ z. z ++ two) (append_assoc opening (doublings k) one) ∙ append_assoc opening (doublings k ++ one) two
-    ∙ ap (λ z. opening ++ z) (sym more ∙ ap doublings n)
 
 pub sample-whole : (n k : ℕ) (text beta equal whole old new : List ℕ) → k ≡ n → text ≡ opening ++ doublings k
     → beta ≡ text ++ redex (6 + 2 * n) (8 + 2 * n) → equal ≡ beta ++ equality

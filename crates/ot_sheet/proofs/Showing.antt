@@ -28,7 +28,7 @@ use Rattle.ot_entries.specs.Logged.{Log, add_tokens, put, token_of, count_sequen
 use Rattle.ot_entries.proofs.Noding.{nodes-append, node-there, node-absent, node-new, closed-type, closed-term}
 use Rattle.ot_entries.specs.Bytes.{token_bytes, bytes_of}
 use Rattle.ot_entries.specs.Closed.{IsClosed}
-use Rattle.ot_sheet.specs.Sheets.{operand_at, HasOperand, Shows, Moves}
+use Rattle.ot_sheet.specs.Sheets.{operand_at, Shows, Moves}
 use Rattle.ot_sheet.specs.declared.operand.Operand as code
 use Rattle.ot_sheet.specs.declared.sheet.Sheet.{Sheet}
 use Rattle.std.proofs.lemmas.List.{map-append, drop_all}
@@ -151,9 +151,6 @@ pub as-operand : (ts : List Item) (old new : Sheet) (o p : code.Operand) → o �
     → Moves ts old new (λ x. add_tokens (token_of x (operand_at ts o) ∷ []) x)
 as-operand ts old new o p e m = subst (λ z. Moves ts old new (λ x. add_tokens (token_of x (operand_at ts z) ∷ []) x))
     (sym e) m
-
-pub has-operand : (ts : List Item) (o p : code.Operand) → o ≡ p → HasOperand ts o → HasOperand ts p
-has-operand ts o p e h = subst (HasOperand ts) e h
 
 pub type-token : (ts : List Item) (old new : Sheet) (i r : ℕ) → IsInjective ts → HasType ts i
     → r ≡ position_or_len (nat_eq i) old.types.keys → Moves ts old new (add_tokens (Number r ∷ []))
@@ -356,14 +353,6 @@ operand-next ts os k o y h e = ap (λ l. operands_written ts l y) (drop-item os 
 pub operand-end : (ts : List Item) (os : List code.Operand) (k : ℕ) (y : Log) → length os ≤ k
     → operands_written ts (drop k os) y ≡ y
 operand-end ts os k y h = ap (λ l. operands_written ts l y) (drop_all k os h)
-
-pub as-nodes : (ts : List Item) (old new : Sheet) (o p : code.Operand) → o ≡ p
-    → Moves ts old new (write_nodes (operand_nodes (operand_at ts p)))
-    → Moves ts old new (write_nodes (operand_nodes (operand_at ts o)))
-as-nodes ts old new o p e m = subst (λ z. Moves ts old new (write_nodes (operand_nodes (operand_at ts z)))) (sym e) m
-
-pub moves-none : (ts : List Item) (s : Sheet) → Moves ts s s (λ x. x)
-moves-none ts s = λ max x h. h
 
 pub nodes-then : (ts : List Item) (old mid new : Sheet) (ns ms : List Node) → Moves ts old mid (write_nodes ns)
     → Moves ts mid new (write_nodes ms) → Moves ts old new (write_nodes (ns ++ ms))

@@ -1,15 +1,12 @@
 -- The exports, one after another.
-use Rattle.std.specs.Prelude.{codes}
 use Rattle.std.proofs.Common.{◌≡◌, ℕ, suc, ◌+◌, ◌<◌, ◌≤◌, List, [], ◌++◌, map, length}
-use Rattle.std.proofs.Common.{drop, drop-cons, refl, sym, ap, ◌∙◌, get_or, arith}
+use Rattle.std.proofs.Common.{drop, drop-cons, sym, ap, ◌∙◌, get_or, arith}
 use Rattle.std.proofs.Math.ListN.{drop_of_length-le}
-use Rattle.ot_text.specs.Texts.{number_text, ascending, sequent_text}
-use Rattle.ot_text.specs.Sections.{definition_text}
 use Rattle.ot_machine.specs.Meaning.{export_of, run_of}
 use Rattle.ot_machine.specs.declared.session.Session.{Session}
 use Rattle.ot_machine.specs.declared.machine.Export as code
-use Rattle.ot_uses.specs.Texts.{counted_text, support_text, supports_text}
-use Rattle.ot_uses.specs.Used.{Support, support_of}
+use Rattle.ot_uses.specs.Texts.{support_text, supports_text}
+use Rattle.ot_uses.specs.Used.{support_of}
 
 -- the texts of the exports from the i-th on
 abbrev pub rest_text : Session → List code.Export → ℕ → List ℕ
@@ -25,10 +22,3 @@ rest-more s es i e h at =
 pub rest-end : (s : Session) (es : List code.Export) (i : ℕ) → length es ≤ i → rest_text s es i ≡ []
 rest-end s es i h = ap (λ l. supports_text (suc i) (map (support_of (run_of s)) (map (export_of s) l)))
     (drop_of_length-le es h)
-
--- the pieces of one
-pub support-pieces : (i : ℕ) (s : Support)
-    → ((((((codes "theorem " ++ number_text i) ++ codes ": ") ++ sequent_text s.theorem) ++ codes "\n")
-    ++ counted_text (codes "assumptions") (ascending (map sequent_text s.assumptions)))
-    ++ counted_text (codes "definitions") (map definition_text s.definitions)) ≡ support_text i s
-support-pieces i s = refl

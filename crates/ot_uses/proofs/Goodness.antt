@@ -31,7 +31,7 @@ use Rattle.ot_machine.specs.Substitutions.{term_pair, types_onto, terms_onto, ma
 use Rattle.ot_laws.specs.Laws.{TermRulesAreSound, RulesAreSound}
 use Rattle.ot_laws.proofs.Laws.{term_rules_are_sound, rules_are_sound}
 use Rattle.ot_machine.specs.Values.{value, values, value_at, applied}
-use Rattle.ot_uses.proofs.Leaves.{IsGood, AreGood, IsLeaf, HasLeaves, HaveLeaves, ValuesAreGood}
+use Rattle.ot_uses.proofs.Leaves.{IsGood, AreGood, IsLeaf, HasLeaves, HaveLeaves}
 
 pub if_bind : {A B E : Type 0} (r : Result A E) (f : A → Result B E) (P : A → Type 0) (Q : B → Type 0) → IfOk r P
     → ((x : A) → P x → IfOk (f x) Q) → IfOk (r >>= f) Q
@@ -323,6 +323,3 @@ module _ (al : List (Sequent Name)) (dl : List (Definition Name)) where
         (value-good o l.0)
         (λ v g. if_bind (values os) (λ vs. Ok (v ∷ vs)) (AllByRecursion (IsGood al dl))
         (AllByRecursion (IsGood al dl)) (values-good os l.1) (λ vs gs. (g, gs)))
-
-pub values_are_good : (al : List (Sequent Name)) (dl : List (Definition Name)) → ValuesAreGood al dl
-values_are_good al dl = value-good al dl

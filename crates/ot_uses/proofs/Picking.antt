@@ -1,27 +1,15 @@
 -- What stands at places, one place more.
 use Rattle.std.specs.Prelude.{codes}
 use Rattle.std.proofs.Common.{◌≡◌, ℕ, zero, suc, ◌+◌, ◌<◌, ◌≤◌, List, [], ◌∷◌, ◌++◌, map, length, take, drop}
-use Rattle.std.proofs.Common.{length-drop, get_or, refl, sym, ap, ◌∙◌, append-nil, append_assoc, arith}
+use Rattle.std.proofs.Common.{length-drop, get_or, refl, sym, ap, ◌∙◌, append_assoc, arith}
 use Rattle.std.specs.List.{All}
-use Rattle.std.proofs.lemmas.List.{take_more, map-append, drop-map, take_all}
-use Rattle.std.proofs.lemmas.Grind.{flat_map-append}
+use Rattle.std.proofs.lemmas.List.{map-append, drop-map, take_all}
 use Rattle.ot_text.specs.Pages.{Printed, IsPut}
 use Rattle.ot_text.proofs.Gathering.{texts-through}
 use Rattle.ot_text.proofs.Putting.{Puts, puts-more, same-text}
 use Rattle.ot_text.specs.Sections.{indented_text}
 use Rattle.ot_uses.specs.Placing.{picked}
 use Rattle.ot_uses.proofs.Numbering.{pick-one}
-
--- one place more at the end
-pub picked-more : {X : Type 0} (xs : List X) (places : List ℕ) (i : ℕ) (place : ℕ) (x : X) (before after : List X)
-    → i < length places → place ≡ get_or places i place → place < length xs → x ≡ get_or xs place x
-    → before ≡ picked xs (take i places) → after ≡ before ++ x ∷ [] → after ≡ picked xs (take (i + 1) places)
-picked-more xs places i place x before after h at lt is so next =
-    next ∙ ap (λ l. l ++ x ∷ []) so
-    ∙ ap (λ l. picked xs (take i places) ++ l)
-    (sym (append-nil (take 1 (drop place xs)) ∙ pick-one xs place x lt ∙ ap (λ y. y ∷ []) (sym is)))
-    ∙ sym (ap (picked xs) (take_more places i place h ∙ ap (λ p. take i places ++ p ∷ []) (sym at))
-    ∙ flat_map-append (λ j. take 1 (drop j xs)) (take i places) (place ∷ []))
 
 -- of what is mapped
 pub picked-map : {X Y : Type 0} (f : X → Y) (xs : List X) (places : List ℕ) → map f (picked xs places)

@@ -30,6 +30,3 @@ pub two-below : (P : ℕ → Type 0) (ops : List ℕ) (a b : ℕ) → All P ops 
 two-below P ops a b all e =
     let h = subst (All P) e all in
     (All-head P a (b ∷ []) h, All-head P b [] (All-tail P a (b ∷ []) h))
-
-pub one-below : (P : ℕ → Type 0) (ops : List ℕ) (a : ℕ) → All P ops → ops ≡ a ∷ [] → P a
-one-below P ops a all e = All-head P a [] (subst (All P) e all)

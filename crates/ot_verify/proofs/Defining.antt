@@ -8,10 +8,10 @@ use Rattle.ot_plain.specs.Table.{Extends}
 use Rattle.ot_plain.specs.Trees.{Definition}
 use Rattle.ot_records.specs.Tokens as stated
 use Rattle.ot_records.specs.Steps.{Step}
-use Rattle.ot_records.specs.State.{LogState, Change, makes_assumption, makes_definition}
+use Rattle.ot_records.specs.State.{LogState, Change, makes_definition}
 use Rattle.ot_records.proofs.DefinitionSound.{IsAcceptable}
 use Rattle.ot_nodes.specs.Items.{Item, HasTerm, term_at}
-use Rattle.ot_rules.specs.Statements.{sequent_at, terms_at, HasStatement, Gives}
+use Rattle.ot_rules.specs.Statements.{sequent_at, terms_at, HasStatement}
 use Rattle.ot_rules.specs.Definitions.{definition_at, HasDefinition, Defines}
 use Rattle.ot_rules.specs.declared.statement.Statement.{Statement}
 use Rattle.ot_rules.specs.declared.statement.StepFault.{StepFault}
@@ -19,7 +19,7 @@ use Rattle.ot_rules.specs.declared.statement.StepFault.TheVariants as step
 use Rattle.ot_rules.specs.declared.definition.Definition as code
 use Rattle.ot_rules.proofs.Staying.{definition-stays}
 use Rattle.ot_verify.specs.Logged.{LogView, MadeBy}
-use Rattle.ot_verify.specs.Held.{state_of, of_step, Establishes, AddsDefinition}
+use Rattle.ot_verify.specs.Held.{state_of, Establishes, AddsDefinition}
 use Rattle.ot_verify.specs.declared.log.Log.TheInside.{Inside}
 use Rattle.ot_verify.specs.declared.log.Refusal.{Refusal}
 use Rattle.ot_verify.specs.declared.log.Refusal.TheVariants as refusals
@@ -82,13 +82,3 @@ defines-grown l us e k d has made case g =
     (sym (state-stays l.nodes us e (held_of l) k.log))
     (subst (λ z. Defines made z (case (state_of l.nodes (held_of l)).definitions) us)
     (sym (definition-stays l.nodes us e d has)) g)
-
--- a step that gives no assumption
-pub refused-assumption : (fault : StepFault) (case : Step names) (ts : List Item) (old new : LogState Name)
-    (e : Refusal)
-    → e ≡ of_step fault → Gives (Err fault) case ts → MadeBy (Err e) (makes_assumption names case) old new
-refused-assumption step.BadStep case ts old new e p g =
-    subst (λ z. MadeBy (Err z) (makes_assumption names case) old new) (sym p)
-    (ap (λ z. makes_assumption names z old) g)
-refused-assumption step.Memory case ts old new e p g =
-    subst (λ z. MadeBy (Err z) (makes_assumption names case) old new) (sym p) tt

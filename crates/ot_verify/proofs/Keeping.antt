@@ -1,5 +1,5 @@
 -- What a log is after each addition, over a table that grew.
-use Rattle.std.specs.Prelude.{◌&&◌, nat_le, IsErrAnd}
+use Rattle.std.specs.Prelude.{◌&&◌, nat_le}
 use Rattle.std.specs.List.{All, list_all}
 use Rattle.std.proofs.Common.{◌≡◌, ℕ, Bool, true, false, Option, Some, List, [], ◌∷◌, ◌++◌}
 use Rattle.std.proofs.Common.{map, slice_get, Result, Ok, Err, sym, ap, ◌∙◌, subst, inl, inr}
@@ -425,7 +425,3 @@ module _ (l : Inside) (k : IsKept l.nodes l) (now : LogView) (is : view_of l.nod
             ∙ (λ i. Ok (state_of us (record (held_of l) { sequents = sym x i; definitions = sym y i }))))
 
 -- ---- want of memory
-pub memory-made : (r : Result (Unit {0}) Refusal) (c : Change names) (old new : LogState Name)
-    → IsErrAnd r (λ x. x ≡ refusals.Memory) → MadeBy r c old new
-memory-made (Err e) c old new h = subst (λ z. MadeBy (Err z) c old new) (sym h) tt
-memory-made (Ok u) c old new h = absurd h
