@@ -1,4 +1,4 @@
-//! What the definitions come to: a call states laws and does nothing.
+//! Laws of the definitions: each call has an empty body, and its postcondition is a theorem.
 ghost use Rattle.ot_blocks.specs.Ordering.{EndsAlways, GivesOrder, GivesCycle};
 ghost use Rattle.ot_blocks.specs.Paths.{OneFullName};
 ghost use Rattle.ot_blocks.specs.Structure.{PlanEnds, GivesPlan};

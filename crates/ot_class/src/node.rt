@@ -26,7 +26,7 @@ pub struct Key {
     pub ty: TypeId,
 }
 
-// A nameless term, its parts by number.
+/// A nameless term, its parts by number.
 #[derive(Clone, Copy, PartialEq, Eq)]
 pub(crate) enum ClassNode {
     // A free variable.

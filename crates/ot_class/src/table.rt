@@ -113,7 +113,7 @@ impl Classes {
         self.beside(id).closed
     }
 
-    // The node of a number. Its parts have lower numbers.
+    /// The node of a number. Its parts have lower numbers.
     fn node(&self, id: ClassId) -> &ClassNode
         requires { id < length self.now }
         ensures tree { slice_get self.now id ≡ Some (tree_of self.now result.now) }
@@ -126,7 +126,7 @@ impl Classes {
         }
     }
 
-    // What stands beside the node of a number.
+    /// What stands beside the node of a number.
     fn beside(&self, id: ClassId) -> &Beside
         requires { id < length self.now }
         ensures describes { Describes (class_at self.now id) result.now }
@@ -138,7 +138,7 @@ impl Classes {
         }
     }
 
-    // What is to stand beside a new node.
+    /// What is to stand beside a new node.
     fn beside_new(&self, node: &ClassNode) -> Beside
         requires { AreBelow (length self.now) node.now }
         ensures { Describes (tree_of self.now node.now) result }
@@ -173,7 +173,7 @@ impl Classes {
         }
     }
 
-    // The number of a node, which is added where it is new.
+    /// The number of a node, which is added where it is new.
     #[inline(always)]
     fn intern(&mut self, node: ClassNode) -> Result<ClassId, Memory>
         requires { AreBelow (length self.old) node }

@@ -13,7 +13,7 @@ use Rattle.ot_laws.specs.Conditions.{is_closed, is_closed_but, keeps_type_vars}
 use Rattle.ot_define.specs.declared.fault.DefineFault.{DefineFault}
 use Rattle.ot_define.specs.declared.fault.DefineFault.TheVariants as code
 
--- the named fault that a refusal stands for; want of memory stands for none
+-- the named fault that a refusal stands for; running out of memory stands for none
 abbrev pub define_fault : DefineFault → Option (Fault ℕ)
 define_fault code.BadDefinitionList = Some BadDefinitionList
 define_fault code.HypothesesPresent = Some HypothesesPresent
@@ -26,7 +26,7 @@ define_fault code.NotClosed = Some NotClosed
 define_fault code.TypeVarEscapes = Some TypeVarEscapes
 define_fault code.Memory = None
 
--- the check's answer is the stated one; want of memory is free
+-- the check's answer is the stated one; running out of memory may be answered at any point
 abbrev pub Checks : Result (Unit {0}) DefineFault → Result (Unit {0}) (Fault ℕ) → Type 0
 Checks (Ok u) stated = stated ≡ Ok tt
 Checks (Err e) stated = (f : Fault ℕ) → define_fault e ≡ Some f → stated ≡ Err f

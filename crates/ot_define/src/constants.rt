@@ -34,7 +34,7 @@ impl Signature {
     }
 }
 
-// The symbol of a constant.
+/// The symbol of a constant.
 pub(crate) fn constant_symbol(name: NameId) -> Symbol
     ensures { result ≡ record { kind = Con; name = name } }
 {

@@ -52,7 +52,7 @@ impl Signature {
         check_given(alloc, terms, vars, given.as_slice(), concl)
     }
 
-    // Whether the symbols of constants may be defined from a premise of these terms.
+    /// Whether the symbols of constants may be defined from a premise of these terms.
     fn check_constants(
         &self,
         alloc: Global,
@@ -72,7 +72,7 @@ impl Signature {
     }
 }
 
-// Refuses pairs and hypotheses by their numbers, and where a name or a variable stands twice.
+/// Refuses pairs and hypotheses by their numbers, and where a name or a variable stands twice.
 fn check_pairs(
     alloc: Global,
     terms: &Terms,
@@ -89,7 +89,7 @@ fn check_pairs(
     pass_if(paired, DefineFault::BadDefinitionList)
 }
 
-// Refuses terms of constants, and a conclusion with another free variable than these.
+/// Refuses terms of constants, and a conclusion with another free variable than these.
 fn check_given(
     alloc: Global,
     terms: &Terms,
@@ -108,7 +108,7 @@ fn check_given(
     check_all_type_vars(alloc, terms, given)
 }
 
-// Whether no name and no variable stands twice, and there are as many hypotheses as variables.
+/// Whether no name and no variable stands twice, and there are as many hypotheses as variables.
 fn are_pairs(
     alloc: Global,
     terms: &Terms,
@@ -129,7 +129,7 @@ fn are_pairs(
     Ok(names_differ & vars_differ & as_many)
 }
 
-// The symbols of constants.
+/// The symbols of constants.
 fn constant_symbols(alloc: Global, names: &[NameId]) -> Result<Vec<Symbol>, Memory>
     ensures { IfOk result (λ symbols. symbols.items ≡ map (λ n. record { kind = Con; name = n }) names.now) }
 {
@@ -141,7 +141,7 @@ fn constant_symbols(alloc: Global, names: &[NameId]) -> Result<Vec<Symbol>, Memo
     )
 }
 
-// The terms of the variables, in their order, where the hypotheses give each exactly one.
+/// The terms of the variables, in their order, where the hypotheses give each exactly one.
 fn terms_given(
     alloc: Global,
     terms: &Terms,
@@ -164,7 +164,7 @@ fn terms_given(
     Ok(Some(given))
 }
 
-// The term of a variable that exactly one hypothesis gives one.
+/// The term of a variable that exactly one hypothesis gives one.
 fn only_given(terms: &Terms, hyps: &[TermId], v: &VarKey) -> Option<TermId>
     requires var { v.now.ty < length terms.now.types }
     requires hyps { All (λ i. i < length terms.now.terms) hyps.now }
@@ -184,7 +184,7 @@ fn only_given(terms: &Terms, hyps: &[TermId], v: &VarKey) -> Option<TermId>
     found
 }
 
-// The term that a hypothesis gives the variable.
+/// The term that a hypothesis gives the variable.
 fn given_by(terms: &Terms, hyp: TermId, v: &VarKey) -> Option<TermId>
     requires var { v.now.ty < length terms.now.types }
     requires hyp { hyp < length terms.now.terms }
@@ -202,7 +202,7 @@ fn given_by(terms: &Terms, hyp: TermId, v: &VarKey) -> Option<TermId>
     }
 }
 
-// Whether the term is the variable.
+/// Whether the term is the variable.
 fn is_variable(terms: &Terms, t: TermId, v: &VarKey) -> bool
     requires var { v.now.ty < length terms.now.types }
     requires t { t < length terms.now.terms }
@@ -214,7 +214,7 @@ fn is_variable(terms: &Terms, t: TermId, v: &VarKey) -> bool
     }
 }
 
-// Refuses terms of which one has a free variable.
+/// Refuses terms of which one has a free variable.
 fn check_all_closed(alloc: Global, terms: &Terms, ts: &[TermId]) -> Result<(), DefineFault>
     requires { All (λ i. i < length terms.now.terms) ts.now }
     ensures { Checks result (unless NotClosed (list_all (is_closed numbers) (map (tm_at terms.now.terms) ts.now))) }
@@ -225,7 +225,7 @@ fn check_all_closed(alloc: Global, terms: &Terms, ts: &[TermId]) -> Result<(), D
     Ok(())
 }
 
-// Refuses terms of which one has a type variable that its type lacks.
+/// Refuses terms of which one has a type variable that its type lacks.
 fn check_all_type_vars(alloc: Global, terms: &Terms, ts: &[TermId]) -> Result<(), DefineFault>
     requires { All (λ i. i < length terms.now.terms) ts.now }
     ensures { Checks result

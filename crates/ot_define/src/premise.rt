@@ -18,7 +18,7 @@ use ot_plain::Memory;
 use ot_term::{Symbol, TermId, Terms, VarKey};
 use std::alloc::Global;
 
-// The symbols of a premise.
+/// The symbols of a premise.
 pub(crate) fn symbols_in(
     alloc: Global,
     terms: &Terms,
@@ -39,7 +39,7 @@ pub(crate) fn symbols_in(
     Ok(symbols)
 }
 
-// Adds the symbols of a term.
+/// Adds the symbols of a term.
 fn add_symbols(
     alloc: Global,
     terms: &Terms,
@@ -55,7 +55,7 @@ fn add_symbols(
     add_all(symbols, more.as_slice())
 }
 
-// Refuses a term in which another variable than these is free.
+/// Refuses a term in which another variable than these is free.
 pub(crate) fn check_closed_but(
     alloc: Global,
     terms: &Terms,
@@ -75,7 +75,7 @@ pub(crate) fn check_closed_but(
     pass_if(closed, DefineFault::NotClosed)
 }
 
-// Refuses a term with a type variable that its type lacks.
+/// Refuses a term with a type variable that its type lacks.
 pub(crate) fn check_type_vars(alloc: Global, terms: &Terms, t: TermId) -> Result<(), DefineFault>
     requires { t < length terms.now.terms }
     ensures { Checks result (unless TypeVarEscapes (keeps_type_vars numbers (tm_at terms.now.terms t))) }
@@ -86,7 +86,7 @@ pub(crate) fn check_type_vars(alloc: Global, terms: &Terms, t: TermId) -> Result
     pass_if(kept, DefineFault::TypeVarEscapes)
 }
 
-// Goes on where the test holds.
+/// Goes on where the test holds.
 pub(crate) fn pass_if(holds: bool, fault: DefineFault) -> Result<(), DefineFault>
     ensures { result ≡ (if holds then Ok tt else Err fault) }
 {

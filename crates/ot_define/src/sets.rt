@@ -11,7 +11,7 @@ use ot_plain::Memory;
 use std::alloc::Global;
 use std::hash::Hash;
 
-// Adds the items of a list to a set. After want of memory it is as before.
+/// Adds the items of a list to a set. After running out of memory it is as before.
 pub(crate) fn add_all<T: Copy + Eq + Hash>(set: &mut IndexSet<T>, items: &[T]) -> Result<(), Memory>
     ensures ok { OnOk result (set.new.keys ≡ fold (insert_key T.eq) set.old.keys items.now) }
     ensures err { OnErr result (set.new.keys ≡ set.old.keys) }
@@ -26,7 +26,7 @@ pub(crate) fn add_all<T: Copy + Eq + Hash>(set: &mut IndexSet<T>, items: &[T]) -
     Ok(())
 }
 
-// The items of a list, each once.
+/// The items of a list, each once.
 pub(crate) fn set_of<T: Copy + Eq + Hash>(alloc: Global, items: &[T]) -> Result<IndexSet<T>, Memory>
     ensures { IfOk result (λ set. set.keys ≡ fold (insert_key T.eq) [] items.now) }
 {
@@ -35,7 +35,7 @@ pub(crate) fn set_of<T: Copy + Eq + Hash>(alloc: Global, items: &[T]) -> Result<
     Ok(set)
 }
 
-// Whether no item stands twice in the list.
+/// Whether no item stands twice in the list.
 pub(crate) fn are_distinct<T: Copy + Eq + Hash>(alloc: Global, items: &[T]) -> Result<bool, Memory>
     requires { (x y : T) → Decides (T.eq x y) (x ≡ y) }
     ensures { IfOk result (λ b. b ≡ are_distinct T.eq items.now) }
@@ -44,7 +44,7 @@ pub(crate) fn are_distinct<T: Copy + Eq + Hash>(alloc: Global, items: &[T]) -> R
     Ok(set.len() == items.len())
 }
 
-// Whether each item of a list is one of the others.
+/// Whether each item of a list is one of the others.
 pub(crate) fn are_among<T: Copy + Eq + Hash>(
     alloc: Global,
     items: &[T],
@@ -57,7 +57,7 @@ pub(crate) fn are_among<T: Copy + Eq + Hash>(
     Ok(has_all(&set, items))
 }
 
-// Whether each item of a list is in the set.
+/// Whether each item of a list is in the set.
 fn has_all<T: Copy + Eq + Hash>(set: &IndexSet<T>, items: &[T]) -> bool
     ensures { result ≡ list_all (λ x. list_any (T.eq x) set.now.keys) items.now }
 {

@@ -50,7 +50,7 @@ impl Signature {
         }
     }
 
-    /// Records the symbols that a definition defines, and those that occur in it. After want of memory all is as
+    /// Records the symbols that a definition defines, and those that occur in it. After running out of memory all is as
     /// before.
     pub fn add(&mut self, defined: &[Symbol], used: &[Symbol]) -> Result<(), Memory>
         ensures ok { OnOk result
@@ -70,7 +70,7 @@ impl Signature {
         Ok(())
     }
 
-    // Whether the symbols may be defined from a premise of these terms.
+    /// Whether the symbols may be defined from a premise of these terms.
     pub(crate) fn check_symbols(
         &self,
         alloc: Global,
@@ -91,7 +91,7 @@ impl Signature {
         self.refuse_used(&premise, symbols)
     }
 
-    // Refuses the first of the symbols that is defined, or stands before.
+    /// Refuses the first of the symbols that is defined, or stands before.
     fn refuse_defined(&self, alloc: Global, symbols: &[Symbol]) -> Result<(), DefineFault>
         ensures { Checks result (refuse_defined numbers self.now.defined (map symbol_of symbols.now)) }
     {
@@ -105,7 +105,7 @@ impl Signature {
         Ok(())
     }
 
-    // Whether the symbol stands before, or is defined.
+    /// Whether the symbol stands before, or is defined.
     fn is_taken(&self, before: &IndexSet<Symbol>, symbol: &Symbol) -> bool
         ensures { result
             ≡ is_among numbers (symbol_of symbol.now) (map symbol_of before.now.keys ++ self.now.defined) }
@@ -113,7 +113,7 @@ impl Signature {
         has_symbol(before, symbol) || has_symbol(&self.defined, symbol)
     }
 
-    // Refuses the first of the symbols that occurs in the premise, or in a definition.
+    /// Refuses the first of the symbols that occurs in the premise, or in a definition.
     fn refuse_used(&self, premise: &IndexSet<Symbol>, symbols: &[Symbol]) -> Result<(), DefineFault>
         ensures { Checks result
             (refuse_first numbers SymbolInUse (λ s. is_among numbers s (map symbol_of premise.now.keys)
@@ -125,7 +125,7 @@ impl Signature {
         }
     }
 
-    // The first of the symbols that occurs in the premise, or in a definition.
+    /// The first of the symbols that occurs in the premise, or in a definition.
     fn first_used(&self, premise: &IndexSet<Symbol>, symbols: &[Symbol]) -> Option<Symbol>
         ensures { result ≡ find (λ s. is_among numbers (symbol_of s) (map symbol_of premise.now.keys)
             || is_among numbers (symbol_of s) self.now.used) symbols.now }
@@ -136,7 +136,7 @@ impl Signature {
             .find(|symbol| self.is_used(premise, symbol))
     }
 
-    // Whether the symbol occurs in the premise, or in a definition.
+    /// Whether the symbol occurs in the premise, or in a definition.
     fn is_used(&self, premise: &IndexSet<Symbol>, symbol: &Symbol) -> bool
         ensures { result ≡ (is_among numbers (symbol_of symbol.now) (map symbol_of premise.now.keys)
             || is_among numbers (symbol_of symbol.now) self.now.used) }
@@ -145,14 +145,14 @@ impl Signature {
     }
 }
 
-// Whether the symbol is in the set.
+/// Whether the symbol is in the set.
 fn has_symbol(symbols: &IndexSet<Symbol>, symbol: &Symbol) -> bool
     ensures { result ≡ is_among numbers (symbol_of symbol.now) (map symbol_of symbols.now.keys) }
 {
     symbols.contains(symbol)
 }
 
-// Refuses the first of the symbols that has a meaning of its own.
+/// Refuses the first of the symbols that has a meaning of its own.
 fn refuse_primitive(symbols: &[Symbol]) -> Result<(), DefineFault>
     ensures { Checks result
         (refuse_first numbers Primitive (λ s. is_among numbers s (primitives numbers)) (map symbol_of symbols.now)) }
@@ -163,14 +163,14 @@ fn refuse_primitive(symbols: &[Symbol]) -> Result<(), DefineFault>
     }
 }
 
-// The first of the symbols that has a meaning of its own.
+/// The first of the symbols that has a meaning of its own.
 fn first_primitive(symbols: &[Symbol]) -> Option<Symbol>
     ensures { result ≡ find (λ s. is_among numbers (symbol_of s) (primitives numbers)) symbols.now }
 {
     symbols.iter().copied().find(|symbol| is_primitive(*symbol))
 }
 
-// Whether the symbol has a meaning of its own.
+/// Whether the symbol has a meaning of its own.
 fn is_primitive(symbol: Symbol) -> bool
     ensures { result ≡ is_among numbers (symbol_of symbol) (primitives numbers) }
 {

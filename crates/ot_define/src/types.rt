@@ -56,7 +56,7 @@ impl Signature {
     }
 }
 
-// The function of an application.
+/// The function of an application.
 fn function_of(terms: &Terms, t: TermId) -> Option<TermId>
     requires { t < length terms.now.terms }
     ensures function { option_map (tm_at terms.now.terms) result ≡ function_of (tm_at terms.now.terms t) }
@@ -68,7 +68,7 @@ fn function_of(terms: &Terms, t: TermId) -> Option<TermId>
     }
 }
 
-// Refuses type variables of which one stands twice, or the term has another.
+/// Refuses type variables of which one stands twice, or the term has another.
 fn check_listed(alloc: Global, terms: &Terms, vars: &[NameId], t: TermId) -> Result<(), DefineFault>
     requires { t < length terms.now.terms }
     ensures { Checks result
@@ -81,7 +81,7 @@ fn check_listed(alloc: Global, terms: &Terms, vars: &[NameId], t: TermId) -> Res
     pass_if(distinct & listed, DefineFault::BadTypeVars)
 }
 
-// The symbol of a type operator.
+/// The symbol of a type operator.
 fn operator_symbol(name: NameId) -> Symbol
     ensures { result ≡ record { kind = TyOp; name = name } }
 {

@@ -75,7 +75,7 @@ term-found t (u ∷ ts) h = by (same_tm names t u) refl h (term-found t ts)
 abbrev pub tokens_for : LogState Name → List Operand → List (Token Name)
 tokens_for st = map (token_among st.types st.terms)
 
--- what is left to read, and what it comes to
+-- what is left to read, and its result
 abbrev Rest : LogState Name → List Operand → ℕ → ℕ → Tokens Name → Result (RecordForm names) (ℕ × LogFault)
     → Outcome Name
 Rest st os first line rest r =

@@ -1,4 +1,4 @@
-//! What the definitions come to: a call states laws and does nothing.
+//! Laws of the definitions: each call has an empty body, and its postcondition is a theorem.
 ghost use Rattle.ot_find.specs.Matches.{MatchesAreThose, MatchesOfOneMore};
 
 /// The computed matches are exactly the pairs of a source and an export of it that the pattern matches, each once, in

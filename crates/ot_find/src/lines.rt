@@ -79,7 +79,7 @@ pub(crate) fn put_pairs<Table, T: Printable<Table>>(
     }
 }
 
-// The spelling of a name.
+/// The spelling of a name.
 fn put_name(page: &mut Page, name: &Name)
     ensures { IsPut (name_text name.now) (printed page.old) (printed page.new) }
 {

@@ -64,7 +64,7 @@ impl Search {
         }
     }
 
-    // A theorem, if the pattern matches its conclusion.
+    /// A theorem, if the pattern matches its conclusion.
     fn add_theorem(
         &mut self,
         alloc: Global,
@@ -109,14 +109,14 @@ impl Search {
     }
 }
 
-// One match more. Each has bytes of its own in the text, so there are never more than the text's limit.
+/// One match more. Each has bytes of its own in the text, so there are never more than the text's limit.
 fn one_more(count: usize, max: usize) -> usize
     ensures { count < max → result ≡ count + 1 }
 {
     if count < max { count + 1 } else { count }
 }
 
-// Appends how many matches there are, and their text.
+/// Appends how many matches there are, and their text.
 fn append_counted(
     alloc: Global,
     count: usize,
@@ -138,7 +138,7 @@ fn append_counted(
     page.finish(out)
 }
 
-// A match: its source and its sequent, and what stands for the pattern's variables.
+/// A match: its source and its sequent, and what stands for the pattern's variables.
 fn put_found(
     page: &mut Page,
     alloc: Global,

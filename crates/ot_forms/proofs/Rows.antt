@@ -54,7 +54,7 @@ none_hidden : hidden_symbols ((codes "A" ∷ []) ∷ (codes "B" ∷ []) ∷ [])
     ∷ OpSymbol (codes "B" ∷ codes "c" ∷ []) ∷ []) ≡ OpSymbol (codes "B" ∷ codes "c" ∷ []) ∷ []
 none_hidden = refl
 
--- the bare word gives way to a hidden symbol's
+-- the bare word is replaced by a hidden symbol's
 own_word : word (ConSymbol truth ∷ []) (ConSymbol (codes "T" ∷ [])) ≡ codes "\"T\""
 own_word = refl
 

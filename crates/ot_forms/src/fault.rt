@@ -1,4 +1,4 @@
-/// Why a line of readable text is refused, apart from want of memory.
+/// Why a line of readable text is refused, apart from running out of memory.
 #[derive(Clone, Copy, Debug, PartialEq, Eq)]
 pub enum TextFault {
     /// The line isn't of the forms.

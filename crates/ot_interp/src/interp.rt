@@ -41,7 +41,7 @@ impl Interp {
     }
 
     /// Adds a constant that isn't held, and the one that it becomes: the statement `interpret: const "from" as "to"`.
-    /// After want of memory the interpretation is as it was.
+    /// After running out of memory the interpretation is as it was.
     pub fn add_constant(&mut self, from: NameId, to: NameId) -> Result<(), Memory>
         requires { is_held numbers self.old.constants from ≡ false }
         ensures ok { OnOk result
@@ -53,7 +53,7 @@ impl Interp {
     }
 
     /// Adds a type operator that isn't held, and the one that it becomes: the statement `interpret: type "from" as
-    /// "to"`. After want of memory the interpretation is as it was.
+    /// "to"`. After running out of memory the interpretation is as it was.
     pub fn add_type_op(&mut self, from: NameId, to: NameId) -> Result<(), Memory>
         requires { is_held numbers self.old.type_ops from ≡ false }
         ensures ok { OnOk result
@@ -65,7 +65,7 @@ impl Interp {
     }
 
     /// First this interpretation, then the outer one, as what a package's theory file says comes before what is said
-    /// by the block that names the package. The one error is want of memory.
+    /// by the block that names the package. The one error is running out of memory.
     pub fn after(&self, alloc: Global, outer: &Interp) -> Result<Interp, Memory>
         ensures pairs { IfOk result (λ both. both ≡ after numbers self.now outer.now) }
         ensures within { IfOk result (λ both. (size : ℕ) → IsWithin size self.now → IsWithin size outer.now

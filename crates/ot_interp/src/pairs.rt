@@ -7,7 +7,7 @@ use indexmap::IndexMap;
 use ot_plain::{Memory, NameId};
 use std::alloc::Global;
 
-// What a name becomes.
+/// What a name becomes.
 pub(crate) fn renamed(pairs: &IndexMap<NameId, NameId>, name: NameId) -> NameId
     ensures { result ≡ renamed numbers pairs.now.entries name }
 {
@@ -17,7 +17,7 @@ pub(crate) fn renamed(pairs: &IndexMap<NameId, NameId>, name: NameId) -> NameId
     }
 }
 
-// Adds a pair for a name that isn't held.
+/// Adds a pair for a name that isn't held.
 pub(crate) fn add(
     pairs: &mut IndexMap<NameId, NameId>,
     from: NameId,
@@ -31,7 +31,7 @@ pub(crate) fn add(
     Ok(())
 }
 
-// The pairs of one map, their second names renamed by another.
+/// The pairs of one map, their second names renamed by another.
 fn images(
     alloc: Global,
     inner: &IndexMap<NameId, NameId>,
@@ -47,7 +47,7 @@ fn images(
     Ok(both)
 }
 
-// First one map, then another.
+/// First one map, then another.
 pub(crate) fn after(
     alloc: Global,
     inner: &IndexMap<NameId, NameId>,

@@ -22,7 +22,7 @@ has_distinct_paths [] = true
 has_distinct_paths (file ∷ files) =
     not (list_any (λ other. bytes_eq file.0 other.0) files) && has_distinct_paths files
 
--- the path, where a folder is told that has it
+-- the path, where a folder is known that has it
 abbrev pub path_asked : Option Folder → List ℕ → Option (List ℕ)
 path_asked None path = None
 path_asked (Some folder) path = option_map (λ bytes. path) (bytes_at folder path)

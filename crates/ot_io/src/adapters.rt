@@ -68,7 +68,7 @@ impl<W: Write> Sink for StdSink<W> {
 
     ghost faults = { λ s. s.faults };
 
-    // A writer that takes no byte of a piece that is not empty has failed too.
+    /// A writer that takes no byte of a piece that is not empty has failed too.
     fn write(&mut self, piece: &[u8]) -> Result<usize, Failed> {
         match self.inner.write(piece) {
             Ok(count) if count > 0 || piece.is_empty() => Ok(count),

@@ -9,7 +9,7 @@ use std::{fs, rt};
 /// The files of a system, by their paths, with counts of its failures. It tells no content.
 ///
 /// A path that the system doesn't find is a missing file. All else that it answers in place of a file
-/// or of its bytes is a failure: at a folder, a path through a file, a lacking permission, a byte 0.
+/// or of its bytes is a failure: at a folder, a path through a file, a missing permission, a byte 0.
 #[derive(Drop)]
 pub struct DirFiles<R: rt::Files> {
     system: R,

@@ -17,7 +17,7 @@ pub enum OpenFault {
 pub trait Files: Source {
     /// Opens the file of a path. The former file is closed, whatever the answer is.
     ///
-    /// `Missing` comes only where a file was missing in this call, and never where the folder is told
+    /// `Missing` comes only where a file was missing in this call, and never where the folder is known
     /// and has the path. `Failed` comes only where the device failed in this call. After either no
     /// file is open.
     fn open_file(&mut self, path: &str) -> Result<(), OpenFault>

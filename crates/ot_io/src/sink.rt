@@ -8,10 +8,10 @@ use crate::source::Failed;
 
 /// A place for bytes.
 pub trait Sink {
-    /// The bytes that were written, where told.
+    /// The bytes that were written, where known.
     ghost written: { Self → Option (List ℕ) };
 
-    /// How many of them were flushed, where told.
+    /// How many of them were flushed, where known.
     ghost flushed: { Self → Option ℕ };
 
     /// How often the device failed. The count never falls.

@@ -12,19 +12,19 @@ pub struct Failed;
 ///
 /// A source without files tells the folder without files, tells no path, and has missed none.
 pub trait Source {
-    /// The bytes that are left, where told.
+    /// The bytes that are left, where known.
     ghost left: { Self → Option (List ℕ) };
 
     /// How often the device failed. The count never falls.
     ghost faults: { Self → ℕ };
 
-    /// The files, where told.
+    /// The files, where known.
     ghost folder: { Self → Option Folder };
 
     /// How often a file was missing. The count never falls.
     ghost misses: { Self → ℕ };
 
-    /// The path that was asked for last, where told.
+    /// The path that was asked for last, where known.
     ghost at: { Self → Option (List ℕ) };
 
     /// Takes the next bytes into the front of `buf`, and answers how many. `Ok(0)` for a buffer that

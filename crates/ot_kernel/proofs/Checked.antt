@@ -120,7 +120,7 @@ names_no_symbol n rules.Nesting r h = tt
 names_no_symbol n (rules.Define e) r h = none_named n e r h
 names_no_symbol n rules.Memory r h = tt
 
--- want of memory is told as the rule's own
+-- running out of memory is answered as the rule's own
 never_memory : (e : DefineFault) → of_define e ≢ rules.Define definitions.Memory
 never_memory definitions.BadDefinitionList q = cc
 never_memory definitions.HypothesesPresent q = cc

@@ -28,7 +28,7 @@ refuses_rule {N = N} e f stated p s read = (
   λ g q. s ∙ ap Err (same_Some f g (sym (p read) ∙ q)),
 )
 
--- want of memory is free
+-- running out of memory may be answered at any point
 pub memory_refuses : {X N : Type 0} (stated : Result X (Fault N)) → RefusesRule rules.Memory stated
 memory_refuses stated read = (λ q. cc, λ f p. cc)
 

@@ -80,7 +80,7 @@ module _ (ns : List Name) (t : TermTable) (held : Held) (now : State) (view : st
       (omega (arith, e, length-map t.terms (map_named (name_of ns)))))
       ∙ ap (λ (s : State). named_at s.terms i) view
 
-  -- ---- calls that only want of memory refuses
+  -- ---- calls that only running out of memory refuses
   pub type_var-ok : {E : Type 0} (u : TermTable) (r : Result ℕ E) (n : ℕ) → n < length now.names
       → IfOk r (λ id. slice_get u.types id ≡ Some (TyVar n))
       → IfOk r (λ id. slice_get (state_of ns u held).types id ≡ Some (TyVar (name_at now n)))

@@ -388,7 +388,7 @@ module _ {ns ms : List Name} {t u : TermTable} {held : Held} {now mid : State} (
   open_made made p h = ap (λ (d : Defining names). d >>= limit_then) made
       ∙ ap (λ b. unless {E = Fault Name} Nesting b >>= λ _. Ok definition) (shallow_named p h)
 
-  -- want of memory after the theorems were made
+  -- running out of memory after the theorems were made
   pub nothing_defined : (e : RuleFault) (new : State) → (new ≡ mid) × (e ≡ Memory)
       → DefinesOpenType (Err e) answer now new × Keeps now new
   nothing_defined e new h = (

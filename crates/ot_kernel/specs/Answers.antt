@@ -21,7 +21,7 @@ use Rattle.ot_kernel.specs.Axioms.{known, with_sequent, with_theorem}
 use Rattle.ot_kernel.specs.declared.fault.RuleFault.{RuleFault}
 use Rattle.ot_kernel.specs.declared.fault.RuleFault.TheVariants as rules
 
--- ---- the named fault that a refusal stands for; want of memory stands for none
+-- ---- the named fault that a refusal stands for; running out of memory stands for none
 
 abbrev pub table_fault : TableFault → Option (Fault Name)
 table_fault types.Nesting = Some Nesting
@@ -63,7 +63,7 @@ rule_fault read rules.Memory = None
 abbrev pub Refuses : {X E : Type 0} → (E → Option (Fault Name)) → E → Result X (Fault Name) → Type 0
 Refuses fault_of e stated = (f : Fault Name) → fault_of e ≡ Some f → stated ≡ Err f
 
--- a rule's refusal is the stated one, where numbers stand for these names; want of memory never comes as a
+-- a rule's refusal is the stated one, where numbers stand for these names; running out of memory never comes as a
 -- definition's refusal
 abbrev pub RefusesBy : {X N : Type 0} → (ℕ → N) → RuleFault → Result X (Fault N) → Type 0
 RefusesBy {X} {N} read e stated = (e ≢ rules.Define definitions.Memory)

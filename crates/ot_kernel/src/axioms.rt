@@ -37,7 +37,7 @@ impl Kernel {
         self.supposed(Theorem { hyps, concl })
     }
 
-    // Whether terms are all of a type.
+    /// Whether terms are all of a type.
     pub(crate) fn have_type(&self, ts: &[TermId], ty: TypeId) -> bool
         requires ts { All (λ i. i < length self.now.terms) ts.now }
         requires ty { ty < length self.now.types }
@@ -51,7 +51,7 @@ impl Kernel {
         true
     }
 
-    // The assumption of a sequent of propositions, a new one where none is this sequent.
+    /// The assumption of a sequent of propositions, a new one where none is this sequent.
     fn supposed(&mut self, theorem: Theorem) -> Result<ThmId, RuleFault>
         requires { IsProposed self.old theorem }
         ensures ok { IfOk result (λ id. IsSupposed id (sequent_of self.old.terms theorem) self.old self.new) }
@@ -63,7 +63,7 @@ impl Kernel {
         self.suppose(theorem)
     }
 
-    // The first assumption that is this sequent.
+    /// The first assumption that is this sequent.
     fn assumption_of(&self, theorem: &Theorem) -> Option<ThmId>
         requires { IsInside (length self.now.terms) theorem.now }
         ensures within { IfSome result (λ id. id < length self.now.theorems) }
@@ -74,7 +74,7 @@ impl Kernel {
         self.first_same(&self.assumptions()[from..], theorem)
     }
 
-    // The first of these theorems that is this sequent.
+    /// The first of these theorems that is this sequent.
     fn first_same(&self, among: &[ThmId], theorem: &Theorem) -> Option<ThmId>
         requires among { All (λ i. i < length self.now.theorems) among.now }
         requires theorem { IsInside (length self.now.terms) theorem.now }
@@ -104,7 +104,7 @@ impl Kernel {
         }
     }
 
-    // A sequent of propositions as a new assumption, whose theorem takes the next place.
+    /// A sequent of propositions as a new assumption, whose theorem takes the next place.
     fn suppose(&mut self, theorem: Theorem) -> Result<ThmId, RuleFault>
         requires proposed { IsProposed self.old theorem }
         requires new { find (λ r. same_sequent names r (sequent_of self.old.terms theorem)) self.old.assumptions

@@ -30,7 +30,7 @@ use ot_term::{Steps, TermId, Terms, VarKey};
 use ot_type::{TypeId, TypeSubst};
 use std::alloc::Global;
 
-// The theorem of a constant: it equals its term.
+/// The theorem of a constant: it equals its term.
 pub(crate) fn const_theorem(
     terms: &mut Terms,
     name: NameId,
@@ -51,7 +51,7 @@ pub(crate) fn const_theorem(
     })
 }
 
-// The theorems of a type over type variables, which is taken from the elements of another type that fulfil a predicate.
+/// The theorems of a type over type variables, which is taken from the elements of another type that fulfil a predicate.
 pub(crate) fn type_theorems(
     alloc: Global,
     terms: &mut Terms,
@@ -95,7 +95,7 @@ pub(crate) fn type_theorems(
     Ok((first, second))
 }
 
-// The type of an operator over type variables, which is never nested too deep.
+/// The type of an operator over type variables, which is never nested too deep.
 pub(crate) fn new_type(
     alloc: Global,
     terms: &mut Terms,
@@ -110,12 +110,13 @@ pub(crate) fn new_type(
     Ok(terms.type_op(op, &args)?)
 }
 
-// The type variables of these names.
+/// The type variables of these names.
 fn type_variables(alloc: Global, terms: &mut Terms, vars: &[NameId]) -> Result<Vec<TypeId>, Memory>
     ensures types { IfOk result (λ v. types_at terms.new.types v.items ≡ tys_of_vars numbers vars.now) }
     ensures within { IfOk result (λ v. All (λ i. i < length terms.new.types) v.items) }
     ensures grown { IsGrownTo (bound_of_names vars.now) terms.old terms.new }
 {
+    // Each term of the table is typed and within the limit.
     let _types = terms.types();
     let mut types = Vec::new(alloc);
     for name in vars {
@@ -124,7 +125,7 @@ fn type_variables(alloc: Global, terms: &mut Terms, vars: &[NameId]) -> Result<V
     Ok(types)
 }
 
-// The constant of this name from one type to another.
+/// The constant of this name from one type to another.
 pub(crate) fn constant_between(
     terms: &mut Terms,
     name: NameId,
@@ -141,7 +142,7 @@ pub(crate) fn constant_between(
     Ok(terms.constant(name, ty)?)
 }
 
-// |- (\v. abs (rep v)) = (\v. v).
+/// |- (\v. abs (rep v)) = (\v. v).
 fn abs_theorem(
     terms: &mut Terms,
     v: &VarKey,
@@ -162,7 +163,7 @@ fn abs_theorem(
     equal_functions(terms, v, image, x)
 }
 
-// |- (\v. rep (abs v) = v) = (\v. p v).
+/// |- (\v. rep (abs v) = v) = (\v. p v).
 fn rep_theorem(
     terms: &mut Terms,
     v: &VarKey,
@@ -190,7 +191,7 @@ fn rep_theorem(
     equal_functions(terms, v, same, holds)
 }
 
-// A variable, and g (f v).
+/// A variable, and g (f v).
 pub(crate) fn round_trip(
     terms: &mut Terms,
     v: &VarKey,
@@ -211,7 +212,7 @@ pub(crate) fn round_trip(
     Ok((x, back))
 }
 
-// |- (\v. a) = (\v. b), where a and b are of one type.
+/// |- (\v. a) = (\v. b), where a and b are of one type.
 fn equal_functions(
     terms: &mut Terms,
     v: &VarKey,
@@ -227,6 +228,7 @@ fn equal_functions(
         (tm_at terms.old.terms a) (tm_at terms.old.terms b))) terms.new.terms }
     ensures grown { IsGrownBy v.now.name terms.old terms.new }
 {
+    // Each term of the table is typed and within the limit.
     let _types = terms.types();
     let left = abstract_from(terms, v, a)?;
     let right = abstract_from(terms, v, b)?;
@@ -237,7 +239,7 @@ fn equal_functions(
     })
 }
 
-// The theorem of a list of constants: the premise's conclusion with each constant in the place of its variable.
+/// The theorem of a list of constants: the premise's conclusion with each constant in the place of its variable.
 pub(crate) fn list_theorem(
     alloc: Global,
     terms: &mut Terms,
@@ -261,6 +263,7 @@ pub(crate) fn list_theorem(
     ensures later { IsLater names.old names.new terms.old terms.new }
     ensures name_table { IsNameTable names.new }
 {
+    // What holds of each table of names.
     let _count = names.count();
     let mut steps = Steps::new(Ledger);
     let s = constants(alloc, terms, cs, vars)?;
@@ -272,7 +275,7 @@ pub(crate) fn list_theorem(
     })
 }
 
-// A constant for each of these variables, as a substitution.
+/// A constant for each of these variables, as a substitution.
 fn constants(
     alloc: Global,
     terms: &mut Terms,
@@ -288,6 +291,7 @@ fn constants(
     ensures fits { IfOk result (λ s. IsSubstOf terms.new s) }
     ensures grown { IsGrownTo (bound_of_names cs.now) terms.old terms.new }
 {
+    // Each term of the table is typed and within the limit.
     let _types = terms.types();
     let mut s = Subst::new(alloc, TypeSubst::new(alloc));
     for (name, v) in cs.iter().zip(vars) {
@@ -297,7 +301,7 @@ fn constants(
     Ok(s)
 }
 
-// |- (\v. p v) v = p v.
+/// |- (\v. p v) v = p v.
 pub(crate) fn beta_theorem(terms: &mut Terms, v: &VarKey, p: TermId) -> Result<Theorem, RuleFault>
     requires ty { v.now.ty < length terms.old.types }
     requires p { p < length terms.old.terms }

@@ -46,7 +46,7 @@ impl Kernel {
         self.accept_constant(name, t, theorem)
     }
 
-    // Whether a constant may be defined as the term.
+    /// Whether a constant may be defined as the term.
     fn check_constant(&self, name: NameId, t: TermId) -> Result<(), RuleFault>
         requires name { name < length self.now.names }
         requires t { t < length self.now.terms }
@@ -62,7 +62,7 @@ impl Kernel {
         Ok(checked?)
     }
 
-    // The number of the theorem of a constant that may be defined.
+    /// The number of the theorem of a constant that may be defined.
     fn accept_constant(
         &mut self,
         name: NameId,
@@ -90,7 +90,7 @@ impl Kernel {
         Ok(id)
     }
 
-    // Whether constants may be defined for the variables of a theorem.
+    /// Whether constants may be defined for the variables of a theorem.
     fn check_constants(&self, names: &[NameId], vars: &[VarKey], th: ThmId) -> Result<(), RuleFault>
         requires names { All (λ n. n < length self.now.names) names.now }
         requires vars { All (λ v. (v.name < length self.now.names) × (v.ty < length self.now.types)) vars.now }
@@ -121,7 +121,7 @@ impl Kernel {
         )
     }
 
-    // The number of the theorem of constants that may be defined.
+    /// The number of the theorem of constants that may be defined.
     fn accept_constants(
         &mut self,
         names: &[NameId],
@@ -162,7 +162,7 @@ impl Kernel {
         Ok(id)
     }
 
-    // The symbols of a theorem and of terms.
+    /// The symbols of a theorem and of terms.
     pub(crate) fn symbols_with(&self, th: ThmId, ids: &[TermId]) -> Result<Vec<Symbol>, Memory>
         requires th { th < length self.now.theorems }
         requires ids { All (λ i. i < length self.now.terms) ids.now }
@@ -177,7 +177,7 @@ impl Kernel {
         self.symbols_in(all.as_slice())
     }
 
-    // The symbols of terms.
+    /// The symbols of terms.
     fn symbols_in(&self, ids: &[TermId]) -> Result<Vec<Symbol>, Memory>
         requires { All (λ i. i < length self.now.terms) ids.now }
         ensures symbols { IfOk result (λ v. IsSameSet (map (map_symbol (name_at self.now)) (map symbol_of v.items))
@@ -220,7 +220,7 @@ impl Kernel {
         self.accept_constants(names, vars, th, theorem)
     }
 
-    // Adds a definition that may be next, with its theorems and its symbols. After want of memory all is as before.
+    /// Adds a definition that may be next, with its theorems and its symbols. After running out of memory all is as before.
     pub(crate) fn accept(
         &mut self,
         theorems: Vec<Theorem>,
@@ -248,7 +248,7 @@ impl Kernel {
     }
 }
 
-// The symbols of terms over the table.
+/// The symbols of terms over the table.
 fn symbols_of(alloc: Global, terms: &Terms, ids: &[TermId]) -> Result<Vec<Symbol>, Memory>
     requires { All (λ i. i < length terms.now.terms) ids.now }
     ensures { IfOk result
@@ -262,7 +262,7 @@ fn symbols_of(alloc: Global, terms: &Terms, ids: &[TermId]) -> Result<Vec<Symbol
     Ok(symbols)
 }
 
-// The symbols of constants.
+/// The symbols of constants.
 fn constant_symbols(alloc: Global, names: &[NameId]) -> Result<Vec<Symbol>, Memory>
     ensures { IfOk result (λ v. v.items ≡ map (λ n. record { kind = Con; name = n }) names.now) }
 {
@@ -274,7 +274,7 @@ fn constant_symbols(alloc: Global, names: &[NameId]) -> Result<Vec<Symbol>, Memo
     )
 }
 
-// The symbol of a constant.
+/// The symbol of a constant.
 pub(crate) fn constant_symbol(name: NameId) -> Symbol
     ensures { result ≡ record { kind = Con; name = name } }
 {
@@ -284,7 +284,7 @@ pub(crate) fn constant_symbol(name: NameId) -> Symbol
     }
 }
 
-// Adds theorems to a list, and symbols to a signature. After want of memory both are as before.
+/// Adds theorems to a list, and symbols to a signature. After running out of memory both are as before.
 fn add_to(
     theorems: &mut Vec<Theorem>,
     signature: &mut Signature,

@@ -15,7 +15,7 @@ use ot_plain::Memory;
 use ot_term::Terms;
 use std::alloc::Global;
 
-// From G |- p and D |- q, p = q, without q in G and p in D.
+/// From G |- p and D |- q, p = q, without q in G and p in D.
 pub(crate) fn deduct_antisym(
     alloc: Global,
     terms: &mut Terms,
@@ -30,6 +30,7 @@ pub(crate) fn deduct_antisym(
         (numbered_sequent terms.old.terms top.now)) terms.new.terms }
     ensures grown { IsGrown terms.old terms.new }
 {
+    // Each term of the table is typed and within the limit.
     let _types = terms.types();
     let lower_hyps = minus(alloc, terms, top.concl, &lower.hyps)?;
     let top_hyps = minus(alloc, terms, lower.concl, &top.hyps)?;
@@ -38,7 +39,7 @@ pub(crate) fn deduct_antisym(
     Ok(Theorem { hyps, concl })
 }
 
-// The other theorem without the lemma's conclusion among its hypotheses, which the lemma's take the place of.
+/// The other theorem without the lemma's conclusion among its hypotheses, which the lemma's take the place of.
 pub(crate) fn prove_hyp(
     alloc: Global,
     terms: &Terms,
@@ -57,7 +58,7 @@ pub(crate) fn prove_hyp(
     }
 }
 
-// Whether the lower theorem alone is a lemma for the other.
+/// Whether the lower theorem alone is a lemma for the other.
 fn is_lemma(terms: &Terms, lower: &Theorem, top: &Theorem) -> bool
     requires lower { IsInside (length terms.now.terms) lower.now }
     requires top { IsInside (length terms.now.terms) top.now }
@@ -71,7 +72,7 @@ fn is_lemma(terms: &Terms, lower: &Theorem, top: &Theorem) -> bool
     has_term(terms, &top.hyps, lower.concl)
 }
 
-// The other theorem with the lemma's hypotheses in the place of the lemma's conclusion.
+/// The other theorem with the lemma's hypotheses in the place of the lemma's conclusion.
 fn proved_hyp(
     alloc: Global,
     terms: &Terms,

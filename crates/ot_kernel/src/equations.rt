@@ -18,7 +18,7 @@ use ot_alpha::alpha_eq;
 use ot_term::{TermId, Terms, VarKey};
 use std::alloc::Global;
 
-// The equation of two terms of one type.
+/// The equation of two terms of one type.
 pub(crate) fn equate(terms: &mut Terms, a: TermId, b: TermId) -> Result<TermId, RuleFault>
     requires a { a < length terms.old.terms }
     requires b { b < length terms.old.terms }
@@ -29,7 +29,7 @@ pub(crate) fn equate(terms: &mut Terms, a: TermId, b: TermId) -> Result<TermId, 
     Ok(terms.eq(a, b)?)
 }
 
-// The sides of an equation, which are of one type.
+/// The sides of an equation, which are of one type.
 fn sides(terms: &Terms, id: TermId) -> Result<(TermId, TermId), RuleFault>
     requires { id < length terms.now.terms }
     ensures ok { IfOk result (λ p. (ty : Ty ℕ) × AreSides terms.now.terms id ty p.0 p.1) }
@@ -44,7 +44,7 @@ fn sides(terms: &Terms, id: TermId) -> Result<(TermId, TermId), RuleFault>
     }
 }
 
-// The application of a function to an argument.
+/// The application of a function to an argument.
 pub(crate) fn apply(terms: &mut Terms, f: TermId, x: TermId) -> Result<TermId, RuleFault>
     requires f { f < length terms.old.terms }
     requires x { x < length terms.old.terms }
@@ -54,7 +54,7 @@ pub(crate) fn apply(terms: &mut Terms, f: TermId, x: TermId) -> Result<TermId, R
     Ok(terms.app(f, x)?)
 }
 
-// The abstraction of a variable.
+/// The abstraction of a variable.
 pub(crate) fn abstract_from(terms: &mut Terms, v: &VarKey, t: TermId) -> Result<TermId, RuleFault>
     requires ty { v.now.ty < length terms.old.types }
     requires t { t < length terms.old.terms }
@@ -65,7 +65,7 @@ pub(crate) fn abstract_from(terms: &mut Terms, v: &VarKey, t: TermId) -> Result<
     Ok(terms.abs(*v, t)?)
 }
 
-// t = t.
+/// t = t.
 pub(crate) fn refl(terms: &mut Terms, t: TermId) -> Result<Theorem, RuleFault>
     requires { t < length terms.old.terms }
     ensures derives { Derives result (refl_rule numbers (tm_at terms.old.terms t)) terms.new.terms }
@@ -78,12 +78,13 @@ pub(crate) fn refl(terms: &mut Terms, t: TermId) -> Result<Theorem, RuleFault>
     })
 }
 
-// From G |- t = u, u = t.
+/// From G |- t = u, u = t.
 pub(crate) fn sym(alloc: Global, terms: &mut Terms, th: &Theorem) -> Result<Theorem, RuleFault>
     requires { IsInside (length terms.old.terms) th.now }
     ensures derives { Derives result (sym_rule numbers (numbered_sequent terms.old.terms th.now)) terms.new.terms }
     ensures grown { IsGrown terms.old terms.new }
 {
+    // Each term of the table is typed and within the limit.
     let _types = terms.types();
     let (t, u) = sides(terms, th.concl)?;
     let concl = equate(terms, u, t)?;
@@ -91,7 +92,7 @@ pub(crate) fn sym(alloc: Global, terms: &mut Terms, th: &Theorem) -> Result<Theo
     Ok(Theorem { hyps, concl })
 }
 
-// From G |- p = q and D |- p, q.
+/// From G |- p = q and D |- p, q.
 pub(crate) fn eq_mp(
     alloc: Global,
     terms: &Terms,
@@ -111,7 +112,7 @@ pub(crate) fn eq_mp(
     Ok(Theorem { hyps, concl: q })
 }
 
-// From G |- t = u, with v free in no member of G, the equation of the abstractions of v.
+/// From G |- t = u, with v free in no member of G, the equation of the abstractions of v.
 pub(crate) fn abs_thm(
     alloc: Global,
     terms: &mut Terms,
@@ -124,6 +125,7 @@ pub(crate) fn abs_thm(
         (numbered_sequent terms.old.terms th.now)) terms.new.terms }
     ensures grown { IsGrownBy v.name terms.old terms.new }
 {
+    // Each term of the table is typed and within the limit.
     let _types = terms.types();
     let (t, u) = sides(terms, th.concl)?;
     if is_free_in_some(alloc, terms, v, &th.hyps)? {
@@ -136,7 +138,7 @@ pub(crate) fn abs_thm(
     Ok(Theorem { hyps, concl })
 }
 
-// From G |- f = g and D |- x = y, f x = g y.
+/// From G |- f = g and D |- x = y, f x = g y.
 pub(crate) fn app_thm(
     alloc: Global,
     terms: &mut Terms,
@@ -149,6 +151,7 @@ pub(crate) fn app_thm(
         (numbered_sequent terms.old.terms top.now)) terms.new.terms }
     ensures grown { IsGrown terms.old terms.new }
 {
+    // Each term of the table is typed and within the limit.
     let _types = terms.types();
     let (f, g) = sides(terms, lower.concl)?;
     let (x, y) = sides(terms, top.concl)?;
@@ -159,7 +162,7 @@ pub(crate) fn app_thm(
     Ok(Theorem { hyps, concl })
 }
 
-// From two equations with one side in common, that of their other sides.
+/// From two equations with one side in common, that of their other sides.
 pub(crate) fn trans(
     alloc: Global,
     terms: &mut Terms,
@@ -172,6 +175,7 @@ pub(crate) fn trans(
         (numbered_sequent terms.old.terms top.now)) terms.new.terms }
     ensures grown { IsGrown terms.old terms.new }
 {
+    // Each term of the table is typed and within the limit.
     let _types = terms.types();
     let (left, right) = outer_sides(terms, lower, top)?;
     let hyps = union(alloc, terms, &lower.hyps, &top.hyps)?;
@@ -179,7 +183,7 @@ pub(crate) fn trans(
     Ok(Theorem { hyps, concl })
 }
 
-// The sides that two equations with one side in common don't share. The inner sides are compared first.
+/// The sides that two equations with one side in common don't share. The inner sides are compared first.
 fn outer_sides(terms: &Terms, lower: &Theorem, top: &Theorem) -> Result<(TermId, TermId), RuleFault>
     requires lower { IsInside (length terms.now.terms) lower.now }
     requires top { IsInside (length terms.now.terms) top.now }

@@ -16,7 +16,7 @@ use ot_plain::Memory;
 use ot_term::{TermId, Terms, VarKey};
 use std::alloc::Global;
 
-// Whether all the terms are among these.
+/// Whether all the terms are among these.
 pub(crate) fn has_terms(alloc: Global, terms: &Terms, among: &[TermId], ts: &[TermId]) -> bool
     requires among { All (λ i. i < length terms.now.terms) among.now }
     requires ts { All (λ i. i < length terms.now.terms) ts.now }
@@ -32,7 +32,7 @@ pub(crate) fn has_terms(alloc: Global, terms: &Terms, among: &[TermId], ts: &[Te
     true
 }
 
-// Those of the first list, and then those of the second that the first lacks.
+/// Those of the first list, and then those of the second that the first lacks.
 pub(crate) fn union(
     alloc: Global,
     terms: &Terms,
@@ -60,7 +60,7 @@ pub(crate) fn union(
     Hypotheses::of(alloc, all)
 }
 
-// The list without a term.
+/// The list without a term.
 pub(crate) fn minus(
     alloc: Global,
     terms: &Terms,
@@ -82,7 +82,7 @@ pub(crate) fn minus(
     Ok(left)
 }
 
-// The members of a list, each once, at its last place.
+/// The members of a list, each once, at its last place.
 pub(crate) fn once_each(alloc: Global, terms: &Terms, g: &[TermId]) -> Result<Hypotheses, Memory>
     requires { All (λ i. i < length terms.now.terms) g.now }
     ensures once { IfOk result
@@ -104,7 +104,7 @@ pub(crate) fn once_each(alloc: Global, terms: &Terms, g: &[TermId]) -> Result<Hy
     Hypotheses::of(alloc, once)
 }
 
-// Puts a term at the end of a list, where it isn't among these.
+/// Puts a term at the end of a list, where it isn't among these.
 fn push_lacking(
     terms: &Terms,
     among: &[TermId],
@@ -126,7 +126,7 @@ fn push_lacking(
     Ok(())
 }
 
-// Whether a variable is free in one of the terms.
+/// Whether a variable is free in one of the terms.
 pub(crate) fn is_free_in_some(
     alloc: Global,
     terms: &Terms,

@@ -20,11 +20,11 @@ use ot_term::{Steps, TermId, Terms};
 use smallvec::SmallVec;
 use std::alloc::Global;
 
-// What a count of steps is over: here nothing asks for the count.
+/// What a count of steps is over: here nothing asks for the count.
 #[derive(Drop)]
 pub(crate) struct Ledger;
 
-// (\v. t) u = t with u for v.
+/// (\v. t) u = t with u for v.
 pub(crate) fn beta_conv(
     alloc: Global,
     terms: &mut Terms,
@@ -47,7 +47,7 @@ pub(crate) fn beta_conv(
     })
 }
 
-// The theorem with the substitution put into each of its terms.
+/// The theorem with the substitution put into each of its terms.
 pub(crate) fn subst(
     alloc: Global,
     terms: &mut Terms,
@@ -71,7 +71,7 @@ pub(crate) fn subst(
     Ok(Theorem { hyps, concl })
 }
 
-// The terms with the substitution put in, in their order. Refused where no theorem with these hypotheses has an image.
+/// The terms with the substitution put in, in their order. Refused where no theorem with these hypotheses has an image.
 fn images(
     alloc: Global,
     terms: &mut Terms,
@@ -94,6 +94,7 @@ fn images(
     ensures name_table { IsNameTable names.new }
     ensures fits { IsSubstOf terms.new s.now }
 {
+    // Each term of the table is typed and within the limit.
     let _types = terms.types();
     let _count = names.count();
     let mut images = SmallVec::new(alloc);

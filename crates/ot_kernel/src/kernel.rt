@@ -222,7 +222,7 @@ impl Kernel {
         Ok(self.has_type(t, boolean))
     }
 
-    // The type of propositions.
+    /// The type of propositions.
     pub(crate) fn boolean(&mut self) -> Result<TypeId, Memory>
         ensures within { IfOk result (λ id. id < length self.new.types) }
         ensures ok { IfOk result (λ id. type_at self.new id ≡ bool_ty names) }
@@ -232,7 +232,7 @@ impl Kernel {
         self.terms.type_bool()
     }
 
-    // Whether a term is of a type.
+    /// Whether a term is of a type.
     pub(crate) fn has_type(&self, t: TermId, ty: TypeId) -> bool
         requires t { t < length self.now.terms }
         requires ty { ty < length self.now.types }
@@ -241,7 +241,7 @@ impl Kernel {
         self.terms.type_of(t) == ty
     }
 
-    // The number of a theorem that follows, which takes the next place. `Memory` is the only refusal.
+    /// The number of a theorem that follows, which takes the next place. `Memory` is the only refusal.
     pub(crate) fn conclude(&mut self, th: Theorem) -> Result<ThmId, RuleFault>
         requires inside { IsInside (length self.old.terms) th }
         requires follows { IsTheorem names self.old.assumptions self.old.definitions (sequent_of self.old.terms th) }
@@ -255,7 +255,7 @@ impl Kernel {
         Ok(id)
     }
 
-    // The number of the theorem that a rule gives, which follows. A refusal stays.
+    /// The number of the theorem that a rule gives, which follows. A refusal stays.
     #[inline(always)]
     pub(crate) fn derived(
         &mut self,

@@ -15,10 +15,10 @@ use ot_plain::Memory;
 use ot_term::{TermId, Terms};
 use std::alloc::Global;
 
-// Among so many terms, or for so many, a scan for each is short.
+/// Among so many terms, or for so many, a scan for each is short.
 const FEW: usize = 8;
 
-// Whether a term is among these.
+/// Whether a term is among these.
 pub(crate) fn has_term(terms: &Terms, among: &[TermId], t: TermId) -> bool
     requires among { All (λ i. i < length terms.now.terms) among.now }
     requires t { t < length terms.now.terms }
@@ -32,7 +32,7 @@ pub(crate) fn has_term(terms: &Terms, among: &[TermId], t: TermId) -> bool
     false
 }
 
-// Whether a term is among these, of which the classes may be known.
+/// Whether a term is among these, of which the classes may be known.
 pub(crate) fn is_among(
     terms: &Terms,
     among: &[TermId],
@@ -50,7 +50,7 @@ pub(crate) fn is_among(
     }
 }
 
-// Whether the class of a term is among these: whether the term is one of the terms whose classes these are.
+/// Whether the class of a term is among these: whether the term is one of the terms whose classes these are.
 fn has_class(terms: &Terms, classes: &IndexSet<ClassId>, t: TermId) -> bool
     requires { t < length terms.now.terms }
     ensures { (us : List (Tm ℕ)) → AreClassesOf terms.now us classes.now.keys → result
@@ -59,7 +59,7 @@ fn has_class(terms: &Terms, classes: &IndexSet<ClassId>, t: TermId) -> bool
     classes.contains(&terms.class(t))
 }
 
-// The classes of these where many terms are sought among many of them.
+/// The classes of these where many terms are sought among many of them.
 pub(crate) fn classes_of_many(
     alloc: Global,
     terms: &Terms,
@@ -76,7 +76,7 @@ pub(crate) fn classes_of_many(
     Ok(Some(classes_of(alloc, terms, among)?))
 }
 
-// The same, but none for want of memory.
+/// The same, but none where memory runs out.
 pub(crate) fn classes_at_hand(
     alloc: Global,
     terms: &Terms,
@@ -92,7 +92,7 @@ pub(crate) fn classes_at_hand(
     }
 }
 
-// The classes of terms.
+/// The classes of terms.
 fn classes_of(alloc: Global, terms: &Terms, among: &[TermId]) -> Result<IndexSet<ClassId>, Memory>
     requires { All (λ i. i < length terms.now.terms) among.now }
     ensures { IfOk result (λ s. AreClassesOf terms.now (tms_at terms.now.terms among.now) s.keys) }
@@ -104,7 +104,7 @@ fn classes_of(alloc: Global, terms: &Terms, among: &[TermId]) -> Result<IndexSet
     Ok(classes)
 }
 
-// No term yet, whose classes are to be kept where there will be many.
+/// No term yet, whose classes are to be kept where there will be many.
 pub(crate) fn classes_of_none(alloc: Global, coming: usize) -> Option<IndexSet<ClassId>>
     ensures { IfSome result (λ s. s.keys ≡ []) }
 {
@@ -114,7 +114,7 @@ pub(crate) fn classes_of_none(alloc: Global, coming: usize) -> Option<IndexSet<C
     Some(IndexSet::new(alloc))
 }
 
-// One term more, whose class is added where classes are kept.
+/// One term more, whose class is added where classes are kept.
 pub(crate) fn add_term(
     terms: &Terms,
     classes: &mut Option<IndexSet<ClassId>>,
@@ -130,7 +130,7 @@ pub(crate) fn add_term(
     }
 }
 
-// Adds the class of a term.
+/// Adds the class of a term.
 fn add_class(terms: &Terms, classes: &mut IndexSet<ClassId>, t: TermId) -> Result<(), Memory>
     requires { t < length terms.now.terms }
     ensures { OnOk result (AddsClass terms.now t classes.old.keys classes.new.keys) }

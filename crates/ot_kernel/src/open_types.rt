@@ -84,8 +84,8 @@ impl Kernel {
     }
 }
 
-// The open theorems of a type operator from a premise p t, over the tables, where its theorems are
-// within the limit.
+/// The open theorems of a type operator from a premise p t, over the tables, where its theorems are
+/// within the limit.
 fn operator_open(
     alloc: Global,
     terms: &mut Terms,
@@ -107,7 +107,7 @@ fn operator_open(
     open_theorems(alloc, terms, op, abs, rep, vars, p, u)
 }
 
-// The open theorems of a type over type variables, where its theorems are within the limit.
+/// The open theorems of a type over type variables, where its theorems are within the limit.
 fn open_theorems(
     alloc: Global,
     terms: &mut Terms,
@@ -148,7 +148,7 @@ fn open_theorems(
     Ok((first, second))
 }
 
-// |- abs (rep v) = v.
+/// |- abs (rep v) = v.
 fn open_abs_theorem(
     terms: &mut Terms,
     v: &VarKey,
@@ -172,7 +172,7 @@ fn open_abs_theorem(
     })
 }
 
-// |- p v = (rep (abs v) = v).
+/// |- p v = (rep (abs v) = v).
 fn open_rep_theorem(
     terms: &mut Terms,
     v: &VarKey,

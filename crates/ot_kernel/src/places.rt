@@ -43,14 +43,14 @@ impl Places {
         }
     }
 
-    // The place of a class.
+    /// The place of a class.
     pub(crate) fn get(&self, class: ClassId) -> Option<usize>
         ensures { result ≡ lookup (nat_eq class) self.now }
     {
         self.firsts.get(&class).copied()
     }
 
-    // Gives a class its place, where it has none.
+    /// Gives a class its place, where it has none.
     pub(crate) fn note(&mut self, class: ClassId, place: usize) -> Result<(), Memory>
         ensures ok { OnOk result (IsPlaced class place self.old self.new) }
         ensures err { OnErr result (self.new ≡ self.old) }

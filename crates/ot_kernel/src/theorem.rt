@@ -12,7 +12,7 @@ use std::marker::Model;
 use std::ops::DerefSlice;
 use std::slice::from_ref;
 
-// How hypotheses are kept: most theorems have none, and most others one, for which nothing is allocated.
+/// How hypotheses are kept: most theorems have none, and most others one, for which nothing is allocated.
 #[derive(Drop)]
 pub(crate) enum Kept {
     None,
@@ -36,21 +36,21 @@ impl Model for Hypotheses {
 }
 
 impl Hypotheses {
-    // No hypotheses.
+    /// No hypotheses.
     pub(crate) fn none() -> Hypotheses
         ensures items { result ≡ [] }
     {
         Hypotheses { kept: Kept::None }
     }
 
-    // A single one.
+    /// A single one.
     pub(crate) fn one(t: TermId) -> Hypotheses
         ensures items { result ≡ t ∷ [] }
     {
         Hypotheses { kept: Kept::One(t) }
     }
 
-    // Those of a list, in its order.
+    /// Those of a list, in its order.
     pub(crate) fn of(alloc: Global, list: Vec<TermId>) -> Result<Hypotheses, Memory>
         ensures items { IfOk result (λ h. h ≡ list.items) }
     {
@@ -62,7 +62,7 @@ impl Hypotheses {
         Ok(Hypotheses { kept })
     }
 
-    // Those of a slice, in its order.
+    /// Those of a slice, in its order.
     pub(crate) fn from_slice(alloc: Global, list: &[TermId]) -> Result<Hypotheses, Memory>
         ensures items { IfOk result (λ h. h ≡ list.now) }
     {
@@ -101,7 +101,7 @@ impl Theorem {
     ghost use Rattle.ot_kernel.specs.Numbered.{tm_at, tms_at, numbered_sequent};
     ghost use Rattle.ot_kernel.specs.Spelled.{IsInside};
 
-    // Whether this is the theorem's sequent.
+    /// Whether this is the theorem's sequent.
     pub(crate) fn states(
         &self,
         alloc: Global,

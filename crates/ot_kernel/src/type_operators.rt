@@ -59,7 +59,7 @@ impl Kernel {
         self.accept_operator(name, abs, rep, vars, th, theorems, further)
     }
 
-    // Whether a type operator may be defined from a theorem.
+    /// Whether a type operator may be defined from a theorem.
     pub(crate) fn check_operator(
         &self,
         name: NameId,
@@ -100,8 +100,8 @@ impl Kernel {
         )
     }
 
-    // The numbers of the two theorems of a type operator that may be defined. Further theorems that
-    // follow from these take the places behind them.
+    /// The numbers of the two theorems of a type operator that may be defined. Further theorems that
+    /// follow from these take the places behind them.
     pub(crate) fn accept_operator(
         &mut self,
         name: NameId,
@@ -164,7 +164,7 @@ impl Kernel {
     }
 }
 
-// Two theorems as a list.
+/// Two theorems as a list.
 pub(crate) fn listed(alloc: Global, both: (Theorem, Theorem)) -> Result<Vec<Theorem>, Memory>
     ensures { IfOk result (λ v. v.items ≡ both.0 ∷ both.1 ∷ []) }
 {
@@ -175,7 +175,7 @@ pub(crate) fn listed(alloc: Global, both: (Theorem, Theorem)) -> Result<Vec<Theo
     Ok(theorems)
 }
 
-// The theorems of a type operator from a premise p t, over the tables.
+/// The theorems of a type operator from a premise p t, over the tables.
 pub(crate) fn operator_theorems(
     alloc: Global,
     terms: &mut Terms,
@@ -195,7 +195,7 @@ pub(crate) fn operator_theorems(
     type_theorems(alloc, terms, op, abs, rep, vars, p, u)
 }
 
-// The predicate p of a premise p t, and the type of t.
+/// The predicate p of a premise p t, and the type of t.
 pub(crate) fn parts(terms: &Terms, premise: TermId) -> (TermId, TypeId)
     requires inside { premise < length terms.now.terms }
     requires premise { IsPremise numbers (tm_at terms.now.terms premise) }
@@ -207,7 +207,7 @@ pub(crate) fn parts(terms: &Terms, premise: TermId) -> (TermId, TypeId)
     }
 }
 
-// The symbol of a type operator.
+/// The symbol of a type operator.
 fn operator_symbol(name: NameId) -> Symbol
     ensures { result ≡ record { kind = TyOp; name = name } }
 {

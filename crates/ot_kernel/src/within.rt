@@ -51,7 +51,7 @@ impl Kernel {
     }
 }
 
-// Whether this is the conclusion of a theorem, and each of its hypotheses is among these.
+/// Whether this is the conclusion of a theorem, and each of its hypotheses is among these.
 fn is_within(alloc: Global, terms: &Terms, th: &Theorem, hyps: &[TermId], concl: TermId) -> bool
     requires inside { IsInside (length terms.now.terms) th.now }
     requires hyps { All (λ i. i < length terms.now.terms) hyps.now }
@@ -65,7 +65,7 @@ fn is_within(alloc: Global, terms: &Terms, th: &Theorem, hyps: &[TermId], concl:
     has_terms(alloc, terms, hyps, &th.hyps)
 }
 
-// Whether a term is a hypothesis of a theorem.
+/// Whether a term is a hypothesis of a theorem.
 fn has_hyp(terms: &Terms, th: &Theorem, t: TermId) -> bool
     requires inside { IsInside (length terms.now.terms) th.now }
     requires t { t < length terms.now.terms }

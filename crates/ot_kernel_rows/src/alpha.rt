@@ -9,7 +9,7 @@ use ot_type::{TableFault, TypeId};
 use std::alloc::Global;
 use std::test::Fail;
 
-// Two abstractions over a variable, all of one type.
+/// Two abstractions over a variable, all of one type.
 fn nested(terms: &mut Terms, ty: TypeId, names: [NameId; 3]) -> Result<TermId, TableFault>
     requires { ty < length terms.old.types }
     ensures id { IfOk result (λ id. id < length terms.new.terms) }
@@ -29,7 +29,7 @@ fn are_same(terms: &mut Terms, left: [NameId; 3], right: [NameId; 3]) -> Result<
     Ok(alpha_eq(terms, a, b))
 }
 
-// Each row has a table of its own. It is made here, so that no refusal has to drop it.
+/// Each row has a table of its own. It is made here, so that no refusal has to drop it.
 fn compare(alloc: Global, left: [NameId; 3], right: [NameId; 3]) -> Result<bool, TableFault> {
     let mut terms = Terms::new(alloc);
     are_same(&mut terms, left, right)
@@ -54,7 +54,7 @@ fn names_of_bound_variables(rt: HostRuntime) -> Result<(), Fail> {
     Ok(())
 }
 
-// f D D for D a hundred times, from the variable on, under an abstraction of the variable.
+/// f D D for D a hundred times, from the variable on, under an abstraction of the variable.
 fn abstracted(
     terms: &mut Terms,
     names: (NameId, NameId),
@@ -96,7 +96,7 @@ fn compare_doubled(
     are_same_doubled(&mut terms, left, right)
 }
 
-// Terms of 2^101 nodes, each part of which stands there twice.
+/// Terms of 2^101 nodes, each part of which stands there twice.
 #[test]
 fn shared_parts(rt: HostRuntime) -> Result<(), Fail> {
     let (f, g, x, y) = (NameId::EQUALS, NameId::BOOL, NameId::A, NameId::R);

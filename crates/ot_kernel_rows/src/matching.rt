@@ -38,7 +38,7 @@ fn application(alloc: Global, function: Tm, argument: Tm) -> Result<Tm, AllocErr
     Ok(Tm::App(Box::new(alloc, function)?, Box::new(alloc, argument)?))
 }
 
-// No more than one part is owned where the next may be refused, so that few refusals have to drop any.
+/// No more than one part is owned where the next may be refused, so that few refusals have to drop any.
 fn unary(alloc: Global) -> Result<Ty, AllocError> {
     let result = type_variable(alloc, b"A")?;
     arrow(alloc, type_variable(alloc, b"A")?, result)

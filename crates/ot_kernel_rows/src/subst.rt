@@ -12,11 +12,11 @@ use std::alloc::Global;
 use std::process::Abort;
 use std::test::Fail;
 
-// A ledger of the tests' own.
+/// A ledger of the tests' own.
 #[derive(Clone, Copy)]
 struct Ledger;
 
-// The variables x and y, of one type, and `\y. x`.
+/// The variables x and y, of one type, and `\y. x`.
 #[derive(Clone, Copy)]
 struct Parts {
     ty: TypeId,
@@ -41,8 +41,8 @@ fn make_parts(terms: &mut Terms) -> Result<Parts, TableFault>
     Ok(Parts { ty, x, y, over_y })
 }
 
-// Whether the term is an abstraction with this type and this body from a variable of another name
-// than `y`.
+/// Whether the term is an abstraction with this type and this body from a variable of another name
+/// than `y`.
 fn is_over_another(terms: &Terms, id: TermId, ty: TypeId, body: TermId) -> bool
     requires { id < length terms.now.terms }
 {
@@ -52,7 +52,7 @@ fn is_over_another(terms: &Terms, id: TermId, ty: TypeId, body: TermId) -> bool
     }
 }
 
-// y put in for x: `\y. x` takes another binder.
+/// y put in for x: `\y. x` takes another binder.
 #[tactic(auto, using(std::proofs::lemmas::Option::slice_get_within))]
 fn check_name(
     rt: &impl Abort,
@@ -81,7 +81,7 @@ fn check_name(
     Ok(())
 }
 
-// `(\x. \y. x) y`, and a variable.
+/// `(\x. \y. x) y`, and a variable.
 #[tactic(auto, using(std::proofs::lemmas::Option::slice_get_within))]
 fn check_beta(
     rt: &impl Abort,
@@ -105,7 +105,7 @@ fn check_beta(
     Ok(())
 }
 
-// The substitution of one type.
+/// The substitution of one type.
 fn for_type(alloc: Global, terms: &Terms, name: NameId, ty: TypeId) -> Result<Subst, Memory>
     requires { ty < length terms.now.types }
     ensures { IfOk result (IsSubstOf terms.now) }
@@ -117,8 +117,8 @@ fn for_type(alloc: Global, terms: &Terms, name: NameId, ty: TypeId) -> Result<Su
     Ok(Subst::new(alloc, types))
 }
 
-// `bool` put in for the type of the body in `\x. x`, a body that has another x than the binder: the
-// body's x stays free.
+/// `bool` put in for the type of the body in `\x. x`, a body that has another x than the binder: the
+/// body's x stays free.
 #[tactic(auto, using(std::proofs::lemmas::Option::slice_get_within))]
 fn check_type(
     rt: &impl Abort,
@@ -141,8 +141,8 @@ fn check_type(
     Ok(())
 }
 
-// Each check has tables of its own. They are made here, so that no refusal in a check has to drop
-// them.
+/// Each check has tables of its own. They are made here, so that no refusal in a check has to drop
+/// them.
 fn named(rt: &impl Abort, alloc: Global) -> Result<(), Fail> {
     let mut names = Names::new(alloc)?;
     let mut terms = Terms::new(alloc);

@@ -11,7 +11,7 @@ use std::alloc::Global;
 use std::process::Abort;
 use std::test::Fail;
 
-// Types: a, r, bool, a -> a, a -> (a -> a) and a -> (r -> bool).
+/// Types: a, r, bool, a -> a, a -> (a -> a) and a -> (r -> bool).
 #[derive(Clone, Copy)]
 struct Sorts {
     a: TypeId,
@@ -58,8 +58,8 @@ fn equation(terms: &mut Terms, a: TermId, b: TermId) -> Result<TermId, TermFault
     terms.eq(a, b)
 }
 
-// Twelve terms: x : a, y : a, x : bool, f : a -> a, g : a -> (a -> a), the constant `a` at a and at
-// bool, `=` at a -> (a -> bool), f x, g x, \x. f x and \y. f y.
+/// Twelve terms: x : a, y : a, x : bool, f : a -> a, g : a -> (a -> a), the constant `a` at a and at
+/// bool, `=` at a -> (a -> bool), f x, g x, \x. f x and \y. f y.
 #[derive(Clone, Copy)]
 struct Twelve {
     x: TermId,
@@ -193,7 +193,7 @@ fn check_equations(
     Ok(())
 }
 
-// The free variables of a term.
+/// The free variables of a term.
 fn check_vars(
     rt: &impl Abort,
     alloc: Global,
@@ -207,7 +207,7 @@ fn check_vars(
     Ok(())
 }
 
-// \x. x y has y free, and \x : a. x : bool is left with its x.
+/// \x. x y has y free, and \x : a. x : bool is left with its x.
 fn check_free(
     rt: &impl Abort,
     alloc: Global,
@@ -266,7 +266,7 @@ fn equal_numbers_for_equal_terms(rt: HostRuntime) -> Result<(), Fail> {
     check_table(&rt, rt.alloc(), &mut terms)
 }
 
-// f t for t, so often.
+/// f t for t, so often.
 fn nested(terms: &mut Terms, times: u32, f: TermId, start: TermId) -> Result<TermId, TermFault>
     requires f { f < length terms.old.terms }
     requires start { start < length terms.old.terms }
@@ -308,7 +308,7 @@ fn shared_terms(rt: HostRuntime) -> Result<(), Fail> {
     check_shared(&rt, rt.alloc(), &mut terms)
 }
 
-// A term as deep as terms may be, its function and its variable.
+/// A term as deep as terms may be, its function and its variable.
 #[derive(Clone, Copy)]
 struct Deep {
     f: TermId,
@@ -331,8 +331,8 @@ fn make_deep(terms: &mut Terms, s: &Sorts) -> Result<Deep, TermFault>
     Ok(Deep { f, x, deep })
 }
 
-// What is refused adds no term: the next one has the number that it has in a table where nothing
-// was refused.
+/// What is refused adds no term: the next one has the number that it has in a table where nothing
+/// was refused.
 fn check_deep(
     rt: &impl Abort,
     alloc: Global,
@@ -359,7 +359,7 @@ fn deep_terms(rt: HostRuntime) -> Result<(), Fail> {
     check_deep(&rt, rt.alloc(), &mut terms, &mut other)
 }
 
-// The same for applications that are refused for their types.
+/// The same for applications that are refused for their types.
 fn check_refused(rt: &impl Abort, terms: &mut Terms, other: &mut Terms) -> Result<(), Fail> {
     let s = make_sorts(other)?;
     make_twelve(other, &s)?;

@@ -9,8 +9,8 @@ use std::alloc::Global;
 use std::process::Abort;
 use std::test::Fail;
 
-// These calls say no more of the table's own than that numbers are of the table and stay so: that
-// keeps the proofs of rows short.
+/// These calls say no more of the table's own than that numbers are of the table and stay so: that
+/// keeps the proofs of rows short.
 #[tactic(auto, using(std::proofs::lemmas::Option::slice_get_within))]
 fn type_var(types: &mut Types, name: NameId) -> Result<TypeId, Memory>
     ensures id { IfOk result (λ id. id < length types.new) }
@@ -54,7 +54,7 @@ fn single(types: &mut Types, name: NameId, arg: TypeId) -> Result<TypeId, TableF
     types.op(name, &[arg])
 }
 
-// The instance with `x` in the place of `a`, and `y` in the place of `r`.
+/// The instance with `x` in the place of `a`, and `y` in the place of `r`.
 fn inst(
     alloc: Global,
     types: &mut Types,
@@ -71,7 +71,7 @@ fn inst(
     types.inst(&s, id)
 }
 
-// Of two pairs for `a` the first counts.
+/// Of two pairs for `a` the first counts.
 fn pairs(alloc: Global, types: &Types, x: TypeId, y: TypeId) -> Result<TypeSubst, Memory>
     requires x { x < length types.now }
     requires y { y < length types.now }
@@ -86,8 +86,8 @@ fn pairs(alloc: Global, types: &Types, x: TypeId, y: TypeId) -> Result<TypeSubst
     Ok(s)
 }
 
-// a, r, bool, a -> r, r -> a, the operator `->` with one argument, and the operator `a` without
-// any.
+/// a, r, bool, a -> r, r -> a, the operator `->` with one argument, and the operator `a` without
+/// any.
 #[derive(Clone, Copy)]
 struct Seven {
     a: TypeId,
@@ -131,7 +131,7 @@ fn make_seven(types: &mut Types) -> Result<Seven, TableFault>
     })
 }
 
-// The node is `->` with these two arguments.
+/// The node is `->` with these two arguments.
 fn check_node(rt: &impl Abort, types: &Types, id: TypeId, a: TypeId, r: TypeId)
     requires { id < length types.now }
 {
@@ -190,7 +190,7 @@ fn equal_numbers_for_equal_types(rt: HostRuntime) -> Result<(), Fail> {
     check_equal(&rt, rt.alloc(), &mut types)
 }
 
-// The type, doubled so often.
+/// The type, doubled so often.
 fn doubled(types: &mut Types, times: u32, id: TypeId) -> Result<TypeId, TableFault>
     requires { id < length types.old }
     ensures id { IfOk result (λ id. id < length types.new) }
@@ -203,7 +203,7 @@ fn doubled(types: &mut Types, times: u32, id: TypeId) -> Result<TypeId, TableFau
     Ok(last)
 }
 
-// The type as the one argument of `=`, so often.
+/// The type as the one argument of `=`, so often.
 fn nested(types: &mut Types, times: u32, id: TypeId) -> Result<TypeId, TableFault>
     requires { id < length types.old }
     ensures id { IfOk result (λ id. id < length types.new) }
@@ -227,8 +227,8 @@ fn check_shared(rt: &impl Abort, alloc: Global, types: &mut Types) -> Result<(),
     Ok(())
 }
 
-// What is refused adds no type: the next one has the number that it has in a table where nothing
-// was refused.
+/// What is refused adds no type: the next one has the number that it has in a table where nothing
+/// was refused.
 fn check_deep(
     rt: &impl Abort,
     alloc: Global,

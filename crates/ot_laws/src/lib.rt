@@ -1,4 +1,4 @@
-//! What the definitions of the logic imply, for names and for their numbers: each call states a law and does nothing.
+//! What the definitions of the logic imply, for names and for their numbers: each call has an empty body, and its postcondition is a theorem.
 #![tactic(auto)]
 
 ghost use Rattle.std.specs.Prelude.{ℕ, List};

@@ -30,7 +30,7 @@ pub fn piece_len(bytes: &[u8], searched: usize) -> Option<usize>
 
 /// How long the first piece is, its newline counted, where the newline is among the first 16 bytes.
 /// Fewer bytes than 16 aren't searched.
-// Once a line: each reader of lines is to have it inline.
+/// Once a line: each reader of lines is to have it inline.
 #[inline(always)]
 pub fn near_len(bytes: &[u8]) -> Option<usize>
     ensures { MatchOption result
@@ -93,7 +93,7 @@ pub fn without_last(piece: &[u8], byte: u8) -> &[u8]
 
 /// The text of a piece, by the article format: without its newline, then without one CR at its end,
 /// then without blanks at both ends.
-// Most lines have nothing to trim but their newline.
+/// Most lines have nothing to trim but their newline.
 #[inline(always)]
 pub fn trimmed(piece: &[u8]) -> &[u8]
     ensures { result.now ≡ text_of piece.now }

@@ -39,7 +39,7 @@ module _ (k : kernel.State) (e : Setting) (path : List ℕ) where
         (rest-on (rest-next (answered (in_theory path (theory text))) names_of t u) behind_text).answer
         ∙ ap Ok (sym v)
 
--- what holds where something is told
+-- what holds where something is known
 pub told-each : {X : Type 0} {P : X → Type 0} (o : Option X) → ((x : X) → o ≡ Some x → P x) → IfSome o P
 told-each None f = tt
 told-each (Some x) f = f x refl

@@ -72,12 +72,12 @@ module _ {A : Type 0} (k : kernel.State) (rest whole : Linked A) (is : IsRest re
   stops-rest (link.ReadFault path) h = is.paths (string_bytes path) h
   stops-rest link.Memory h = tt
 
-  -- what the rest comes to, the whole does
+  -- the result of the rest is that of the whole
   pub comes-rest : {X : Type 0} (view : X → A) (r : Result X LinkFault) → Comes k view r rest → Comes k view r whole
   comes-rest view (Ok x) h = is.answer ∙ h
   comes-rest view (Err e) h = stops-rest e h
 
--- ---- facts that hold where the folder is told
+-- ---- facts that hold where the folder is known
 
 pub told-as : {X : Type 0} {P Q : X → Type 0} (o : Option X) → ((x : X) → P x → Q x) → IfSome o P → IfSome o Q
 told-as None f h = tt

@@ -69,7 +69,7 @@ EndsAs s (Err article.Memory) o = Unit {0}
 abbrev pub AreExportsIn : Session → Vec code.Export Global → Type 0
 AreExportsIn s exports = All (IsExportIn s) exports.items
 
--- the symbol that a fault names, where it names one, is of the kernel; and no article's fault is want of memory
+-- the symbol that a fault names, where it names one, is of the kernel; and no article's fault is running out of memory
 abbrev pub NamesSymbolIn : kernel.State → LinkFault → Type 0
 NamesSymbolIn k (link.Article path line fault) = IsSymbolIn k fault × (fault ≢ machine.Memory)
 NamesSymbolIn k (link.Theory path line fault) = Unit {0}
@@ -79,7 +79,7 @@ NamesSymbolIn k (link.NoFile path) = Unit {0}
 NamesSymbolIn k (link.ReadFault path) = Unit {0}
 NamesSymbolIn k link.Memory = Unit {0}
 
--- a missing file is counted, and so is a failure, which is one of the path that was asked for, where that is told
+-- a missing file is counted, and so is a failure, which is one of the path that was asked for, where that is known
 abbrev pub HasCause : LinkFault → ℕ → ℕ → ℕ → ℕ → Option (List ℕ) → Type 0
 HasCause (link.NoFile path) misses misses' faults faults' at = Rose misses misses'
 HasCause (link.ReadFault path) misses misses' faults faults' at =

@@ -1,4 +1,4 @@
-// Articles as they are run in a context.
+//! Articles as they are run in a context.
 ghost use Rattle.std.specs.Prelude.{◌≡◌, ◌≢◌, ◌≤◌, ◌^◌, ℕ, List, Some, Err, IfOk, IfErr, IfSome, string_bytes};
 ghost use Rattle.ot_io.specs.Causes.{Rose};
 ghost use Rattle.ot_io.specs.Folder.{Folder};
@@ -56,7 +56,7 @@ pub(crate) fn run_article<F: Files>(
 ///
 /// - `Article`: the first fault of the article, with this path and its line.
 /// - `ReadFault`: only where the source failed in this call.
-/// - `Memory`: free. No other fault is answered.
+/// - `Memory`: may come at any point. No other fault is answered.
 ///
 /// Each assumption, definition and export is what its origin makes, and each name in an origin is one that a line can
 /// say.

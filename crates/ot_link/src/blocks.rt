@@ -1,4 +1,4 @@
-// Blocks, theory files and packages as they are run.
+//! Blocks, theory files and packages as they are run.
 ghost use Rattle.std.specs.Prelude.{◌≡◌, ◌<◌, ◌++◌, ◌∷◌, ℕ, [], Some, true, map, codes, length};
 ghost use Rattle.std.specs.Prelude.{position, slice_get, slice_index_or, IfOk, IfErr, string_bytes};
 ghost use Rattle.std.specs.List.{All, list_any};

@@ -1,4 +1,4 @@
-// Lists of exports, and what is given to the blocks that import them.
+//! Lists of exports, and what is given to the blocks that import them.
 ghost use Rattle.std.specs.Prelude.{◌≡◌, ◌++◌, [], map, flat_map, IfOk};
 ghost use Rattle.std.specs.List.{All};
 ghost use Rattle.ot_machine.specs.Meaning.{export_of, IsExportIn};

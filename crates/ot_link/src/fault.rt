@@ -7,7 +7,7 @@ use std::alloc::{AllocError, AllocFailed};
 /// Why a link isn't run to its end. A path is that of the file at fault.
 #[derive(Drop)]
 pub enum LinkFault {
-    /// The first fault of an article, which is never want of memory.
+    /// The first fault of an article, which is never running out of memory.
     Article {
         path: String,
         line: u64,

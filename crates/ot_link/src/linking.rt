@@ -25,9 +25,9 @@ use std::alloc::Global;
 ///
 /// - `Article`, `Theory`, `Structure`, `TheoryTooLarge`: the first fault of the run, with the path of its file and its line.
 ///   The symbol that a fault of an article names has its name in the session's kernel.
-/// - `NoFile`: only where a file was missing in this call, and where the folder is told, exactly where it is the first fault.
+/// - `NoFile`: only where a file was missing in this call, and where the folder is known, exactly where it is the first fault.
 /// - `ReadFault`: only where the files failed in this call; the path is one of those that the run needs.
-/// - `Memory`: free.
+/// - `Memory`: may come at any point.
 ///
 /// No file is left open. After a fault the session may hold what the run put into it. Each assumption, definition and
 /// export is what its origin makes, and each name in an origin is one that a line can say.

@@ -1,4 +1,4 @@
-// Theory files as they are read and planned.
+//! Theory files as they are read and planned.
 ghost use Rattle.std.specs.Prelude.{◌≡◌, ◌≤◌, ℕ, List, Option, Some, IfOk, IfErr, codes, true};
 ghost use Rattle.ot_io.specs.Folder.{Folder};
 ghost use Rattle.ot_io.specs.Keeping.{KeepsFiles};

@@ -1,4 +1,4 @@
-// What the `interpret:` statements of a block rename.
+//! What the `interpret:` statements of a block rename.
 ghost use Rattle.std.specs.Prelude.{◌≡◌, ◌<◌, ℕ, Some, false, length, IfOk, OnOk};
 ghost use Rattle.ot_plain.specs.Naming.{numbers};
 ghost use Rattle.ot_plain.specs.Reading.{name_read};

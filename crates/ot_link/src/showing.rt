@@ -20,9 +20,9 @@ use std::alloc::Global;
 /// and no package is opened. The limits are at most those of the program.
 ///
 /// - `Theory`, `TheoryTooLarge`: the first fault of the file up to its grammar, as of `link`.
-/// - `NoFile`: only where the file was missing in this call, and where the folder is told, exactly where it is.
+/// - `NoFile`: only where the file was missing in this call, and where the folder is known, exactly where it is.
 /// - `ReadFault`: only where the files failed in this call.
-/// - `Memory`: free.
+/// - `Memory`: may come at any point.
 ///
 /// No file is left open.
 pub fn shown<F: Files>(

@@ -30,7 +30,7 @@ impl Printable<InNodes<'_>> for Accepted {
     }
 }
 
-// What is defined, from what, and the theorems.
+/// What is defined, from what, and the theorems.
 fn put_accepted(page: &mut Page, alloc: Global, nodes: &Nodes, accepted: &Accepted)
     requires { HasAccepted nodes.now accepted.now }
     ensures { IsPut (definition_text (accepted_at nodes.now accepted.now)) (printed page.old)
@@ -41,7 +41,7 @@ fn put_accepted(page: &mut Page, alloc: Global, nodes: &Nodes, accepted: &Accept
     put_theorems(page, alloc, nodes, accepted.theorems.as_slice());
 }
 
-// What is defined, and from what.
+/// What is defined, and from what.
 fn put_head(page: &mut Page, alloc: Global, nodes: &Nodes, definition: &Definition)
     requires { HasDefinition nodes.now definition.now }
     ensures { IsPut (head_text (definition_at nodes.now definition.now)) (printed page.old)
@@ -77,7 +77,7 @@ fn put_head(page: &mut Page, alloc: Global, nodes: &Nodes, definition: &Definiti
     }
 }
 
-// The sequent from which something is defined.
+/// The sequent from which something is defined.
 fn put_premise(page: &mut Page, alloc: Global, nodes: &Nodes, premise: &Statement)
     requires { HasStatement nodes.now premise.now }
     ensures { IsPut (codes " from " ++ sequent_text (sequent_at nodes.now premise.now)) (printed
@@ -87,7 +87,7 @@ fn put_premise(page: &mut Page, alloc: Global, nodes: &Nodes, premise: &Statemen
     put_statement(page, alloc, nodes, premise);
 }
 
-// Theorems, a semicolon between two.
+/// Theorems, a semicolon between two.
 fn put_theorems(page: &mut Page, alloc: Global, nodes: &Nodes, theorems: &[Statement])
     requires { All (HasStatement nodes.now) theorems.now }
     ensures { IsPut (theorems_text (map (sequent_at nodes.now) theorems.now)) (printed page.old)
@@ -101,7 +101,7 @@ fn put_theorems(page: &mut Page, alloc: Global, nodes: &Nodes, theorems: &[State
     }
 }
 
-// Constants for variables, a comma between two pairs.
+/// Constants for variables, a comma between two pairs.
 fn put_pairs(page: &mut Page, nodes: &Nodes, pairs: &[(NameId, VariableNode)])
     requires { HasPairs nodes.now pairs.now }
     ensures { IsPut (pairs_text (pairs_at nodes.now pairs.now)) (printed page.old) (printed page.new) }
@@ -114,7 +114,7 @@ fn put_pairs(page: &mut Page, nodes: &Nodes, pairs: &[(NameId, VariableNode)])
     }
 }
 
-// A constant's name and its variable.
+/// A constant's name and its variable.
 fn put_pair(page: &mut Page, nodes: &Nodes, name: NameId, v: VariableNode)
     requires name { HasName nodes.now name }
     requires variable { HasVariable nodes.now v }
@@ -127,7 +127,7 @@ fn put_pair(page: &mut Page, nodes: &Nodes, name: NameId, v: VariableNode)
     put_typed(page, nodes, v.name, v.ty);
 }
 
-// Names, a space between two.
+/// Names, a space between two.
 fn put_names(page: &mut Page, nodes: &Nodes, names: &[NameId])
     requires { All (HasName nodes.now) names.now }
     ensures { IsPut (names_text (names_at nodes.now names.now)) (printed page.old) (printed page.new) }

@@ -38,7 +38,7 @@ pub fn summary_text(
     page.finish(out)
 }
 
-// The three sections.
+/// The three sections.
 fn put_summary(
     page: &mut Page,
     alloc: Global,

@@ -50,7 +50,7 @@ pub(crate) fn put_type(page: &mut Page, nodes: &Nodes, id: TypeId)
     }
 }
 
-// Types, a space before each.
+/// Types, a space before each.
 #[cycle(types_text)]
 fn put_types(page: &mut Page, nodes: &Nodes, ids: &[TypeId])
     requires { All (HasType nodes.now) ids.now }

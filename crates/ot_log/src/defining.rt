@@ -115,7 +115,7 @@ impl Writer {
         )
     }
 
-    // The record of a definition, and its theorems.
+    /// The record of a definition, and its theorems.
     fn put_definition(
         &mut self,
         session: &Session,
@@ -183,7 +183,7 @@ impl Writer {
         }
     }
 
-    // The theorem of a definition gets the next number.
+    /// The theorem of a definition gets the next number.
     fn mark_one(
         &mut self,
         session: &Session,
@@ -208,7 +208,7 @@ impl Writer {
         }
     }
 
-    // The two theorems of a definition get the next numbers.
+    /// The two theorems of a definition get the next numbers.
     fn mark_two(
         &mut self,
         session: &Session,
@@ -237,7 +237,7 @@ impl Writer {
         self.mark_outcome(session, 2, id, second)
     }
 
-    // The theorem at a place of a definition gets the next number.
+    /// The theorem at a place of a definition gets the next number.
     fn mark_outcome(
         &mut self,
         session: &Session,
@@ -289,7 +289,7 @@ impl Writer {
     }
 }
 
-// The step of the theorem at a place of a definition, if there is one.
+/// The step of the theorem at a place of a definition, if there is one.
 fn outcome_step(session: &Session, place: u8, id: StepId) -> Option<StepId>
     requires session { IsNumbered session.now }
     requires inside { id < length session.now.trace }

@@ -22,7 +22,7 @@ use ot_words::{
 use std::alloc::Global;
 
 impl Writer {
-    // By a word that takes a term.
+    /// By a word that takes a term.
     fn put_term(&mut self, session: &Session, word: Cmd, a: StepId) -> Result<Made, StepFault>
         requires session { IsNumbered session.now }
         requires writer { IsWriter session.now self.old }
@@ -52,7 +52,7 @@ impl Writer {
         )
     }
 
-    // By a word that takes two theorems.
+    /// By a word that takes two theorems.
     fn put_theorems(
         &mut self,
         session: &Session,
@@ -157,7 +157,7 @@ impl Writer {
         )
     }
 
-    // Of one operand.
+    /// Of one operand.
     fn put_one(&mut self, session: &Session, word: Cmd, a: StepId) -> Result<Made, StepFault>
         requires session { IsNumbered session.now }
         requires writer { IsWriter session.now self.old }
@@ -172,7 +172,7 @@ impl Writer {
         }
     }
 
-    // Of two operands, the lower one first.
+    /// Of two operands, the lower one first.
     fn put_two(
         &mut self,
         alloc: Global,
@@ -197,7 +197,7 @@ impl Writer {
         }
     }
 
-    // The records of a word.
+    /// The records of a word.
     fn put(
         &mut self,
         alloc: Global,

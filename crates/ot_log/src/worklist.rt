@@ -63,7 +63,7 @@ impl Writer {
         self.run(alloc, session, work)
     }
 
-    // Does what the tasks say, the last one first.
+    /// Does what the tasks say, the last one first.
     fn run(&mut self, alloc: Global, session: &Session, mut work: Vec<Task>) -> Result<(), Memory>
         requires session { IsNumbered session.now }
         requires writer { IsWriter session.now self.old }
@@ -101,7 +101,7 @@ impl Writer {
         }
     }
 
-    // Asks for a theorem, unless it is there.
+    /// Asks for a theorem, unless it is there.
     fn ask(&self, session: &Session, id: StepId, work: &mut Vec<Task>) -> Result<(), Memory>
         requires session { IsNumbered session.now }
         requires writer { IsWriter session.now self.now }
@@ -119,7 +119,7 @@ impl Writer {
         }
     }
 
-    // Asks for the operands of a theorem that isn't there, and then for its records.
+    /// Asks for the operands of a theorem that isn't there, and then for its records.
     fn ask_new(&self, session: &Session, id: StepId, work: &mut Vec<Task>) -> Result<(), Memory>
         requires session { IsNumbered session.now }
         requires first { number_at self.now.places.items id ≡ None }
@@ -141,7 +141,7 @@ impl Writer {
     }
 }
 
-// The operands of a step, if its word makes a theorem.
+/// The operands of a step, if its word makes a theorem.
 fn theorem_step(session: &Session, id: StepId) -> Option<&[StepId]>
     requires { id < length session.now.trace }
     ensures some { IfSome result (λ ops. IsTheoremStep session.now id ops.now) }
@@ -162,7 +162,7 @@ fn theorem_step(session: &Session, id: StepId) -> Option<&[StepId]>
     }
 }
 
-// Asks for theorems, so that the first comes first.
+/// Asks for theorems, so that the first comes first.
 fn push_back(steps: &[StepId], work: &mut Vec<Task>) -> Result<(), Memory>
     ensures { OnOk result (work.new.items ≡ work.old.items ++ reverse (map task.Write steps.now)) }
 {
@@ -174,7 +174,7 @@ fn push_back(steps: &[StepId], work: &mut Vec<Task>) -> Result<(), Memory>
     Ok(())
 }
 
-// Whether the word makes a theorem.
+/// Whether the word makes a theorem.
 fn makes_theorem(word: Cmd) -> bool
     ensures { result ≡ makes_theorem word }
 {

@@ -70,7 +70,7 @@ pub fn write_log(
     write_steps(alloc, session, count, &needed, exports, max, out)
 }
 
-// Appends the log of definitions, by their steps, and of exports.
+/// Appends the log of definitions, by their steps, and of exports.
 fn write_steps(
     alloc: Global,
     session: &Session,
@@ -92,7 +92,7 @@ fn write_steps(
     finish(writer.sheet, out)
 }
 
-// The log of definitions and of exports.
+/// The log of definitions and of exports.
 fn written(
     alloc: Global,
     session: &Session,
@@ -121,7 +121,7 @@ fn written(
     Ok(writer)
 }
 
-// Appends the text of a sheet.
+/// Appends the text of a sheet.
 fn finish(sheet: Sheet, out: &mut Vec<u8>) -> Result<(), LogRefusal>
     ensures { (ts : List Item) (max : ℕ) (x : Log) → Shows ts max sheet x
         → Writes result (bytes_of x.tokens) max out.old.items out.new.items }
@@ -133,7 +133,7 @@ fn finish(sheet: Sheet, out: &mut Vec<u8>) -> Result<(), LogRefusal>
     }
 }
 
-// The steps of the roots of exports.
+/// The steps of the roots of exports.
 fn roots_of(alloc: Global, exports: &[Export]) -> Result<Vec<Roots>, Memory>
     ensures { IfOk result (λ roots. roots.items ≡ map roots_in exports.now) }
 {
@@ -144,7 +144,7 @@ fn roots_of(alloc: Global, exports: &[Export]) -> Result<Vec<Roots>, Memory>
     Ok(roots)
 }
 
-// The steps of an export's roots.
+/// The steps of an export's roots.
 fn root_steps(export: &Export) -> Roots
     ensures { result ≡ roots_in export.now }
 {

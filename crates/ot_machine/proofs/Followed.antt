@@ -84,7 +84,7 @@ module _ (c : Context) (max : ℕ) (start : State) where
   follows-stopped k e now old new (Some bytes) (Some l) None f t = absurd t
   follows-stopped k e now old new (Some bytes) (Some l) (Some l') f t = runs-broken k e _ now _ _ f t.line
 
--- a fault with a line is never want of memory
+-- a fault with a line is never running out of memory
 pub refused-apart : (number line : ℕ) (f : Fault) → refusal number f ≡ article.At line code.Memory → ⊥
 refused-apart number line code.Memory e = cc
 refused-apart number line f e = cc

@@ -27,7 +27,7 @@ IsSymbolIn k (code.AlreadyDefined s) = s.name < length k.names
 IsSymbolIn k (code.SymbolInUse s) = s.name < length k.names
 IsSymbolIn k e = Unit {0}
 
--- a refusal is the stated one, by the kernel's names; want of memory is free
+-- a refusal is the stated one, by the kernel's names; running out of memory may be answered at any point
 abbrev pub Refuses : {X : Type 0} → kernel.State → Fault → Result X (faults.Fault Name) → Type 0
 Refuses k e stated =
     IsSymbolIn k e × ((f : faults.Fault Name) → fault_of (kernel.name_at k) e ≡ Some f → stated ≡ Err f)

@@ -63,7 +63,7 @@ article_fault (lines.LineTooLong number) = At number code.LineTooLong
 article_fault (lines.ArticleTooLong number) = At number code.ArticleTooLong
 article_fault lines.ReadFault = ReadFault
 
--- the fault of a line, where it was not for want of memory
+-- the fault of a line, where memory didn't run out
 abbrev pub refusal : ℕ → Fault → ArticleFault
 refusal line code.Memory = Memory
 refusal line fault = At line fault

@@ -107,7 +107,7 @@ row v c (numeral k) = on_stack (λ stack. Ok (pushed (record { object = number k
 row v c (named n) = on_stack (λ stack. Ok (pushed (record { object = name n; origin = Named n }) stack))
 row v c (order w) = word_row v c w
 
--- one command more; the count stands still at the end of a u64
+-- one command more; the count saturates at the end of a u64
 abbrev pub counted : ArticleState → ArticleState
 counted s = record s { count = min (s.count + 1) (2 ^ 64 - 1) }
 

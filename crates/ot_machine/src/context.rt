@@ -1,4 +1,4 @@
-// What an article is run in.
+//! What an article is run in.
 ghost use Rattle.std.specs.Prelude.{◌≡◌, ◌<◌, length, map, IfOk};
 ghost use Rattle.std.specs.List.{All};
 ghost use Rattle.ot_plain.specs.Naming.{names};

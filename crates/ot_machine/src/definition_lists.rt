@@ -1,4 +1,4 @@
-// The names and variables of constants that are defined together, read from a list of a machine of this session.
+//! The names and variables of constants that are defined together, read from a list of a machine of this session.
 ghost use Rattle.std.specs.Prelude.{◌≡◌, ◌<◌, length, map, IfOk};
 ghost use Rattle.std.specs.List.{All};
 ghost use Rattle.ot_kernel.specs.State.{name_at, variable_at};

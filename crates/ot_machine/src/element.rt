@@ -1,4 +1,4 @@
-// What a list of one kind has as its elements.
+//! What a list of one kind has as its elements.
 ghost use Rattle.std.specs.Prelude.{◌<◌, ℕ, List, Result, IfOk, length};
 ghost use Rattle.ot_plain.specs.Names.{Name};
 ghost use Rattle.ot_plain.specs.Trees.{Ty, Tm};

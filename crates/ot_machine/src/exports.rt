@@ -1,4 +1,4 @@
-// The exports of a machine of this session.
+//! The exports of a machine of this session.
 ghost use Rattle.std.specs.Prelude.{◌≡◌, ◌<◌, ◌≤◌, length, map, OnOk, OnErr, vec_len};
 ghost use Rattle.std.specs.List.{All};
 ghost use Rattle.ot_plain.specs.Hol.{same_sequent};
@@ -71,7 +71,7 @@ impl Session {
         }
     }
 
-    // Whether one of these exports is the theorem's sequent.
+    /// Whether one of these exports is the theorem's sequent.
     fn is_among(&self, exports: &[Export], theorem: ThmId) -> bool
         requires exports { All (λ e. e.th < length self.now.kernel.theorems) exports.now }
         requires inside { theorem < length self.now.kernel.theorems }

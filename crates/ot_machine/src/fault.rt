@@ -152,7 +152,7 @@ impl From<WordFault> for Fault {
 /// How the run of an article ends that isn't accepted.
 #[derive(Clone, Copy)]
 pub enum ArticleFault {
-    /// The first fault, with its line. It is never want of memory.
+    /// The first fault, with its line. It is never running out of memory.
     At { line: u64, fault: Fault },
     /// The source failed in this call.
     ReadFault,
@@ -177,7 +177,7 @@ impl From<ScanFault> for ArticleFault {
     }
 }
 
-/// The fault of a line; want of memory has no line.
+/// The fault of a line; running out of memory has no line.
 pub fn refusal(line: u64, fault: Fault) -> ArticleFault
     ensures { result ≡ refusal line fault }
 {

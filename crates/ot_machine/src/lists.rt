@@ -1,4 +1,4 @@
-// Lists of objects of a machine of this session.
+//! Lists of objects of a machine of this session.
 ghost use Rattle.std.specs.Prelude.{◌≡◌, ◌<◌, ◌≤◌, length, map, IfOk, OnErr};
 ghost use Rattle.std.specs.List.{All};
 ghost use Rattle.ot_kernel.specs.State.{name_at, type_at, term_at};

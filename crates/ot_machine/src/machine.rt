@@ -83,9 +83,9 @@ impl Machine {
         &self.exports
     }
 
-    /// One command. The first fault of the stated machine counts; after it, and after want of memory, the state is as
+    /// One command. The first fault of the stated machine counts; after it, and after running out of memory, the state is as
     /// before. The machine's numbers, and the context's names and theorems, have to be of this session.
-    // Once a line: the reader of an article is to have it inline, and what stands in its way.
+    /// Once a line: the reader of an article is to have it inline, and what stands in its way.
     #[inline(always)]
     pub fn step(
         &mut self,
@@ -109,8 +109,8 @@ impl Machine {
     }
 
     /// Runs the lines of an article, up to the first fault, in one pass over a source. The fault has the line at
-    /// which it stands, and the state is as before that line; it is never want of memory, which is an answer of its
-    /// own. `ReadFault` comes only where the source failed in this call. After it, and after want of memory, the
+    /// which it stands, and the state is as before that line; it is never running out of memory, which is an answer of its
+    /// own. `ReadFault` comes only where the source failed in this call. After it, and after running out of memory, the
     /// state is that of some number of the first lines. The machine's numbers, and the context's names and theorems,
     /// have to be of this session.
     pub fn run_article<S: Source>(
@@ -198,7 +198,7 @@ impl Machine {
     }
 
     /// The row of a word, in an article of a version.
-    // Without a mark: taken in here, it would make the way of a line too large to be taken in itself.
+    /// Without a mark: taken in here, it would make the way of a line too large to be taken in itself.
     fn order(
         &mut self,
         session: &mut Session,

@@ -1,4 +1,4 @@
-// What the kernel makes for a machine of this session. The machine stands for what it stood for.
+//! What the kernel makes for a machine of this session. The machine stands for what it stood for.
 ghost use Rattle.std.specs.Prelude.{◌<◌, length, IfOk};
 ghost use Rattle.ot_plain.specs.Faults.{BadName};
 ghost use Rattle.ot_plain.specs.Answers.{some_or};

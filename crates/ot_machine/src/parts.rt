@@ -1,4 +1,4 @@
-// The parts of lists of a machine of this session that a command reads as a whole.
+//! The parts of lists of a machine of this session that a command reads as a whole.
 ghost use Rattle.std.specs.Prelude.{◌≡◌, ◌<◌, ℕ, Some, length, IfOk};
 ghost use Rattle.ot_plain.specs.Names.{Name};
 ghost use Rattle.ot_kernel.specs.State.{State, name_at, variable_at};

@@ -1,4 +1,4 @@
-// What stands on the stack of a machine of this session, and of which kind. 0 is the top.
+//! What stands on the stack of a machine of this session, and of which kind. 0 is the top.
 ghost use Rattle.std.specs.Prelude.{◌≡◌, ◌<◌, length, Ok, IfOk, OnOk, vec_len};
 ghost use Rattle.ot_kernel.specs.State.{name_at, type_at, variable_at, term_at, theorem_at};
 ghost use Rattle.ot_machine.specs.Meaning.{object_of, origin_of, entry_of, list_at, lists_of};

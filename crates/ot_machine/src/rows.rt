@@ -1,4 +1,4 @@
-// The rows of the commands: each reads its places from the top downwards, makes, and then changes the machine.
+//! The rows of the commands: each reads its places from the top downwards, makes, and then changes the machine.
 mod definitions;
 mod stack;
 mod terms;

@@ -1,4 +1,4 @@
-// How what stands on the stack was made: its steps in the trace of this session, and what a word makes of them.
+//! How what stands on the stack was made: its steps in the trace of this session, and what a word makes of them.
 ghost use Rattle.std.specs.Prelude.{◌≡◌, ◌<◌, ◌≤◌, Result, length, map, IfOk, IfErr, vec_len};
 ghost use Rattle.std.specs.List.{All};
 ghost use Rattle.ot_plain.specs.Names.{Name};

@@ -1,4 +1,4 @@
-// Changes of the stack and the dictionary of a machine of this session.
+//! Changes of the stack and the dictionary of a machine of this session.
 ghost use Rattle.std.specs.Prelude.{◌≡◌, ◌<◌, ◌≤◌, ◌↔◌, length, map, IfOk, IsTrue, OnOk, OnErr, vec_len};
 ghost use Rattle.std.specs.List.{All};
 ghost use Rattle.std.specs.FinMap as dictionaries;
@@ -121,7 +121,7 @@ impl Session {
         }
     }
 
-    /// Stores an object with its step under a key; a former one gives way.
+    /// Stores an object with its step under a key; a former one is replaced.
     pub(crate) fn store(
         &self,
         machine: &mut Machine,
@@ -158,7 +158,7 @@ impl Session {
     }
 }
 
-// Whether a key is this one.
+/// Whether a key is this one.
 fn is_key(there: &i64, key: i64) -> bool
     ensures { IsTrue result ↔ (there.now ≡ key) }
 {

@@ -1,4 +1,4 @@
-// The maps of a substitution, read from a list of a machine of this session.
+//! The maps of a substitution, read from a list of a machine of this session.
 ghost use Rattle.std.specs.Prelude.{◌≡◌, ◌<◌, [], length, IfOk};
 ghost use Rattle.ot_kernel.specs.State.{name_at, type_at, variable_at, term_at};
 ghost use Rattle.ot_kernel.specs.Pairs.{type_pairs, term_pairs, AreTypePairs, IsSubstIn};

@@ -1,4 +1,4 @@
-// Names, copied and compared.
+//! Names, copied and compared.
 ghost use Rattle.std.specs.Prelude.{◌≡◌, ◌<◌, length, IfOk};
 ghost use Rattle.ot_plain.specs.Names.{same_name};
 ghost use Rattle.ot_kernel.specs.State.{name_at};

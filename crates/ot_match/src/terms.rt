@@ -1,4 +1,4 @@
-// Terms that are matched.
+//! Terms that are matched.
 ghost use Rattle.std.specs.Prelude.{◌≡◌, ◌↔◌, ◌<◌, List, length, map, Some, is_some, IfOk, OnOk, IfSome, IsTrue};
 ghost use Rattle.std.specs.Map.{lookup};
 ghost use Rattle.std.specs.Option.{option_map};

@@ -86,7 +86,7 @@ pub enum TermNode {
     Abs(TypeId, TermId),
 }
 
-// What has a number.
+/// What has a number.
 #[derive(PartialEq, Eq, Hash, Drop)]
 pub(crate) enum Node {
     Name(Name),

@@ -280,7 +280,7 @@ impl Nodes {
         self.beside(id).free
     }
 
-    // What stands beside a term.
+    /// What stands beside a term.
     fn beside(&self, id: TermId) -> Beside
         requires { HasTerm self.now id }
         ensures { IsTermBeside (term_at self.now id) result }
@@ -288,7 +288,7 @@ impl Nodes {
         *self.entry(id.0).1
     }
 
-    // The node of a number, where the table has one.
+    /// The node of a number, where the table has one.
     fn node(&self, index: usize) -> Option<&Node>
         ensures { option_map (λ n. tree_of self.now n.now) result ≡ slice_get self.now index }
     {
@@ -298,7 +298,7 @@ impl Nodes {
         }
     }
 
-    // The node of a number, and what stands beside it.
+    /// The node of a number, and what stands beside it.
     fn entry(&self, index: usize) -> (&Node, &Beside)
         requires { index < length self.now }
         ensures entry { IsEntry tree_of AreBelow Fits self.now index result.0.now result.1.now }
@@ -310,7 +310,7 @@ impl Nodes {
         }
     }
 
-    // What is to stand beside a new node.
+    /// What is to stand beside a new node.
     fn beside_new(&self, node: &Node) -> Result<Beside, Memory>
         requires { HasParts self.now node.now }
         ensures { IfOk result (IsBeside (tree_of self.now node.now)) }
@@ -330,7 +330,7 @@ impl Nodes {
         }
     }
 
-    // The depth of the type of a new node.
+    /// The depth of the type of a new node.
     fn depth_new(&self, node: &TypeNode) -> Result<u64, Memory>
         requires { HasTypeParts self.now node.now }
         ensures { IfOk result (λ d. d ≡ depth_ty names (type_tree self.now node.now)) }
@@ -341,7 +341,7 @@ impl Nodes {
         }
     }
 
-    // What is to stand beside a new term.
+    /// What is to stand beside a new term.
     fn term_beside_new(&self, node: TermNode) -> Result<Beside, Memory>
         requires { HasTermParts self.now node }
         ensures { IfOk result (IsTermBeside (term_tree self.now node)) }
@@ -381,7 +381,7 @@ impl Nodes {
         }
     }
 
-    // The greatest depth of the types, or 0.
+    /// The greatest depth of the types, or 0.
     fn deepest(&self, ids: &[TypeId]) -> u64
         requires { All (HasType self.now) ids.now }
         ensures { result ≡ depth_all names (types_at self.now ids.now) }
@@ -393,7 +393,7 @@ impl Nodes {
         most
     }
 
-    // The number of a node, which is added where it is new.
+    /// The number of a node, which is added where it is new.
     fn intern(&mut self, node: Node) -> Result<usize, Memory>
         requires { HasParts self.old node }
         ensures ok { IfOk result (λ id. slice_get self.new id ≡ Some (tree_of self.old node)) }
@@ -411,7 +411,7 @@ impl Nodes {
     }
 }
 
-// One more.
+/// One more.
 fn above(depth: u64) -> Result<u64, Memory>
     ensures { IfOk result (λ d. d ≡ depth + 1) }
 {
@@ -421,21 +421,21 @@ fn above(depth: u64) -> Result<u64, Memory>
     }
 }
 
-// Whether the node is that of a name.
+/// Whether the node is that of a name.
 fn is_name(node: &Node) -> bool
     ensures { result ≡ is_name_node node.now }
 {
     matches!(node, Node::Name(_))
 }
 
-// Whether the node is that of a type.
+/// Whether the node is that of a type.
 fn is_type(node: &Node) -> bool
     ensures { result ≡ is_type_node node.now }
 {
     matches!(node, Node::Ty(_))
 }
 
-// Whether the node is that of a term.
+/// Whether the node is that of a term.
 fn is_term(node: &Node) -> bool
     ensures { result ≡ is_term_node node.now }
 {

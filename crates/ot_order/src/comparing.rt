@@ -38,8 +38,8 @@ pub(crate) fn compare(nodes: &Nodes, a: TermId, b: TermId) -> Result<Ordering, M
     }
 }
 
-// Takes the next pieces off both texts: two bytes are compared, two pieces that are one are passed over, and else one
-// of them is opened.
+/// Takes the next pieces off both texts: two bytes are compared, two pieces that are one are passed over, and else one
+/// of them is opened.
 fn step(
     nodes: &Nodes,
     x: &Piece,
@@ -72,7 +72,7 @@ fn step(
     }
 }
 
-// Whether two pieces are one.
+/// Whether two pieces are one.
 fn is_same(x: &Piece, y: &Piece) -> bool
     ensures { result ≡ same_piece x.now y.now }
 {

@@ -30,7 +30,7 @@ pub(crate) fn open(nodes: &Nodes, piece: &Piece, pieces: &mut Vec<Piece>) -> Res
     }
 }
 
-// The pieces of a type.
+/// The pieces of a type.
 fn open_type(nodes: &Nodes, id: TypeId, pieces: &mut Vec<Piece>) -> Result<(), Memory>
     requires { HasType nodes.now id }
     ensures { OnOk result (Opens nodes.now (ty_text (type_at nodes.now id)) pieces.old.items pieces.new.items) }
@@ -53,7 +53,7 @@ fn open_type(nodes: &Nodes, id: TypeId, pieces: &mut Vec<Piece>) -> Result<(), M
     }
 }
 
-// The pieces of a term.
+/// The pieces of a term.
 fn open_term(nodes: &Nodes, id: TermId, pieces: &mut Vec<Piece>) -> Result<(), Memory>
     requires { HasTerm nodes.now id }
     ensures { OnOk result (Opens nodes.now (tm_text (term_at nodes.now id)) pieces.old.items pieces.new.items) }
@@ -88,7 +88,7 @@ fn open_term(nodes: &Nodes, id: TermId, pieces: &mut Vec<Piece>) -> Result<(), M
     }
 }
 
-// Two parts in parentheses.
+/// Two parts in parentheses.
 fn push_two(
     before: &[u8],
     first: Piece,
@@ -107,7 +107,7 @@ fn push_two(
     push_bytes(before, pieces)
 }
 
-// Types, a space before each.
+/// Types, a space before each.
 fn push_spaced(types: &[TypeId], pieces: &mut Vec<Piece>) -> Result<(), Memory>
     ensures { (ts : List Item) → All (HasType ts) types.now →
         OnOk result (Puts ts (spaced_text (types_at ts types.now)) pieces.old.items pieces.new.items) }
@@ -119,7 +119,7 @@ fn push_spaced(types: &[TypeId], pieces: &mut Vec<Piece>) -> Result<(), Memory>
     Ok(())
 }
 
-// A name with its type.
+/// A name with its type.
 fn push_typed(
     nodes: &Nodes,
     name: NameId,
@@ -136,7 +136,7 @@ fn push_typed(
     push_name(nodes, name, pieces)
 }
 
-// The spelling of a name.
+/// The spelling of a name.
 fn push_name(nodes: &Nodes, name: NameId, pieces: &mut Vec<Piece>) -> Result<(), Memory>
     requires { HasName nodes.now name }
     ensures { OnOk result (Opens nodes.now (name_text (name_at nodes.now name)) pieces.old.items pieces.new.items) }
@@ -149,7 +149,7 @@ fn push_name(nodes: &Nodes, name: NameId, pieces: &mut Vec<Piece>) -> Result<(),
     push_bytes(text.as_slice(), pieces)
 }
 
-// A number in decimal digits.
+/// A number in decimal digits.
 fn push_number(number: u64, pieces: &mut Vec<Piece>) -> Result<(), Memory>
     ensures { (ts : List Item) → OnOk result (Puts ts (number_text number) pieces.old.items pieces.new.items) }
 {
@@ -157,7 +157,7 @@ fn push_number(number: u64, pieces: &mut Vec<Piece>) -> Result<(), Memory>
     push_bytes(buffer.format(number).as_bytes(), pieces)
 }
 
-// Bytes, of which the first comes next.
+/// Bytes, of which the first comes next.
 fn push_bytes(bytes: &[u8], pieces: &mut Vec<Piece>) -> Result<(), Memory>
     ensures puts { (ts : List Item) → OnOk result (Puts ts bytes.now pieces.old.items pieces.new.items) }
     ensures opens { (ts : List Item) → 0 < length bytes.now →

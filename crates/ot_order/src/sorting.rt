@@ -12,7 +12,7 @@ use std::cmp::Ordering;
 
 /// The terms in the order of the bytes of their texts, each text once: of several terms with one text, the last of
 /// the list. The terms are of this table. Their texts are those that are printed, and may be too long for memory:
-/// none is made as a whole. The one error is want of memory.
+/// none is made as a whole. The one error is running out of memory.
 pub fn sorted_by_text(nodes: &Nodes, terms: &[TermId]) -> Result<Vec<TermId>, Memory>
     requires { All (HasTerm nodes.now) terms.now }
     ensures has { IfOk result (λ found. All (HasTerm nodes.now) found.items) }
@@ -26,7 +26,7 @@ pub fn sorted_by_text(nodes: &Nodes, terms: &[TermId]) -> Result<Vec<TermId>, Me
     Ok(sorted)
 }
 
-// Puts a term at its place, unless its text is there.
+/// Puts a term at its place, unless its text is there.
 fn insert(nodes: &Nodes, sorted: &mut Vec<TermId>, term: TermId) -> Result<(), Memory>
     requires sorted { All (HasTerm nodes.now) sorted.old.items }
     requires ascending { AreAscending nodes.now sorted.old.items }
@@ -44,7 +44,7 @@ fn insert(nodes: &Nodes, sorted: &mut Vec<TermId>, term: TermId) -> Result<(), M
     }
 }
 
-// The place of a term among others, found by halving; none where its text is there.
+/// The place of a term among others, found by halving; none where its text is there.
 fn place_of(nodes: &Nodes, sorted: &[TermId], term: TermId) -> Result<Option<usize>, Memory>
     requires sorted { All (HasTerm nodes.now) sorted.now }
     requires ascending { AreAscending nodes.now sorted.now }

@@ -55,7 +55,7 @@ impl<'a> Bases<'a> {
     }
 }
 
-// Whether no other name has the base name of this one.
+/// Whether no other name has the base name of this one.
 fn is_sole(holders: &HashMap<&[u8], Holder<'_>>, name: &Name) -> bool
     ensures { result ≡ sole_test name.now (held holders.now (base name.now)) }
 {
@@ -66,7 +66,7 @@ fn is_sole(holders: &HashMap<&[u8], Holder<'_>>, name: &Name) -> bool
     }
 }
 
-// The shown symbols of a kind by their base names.
+/// The shown symbols of a kind by their base names.
 fn holders<'a>(
     alloc: Global,
     shown: &[Name],
@@ -83,7 +83,7 @@ fn holders<'a>(
     Ok(holders)
 }
 
-// A symbol more, where it is of this kind and shown.
+/// A symbol more, where it is of this kind and shown.
 fn add_holder<'a>(
     shown: &[Name],
     kind: WordKind,
@@ -105,7 +105,7 @@ fn add_holder<'a>(
     Ok(())
 }
 
-// What has a base name together with a further name.
+/// What has a base name together with a further name.
 fn with_name<'a>(before: Option<&Holder<'a>>, name: &'a Name) -> Holder<'a>
     ensures { holder_of result ≡ one_more (option_map (λ h. holder_of h.now) before.entry) name.now }
 {

@@ -8,7 +8,7 @@ use crate::words::is_part;
 use ot_plain::Name;
 use std::alloc::{AllocError, Global};
 
-/// A name equal to this one. It fails only for want of memory.
+/// A name equal to this one. It fails only where memory runs out.
 pub fn copy_name(alloc: Global, name: &Name) -> Result<Name, AllocError>
     ensures { IfOk result (λ copy. copy ≡ name.now) }
 {

@@ -95,7 +95,7 @@ impl Notation {
         !self.is_hidden(kind, name) && !self.is_plain(kind, name)
     }
 
-    // Whether the symbol's bare word is its own.
+    /// Whether the symbol's bare word is its own.
     fn is_plain(&self, kind: WordKind, name: &Name) -> bool
         ensures { result
             ≡ (bare_test name.now && not (is_taken self.now (symbol_of (kind, name.now)) (dotted name.now))) }
@@ -103,7 +103,7 @@ impl Notation {
         is_bare(name) && !self.takes(kind, name)
     }
 
-    // Whether the bare word is the base name of a hidden symbol of this kind.
+    /// Whether the bare word is the base name of a hidden symbol of this kind.
     fn takes(&self, kind: WordKind, name: &Name) -> bool
         ensures { bare_test name.now ≡ true → result ≡ is_taken self.now (symbol_of (kind, name.now))
             (dotted name.now) }
@@ -115,7 +115,7 @@ impl Notation {
         }
     }
 
-    // Whether a text is the base name of a hidden symbol of this kind.
+    /// Whether a text is the base name of a hidden symbol of this kind.
     fn takes_part(&self, kind: WordKind, text: &[u8]) -> bool
         ensures { result ≡ is_taken self.now (symbol_of (kind, [])) text.now }
     {
@@ -162,21 +162,21 @@ impl Notation {
     }
 }
 
-// Whether the symbol is among these.
+/// Whether the symbol is among these.
 fn has_symbol(symbols: &[(WordKind, Name)], kind: WordKind, name: &Name) -> bool
     ensures { result ≡ list_any (λ t. same_symbol (symbol_of (kind, name.now)) (symbol_of t)) symbols.now }
 {
     symbols.iter().any(|symbol| is_symbol(kind, name, symbol))
 }
 
-// Whether one of these is of this kind and has this base name.
+/// Whether one of these is of this kind and has this base name.
 fn has_any_base(symbols: &[(WordKind, Name)], kind: WordKind, text: &[u8]) -> bool
     ensures { result ≡ list_any (λ t. has_base_test (symbol_of (kind, [])) text.now (symbol_of t)) symbols.now }
 {
     symbols.iter().any(|symbol| has_base(kind, text, symbol))
 }
 
-// The operator word of a hidden symbol.
+/// The operator word of a hidden symbol.
 fn operator_of(symbol: &(WordKind, Name)) -> Option<&[u8]>
     ensures { option_map (λ w. w.now) result ≡ operator_base (symbol_of symbol.now) }
 {
@@ -189,21 +189,21 @@ fn operator_of(symbol: &(WordKind, Name)) -> Option<&[u8]>
     }
 }
 
-// Whether this is the symbol.
+/// Whether this is the symbol.
 fn is_symbol(kind: WordKind, name: &Name, symbol: &(WordKind, Name)) -> bool
     ensures { result ≡ same_symbol (symbol_of (kind, name.now)) (symbol_of symbol.now) }
 {
     is_one_kind(kind, symbol.0) && *name == symbol.1
 }
 
-// Whether the symbol is of this kind and has this base name.
+/// Whether the symbol is of this kind and has this base name.
 fn has_base(kind: WordKind, text: &[u8], symbol: &(WordKind, Name)) -> bool
     ensures { result ≡ has_base_test (symbol_of (kind, [])) text.now (symbol_of symbol.now) }
 {
     is_one_kind(kind, symbol.0) && is_same(text, base_of(&symbol.1))
 }
 
-// Each of these is a name: it has a component.
+/// Each of these is a name: it has a component.
 fn are_names(names: &[Name])
     ensures { AreNames names.now }
 {
@@ -215,10 +215,11 @@ fn are_names(names: &[Name])
 fn is_name(name: &Name)
     ensures { IsName name.now }
 {
+    // A name has a component.
     let _components = name.components();
 }
 
-// A symbol more, where it is hidden.
+/// A symbol more, where it is hidden.
 fn push_hidden(
     alloc: Global,
     shown: &[Name],
@@ -237,7 +238,7 @@ fn push_hidden(
     Ok(())
 }
 
-// A symbol equal to this one.
+/// A symbol equal to this one.
 fn copy_symbol(alloc: Global, symbol: &(WordKind, Name)) -> Result<(WordKind, Name), AllocError>
     ensures { IfOk result (λ copy. copy ≡ symbol.now) }
 {
@@ -254,7 +255,7 @@ pub(crate) fn is_shown(shown: &[Name], name: &Name) -> bool
         .any(|n| are_same(namespace_of(name), n.components()))
 }
 
-// Whether a hidden symbol's base name may be this one's.
+/// Whether a hidden symbol's base name may be this one's.
 fn is_short(kind: WordKind, name: &Name) -> bool
     ensures { result ≡ short_test (symbol_of (kind, name.now)) }
 {
@@ -262,7 +263,7 @@ fn is_short(kind: WordKind, name: &Name) -> bool
     is_part(base) || (kind == WordKind::Con && is_operator(base))
 }
 
-// Whether a symbol is hidden among those that these bases are of.
+/// Whether a symbol is hidden among those that these bases are of.
 fn is_hidden_in(shown: &[Name], bases: &Bases<'_>, symbol: &(WordKind, Name)) -> bool
     ensures { (symbols : List (Symbol NameValue)) → AreBases shown.now symbols bases.now → result
         ≡ hidden_test shown.now symbols (symbol_of symbol.now) }

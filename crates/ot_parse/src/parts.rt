@@ -23,7 +23,7 @@ pub(crate) fn part(text: &[u8]) -> Result<(&[u8], &[u8]), Halt<'_>>
     }
 }
 
-// How many bytes of the front of a text are inner bytes of a part.
+/// How many bytes of the front of a text are inner bytes of a part.
 fn inner_len(text: &[u8]) -> usize
     ensures within { result ≤ length text.now }
     ensures read { part_on text.now ≡ Got (take result text.now) (drop result text.now) }
@@ -52,7 +52,7 @@ pub(crate) fn signs(text: &[u8]) -> Result<(&[u8], &[u8]), Halt<'_>>
     }
 }
 
-// How many bytes of the front of a text are those of operator words.
+/// How many bytes of the front of a text are those of operator words.
 fn sign_len(text: &[u8]) -> usize
     ensures within { result ≤ length text.now }
     ensures read { signs_on text.now ≡ Got (take result text.now) (drop result text.now) }

@@ -35,7 +35,7 @@ pub fn plain_text(
     write_sequent(alloc, &texts, &sequent.concl, max, out)
 }
 
-// Appends the text of a sequent, of whose hypotheses these are the texts.
+/// Appends the text of a sequent, of whose hypotheses these are the texts.
 fn write_sequent(
     alloc: Global,
     texts: &BTreeSet<Vec<u8>>,
@@ -54,7 +54,7 @@ fn write_sequent(
     page.finish(out)
 }
 
-// A sequent, of whose hypotheses these are the texts.
+/// A sequent, of whose hypotheses these are the texts.
 fn put_sequent(page: &mut Page, texts: &BTreeSet<Vec<u8>>, concl: &Tm)
     ensures { IsPut (hyps_text (texts_of texts.now) ++ tm_text (term_of_tree concl.now)) (printed page.old)
         (printed page.new) }
@@ -78,7 +78,7 @@ pub(crate) fn append(
     page.finish(out)
 }
 
-// A term.
+/// A term.
 #[cycle(terms)]
 #[tactic(auto, using(ot_plain::proofs::PlainTrees::term_Free, ot_plain::proofs::PlainTrees::term_Con, ot_plain::proofs::PlainTrees::term_Bound, ot_plain::proofs::PlainTrees::term_App, ot_plain::proofs::PlainTrees::term_Abs))]
 fn put_term(page: &mut Page, term: &Tm)
@@ -110,7 +110,7 @@ fn put_term(page: &mut Page, term: &Tm)
     }
 }
 
-// What stands before an argument: the function and a space, or the left side of an equation and `=`.
+/// What stands before an argument: the function and a space, or the left side of an equation and `=`.
 #[cycle(terms)]
 fn put_front(page: &mut Page, f: &Tm)
     ensures { (x : TermTree NameValue) → IsPut (front_text (term_of_tree f.now) x) (printed page.old)
@@ -125,7 +125,7 @@ fn put_front(page: &mut Page, f: &Tm)
     page.put(b" = ");
 }
 
-// What a function was applied to.
+/// What a function was applied to.
 #[cycle(terms)]
 #[tactic(auto, using(ot_plain::proofs::PlainTrees::term_Free, ot_plain::proofs::PlainTrees::term_Con, ot_plain::proofs::PlainTrees::term_Bound, ot_plain::proofs::PlainTrees::term_App, ot_plain::proofs::PlainTrees::term_Abs, ot_text::proofs::Putting::nothing))]
 fn put_argument(page: &mut Page, f: &Tm)
@@ -140,7 +140,7 @@ fn put_argument(page: &mut Page, f: &Tm)
     }
 }
 
-// Whether a function makes an equation of a further argument.
+/// Whether a function makes an equation of a further argument.
 #[tactic(auto, using(ot_plain::proofs::PlainTrees::term_Free, ot_plain::proofs::PlainTrees::term_Con, ot_plain::proofs::PlainTrees::term_Bound, ot_plain::proofs::PlainTrees::term_App, ot_plain::proofs::PlainTrees::term_Abs))]
 fn is_half_equation(f: &Tm) -> bool
     ensures { (x : TermTree NameValue) → is_equation names (App (term_of_tree f.now) x) ≡ result }
@@ -154,7 +154,7 @@ fn is_half_equation(f: &Tm) -> bool
     }
 }
 
-// Whether a term is `=` at a type a -> (a -> bool).
+/// Whether a term is `=` at a type a -> (a -> bool).
 #[tactic(auto, using(ot_plain::proofs::PlainTrees::term_Free, ot_plain::proofs::PlainTrees::term_Con, ot_plain::proofs::PlainTrees::term_Bound, ot_plain::proofs::PlainTrees::term_App, ot_plain::proofs::PlainTrees::term_Abs))]
 fn is_equality(head: &Tm) -> bool
     ensures { (a b : TermTree NameValue) → is_equation names (App (App (term_of_tree head.now) a) b) ≡ result }
@@ -168,7 +168,7 @@ fn is_equality(head: &Tm) -> bool
     }
 }
 
-// Whether a type is a -> (a -> bool).
+/// Whether a type is a -> (a -> bool).
 fn is_equality_type(ty: &Ty) -> bool
     ensures { result ≡ equality_test (type_of_tree ty.now) }
 {
@@ -184,7 +184,7 @@ fn is_equality_type(ty: &Ty) -> bool
     is_bool(value)
 }
 
-// A name and a type.
+/// A name and a type.
 fn put_typed(page: &mut Page, name: &Name, ty: &Ty)
     ensures { IsPut (name_text name.now ++ codes ":" ++ ty_text (type_of_tree ty.now)) (printed page.old)
         (printed page.new) }
@@ -194,15 +194,16 @@ fn put_typed(page: &mut Page, name: &Name, ty: &Ty)
     put_type(page, ty);
 }
 
-// The spelling of a name.
+/// The spelling of a name.
 fn put_name(page: &mut Page, name: &Name)
     ensures { IsPut (name_text name.now) (printed page.old) (printed page.new) }
 {
+    // A name has a component.
     let _components = name.components();
     page.put_name(name);
 }
 
-// A type.
+/// A type.
 #[cycle(types)]
 fn put_type(page: &mut Page, ty: &Ty)
     ensures { IsPut (ty_text (type_of_tree ty.now)) (printed page.old) (printed page.new) }
@@ -216,7 +217,7 @@ fn put_type(page: &mut Page, ty: &Ty)
     }
 }
 
-// An operator with its arguments.
+/// An operator with its arguments.
 #[cycle(types)]
 fn put_operator(page: &mut Page, name: &Name, args: &Vec<Ty>)
     ensures { IsPut (ty_text (TyOp name.now (tys_of (map type_of_tree args.now.items)))) (printed page.old)
@@ -237,7 +238,7 @@ fn put_operator(page: &mut Page, name: &Name, args: &Vec<Ty>)
     put_arguments(page, name, args);
 }
 
-// An operator and its arguments in parentheses.
+/// An operator and its arguments in parentheses.
 #[cycle(types)]
 fn put_arguments(page: &mut Page, name: &Name, args: &Vec<Ty>)
     ensures { IsPut
@@ -250,7 +251,7 @@ fn put_arguments(page: &mut Page, name: &Name, args: &Vec<Ty>)
     page.put(b")");
 }
 
-// Types, a space before each.
+/// Types, a space before each.
 #[cycle(types)]
 fn put_types(page: &mut Page, types: &Vec<Ty>)
     ensures { IsPut (spaced_text (tys_of (map type_of_tree types.now.items))) (printed page.old) (printed page.new) }

@@ -67,7 +67,7 @@ enum Hyps {
     Wrong(u64, TextFault),
 }
 
-// A whole term with the bytes behind it.
+/// A whole term with the bytes behind it.
 fn read_one<'a>(
     alloc: Global,
     notation: &Notation,
@@ -86,7 +86,7 @@ fn read_one<'a>(
     }
 }
 
-// A whole term and nothing behind it.
+/// A whole term and nothing behind it.
 fn read_whole<'a>(
     alloc: Global,
     notation: &Notation,
@@ -109,7 +109,7 @@ fn read_whole<'a>(
     }
 }
 
-// The sequent of a line, or the refusal of a part.
+/// The sequent of a line, or the refusal of a part.
 fn read_line<'a>(
     alloc: Global,
     notation: &Notation,
@@ -127,7 +127,7 @@ fn read_line<'a>(
     }
 }
 
-// The sequent of these hypotheses and this conclusion, or the refusal of the first part that is refused.
+/// The sequent of these hypotheses and this conclusion, or the refusal of the first part that is refused.
 fn sequent(hyps: Hyps, concl: Meant) -> Result<Readable, ReadRefusal>
     ensures { IsSequent (sequent_meant (kept_of hyps) (meant_of concl)) result }
 {
@@ -141,7 +141,7 @@ fn sequent(hyps: Hyps, concl: Meant) -> Result<Readable, ReadRefusal>
     }
 }
 
-// The hypotheses of a line and the turnstile.
+/// The hypotheses of a line and the turnstile.
 fn read_hyps<'a>(
     alloc: Global,
     notation: &Notation,
@@ -165,7 +165,7 @@ fn read_hyps<'a>(
     }
 }
 
-// One hypothesis or more, and the turnstile.
+/// One hypothesis or more, and the turnstile.
 fn read_some_hyps<'a>(
     alloc: Global,
     notation: &Notation,
@@ -198,7 +198,7 @@ fn read_some_hyps<'a>(
     }
 }
 
-// Behind a hypothesis stands a comma, so that a further one follows, or the turnstile.
+/// Behind a hypothesis stands a comma, so that a further one follows, or the turnstile.
 fn separator(text: &[u8]) -> Result<(bool, &[u8]), Halt<'_>>
     ensures { Gives (λ x. x.0) (λ x. x.1.now) result (separator_at text.now) }
 {
@@ -208,7 +208,7 @@ fn separator(text: &[u8]) -> Result<(bool, &[u8]), Halt<'_>>
     }
 }
 
-// A term more, behind those that aren't equal to it.
+/// A term more, behind those that aren't equal to it.
 fn with_term(hyps: Hyps, term: Meant) -> Result<Hyps, Memory>
     ensures { IsKept (one_more (kept_of hyps) (meant_of term)) result }
 {
@@ -224,7 +224,7 @@ fn with_term(hyps: Hyps, term: Meant) -> Result<Hyps, Memory>
     }
 }
 
-// The terms without those that are equal to this one.
+/// The terms without those that are equal to this one.
 fn without(terms: Vec<Tm>, term: &Tm) -> Vec<Tm>
     ensures { map term_of_tree result.items ≡ others (term_of_tree term.now) (map term_of_tree terms.items) }
 {
@@ -233,7 +233,7 @@ fn without(terms: Vec<Tm>, term: &Tm) -> Vec<Tm>
     kept
 }
 
-// The refusal of a part that begins at this place, from 0. No text is so long that its column is no number.
+/// The refusal of a part that begins at this place, from 0. No text is so long that its column is no number.
 fn wrong_at(place: u64, fault: TextFault) -> ReadRefusal
     ensures { IsAt place fault result }
 {
@@ -243,7 +243,7 @@ fn wrong_at(place: u64, fault: TextFault) -> ReadRefusal
     }
 }
 
-// The refusal where reading stops.
+/// The refusal where reading stops.
 fn halted_at(line: &[u8], halt: Halt<'_>) -> ReadRefusal
     ensures { IsHaltedAt line.now halt.entry result }
 {

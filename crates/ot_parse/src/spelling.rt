@@ -43,7 +43,7 @@ impl Parts {
         }
     }
 
-    // One byte more.
+    /// One byte more.
     fn push(&mut self, byte: u8) -> Result<(), AllocError>
         ensures { OnOk result ((n : NameValue) → glued self.new n ≡ glued self.old (before byte n)) }
     {
@@ -51,7 +51,7 @@ impl Parts {
         Ok(())
     }
 
-    // A new component.
+    /// A new component.
     fn end(&mut self, alloc: Global) -> Result<(), AllocError>
         ensures { OnOk result ((n : NameValue) → glued self.new n ≡ glued self.old ([] ∷ n)) }
     {
@@ -60,7 +60,7 @@ impl Parts {
         Ok(())
     }
 
-    // The name.
+    /// The name.
     fn finish(self) -> Result<Name, AllocError>
         ensures { IfOk result (λ name. name ≡ glued self ([] ∷ [])) }
     {
@@ -118,7 +118,7 @@ fn read_name<'a>(
     }
 }
 
-// The next piece of a name, behind a byte of a part or not.
+/// The next piece of a name, behind a byte of a part or not.
 fn next_piece<'a>(is_quoted: bool, is_inside: bool, text: &'a [u8]) -> Piece<'a>
     ensures read { name_at is_quoted is_inside text.now ≡ piece_reading is_quoted text.now result }
     ensures shorter { IsShorter result text.now }
@@ -132,7 +132,7 @@ fn next_piece<'a>(is_quoted: bool, is_inside: bool, text: &'a [u8]) -> Piece<'a>
     }
 }
 
-// The first byte of a part.
+/// The first byte of a part.
 fn first_piece<'a>(text: &'a [u8]) -> Piece<'a>
     ensures read { bare_at text.now ≡ piece_reading false text.now result }
     ensures shorter { IsShorter result text.now }
@@ -149,7 +149,7 @@ fn first_piece<'a>(text: &'a [u8]) -> Piece<'a>
     }
 }
 
-// A further byte of a part, a dot, or the end.
+/// A further byte of a part, a dot, or the end.
 fn inner_piece<'a>(text: &'a [u8]) -> Piece<'a>
     ensures read { bare_on text.now ≡ piece_reading false text.now result }
     ensures shorter { IsShorter result text.now }
@@ -168,7 +168,7 @@ fn inner_piece<'a>(text: &'a [u8]) -> Piece<'a>
     }
 }
 
-// A byte of a spelling, which a backslash may stand before; a dot, or the end.
+/// A byte of a spelling, which a backslash may stand before; a dot, or the end.
 fn quoted_piece<'a>(text: &'a [u8]) -> Piece<'a>
     ensures read { spelled_at text.now ≡ piece_reading true text.now result }
     ensures shorter { IsShorter result text.now }
@@ -189,7 +189,7 @@ fn quoted_piece<'a>(text: &'a [u8]) -> Piece<'a>
     }
 }
 
-// A byte behind a backslash.
+/// A byte behind a backslash.
 fn escaped_piece<'a>(text: &'a [u8]) -> Piece<'a>
     ensures read { escaped_at text.now ≡ piece_reading true text.now result }
     ensures shorter { IsShorter result text.now }
@@ -206,7 +206,7 @@ fn escaped_piece<'a>(text: &'a [u8]) -> Piece<'a>
     }
 }
 
-// A quote, a backslash or a dot.
+/// A quote, a backslash or a dot.
 fn is_special(byte: u8) -> bool
     ensures { result ≡ special_test byte }
 {
@@ -243,7 +243,7 @@ pub(crate) fn variable_word(alloc: Global, text: &[u8]) -> Result<(Name, &[u8]),
     }
 }
 
-// A variable's spelling behind its opening quote.
+/// A variable's spelling behind its opening quote.
 fn quoted_variable(alloc: Global, text: &[u8]) -> Result<(Name, &[u8]), Halt<'_>>
     ensures { Gives (λ x. x.0) (λ x. x.1.now) result (quoted_at (λ n. not (bare_test n)) text.now) }
 {

@@ -35,7 +35,7 @@ pub(crate) fn operator_word<'a>(
     }
 }
 
-// A symbol's spelling behind its opening quote, where it is its word.
+/// A symbol's spelling behind its opening quote, where it is its word.
 fn quoted_symbol<'a>(
     alloc: Global,
     notation: &Notation,
@@ -53,7 +53,7 @@ fn quoted_symbol<'a>(
     Ok((name, rest))
 }
 
-// The symbol whose bare word stands at the front.
+/// The symbol whose bare word stands at the front.
 fn bare_symbol<'a>(
     alloc: Global,
     notation: &Notation,
@@ -93,7 +93,7 @@ pub(crate) fn constant_word<'a>(
     }
 }
 
-// The hidden constant whose operator word stands at the front.
+/// The hidden constant whose operator word stands at the front.
 fn sign_word<'a>(
     alloc: Global,
     notation: &Notation,
@@ -118,7 +118,7 @@ fn sign_word<'a>(
     }
 }
 
-// Those whose words go on with this byte, behind it.
+/// Those whose words go on with this byte, behind it.
 fn narrowed<'a>(
     alloc: Global,
     byte: u8,
@@ -146,7 +146,7 @@ pub(crate) fn behind(byte: u8, text: &[u8]) -> Option<&[u8]>
     }
 }
 
-// The one whose word has ended.
+/// The one whose word has ended.
 fn ended_word<'a>(
     alloc: Global,
     candidates: &[(&[u8], &Name)],

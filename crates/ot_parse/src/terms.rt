@@ -95,7 +95,7 @@ pub(crate) fn read_part<'a>(
     Err(Halt::Memory)
 }
 
-// Where reading goes on.
+/// Where reading goes on.
 #[derive(Drop)]
 enum Next<'a> {
     /// A term begins here.
@@ -104,7 +104,7 @@ enum Next<'a> {
     Ended(Meant, &'a [u8]),
 }
 
-// Reads on up to the next term that begins inside what is open.
+/// Reads on up to the next term that begins inside what is open.
 fn next_of<'a>(
     alloc: Global,
     notation: &Notation,
@@ -132,7 +132,7 @@ fn next_of<'a>(
     }
 }
 
-// Reads on behind a term that has ended inside what is open.
+/// Reads on behind a term that has ended inside what is open.
 fn ended<'a>(
     alloc: Global,
     notation: &Notation,
@@ -161,7 +161,7 @@ pub(crate) fn place_of(total: usize, text: &[u8]) -> u64
     total.saturating_sub(text.len()) as u64
 }
 
-// The front of a term inside what is open, with room for so many more.
+/// The front of a term inside what is open, with room for so many more.
 fn front_of<'a>(
     alloc: Global,
     notation: &Notation,
@@ -194,7 +194,7 @@ fn front_of<'a>(
     }
 }
 
-// A bound place.
+/// A bound place.
 fn place_front<'a>(
     alloc: Global,
     total: usize,
@@ -209,7 +209,7 @@ fn place_front<'a>(
     Ok(Front::Leaf(bound, rest))
 }
 
-// The term of the innermost abstraction with this name, at this place.
+/// The term of the innermost abstraction with this name, at this place.
 fn bound_part(alloc: Global, frames: &[Open<'_>], at: u64, name: &[u8]) -> Result<Meant, Memory>
     ensures { let l = around (frames_of frames.now) in IsMade l (bound_of l at name.now) result }
 {
@@ -230,7 +230,7 @@ fn bound_part(alloc: Global, frames: &[Open<'_>], at: u64, name: &[u8]) -> Resul
     Ok(Meant::Wrong(at, TextFault::Unbound))
 }
 
-// The variable of an abstraction, where that is open.
+/// The variable of an abstraction, where that is open.
 fn variable_of<'a>(inside: &'a Open<'_>) -> Option<(&'a [u8], &'a Ty)>
     ensures none { IfNone result ((l : Around) → inner_of (frame_of inside.now) l ≡ l) }
     ensures some { IfSome result (λ v. (l : Around) → inner_of (frame_of inside.now) l
@@ -244,7 +244,7 @@ fn variable_of<'a>(inside: &'a Open<'_>) -> Option<(&'a [u8], &'a Ty)>
     }
 }
 
-// A constant behind its opening brace, with room for so many open parentheses.
+/// A constant behind its opening brace, with room for so many open parentheses.
 fn constant_front<'a>(
     alloc: Global,
     notation: &Notation,
@@ -259,7 +259,7 @@ fn constant_front<'a>(
     Ok(Front::Leaf(Meant::Value(value), rest))
 }
 
-// A constant's name and type.
+/// A constant's name and type.
 fn constant<'a>(
     alloc: Global,
     notation: &Notation,
@@ -276,7 +276,7 @@ fn constant<'a>(
     Ok((name, ty, after))
 }
 
-// What a parenthesis at this place opens, with room for so many inside.
+/// What a parenthesis at this place opens, with room for so many inside.
 fn inside<'a>(
     alloc: Global,
     notation: &Notation,
@@ -309,14 +309,14 @@ fn inside<'a>(
     }
 }
 
-// Whether a term that begins with this byte is no bound place.
+/// Whether a term that begins with this byte is no bound place.
 fn opens_term(byte: u8) -> bool
     ensures { result ≡ ((byte == 40) || (byte == 123)) }
 {
     byte == 40 || byte == 123
 }
 
-// An abstraction behind its backslash.
+/// An abstraction behind its backslash.
 fn binding_front<'a>(
     alloc: Global,
     notation: &Notation,
@@ -334,7 +334,7 @@ fn binding_front<'a>(
     Ok(Front::Inside(Open::Body(place, name, ty), body))
 }
 
-// The variable of an abstraction.
+/// The variable of an abstraction.
 fn binder<'a>(
     alloc: Global,
     notation: &Notation,
@@ -350,7 +350,7 @@ fn binder<'a>(
     Ok((name, ty, body))
 }
 
-// A free variable whose name is quoted.
+/// A free variable whose name is quoted.
 fn variable_front<'a>(
     alloc: Global,
     notation: &Notation,
@@ -379,7 +379,7 @@ fn quoted_variable<'a>(
     free(alloc, notation, room, name, rest)
 }
 
-// The type of a free variable, and its end.
+/// The type of a free variable, and its end.
 fn free<'a>(
     alloc: Global,
     notation: &Notation,
@@ -396,7 +396,7 @@ fn free<'a>(
     Ok((name, ty, after))
 }
 
-// A free variable, or a bound place as the first term.
+/// A free variable, or a bound place as the first term.
 fn named<'a>(
     alloc: Global,
     notation: &Notation,
@@ -422,7 +422,7 @@ fn named<'a>(
     Ok(Front::Head(Open::First(at, place), bound, end))
 }
 
-// Whether a bare word and a space before this text begin a free variable.
+/// Whether a bare word and a space before this text begin a free variable.
 fn is_free(name: &Name, text: &[u8]) -> bool
     ensures { result ≡ is_free_at name.now text.now }
 {
@@ -432,7 +432,7 @@ fn is_free(name: &Name, text: &[u8]) -> bool
     }
 }
 
-// Whether a name has one component.
+/// Whether a name has one component.
 fn is_single(name: &Name) -> bool
     ensures { result ≡ single_test name.now }
 {
@@ -454,7 +454,7 @@ fn free_front<'a>(
     Ok(Front::Leaf(Meant::Value(value), rest))
 }
 
-// The first component.
+/// The first component.
 fn first_of(name: &Name) -> &[u8]
     ensures { result.now ≡ first_part name.now }
 {
@@ -462,7 +462,7 @@ fn first_of(name: &Name) -> &[u8]
     components[0].as_slice()
 }
 
-// Closes what ends with the term, up to a further term that is to be read.
+/// Closes what ends with the term, up to a further term that is to be read.
 fn close<'a>(
     alloc: Global,
     notation: &Notation,
@@ -492,7 +492,7 @@ fn close<'a>(
     }
 }
 
-// What comes of a term that has ended inside this.
+/// What comes of a term that has ended inside this.
 fn back_of<'a>(
     alloc: Global,
     notation: &Notation,
@@ -517,14 +517,14 @@ fn back_of<'a>(
     }
 }
 
-// Whether the sides of an operator are propositions.
+/// Whether the sides of an operator are propositions.
 fn is_relation(operator: &[u8]) -> bool
     ensures { result ≡ relation_test operator.now }
 {
     !is_same(operator, b"=")
 }
 
-// Behind a first term stands an operator or an argument.
+/// Behind a first term stands an operator or an argument.
 fn back_of_first<'a>(
     total: usize,
     at: u64,
@@ -539,7 +539,7 @@ fn back_of_first<'a>(
     behind_first(total, at, place, part, rest)
 }
 
-// The same behind the space.
+/// The same behind the space.
 fn behind_first<'a>(
     total: usize,
     at: u64,
@@ -563,7 +563,7 @@ fn behind_first<'a>(
     }
 }
 
-// An operator behind its left side.
+/// An operator behind its left side.
 fn operator<'a>(
     total: usize,
     at: u64,
@@ -581,7 +581,7 @@ fn operator<'a>(
     Ok(Back::Further(Open::Right(at, next, word, left), rest))
 }
 
-// Behind the right side the operation ends.
+/// Behind the right side the operation ends.
 fn back_of_right<'a>(
     alloc: Global,
     notation: &Notation,
@@ -601,7 +601,7 @@ fn back_of_right<'a>(
     Ok(Back::Whole(sides, rest))
 }
 
-// What the sides of an operator stand for, in a part that begins at this place.
+/// What the sides of an operator stand for, in a part that begins at this place.
 fn sides_of(
     alloc: Global,
     notation: &Notation,
@@ -620,7 +620,7 @@ fn sides_of(
     }
 }
 
-// Behind an argument stands a further one, or the application ends.
+/// Behind an argument stands a further one, or the application ends.
 fn back_of_argument<'a>(
     alloc: Global,
     notation: &Notation,
@@ -654,7 +654,7 @@ fn back_of_argument<'a>(
     }
 }
 
-// Behind its body the abstraction ends.
+/// Behind its body the abstraction ends.
 fn back_of_body<'a>(
     alloc: Global,
     place: u64,

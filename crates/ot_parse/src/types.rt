@@ -71,7 +71,7 @@ pub(crate) fn read_type<'a>(
     Err(Halt::Memory)
 }
 
-// Where reading goes on.
+/// Where reading goes on.
 #[derive(Drop)]
 pub(crate) enum Next<'a> {
     /// A type begins here.
@@ -80,7 +80,7 @@ pub(crate) enum Next<'a> {
     Ended(Ty, &'a [u8]),
 }
 
-// Reads on up to the next type that begins inside what is open.
+/// Reads on up to the next type that begins inside what is open.
 fn next_of<'a>(
     alloc: Global,
     notation: &Notation,
@@ -109,7 +109,7 @@ fn next_of<'a>(
     }
 }
 
-// The front of a type, with room for so many open parentheses.
+/// The front of a type, with room for so many open parentheses.
 fn front_of<'a>(
     alloc: Global,
     notation: &Notation,
@@ -135,7 +135,7 @@ fn front_of<'a>(
     }
 }
 
-// A type variable behind its quote.
+/// A type variable behind its quote.
 fn variable_front(alloc: Global, text: &[u8]) -> Result<Front<'_>, Halt<'_>>
     ensures { IsLeafOf (mapped TyVar (variable_at text.now)) result }
 {
@@ -143,7 +143,7 @@ fn variable_front(alloc: Global, text: &[u8]) -> Result<Front<'_>, Halt<'_>>
     Ok(Front::Leaf(Ty::Var(name), rest))
 }
 
-// An operator without arguments.
+/// An operator without arguments.
 fn operator_front<'a>(
     alloc: Global,
     notation: &Notation,
@@ -155,7 +155,7 @@ fn operator_front<'a>(
     Ok(Front::Leaf(Ty::Op(name, Vec::new(alloc)), rest))
 }
 
-// What a parenthesis opens.
+/// What a parenthesis opens.
 fn inside<'a>(alloc: Global, notation: &Notation, text: &'a [u8]) -> Result<Front<'a>, Halt<'a>>
     ensures { (m : ℕ) → IsInside notation.now m text.now result }
 {
@@ -171,14 +171,14 @@ fn inside<'a>(alloc: Global, notation: &Notation, text: &'a [u8]) -> Result<Fron
     }
 }
 
-// Whether a type that begins with this byte is no operator without arguments.
+/// Whether a type that begins with this byte is no operator without arguments.
 fn opens_domain(byte: u8) -> bool
     ensures { result ≡ ((byte == 39) || (byte == 40)) }
 {
     byte == 39 || byte == 40
 }
 
-// The same where it isn't a domain with a quote or parenthesis.
+/// The same where it isn't a domain with a quote or parenthesis.
 fn inside_word<'a>(
     alloc: Global,
     notation: &Notation,
@@ -192,7 +192,7 @@ fn inside_word<'a>(
     behind_word(alloc, notation, name, rest)
 }
 
-// Behind an operator's word and a space.
+/// Behind an operator's word and a space.
 fn behind_word<'a>(
     alloc: Global,
     notation: &Notation,
@@ -216,7 +216,7 @@ fn behind_word<'a>(
     }
 }
 
-// Closes what ends with the type, up to a further type that is to be read.
+/// Closes what ends with the type, up to a further type that is to be read.
 fn close<'a>(
     alloc: Global,
     notation: &Notation,
@@ -244,7 +244,7 @@ fn close<'a>(
     }
 }
 
-// The function type.
+/// The function type.
 pub(crate) fn function_type(alloc: Global, domain: Ty, range: Ty) -> Result<Ty, AllocError>
     ensures { IfOk result (λ t. type_of_tree t ≡ fun_ty names (type_of_tree domain) (type_of_tree range)) }
 {
@@ -254,7 +254,7 @@ pub(crate) fn function_type(alloc: Global, domain: Ty, range: Ty) -> Result<Ty, 
     Ok(Ty::Op(Name::of_text(alloc, b"->")?, args))
 }
 
-// What comes of a type that has ended inside this.
+/// What comes of a type that has ended inside this.
 fn back_of<'a>(
     alloc: Global,
     notation: &Notation,
@@ -271,7 +271,7 @@ fn back_of<'a>(
     }
 }
 
-// Behind a domain stand the arrow and the range.
+/// Behind a domain stand the arrow and the range.
 fn back_of_domain<'a>(notation: &Notation, ty: Ty, text: &'a [u8]) -> Result<Back<'a>, Halt<'a>>
     ensures { (m : ℕ) → IsBackOf notation.now m Domain (type_of_tree ty) text.now result }
 {
@@ -280,7 +280,7 @@ fn back_of_domain<'a>(notation: &Notation, ty: Ty, text: &'a [u8]) -> Result<Bac
     Ok(Back::Further(Open::Range(ty), rest))
 }
 
-// Behind a range the function type ends.
+/// Behind a range the function type ends.
 fn back_of_range<'a>(
     alloc: Global,
     notation: &Notation,
@@ -296,7 +296,7 @@ fn back_of_range<'a>(
     Ok(Back::Whole(whole, rest))
 }
 
-// Behind an argument stands a further one, or the type ends.
+/// Behind an argument stands a further one, or the type ends.
 fn back_of_argument<'a>(
     notation: &Notation,
     name: Name,
@@ -312,7 +312,7 @@ fn back_of_argument<'a>(
     behind_arguments(notation, name, args, text)
 }
 
-// The same behind the arguments, the last one among them.
+/// The same behind the arguments, the last one among them.
 fn behind_arguments<'a>(
     notation: &Notation,
     name: Name,
@@ -329,7 +329,7 @@ fn behind_arguments<'a>(
     }
 }
 
-// What follows a space.
+/// What follows a space.
 fn next_argument(text: &[u8]) -> Option<&[u8]>
     ensures none { IfNone result (is_spaced text.now ≡ false) }
     ensures some { IfSome result (λ after. text.now ≡ 32 ∷ after.now) }
@@ -340,7 +340,7 @@ fn next_argument(text: &[u8]) -> Option<&[u8]>
     }
 }
 
-// The type ends behind its arguments, which make no function type.
+/// The type ends behind its arguments, which make no function type.
 fn end_arguments<'a>(
     notation: &Notation,
     name: Name,

@@ -56,7 +56,7 @@ impl Value {
         term
     }
 
-    // Whether the term is within the nesting limit.
+    /// Whether the term is within the nesting limit.
     fn fits(&self) -> bool
         ensures { (l : Around) → IsValue l self.now → result ≡ fits_test l (term_of_tree self.now.term) }
     {
@@ -127,7 +127,7 @@ pub(crate) fn copy_type(alloc: Global, ty: &Ty) -> Result<Ty, AllocError>
     }
 }
 
-// The depth of a type, or one past this limit.
+/// The depth of a type, or one past this limit.
 #[tactic(auto, using(ot_plain::proofs::PlainTrees::type_Var, ot_plain::proofs::PlainTrees::type_Op))]
 fn type_depth(ty: &Ty, limit: u64) -> u64
     requires { limit ≤ depth_limit }
@@ -174,7 +174,7 @@ fn whole_value(wanted: bool, at: u64, value: Value) -> Meant
     Meant::Value(value)
 }
 
-// The depth of what stands over two parts, or one past the nesting limit.
+/// The depth of what stands over two parts, or one past the nesting limit.
 fn one_deeper(left: u64, right: u64) -> u64
     ensures { result ≡ deeper left right }
 {
@@ -183,7 +183,7 @@ fn one_deeper(left: u64, right: u64) -> u64
     if most <= limit { most + 1 } else { limit + 1 }
 }
 
-// What a function of the first type gives at an argument of the second.
+/// What a function of the first type gives at an argument of the second.
 fn result_type(function: Ty, argument: &Ty) -> Option<Ty>
     ensures { option_map type_of_tree result ≡ result_ty names (type_of_tree function) (type_of_tree argument.now) }
 {
@@ -199,7 +199,7 @@ fn result_type(function: Ty, argument: &Ty) -> Option<Ty>
     }
 }
 
-// An application, where it fits.
+/// An application, where it fits.
 fn applied(alloc: Global, function: Value, argument: Value) -> Result<Option<Value>, Memory>
     ensures { (l : Around) → IsValue l function → IsValue l argument
         → IsApplied l (term_of_tree function.term) (term_of_tree argument.term) result }
@@ -222,7 +222,7 @@ fn applied(alloc: Global, function: Value, argument: Value) -> Result<Option<Val
     }
 }
 
-// The first term applied to the second.
+/// The first term applied to the second.
 fn applied_term(alloc: Global, function: Tm, argument: Tm) -> Result<Tm, Memory>
     ensures { IfOk result (λ t. term_of_tree t ≡ AppTree (term_of_tree function) (term_of_tree argument)) }
 {
@@ -251,7 +251,7 @@ pub(crate) fn application(
     }
 }
 
-// A constant of this name for a relation between terms of this type.
+/// A constant of this name for a relation between terms of this type.
 fn relation(alloc: Global, name: Name, ty: &Ty) -> Result<Value, AllocError>
     ensures kept { IfOk result (λ v. (l : Around) → IsValue l v) }
     ensures term { IfOk result (λ v. term_of_tree v.term ≡ ConTree name (relation_of (type_of_tree ty.now))) }
@@ -260,7 +260,7 @@ fn relation(alloc: Global, name: Name, ty: &Ty) -> Result<Value, AllocError>
     constant_value(alloc, name, whole)
 }
 
-// Such a constant at two terms, where it fits.
+/// Such a constant at two terms, where it fits.
 fn related(
     alloc: Global,
     relation: Value,
@@ -301,7 +301,7 @@ fn equated(alloc: Global, at: u64, left: Value, right: Value) -> Result<Meant, M
     }
 }
 
-// `=` between terms of this type.
+/// `=` between terms of this type.
 fn equality(alloc: Global, ty: &Ty) -> Result<Value, AllocError>
     ensures kept { IfOk result (λ v. (l : Around) → IsValue l v) }
     ensures term { IfOk result (λ v. term_of_tree v.term ≡ ConTree names.equals (relation_of (type_of_tree ty.now))) }
@@ -346,7 +346,7 @@ fn operated(
     }
 }
 
-// A constant of this name at two propositions.
+/// A constant of this name at two propositions.
 fn joined(alloc: Global, name: &Name, left: Value, right: Value) -> Result<Meant, Memory>
     ensures { (l : Around) → IsValue l left → IsValue l right → IsMade l
         (Ok (related_at name.now (bool_ty names) (term_of_tree left.term) (term_of_tree right.term))) result }
@@ -358,7 +358,7 @@ fn joined(alloc: Global, name: &Name, left: Value, right: Value) -> Result<Meant
     }
 }
 
-// A constant of this name for a relation between propositions.
+/// A constant of this name for a relation between propositions.
 fn connective(alloc: Global, name: &Name) -> Result<Value, AllocError>
     ensures kept { IfOk result (λ v. (l : Around) → IsValue l v) }
     ensures term { IfOk result (λ v. term_of_tree v.term ≡ ConTree name.now (relation_of (bool_ty names))) }
@@ -394,7 +394,7 @@ fn abstracted(alloc: Global, ty: Ty, body: Value) -> Result<Meant, Memory>
     }))
 }
 
-// The abstraction of a term over a variable of this type.
+/// The abstraction of a term over a variable of this type.
 fn abstracted_term(alloc: Global, ty: Ty, body: Tm) -> Result<Tm, Memory>
     ensures { IfOk result (λ t. term_of_tree t ≡ AbsTree (type_of_tree ty) (term_of_tree body)) }
 {
@@ -402,7 +402,7 @@ fn abstracted_term(alloc: Global, ty: Ty, body: Tm) -> Result<Tm, Memory>
     Ok(Tm::Abs(ty, body))
 }
 
-// The type of a relation between terms of this type.
+/// The type of a relation between terms of this type.
 fn relation_type(alloc: Global, ty: &Ty) -> Result<Ty, AllocError>
     ensures { IfOk result (λ t. type_of_tree t ≡ relation_of (type_of_tree ty.now)) }
 {
@@ -410,7 +410,7 @@ fn relation_type(alloc: Global, ty: &Ty) -> Result<Ty, AllocError>
     function_type(alloc, copy_type(alloc, ty)?, half)
 }
 
-// The type of propositions.
+/// The type of propositions.
 fn bool_type(alloc: Global) -> Result<Ty, AllocError>
     ensures { IfOk result (λ t. type_of_tree t ≡ bool_ty names) }
 {

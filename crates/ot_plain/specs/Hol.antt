@@ -57,7 +57,7 @@ module _ {N : Type 0} (alphabet : Alphabet N) where
     inst_all g NoTys = NoTys
     inst_all g (MoreTys t ts) = MoreTys (inst_by g t) (inst_all g ts)
 
-  -- the instance of a type: each variable that the map holds gives way to its type
+  -- the instance of a type: each variable that the map holds is replaced by its type
   abbrev pub inst : TypeMap → Ty N → Ty N
   inst s = inst_by (type_at s)
 

@@ -6,7 +6,7 @@ use Rattle.ot_plain.specs.declared.name.NameFault.TheVariants as faults
 use Rattle.ot_plain.specs.declared.name.Part.{Part}
 use Rattle.ot_plain.specs.declared.name.Part.TheVariants.{End, Trailing, Unterminated, Byte, Dot}
 
--- the name of a text that ends with its closing quote, or none: the quote is lacking, or bytes follow it
+-- the name of a text that ends with its closing quote, or none: the quote is missing, or bytes follow it
 pub data Reading : Type 0 where
   Done : List (List ℕ) → Reading
   Unended : Reading

@@ -86,7 +86,7 @@ impl Cmd {
     }
 
     /// The command that is written so.
-    // Once a line: readers of articles and of other texts are to have it inline.
+    /// Once a line: readers of articles and of other texts are to have it inline.
     #[inline(always)]
     pub fn find(text: &[u8]) -> Option<Cmd>
         ensures { result ≡ command_of text.now }

@@ -60,7 +60,7 @@ impl Hash for Name {
 /// Why a quoted text is no name.
 #[derive(Clone, Copy, Debug, PartialEq, Eq)]
 pub enum NameFault {
-    /// The closing quote is lacking.
+    /// The closing quote is missing.
     Unterminated,
     /// Bytes follow the closing quote.
     Trailing,
@@ -136,7 +136,7 @@ impl Name {
 
     /// Appends the spelling of the name: a quote, the components with a dot between two, and a
     /// quote. In a component a backslash stands before each quote, backslash and dot, and nowhere
-    /// else. After want of memory `out` is as it was.
+    /// else. After running out of memory `out` is as it was.
     pub fn spell(&self, out: &mut Vec<u8>) -> Result<(), Memory>
         ensures ok { OnOk result (out.new.items ≡ out.old.items ++ spelled self.now) }
         ensures err { OnErr result (out.new.items ≡ out.old.items) }
@@ -208,7 +208,7 @@ pub fn one_name()
 {}
 
 /// A law: a text that begins with a quote spells a name, or a shorter front of it does, or no front
-/// does, and no two of these hold. So each answer of `Name::read` but want of memory comes exactly
+/// does, and no two of these hold. So each answer of `Name::read` but running out of memory comes exactly
 /// where its clause says.
 pub fn one_answer()
     ensures some { (text : List ℕ) → HasAnswer (34 ∷ text) }
@@ -224,7 +224,7 @@ pub fn one_spelling()
     ensures apart { (a b : NameValue) → IsName a → IsName b → spelled a ≡ spelled b → a ≡ b }
 {}
 
-/// Appends the spelling of a name with these components. After want of memory some front of it may
+/// Appends the spelling of a name with these components. After running out of memory some front of it may
 /// be added.
 fn push_spelling(components: &[Vec<u8>], out: &mut Vec<u8>) -> Result<(), AllocError>
     ensures ok { OnOk result (out.new.items

@@ -86,7 +86,7 @@ impl Names {
         Ok(Names { entries })
     }
 
-    /// The number of a name. A new name takes the next number; after want of memory the table is as before.
+    /// The number of a name. A new name takes the next number; after running out of memory the table is as before.
     pub fn intern(&mut self, name: Name) -> Result<NameId, Memory>
         ensures ok { IfOk result (λ id. slice_get self.new id ≡ Some name) }
         ensures extends { Extends self.old self.new }
@@ -102,7 +102,7 @@ impl Names {
         Ok(NameId(index as u32))
     }
 
-    /// The number of a name that the table did not have. Which name it is, is open. After want of memory the table may
+    /// The number of a name that the table did not have. Which name it is, is open. After running out of memory the table may
     /// hold more names.
     pub fn add_new(&mut self) -> Result<NameId, Memory>
         ensures ok { IfOk result (λ id. (length self.old ≤ id) × (id < length self.new)) }

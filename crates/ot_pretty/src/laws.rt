@@ -31,11 +31,12 @@ pub(crate) fn each_reads_back(kernel: &Kernel, theorems: &[ThmId])
     }
 }
 
-// The law for a theorem.
+/// The law for a theorem.
 fn one_reads_back(kernel: &Kernel, th: ThmId)
     requires { th < length kernel.now.theorems }
     ensures { (hidden : List (Symbol Name)) → IsNotation hidden → ReadsBackAs hidden (theorem_at kernel.now th) }
 {
+    // What holds of each kernel, and of its table of terms.
     kernel.sound();
     let _terms = kernel.terms();
     let _hyps = kernel.hyps(th);

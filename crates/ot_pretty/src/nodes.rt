@@ -35,7 +35,7 @@ pub(crate) fn relation_parts(
     }
 }
 
-// The name of a constant that is a hidden relation between propositions.
+/// The name of a constant that is a hidden relation between propositions.
 fn relation_name(kernel: &Kernel, notation: &Notation, id: TermId) -> Option<NameId>
     requires { id < length kernel.now.terms }
     ensures none { IfNone result (IsNoRelationName notation.now kernel.now id) }
@@ -54,7 +54,7 @@ fn relation_name(kernel: &Kernel, notation: &Notation, id: TermId) -> Option<Nam
     }
 }
 
-// Whether a constant is hidden behind an operator word, and relates propositions.
+/// Whether a constant is hidden behind an operator word, and relates propositions.
 fn is_relation(kernel: &Kernel, notation: &Notation, name: NameId, ty: TypeId) -> bool
     requires name { name < length kernel.now.names }
     requires ty { ty < length kernel.now.types }
@@ -70,7 +70,7 @@ fn is_relation(kernel: &Kernel, notation: &Notation, name: NameId, ty: TypeId) -
     is_relation_type(kernel, ty)
 }
 
-// Whether a type is bool -> (bool -> bool).
+/// Whether a type is bool -> (bool -> bool).
 fn is_relation_type(kernel: &Kernel, ty: TypeId) -> bool
     requires { ty < length kernel.now.types }
     ensures { result ≡ same_ty names (type_at kernel.now ty) relation_ty }
@@ -90,7 +90,7 @@ fn is_relation_type(kernel: &Kernel, ty: TypeId) -> bool
     is_bool(kernel, value)
 }
 
-// Whether a type is that of propositions.
+/// Whether a type is that of propositions.
 fn is_bool(kernel: &Kernel, ty: TypeId) -> bool
     requires { ty < length kernel.now.types }
     ensures { result ≡ same_ty names (type_at kernel.now ty) (bool_ty names) }
@@ -106,7 +106,7 @@ fn is_bool(kernel: &Kernel, ty: TypeId) -> bool
     }
 }
 
-// Whether a name is that of the type of propositions.
+/// Whether a name is that of the type of propositions.
 fn is_bool_name(kernel: &Kernel, name: NameId) -> bool
     requires { name < length kernel.now.names }
     ensures { result ≡ names.same (name_at kernel.now name) names.bool_name }

@@ -48,7 +48,7 @@ pub(crate) fn found_symbols(
     listed(alloc, &search.symbols)
 }
 
-// The items of a set, in its order.
+/// The items of a set, in its order.
 fn listed(alloc: Global, symbols: &IndexSet<Symbol>) -> Result<Vec<Symbol>, Memory>
     ensures { IfOk result (λ v. v.items ≡ symbols.now.keys) }
 {
@@ -56,7 +56,7 @@ fn listed(alloc: Global, symbols: &IndexSet<Symbol>) -> Result<Vec<Symbol>, Memo
 }
 
 impl Search {
-    // Looks at the terms, the greatest number first.
+    /// Looks at the terms, the greatest number first.
     fn look_at_terms(&mut self, kernel: &Kernel) -> Result<(), Memory>
         requires { IsSearch kernel.now self.old }
         ensures reaches { OnOk result (Reaches kernel.now self.old self.new) }
@@ -68,7 +68,7 @@ impl Search {
         Ok(())
     }
 
-    // Looks at the types, the greatest number first.
+    /// Looks at the types, the greatest number first.
     fn look_at_types(&mut self, kernel: &Kernel) -> Result<(), Memory>
         requires search { IsSearch kernel.now self.old }
         requires no_terms { self.old.terms.keys ≡ [] }
@@ -82,7 +82,7 @@ impl Search {
         Ok(())
     }
 
-    // Adds the symbol of a term, its types and the terms in it.
+    /// Adds the symbol of a term, its types and the terms in it.
     fn look_at_term(&mut self, kernel: &Kernel, id: TermId) -> Result<(), Memory>
         requires { id < length kernel.now.terms }
         ensures { OnOk result (Finds kernel.now id (length kernel.now.types) self.old self.new
@@ -105,7 +105,7 @@ impl Search {
         }
     }
 
-    // Adds the operator of a type and its arguments.
+    /// Adds the operator of a type and its arguments.
     fn look_at_type(&mut self, kernel: &Kernel, id: TypeId) -> Result<(), Memory>
         requires { id < length kernel.now.types }
         ensures { OnOk result (Finds kernel.now 0 id self.old self.new (symbols_ty names (type_at kernel.now id))) }
@@ -119,7 +119,7 @@ impl Search {
         }
     }
 
-    // Terms more.
+    /// Terms more.
     fn add_terms(&mut self, ids: &[TermId]) -> Result<(), Memory>
         ensures { OnOk result (AddsTerms self.old self.new ids.now) }
     {
@@ -129,7 +129,7 @@ impl Search {
         Ok(())
     }
 
-    // Types more.
+    /// Types more.
     fn add_types(&mut self, ids: &[TypeId]) -> Result<(), Memory>
         ensures { OnOk result (AddsTypes self.old self.new ids.now) }
     {
@@ -139,7 +139,7 @@ impl Search {
         Ok(())
     }
 
-    // A term more.
+    /// A term more.
     fn add_term(&mut self, id: TermId) -> Result<(), Memory>
         ensures { OnOk result (AddsTerm self.old self.new id) }
     {
@@ -147,7 +147,7 @@ impl Search {
         Ok(())
     }
 
-    // A type more.
+    /// A type more.
     fn add_type(&mut self, id: TypeId) -> Result<(), Memory>
         ensures { OnOk result (AddsType self.old self.new id) }
     {
@@ -155,7 +155,7 @@ impl Search {
         Ok(())
     }
 
-    // A symbol more.
+    /// A symbol more.
     fn add_symbol(&mut self, kind: SymbolKind, name: NameId) -> Result<(), Memory>
         ensures { OnOk result (AddsSymbol self.old self.new kind name) }
     {

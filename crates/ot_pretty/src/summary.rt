@@ -69,7 +69,7 @@ pub fn run_notation(
     Notation::new(alloc, shown, symbols.as_slice())
 }
 
-// Appends the summary under a notation.
+/// Appends the summary under a notation.
 fn summary_text(
     alloc: Global,
     kernel: &Kernel,
@@ -89,7 +89,7 @@ fn summary_text(
     page.finish(out)
 }
 
-// Both sections.
+/// Both sections.
 fn put_summary(
     page: &mut Page,
     alloc: Global,
@@ -104,7 +104,7 @@ fn put_summary(
     put_theorems(page, alloc, kernel, notation, theorems);
 }
 
-// The assumptions. Their texts together cost no more than the limit.
+/// The assumptions. Their texts together cost no more than the limit.
 fn put_assumptions(page: &mut Page, alloc: Global, kernel: &Kernel, notation: &Notation)
     ensures { IsPut
         (section_text true (codes "assumptions") (ascending (map (text_of notation.now) kernel.now.assumptions)))
@@ -119,7 +119,7 @@ fn put_assumptions(page: &mut Page, alloc: Global, kernel: &Kernel, notation: &N
     }
 }
 
-// A section of texts.
+/// A section of texts.
 fn put_texts(page: &mut Page, title: &[u8], texts: &BTreeSet<Vec<u8>>)
     ensures { IsPut (section_text true title.now (texts_of texts.now)) (printed page.old) (printed page.new) }
 {
@@ -131,7 +131,7 @@ fn put_texts(page: &mut Page, title: &[u8], texts: &BTreeSet<Vec<u8>>)
     }
 }
 
-// The theorems, in order.
+/// The theorems, in order.
 fn put_theorems(
     page: &mut Page,
     alloc: Global,
@@ -152,7 +152,7 @@ fn put_theorems(
     }
 }
 
-// The first line of a section: its title, and how many items it has.
+/// The first line of a section: its title, and how many items it has.
 fn put_title(page: &mut Page, title: &[u8], count: usize)
     ensures { IsPut (title.now ++ codes ": " ++ number_text count ++ 10 ∷ []) (printed page.old) (printed page.new) }
 {

@@ -36,7 +36,7 @@ pub fn run_symbols(
     named_symbols(alloc, kernel, roots.as_slice())
 }
 
-// Adds the terms of theorems.
+/// Adds the terms of theorems.
 fn add_theorems(
     kernel: &Kernel,
     theorems: &[ThmId],
@@ -53,7 +53,7 @@ fn add_theorems(
     Ok(())
 }
 
-// Adds the terms of a theorem.
+/// Adds the terms of a theorem.
 fn add_theorem(kernel: &Kernel, th: ThmId, roots: &mut Vec<TermId>) -> Result<(), AllocError>
     requires { th < length kernel.now.theorems }
     ensures { OnOk result
@@ -64,7 +64,7 @@ fn add_theorem(kernel: &Kernel, th: ThmId, roots: &mut Vec<TermId>) -> Result<()
     Ok(())
 }
 
-// Adds the terms of the premises and the theorems of the definitions.
+/// Adds the terms of the premises and the theorems of the definitions.
 fn add_definitions(kernel: &Kernel, roots: &mut Vec<TermId>) -> Result<(), AllocError>
     ensures { OnOk result
         (Adds kernel.now roots.old.items roots.new.items (flat_map (used names) kernel.now.definitions)) }
@@ -76,8 +76,8 @@ fn add_definitions(kernel: &Kernel, roots: &mut Vec<TermId>) -> Result<(), Alloc
     Ok(())
 }
 
-// Adds the terms of a definition's premise and of its theorems. The term that a constant is defined by stands in its
-// theorem.
+/// Adds the terms of a definition's premise and of its theorems. The term that a constant is defined by stands in its
+/// theorem.
 fn add_definition(
     kernel: &Kernel,
     definition: &Definition,
@@ -99,7 +99,7 @@ fn add_definition(
     }
 }
 
-// The symbols of terms with their names, each once.
+/// The symbols of terms with their names, each once.
 fn named_symbols(
     alloc: Global,
     kernel: &Kernel,
@@ -114,7 +114,7 @@ fn named_symbols(
     with_names(alloc, kernel, symbols.as_slice())
 }
 
-// Symbols with the names of their numbers.
+/// Symbols with the names of their numbers.
 fn with_names(
     alloc: Global,
     kernel: &Kernel,
@@ -130,7 +130,7 @@ fn with_names(
     Ok(named)
 }
 
-// A symbol with its name.
+/// A symbol with its name.
 fn with_name(alloc: Global, kernel: &Kernel, symbol: Symbol) -> Result<(WordKind, Name), Memory>
     requires { symbol.name < length kernel.now.names }
     ensures { IfOk result (λ named. symbol_of named ≡ named_symbol kernel.now symbol) }
@@ -139,7 +139,7 @@ fn with_name(alloc: Global, kernel: &Kernel, symbol: Symbol) -> Result<(WordKind
     Ok((kind_of(symbol.kind), name))
 }
 
-// What a symbol's word is the word of.
+/// What a symbol's word is the word of.
 fn kind_of(kind: SymbolKind) -> WordKind
     ensures { (n : NameValue) → symbol_of (result, n) ≡ symbol_named kind n }
 {

@@ -30,8 +30,8 @@ pub(crate) fn put_whole(page: &mut Page, kernel: &Kernel, notation: &Notation, i
     put_term(page, kernel, notation, &Binders::Outermost, 0, id);
 }
 
-// A term with so many binders around it. Nothing is read once the page takes no more, so a term costs no more than
-// the limit.
+/// A term with so many binders around it. Nothing is read once the page takes no more, so a term costs no more than
+/// the limit.
 #[cycle(terms_text)]
 fn put_term(
     page: &mut Page,
@@ -81,8 +81,8 @@ fn put_term(
     }
 }
 
-// What stands before a function's argument: the left side and the operator of a relation, or the function with its
-// other arguments.
+/// What stands before a function's argument: the left side and the operator of a relation, or the function with its
+/// other arguments.
 #[cycle(terms_text)]
 fn put_front(
     page: &mut Page,
@@ -110,7 +110,7 @@ fn put_front(
     page.put(b" ");
 }
 
-// A function and its arguments, a space before each argument.
+/// A function and its arguments, a space before each argument.
 #[cycle(terms_text)]
 fn put_spine(
     page: &mut Page,
@@ -142,7 +142,7 @@ fn put_spine(
     }
 }
 
-// A variable with so many binders around it: the name of its binder, or its own name and type.
+/// A variable with so many binders around it: the name of its binder, or its own name and type.
 fn put_leaf(
     page: &mut Page,
     kernel: &Kernel,
@@ -163,7 +163,7 @@ fn put_leaf(
     }
 }
 
-// The name of the binder with so many binders around it.
+/// The name of the binder with so many binders around it.
 fn put_binder(page: &mut Page, number: usize)
     ensures { IsPut (binder_name number) (printed page.old) (printed page.new) }
 {
@@ -171,7 +171,7 @@ fn put_binder(page: &mut Page, number: usize)
     page.put_number(number);
 }
 
-// A free variable.
+/// A free variable.
 fn put_free(page: &mut Page, kernel: &Kernel, notation: &Notation, v: &VarKey)
     requires { IsKey kernel.now v.now }
     ensures { IsPut (term_text notation.now (FreeAs (name_at kernel.now v.now.name) (type_at kernel.now v.now.ty)))
@@ -184,7 +184,7 @@ fn put_free(page: &mut Page, kernel: &Kernel, notation: &Notation, v: &VarKey)
     page.put(b")");
 }
 
-// A constant.
+/// A constant.
 fn put_constant(page: &mut Page, kernel: &Kernel, notation: &Notation, name: NameId, ty: TypeId)
     requires name { name < length kernel.now.names }
     requires ty { ty < length kernel.now.types }
@@ -198,7 +198,7 @@ fn put_constant(page: &mut Page, kernel: &Kernel, notation: &Notation, name: Nam
     page.put(b"}");
 }
 
-// The base name of a name.
+/// The base name of a name.
 fn put_base(page: &mut Page, kernel: &Kernel, name: NameId)
     requires { name < length kernel.now.names }
     ensures { IsPut (base (name_at kernel.now name)) (printed page.old) (printed page.new) }

@@ -47,7 +47,7 @@ pub(crate) fn put_type(page: &mut Page, kernel: &Kernel, notation: &Notation, id
     }
 }
 
-// Types that are below a bound, a space before each.
+/// Types that are below a bound, a space before each.
 #[cycle(types_text)]
 fn put_types(page: &mut Page, kernel: &Kernel, notation: &Notation, ids: &[TypeId], bound: TypeId)
     requires bound { bound < length kernel.now.types }

@@ -58,7 +58,7 @@ fn put_plain(page: &mut Page, name: &Name)
     }
 }
 
-// The components with a dot between two.
+/// The components with a dot between two.
 fn put_dotted(page: &mut Page, name: &Name)
     ensures { IsPut (dotted name.now) (printed page.old) (printed page.new) }
 {

@@ -47,7 +47,7 @@ pub(crate) fn put_definition(
     put_theorems(page, alloc, kernel, definition);
 }
 
-// What is defined, and from what.
+/// What is defined, and from what.
 fn put_head(page: &mut Page, alloc: Global, kernel: &Kernel, definition: &Definition)
     requires { IsDefinitionIn (length kernel.now.names) (length kernel.now.types) (length kernel.now.theorems)
         definition.now }
@@ -89,7 +89,7 @@ fn put_head(page: &mut Page, alloc: Global, kernel: &Kernel, definition: &Defini
     }
 }
 
-// The theorem from which something is defined.
+/// The theorem from which something is defined.
 fn put_premise(page: &mut Page, alloc: Global, kernel: &Kernel, th: ThmId)
     requires { th < length kernel.now.theorems }
     ensures { IsPut (codes " from " ++ sequent_text (theorem_at kernel.now th)) (printed page.old)
@@ -99,7 +99,7 @@ fn put_premise(page: &mut Page, alloc: Global, kernel: &Kernel, th: ThmId)
     put_sequent(page, alloc, kernel, th);
 }
 
-// The theorems of a definition, a semicolon between two.
+/// The theorems of a definition, a semicolon between two.
 fn put_theorems(page: &mut Page, alloc: Global, kernel: &Kernel, definition: &Definition)
     requires { IsDefinitionIn (length kernel.now.names) (length kernel.now.types) (length kernel.now.theorems)
         definition.now }
@@ -116,7 +116,7 @@ fn put_theorems(page: &mut Page, alloc: Global, kernel: &Kernel, definition: &De
     }
 }
 
-// Constants for variables, a comma between two pairs.
+/// Constants for variables, a comma between two pairs.
 fn put_pairs(page: &mut Page, kernel: &Kernel, names: &[NameId], vars: &[VarKey])
     requires { ArePairsIn (length kernel.now.names) (length kernel.now.types) names.now vars.now }
     ensures { IsPut (pairs_text (pairs_at kernel.now names.now vars.now)) (printed page.old) (printed page.new) }
@@ -129,7 +129,7 @@ fn put_pairs(page: &mut Page, kernel: &Kernel, names: &[NameId], vars: &[VarKey]
     }
 }
 
-// A constant's name and its variable.
+/// A constant's name and its variable.
 fn put_pair(page: &mut Page, kernel: &Kernel, name: NameId, v: &VarKey)
     requires name { name < length kernel.now.names }
     requires variable { IsKey kernel.now v.now }
@@ -142,7 +142,7 @@ fn put_pair(page: &mut Page, kernel: &Kernel, name: NameId, v: &VarKey)
     put_typed(page, kernel, v.name, v.ty);
 }
 
-// Names, a space between two.
+/// Names, a space between two.
 fn put_names(page: &mut Page, kernel: &Kernel, names: &[NameId])
     requires { All (λ i. i < length kernel.now.names) names.now }
     ensures { IsPut (names_text (map (name_at kernel.now) names.now)) (printed page.old) (printed page.new) }

@@ -36,7 +36,7 @@ pub fn summary_text(
     page.finish(out)
 }
 
-// The sections that are asked for.
+/// The sections that are asked for.
 fn put_summary(
     page: &mut Page,
     alloc: Global,

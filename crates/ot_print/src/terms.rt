@@ -54,7 +54,7 @@ pub(crate) fn put_whole(page: &mut Page, kernel: &Kernel, id: TermId)
     put_term(page, kernel, &Binders::Outermost, id);
 }
 
-// A term. Nothing is read once the page takes no more, so a term costs no more than the limit.
+/// A term. Nothing is read once the page takes no more, so a term costs no more than the limit.
 fn put_term(page: &mut Page, kernel: &Kernel, binders: &Binders<'_>, id: TermId)
     requires inside { id < length kernel.now.terms }
     requires binders { AreKeys kernel.now binders.now }
@@ -97,7 +97,7 @@ fn put_term(page: &mut Page, kernel: &Kernel, binders: &Binders<'_>, id: TermId)
     }
 }
 
-// A variable under binders: its place, or its name and type.
+/// A variable under binders: its place, or its name and type.
 fn put_variable(page: &mut Page, kernel: &Kernel, binders: &Binders<'_>, v: &VarKey)
     requires key { IsKey kernel.now v.now }
     requires binders { AreKeys kernel.now binders.now }

@@ -1,4 +1,4 @@
--- What the check of a log comes to.
+-- The result of the check of a log.
 use Rattle.std.proofs.Common.{◌≡◌, List, ℕ, subst}
 use Rattle.std.specs.Prelude.{true, Option, Some, None, IfSome, Result, Ok, Err, IfOk}
 use Rattle.std.specs.Option.{option_map}
@@ -27,7 +27,7 @@ log_ended path p (Err e) ends proved one front = tt
 log_ended path p (Ok v) ends proved one front =
     record { ends = ends; proved = log_proved p proved; promised = λ fit. tt; one_text = one; one_in_front = front }
 
--- the check of standard input, where its bytes are told
+-- the check of standard input, where its bytes are known
 standard_answer : (left : Option (List ℕ)) (e : End Proved LogStop)
     → IfSome left (λ bytes. IsAnswer (check_bytes bytes) e)
     → IfSome (option_map check_bytes left) (λ answer. IsAnswer answer e)

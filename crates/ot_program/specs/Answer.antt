@@ -69,7 +69,7 @@ IsVerdict Usage = ⊥
 IsVerdict ReadFault = ⊥
 IsVerdict Memory = ⊥
 
--- ---- what a text says of a task's end, as far as that is told
+-- ---- what a text says of a task's end, as far as that is known
 
 -- each assumption is of propositions alone, the definitions are accepted over them, and each theorem is derivable from
 -- the assumptions under the definitions
@@ -318,7 +318,7 @@ LeavesAlone (ReadLines packages path text) files files_now input input_now =
 LeavesAlone (FindPattern packages pattern path) files files_now input input_now =
     LeavesOther path files files_now input input_now
 
--- the path that was asked for last is the article's, where it is a file and the folder is told and has it
+-- the path that was asked for last is the article's, where it is a file and the folder is known and has it
 abbrev pub LastInput : List ℕ → Option Folder → Option (List ℕ) → Type 0
 LastInput path folder at = MatchBool (is_standard path || is_theory path) (Unit {0}) (at ≡ path_asked folder path)
 

@@ -79,7 +79,7 @@ limits = record {
 
 -- ---- what a command does
 
--- it runs an input, with packages from a folder, and prints what the run came to in one view; it makes the sample
+-- it runs an input, with packages from a folder, and prints the result of the run in one view; it makes the sample
 -- article of a size, and runs it, or makes it alone; it checks the log of a path; or it runs an input and prints what
 -- the run came to in readable form, or reads the lines of a text, or searches the run, and the packages that it
 -- requires, for a pattern
@@ -143,21 +143,21 @@ article_run path folder = record {
 unfoldable pub theory_run : List ℕ → List ℕ → Folder → Linked Ran
 theory_run packages path folder = link (record { folder = folder; packages = packages; limits = limits }) path
 
--- the run of an input, over the files and the bytes of standard input that are told
+-- the run of an input, over the files and the bytes of standard input that are known
 abbrev pub run_at : List ℕ → List ℕ → Option Folder → Option (List ℕ) → Option (Linked Ran)
 run_at packages path folder input =
     if is_standard path then option_map (standard_run path) input
     else if is_theory path then option_map (theory_run packages path) folder
     else option_map (article_run path) folder
 
--- the paths of the files that the run of an input needs, in order, as far as they are told
+-- the paths of the files that the run of an input needs, in order, as far as they are known
 abbrev pub opened_at : List ℕ → List ℕ → Option Folder → Option (List (List ℕ))
 opened_at packages path folder =
     if is_standard path then Some []
     else if is_theory path then option_map (λ files. (theory_run packages path files).paths) folder
     else Some (path ∷ [])
 
--- what it came to
+-- its result
 abbrev pub assumptions_of : Ran → List (Sequent Name)
 assumptions_of r = map (λ a. a.sequent) r.run.assumptions
 
@@ -178,7 +178,7 @@ pub record Noted : Type 0 where
 unfoldable pub theory_shown : List ℕ → Folder → Linked (List Name)
 theory_shown path folder = shown (record { folder = folder; packages = []; limits = limits }) path
 
--- those that an input shows, over the files that are told; an article shows none
+-- those that an input shows, over the files that are known; an article shows none
 abbrev pub shown_at : List ℕ → Option Folder → Option (Linked (List Name))
 shown_at path folder = if is_theory path then option_map (theory_shown path) folder else Some (answered (Ok []))
 
@@ -186,11 +186,11 @@ shown_at path folder = if is_theory path then option_map (theory_shown path) fol
 abbrev pub noted : Result (List Name) Stop → Result Ran Stop → Result Noted Stop
 noted names ran = names >>= λ ns. ran >>= λ r. Ok (record { shown = ns; ran = r })
 
--- both, as far as they are told
+-- both, as far as they are known
 abbrev pub noted_told : Option (Linked (List Name)) → Option (Linked Ran) → Option (Result Noted Stop)
 noted_told names ran = option_and_then (λ ns. option_map (λ r. noted ns.answer r.answer) ran) names
 
--- the run of an input with its notation, over the files and the bytes of standard input that are told
+-- the run of an input with its notation, over the files and the bytes of standard input that are known
 abbrev pub noted_at : List ℕ → List ℕ → Option Folder → Option (List ℕ) → Option (Result Noted Stop)
 noted_at packages path folder input = noted_told (shown_at path folder) (run_at packages path folder input)
 
@@ -237,7 +237,7 @@ read_under n ls = readings n ls (lines_read (notation n) ls)
 abbrev pub read_in : Noted → List ℕ → Folder → Result Readings ReadStop
 read_in n text folder = text_in text folder >>= λ bytes. read_under n (text_lines bytes)
 
--- the run comes first, then the text, as far as they are told
+-- the run comes first, then the text, as far as they are known
 abbrev pub read_behind : List ℕ → Option Folder → Result Noted Stop → Option (Result Readings ReadStop)
 read_behind text folder (Ok n) = option_map (read_in n text) folder
 read_behind text folder (Err stop) = Some (Err (InInput stop))
@@ -334,14 +334,14 @@ check_bytes bytes = log_end (log_check article_limit bytes)
 abbrev pub check_file : List ℕ → Folder → Result Proved LogStop
 check_file path folder = some_or NoLog (bytes_at folder path) >>= check_bytes
 
--- the check of a log, over the files and the bytes of standard input that are told
+-- the check of a log, over the files and the bytes of standard input that are known
 abbrev pub check_at : List ℕ → Option Folder → Option (List ℕ) → Option (Result Proved LogStop)
 check_at path folder input = if is_standard path then option_map check_bytes input else option_map (check_file path)
     folder
 
 -- ---- how a task ends
 
--- what it comes to: the end of a run, what a log proves, a run with its notation, or nothing but the text that is
+-- its result: the end of a run, what a log proves, a run with its notation, or nothing but the text that is
 -- made
 abbrev pub Product : TaskValue → Type 0
 Product (RunInput packages path view) = Ran
@@ -362,7 +362,7 @@ Halt (ShowReadable packages path) = Stop
 Halt (ReadLines packages path text) = ReadStop
 Halt (FindPattern packages pattern path) = FindStop
 
--- how it ends, as far as that is told
+-- how it ends, as far as that is known
 abbrev pub Told : TaskValue → Type 0
 Told t = Option (Result (Product t) (Halt t))
 
@@ -375,7 +375,7 @@ result_of (ShowReadable packages path) folder input = noted_at packages path fol
 result_of (ReadLines packages path text) folder input = read_at packages path text folder input
 result_of (FindPattern packages pattern path) folder input = find_at packages pattern path folder input
 
--- the paths of the files that it needs, in order, as far as they are told
+-- the paths of the files that it needs, in order, as far as they are known
 abbrev pub opened : TaskValue → Option Folder → Option (List (List ℕ))
 opened (RunInput packages path view) folder = opened_at packages path folder
 opened (RunSample n) folder = Some []
@@ -452,7 +452,7 @@ view_large Log path = large_log_line path
 abbrev pub line_count : List ℕ → ℕ
 line_count = count_by (λ b. b == 10)
 
--- what a sample's run came to: its size, the lines of its article, and its theorems; then its assumptions, its
+-- the result of a sample's run: its size, the lines of its article, and its theorems; then its assumptions, its
 -- definitions and the lines of its written article
 abbrev pub sample_front : (size lines theorems : ℕ) → List ℕ
 sample_front size lines theorems =
@@ -615,6 +615,6 @@ abbrev pub reply_to_task : Option TaskValue → Option Folder → Option (List �
 reply_to_task None folder input = Some (fails Usage usage_line)
 reply_to_task (Some t) folder input = option_map (reply_to t) (result_of t folder input)
 
--- the answer to these words, over the files and the bytes of standard input that are told
+-- the answer to these words, over the files and the bytes of standard input that are known
 abbrev pub answer : List (List ℕ) → Option Folder → Option (List ℕ) → Option Reply
 answer words folder input = reply_to_task (task_of words) folder input

@@ -100,7 +100,7 @@ task_answer (Err _) = None
 
 -- ---- how a task ends
 
--- with what it comes to, at a stop, or with an input that failed
+-- with its result, at a stop, or with an input that failed
 pub data End (X S : Type 0) : Type 0 where
   Finished : X → End X S
   Stopped : S → End X S
@@ -198,7 +198,7 @@ IsAnswer answer (Finished x) = answer ≡ Ok x
 IsAnswer answer (Stopped s) = answer ≡ Err s
 IsAnswer answer (Failed path) = Unit {0}
 
--- it is the end of the task, as far as that is told
+-- it is the end of the task, as far as that is known
 abbrev pub IsEnd : (t : TaskValue) → Option Folder → Option (List ℕ) → End (Product t) (Halt t) → Type 0
 IsEnd t folder input e = IfSome (result_of t folder input) (λ answer. IsAnswer answer e)
 
@@ -214,7 +214,7 @@ IsOwnEnd path (Finished r) = Unit {0}
 IsOwnEnd path (Stopped s) = IsOwnStop path s
 IsOwnEnd path (Failed failed) = failed ≡ path
 
--- a failure is at one of these paths, which was the last to be asked for, as far as they are told
+-- a failure is at one of these paths, which was the last to be asked for, as far as they are known
 abbrev pub IsNeeded : Option (List (List ℕ)) → Option (List ℕ) → End Ran Stop → Type 0
 IsNeeded files at (Finished r) = Unit {0}
 IsNeeded files at (Stopped s) = Unit {0}
@@ -322,7 +322,7 @@ IsReplyOf Memory line reply = ⊥
 
 -- ---- the search for a pattern
 
--- a part of a task ended it with this verdict: at a stop that is answered, as far as that is told, or at a file that
+-- a part of a task ended it with this verdict: at a stop that is answered, as far as that is known, or at a file that
 -- failed
 pub data HasEnded {A S : Type 0} (told : Option (Result A S)) (status : S → Status) (line : S → List ℕ)
     (Own : S → Type 0) (Failing : List ℕ → Type 0) (FailureRose MissRose : Type 0) (v : Verdict) : Type 0 where
@@ -342,7 +342,7 @@ abbrev pub IfEnded : (Verdict → Type 0) → Ending → Type 0
 IfEnded P (endings.Said v) = P v
 IfEnded P endings.Memory = Unit {0}
 
--- a file was the last to be asked for, as far as that is told
+-- a file was the last to be asked for, as far as that is known
 abbrev pub IsLastAsked : Option (List ℕ) → List ℕ → Type 0
 IsLastAsked at file = IfSome at (λ asked. file ≡ asked)
 
@@ -362,7 +362,7 @@ IsWalkVerdict (repos.NoFile path) v = IsSaid v NoFile (required_line (repo.Missi
 IsWalkVerdict (repos.ReadFault path) v = IsSaid v ReadFault (read_fault_line (string_bytes path))
 IsWalkVerdict repos.Memory v = ⊥
 
--- the packages that an input requires, over the files that are told
+-- the packages that an input requires, over the files that are known
 abbrev pub required_in : (packages path : List ℕ) → Option Folder → Option (Result (List (List ℕ)) Refusal)
 required_in packages path folder = option_map (λ files. required files limits.theory_bytes packages path) folder
 
@@ -404,7 +404,7 @@ pub record IsPattern (n : Noted) (pattern : List ℕ) (p : Tm Name) : Type 0 whe
   pub is_read : term_read (notation n) pattern ≡ Ok p
   pub reads : ReadsAsTerm (notation n) pattern p
 
--- the runs of packages, over the files that are told
+-- the runs of packages, over the files that are known
 abbrev pub runs_in : (packages : List ℕ) → Option Folder → List (List ℕ) → Option (Result (List PackageRun) Stop)
 runs_in packages folder fulls = option_map (λ files. package_runs packages files fulls) folder
 

@@ -61,7 +61,7 @@ pub fn run<F: Files, S: Source, O: Sink, E: Sink>(
     ensures usage { (result ≡ Status.Usage) ↔ (command_of (texts_of words.now) ≡ None) }
     ensures unread { result ≡ Status.Usage → (files.new ≡ files.old) × (input.new ≡ input.old) }
 
-    // Where what the words name is told, the status and the texts on both sinks are the stated reply's.
+    // Where what the words name is known, the status and the texts on both sinks are the stated reply's.
     ensures answer { IfSome (answer (texts_of words.now) (F.folder files.old) (S.left input.old))
         (λ reply. MatchesReply result reply (O.written out.old) (O.written out.new)) }
     ensures error { IsVerdict result → IfSome (answer (texts_of words.now) (F.folder files.old) (S.left input.old))

@@ -196,7 +196,7 @@ fn ended(
     }
 }
 
-/// How many theorems, assumptions and definitions a run came to.
+/// How many theorems, assumptions and definitions a run ended with.
 #[derive(Clone, Copy)]
 pub struct Counts {
     pub theorems: usize,
@@ -397,7 +397,7 @@ pub fn sample_verdict(
     }
 }
 
-/// What the sample of a size came to, or the line for a written article that is too large.
+/// The report on the sample of a size, or the line for a written article that is too large.
 fn sampled(
     alloc: Global,
     size: u64,

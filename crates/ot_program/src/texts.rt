@@ -27,7 +27,7 @@ pub const USAGE: &[u8] =
 /// The line for an output that failed.
 pub const WRITE_FAULT: &[u8] = b"opentheory: write fault\n";
 
-/// The line for want of memory.
+/// The line for running out of memory.
 pub const OUT_OF_MEMORY: &[u8] = b"opentheory: out of memory\n";
 
 /// The line for a text about a path.

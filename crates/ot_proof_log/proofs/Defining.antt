@@ -123,7 +123,7 @@ defining-of _ ds vs x h = absurd (cc)
 
 -- ---- constants in the place of variables: of the same type, no deeper
 
--- what a variable gives way to
+-- what a variable is replaced by
 record IsLeaf (v : Variable Name) (t : Tm Name) : Type 0 where
   typed : (l : List (Ty Name)) → type_in names l t ≡ Some v.ty
   depth : depth_tm names t ≡ 1

@@ -34,7 +34,7 @@ abbrev pub Gives : {X A : Type 0} → (X → A) → Result X RepoFault → Resul
 Gives view (Ok x) stated = stated ≡ Ok (view x)
 Gives view (Err e) stated = Refuses e stated
 
--- a missing file is counted, and so is a failure, which is one of the path that was asked for, where that is told
+-- a missing file is counted, and so is a failure, which is one of the path that was asked for, where that is known
 abbrev pub HasCause : RepoFault → ℕ → ℕ → ℕ → ℕ → Option (List ℕ) → Type 0
 HasCause (faults.NoFile path) misses misses' faults faults' at = Rose misses misses'
 HasCause (faults.ReadFault path) misses misses' faults faults' at =

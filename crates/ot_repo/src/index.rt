@@ -1,4 +1,4 @@
-// The list of installed packages.
+//! The list of installed packages.
 ghost use Rattle.std.specs.Prelude.{◌≡◌, IfOk, IfErr, true, map, List, ℕ};
 ghost use Rattle.std.specs.Option.{option_map};
 ghost use Rattle.ot_theory.specs.Lines.{lines_of};

@@ -1,4 +1,4 @@
-//! What the definitions come to: a call states laws and does nothing.
+//! Laws of the definitions: each call has an empty body, and its postcondition is a theorem.
 ghost use Rattle.ot_repo.specs.Laws.{GivesRequired, GivesRefusal, RequiredEnds};
 
 /// The packages that are required are each once, behind those that their own files require, and in

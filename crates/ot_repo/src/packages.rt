@@ -28,12 +28,12 @@ use std::alloc::Global;
 /// the first one. It may have 1,048,576 bytes, and a theory file as many as the limits say.
 ///
 /// - `Theory`, `TheoryTooLarge`, `IndexTooLarge`, `BadIndex`, `NotInstalled`, `RequiresCycle`: where
-///   the folder is told, exactly where the walk stops so, with the path of the file and the line.
-/// - `NoFile`: only where a file was missing in this call, and where the folder is told, exactly
+///   the folder is known, exactly where the walk stops so, with the path of the file and the line.
+/// - `NoFile`: only where a file was missing in this call, and where the folder is known, exactly
 ///   where the walk needs it and stops there.
 /// - `ReadFault`: only where the files failed in this call, at the path that was asked for last, which is one that the walk
 ///   needs.
-/// - `Memory`: free.
+/// - `Memory`: may come at any point.
 ///
 /// No file is left open.
 pub fn required<F: Files>(

@@ -1,4 +1,4 @@
-// The files that are read.
+//! The files that are read.
 ghost use Rattle.std.specs.Prelude.{◌≡◌, List, Some, IfErr};
 ghost use Rattle.ot_io.specs.Folder.{Folder};
 ghost use Rattle.ot_io.specs.Keeping.{KeepsFiles};

@@ -1,4 +1,4 @@
-// The tags of a theory file that name packages.
+//! The tags of a theory file that name packages.
 ghost use Rattle.std.specs.Prelude.{◌≡◌, ℕ, List, Some, true, map, codes, reverse, IfOk, IfErr, string_bytes};
 ghost use Rattle.std.specs.List.{filter};
 ghost use Rattle.std.specs.Str.{bytes_eq};

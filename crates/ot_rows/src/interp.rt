@@ -17,8 +17,8 @@ fn single(alloc: Global, pair: Pair, is_type: bool) -> Result<Interp, Memory> {
     Ok(interp)
 }
 
-// What a name becomes as a constant and as a type operator, by two interpretations that hold one
-// pair each.
+/// What a name becomes as a constant and as a type operator, by two interpretations that hold one
+/// pair each.
 fn by_both(
     alloc: Global,
     inner: Pair,
@@ -32,7 +32,7 @@ fn by_both(
     Ok([both.constant(name), both.type_op(name)])
 }
 
-// What a name becomes by both pairs, and by no pair.
+/// What a name becomes by both pairs, and by no pair.
 fn check_row(
     rt: &impl Abort,
     alloc: Global,

@@ -53,7 +53,7 @@ fn terms(rt: &impl Abort, alloc: Global, nodes: &mut Nodes) -> Result<(), Fail> 
     Ok(())
 }
 
-// The type variable of the name `A`, with the number of the name.
+/// The type variable of the name `A`, with the number of the name.
 fn variable(rt: &impl Abort, alloc: Global, nodes: &mut Nodes) -> Result<(NameId, TypeId), Memory> {
     let letter = nodes.name(Name::of_text(alloc, b"A")?)?;
     assert!(rt; nodes.has_name(letter));
@@ -114,7 +114,7 @@ fn open(
     nodes.change(&change, &mut done, id)
 }
 
-// The type of a term, where it has one.
+/// The type of a term, where it has one.
 fn typed(
     rt: &impl Abort,
     alloc: Global,

@@ -19,13 +19,13 @@ fn function(alloc: Global, from: Ty, to: Ty) -> Result<Ty, AllocError> {
     Ok(Ty::Op(Name::of_text(alloc, b"->")?, args))
 }
 
-// p, a proposition.
+/// p, a proposition.
 fn variable(alloc: Global) -> Result<Tm, AllocError> {
     let ty = boolean(alloc)?;
     Ok(Tm::Free(Name::of_text(alloc, b"p")?, ty))
 }
 
-// `=` between propositions.
+/// `=` between propositions.
 fn equality(alloc: Global) -> Result<Tm, AllocError> {
     let half = function(alloc, boolean(alloc)?, boolean(alloc)?)?;
     let ty = function(alloc, boolean(alloc)?, half)?;
@@ -37,19 +37,19 @@ fn application(alloc: Global, f: Tm, x: Tm) -> Result<Tm, AllocError> {
     Ok(Tm::App(f, Box::new(alloc, x)?))
 }
 
-// A term applied to p.
+/// A term applied to p.
 fn applied(alloc: Global, f: Tm) -> Result<Tm, AllocError> {
     let p = variable(alloc)?;
     application(alloc, f, p)
 }
 
-// `\y. y`
+/// `\y. y`
 fn identity(alloc: Global) -> Result<Tm, AllocError> {
     let place = Box::new(alloc, Tm::Bound(0))?;
     Ok(Tm::Abs(boolean(alloc)?, place))
 }
 
-// `\y. y` applied to p = p.
+/// `\y. y` applied to p = p.
 fn conclusion(alloc: Global) -> Result<Tm, AllocError> {
     let half = applied(alloc, equality(alloc)?)?;
     let whole = applied(alloc, half)?;
@@ -57,7 +57,7 @@ fn conclusion(alloc: Global) -> Result<Tm, AllocError> {
     application(alloc, f, whole)
 }
 
-// That conclusion, under p twice.
+/// That conclusion, under p twice.
 fn sequent(alloc: Global) -> Result<Readable, AllocError> {
     let mut hyps = Vec::new(alloc);
     for _ in 0..2 {

@@ -55,7 +55,7 @@ const ROWS: &[(&[u8], u64, &[(u64, &[u8])], Result<(), ScanFault>)] = &[
     (b"6", 0, &[], Err(ScanFault::ArticleTooLong(1))),
 ];
 
-// Reads on after the end too.
+/// Reads on after the end too.
 fn check_lines(
     rt: &impl Abort,
     source: &mut MemSource,

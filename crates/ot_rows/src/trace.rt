@@ -13,8 +13,8 @@ fn has(trace: &Trace, id: StepId) -> bool
     id.index() < trace.count()
 }
 
-// A name, its constant, the empty list, the definition of the constant over name and list, and its
-// theorem.
+/// A name, its constant, the empty list, the definition of the constant over name and list, and its
+/// theorem.
 fn definition(rt: &impl Abort, trace: &mut Trace, name: NameId) -> Result<[StepId; 5], Memory> {
     let name = trace.add(Step::Name(name))?;
     let constant = trace.make(Cmd::Const, &[name])?;
@@ -36,7 +36,7 @@ fn has_operands(rt: &impl Abort, trace: &Trace, id: StepId, wanted: &[StepId]) -
     trace.step(id).operands() == wanted
 }
 
-// The theorem of a definition, by its place.
+/// The theorem of a definition, by its place.
 fn outcome(rt: &impl Abort, trace: &Trace, place: u8, definition: StepId) -> Option<StepId> {
     assert!(rt; has(trace, definition));
     trace.find(&Step::Outcome(place, definition))
@@ -53,7 +53,7 @@ fn check_steps(rt: &impl Abort, trace: &Trace, ids: [StepId; 5]) {
     assert!(rt; outcome(rt, trace, 2, definition) == None);
 }
 
-// What the root leads to, and how often each step is used.
+/// What the root leads to, and how often each step is used.
 fn check_walk(
     rt: &impl Abort,
     alloc: Global,
@@ -72,7 +72,7 @@ fn check_walk(
     Ok(())
 }
 
-// A definition takes its operands along, a theorem its definition, and a constant too.
+/// A definition takes its operands along, a theorem its definition, and a constant too.
 fn check(rt: &impl Abort, alloc: Global, trace: &mut Trace) -> Result<(), Fail> {
     let first = definition(rt, trace, NameId::A)?;
     let again = definition(rt, trace, NameId::A)?;

@@ -5,10 +5,10 @@ use std::alloc::Global;
 use std::process::Abort;
 use std::test::Fail;
 
-// The type of propositions, the variable `p` of it, and `{p} |- p`.
+/// The type of propositions, the variable `p` of it, and `{p} |- p`.
 const ASSUMED: &[u8] = b"otlog\n1\ntyop\n\"bool\"\n0\nfree\n\"p\"\n0\nassume\n0\n";
 
-// What stands before the type is another operator.
+/// What stands before the type is another operator.
 const OTHER: &[u8] = b"otlog\n1\ntyop\n\"t\"\n0\nfree\n\"p\"\n0\nassume\n0\n";
 
 const ROWS: &[(&[u8], &[u8], Option<(u64, LogFault)>)] = &[
@@ -97,7 +97,7 @@ fn logs(rt: HostRuntime) -> Result<(), Fail> {
     Ok(())
 }
 
-// What stands behind the first log, and the summary of both.
+/// What stands behind the first log, and the summary of both.
 const SUMMARIES: &[(&[u8], &[u8])] = &[
     (b"", b"assumptions: 0\ndefinitions: 0\ntheorems: 0\n"),
     (
@@ -169,7 +169,7 @@ fn summaries(rt: HostRuntime) -> Result<(), Fail> {
     Ok(())
 }
 
-// With a byte less there is no summary.
+/// With a byte less there is no summary.
 fn check_summary(
     rt: &impl Abort,
     alloc: Global,

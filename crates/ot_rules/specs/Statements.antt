@@ -29,7 +29,7 @@ pub record HasStatement (ts : List Item) (q : Statement) : Type 0 where
   pub hyps : All (HasTerm ts) q.hyps.items
   pub concl : HasTerm ts q.concl
 
--- the answer is that of the case; want of memory is free
+-- the answer is that of the case; running out of memory may be answered at any point
 abbrev pub Gives : Result Statement StepFault → Step names → List Item → Type 0
 Gives (Ok q) step ts = HasStatement ts q × (step ≡ Ok (sequent_at ts q))
 Gives (Err fault.BadStep) step ts = step ≡ Err BadStep

@@ -27,7 +27,7 @@ pub fn abs_thm(nodes: &mut Nodes, v: VariableNode, a: &Statement) -> Result<Stat
     over_variable(nodes, &mut done, v, a)
 }
 
-// The same, by what is remembered of the terms in which the variable was closed.
+/// The same, by what is remembered of the terms in which the variable was closed.
 fn over_variable(
     nodes: &mut Nodes,
     done: &mut Done,
@@ -52,7 +52,7 @@ fn over_variable(
     Ok(Statement { hyps, concl })
 }
 
-// A term with a variable as the place of an abstraction around.
+/// A term with a variable as the place of an abstraction around.
 fn closed(
     nodes: &mut Nodes,
     done: &mut Done,
@@ -72,7 +72,7 @@ fn closed(
     nodes.change(&change, done, id)
 }
 
-// Whether a variable is free in one of the terms: a term without it stays as it is when the variable is closed.
+/// Whether a variable is free in one of the terms: a term without it stays as it is when the variable is closed.
 fn is_free_in_some(
     nodes: &mut Nodes,
     done: &mut Done,
@@ -97,7 +97,7 @@ fn is_free_in_some(
     Ok(false)
 }
 
-// Whether a variable is free in a term.
+/// Whether a variable is free in a term.
 fn is_free(nodes: &mut Nodes, done: &mut Done, v: &VariableNode, id: TermId) -> Result<bool, Memory>
     requires id { HasTerm nodes.old id }
     requires v { HasVariable nodes.old v.now }
@@ -112,7 +112,7 @@ fn is_free(nodes: &mut Nodes, done: &mut Done, v: &VariableNode, id: TermId) -> 
     Ok(closed != id)
 }
 
-// The equation of the abstractions over a variable.
+/// The equation of the abstractions over a variable.
 fn equation_of_abstractions(
     nodes: &mut Nodes,
     done: &mut Done,
@@ -134,7 +134,7 @@ fn equation_of_abstractions(
     nodes.equation(ty, left, right)
 }
 
-// The abstraction of a term over a variable.
+/// The abstraction of a term over a variable.
 fn abstracted(
     nodes: &mut Nodes,
     done: &mut Done,

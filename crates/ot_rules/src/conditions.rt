@@ -83,7 +83,7 @@ pub(crate) fn may_be_constants(
     Ok(may)
 }
 
-// Whether constants of these names may be defined for the variables.
+/// Whether constants of these names may be defined for the variables.
 fn may_be_for(
     signature: &Signature,
     nodes: &Nodes,
@@ -115,14 +115,14 @@ fn may_be_for(
     Ok(fits)
 }
 
-// The names of pairs.
+/// The names of pairs.
 fn names_of(alloc: Global, pairs: &[(NameId, VariableNode)]) -> Result<Vec<NameId>, Memory>
     ensures { IfOk result (λ v. v.items ≡ map (λ p. p.0) pairs.now) }
 {
     Ok(pairs.iter().map(|pair| pair.0).collect(alloc)?)
 }
 
-// The variables of pairs.
+/// The variables of pairs.
 fn variables_of(
     alloc: Global,
     pairs: &[(NameId, VariableNode)],
@@ -181,7 +181,7 @@ pub(crate) struct Given {
     ty: TypeId,
 }
 
-// Whether no variable is free but these, by what occurs.
+/// Whether no variable is free but these, by what occurs.
 fn is_closed_but(nodes: &Nodes, vars: &[VariableNode], parts: &Parts) -> bool
     requires { All (HasVariable nodes.now) vars.now }
     ensures { (t : Tm Name) → IsOf nodes.now (marks_tm t) parts.now → result
@@ -191,14 +191,14 @@ fn is_closed_but(nodes: &Nodes, vars: &[VariableNode], parts: &Parts) -> bool
     are_allowed(vars, parts.marks.as_slice())
 }
 
-// Whether no mark is another variable than these.
+/// Whether no mark is another variable than these.
 fn are_allowed(vars: &[VariableNode], marks: &[Mark]) -> bool
     ensures { result ≡ list_all (is_allowed vars.now) marks.now }
 {
     marks.iter().all(|mark| is_allowed(vars, mark))
 }
 
-// Whether a mark is no other variable than these.
+/// Whether a mark is no other variable than these.
 fn is_allowed(vars: &[VariableNode], mark: &Mark) -> bool
     ensures { result ≡ is_allowed vars.now mark.now }
 {
@@ -208,7 +208,7 @@ fn is_allowed(vars: &[VariableNode], mark: &Mark) -> bool
     }
 }
 
-// Whether each type variable that occurs in a term of this type occurs in the type.
+/// Whether each type variable that occurs in a term of this type occurs in the type.
 fn keeps_type_vars(nodes: &Nodes, parts: &Parts, ty: TypeId) -> Result<bool, Memory>
     requires { HasType nodes.now ty }
     ensures { IfOk result (λ b. (t : Tm Name) → IsOf nodes.now (marks_tm t) parts.now → type_of names t
@@ -219,14 +219,14 @@ fn keeps_type_vars(nodes: &Nodes, parts: &Parts, ty: TypeId) -> Result<bool, Mem
     Ok(are_kept_vars(&own.marks, parts.marks.as_slice()))
 }
 
-// Whether each mark is no type variable, or is among these.
+/// Whether each mark is no type variable, or is among these.
 fn are_kept_vars(own: &IndexSet<Mark>, marks: &[Mark]) -> bool
     ensures { result ≡ list_all (is_kept_var own.now.keys) marks.now }
 {
     marks.iter().all(|mark| is_kept_var(own, mark))
 }
 
-// Whether a mark is no type variable, or is among these.
+/// Whether a mark is no type variable, or is among these.
 fn is_kept_var(own: &IndexSet<Mark>, mark: &Mark) -> bool
     ensures { result ≡ is_kept_var own.now.keys mark.now }
 {
@@ -236,7 +236,7 @@ fn is_kept_var(own: &IndexSet<Mark>, mark: &Mark) -> bool
     }
 }
 
-// Whether no name stands twice, and each type variable that occurs is of one of them.
+/// Whether no name stands twice, and each type variable that occurs is of one of them.
 fn are_vars_listed(nodes: &Nodes, parts: &Parts, vars: &[NameId]) -> Result<bool, Memory>
     requires { All (HasName nodes.now) vars.now }
     ensures { IfOk result (λ b. (t : Tm Name) → IsOf nodes.now (marks_tm t) parts.now
@@ -249,14 +249,14 @@ fn are_vars_listed(nodes: &Nodes, parts: &Parts, vars: &[NameId]) -> Result<bool
     Ok(distinct & listed)
 }
 
-// Whether each mark is no type variable, or one of these names.
+/// Whether each mark is no type variable, or one of these names.
 fn are_vars_of(vars: &[NameId], marks: &[Mark]) -> bool
     ensures { result ≡ list_all (is_var_of vars.now) marks.now }
 {
     marks.iter().all(|mark| is_var_of(vars, mark))
 }
 
-// Whether a mark is no type variable, or one of these names.
+/// Whether a mark is no type variable, or one of these names.
 fn is_var_of(vars: &[NameId], mark: &Mark) -> bool
     ensures { result ≡ is_var_of vars.now mark.now }
 {
@@ -266,7 +266,7 @@ fn is_var_of(vars: &[NameId], mark: &Mark) -> bool
     }
 }
 
-// Whether no name and no variable stands twice, and there are as many hypotheses as variables.
+/// Whether no name and no variable stands twice, and there are as many hypotheses as variables.
 fn are_pairs(
     nodes: &Nodes,
     constants: &[NameId],
@@ -288,7 +288,7 @@ fn are_pairs(
     Ok(names_differ & vars_differ & as_many)
 }
 
-// Whether the constants of these names may be defined from a premise.
+/// Whether the constants of these names may be defined from a premise.
 fn are_constants_fresh(
     signature: &Signature,
     nodes: &Nodes,
@@ -306,7 +306,7 @@ fn are_constants_fresh(
     Ok(fresh)
 }
 
-// Whether the symbols of these marks may be defined from a premise.
+/// Whether the symbols of these marks may be defined from a premise.
 fn are_symbols_fresh(
     signature: &Signature,
     nodes: &Nodes,
@@ -324,7 +324,7 @@ fn are_symbols_fresh(
     Ok(fresh)
 }
 
-// The marks of constants.
+/// The marks of constants.
 fn constant_marks(alloc: Global, constants: &[NameId]) -> Result<Vec<Mark>, Memory>
     ensures { IfOk result (λ v. v.items ≡ map (λ n. Constant n) constants.now) }
 {
@@ -336,7 +336,7 @@ fn constant_marks(alloc: Global, constants: &[NameId]) -> Result<Vec<Mark>, Memo
     )
 }
 
-// The terms of the variables, in their order, where exactly one hypothesis gives each its term.
+/// The terms of the variables, in their order, where exactly one hypothesis gives each its term.
 fn terms_given(
     nodes: &Nodes,
     vars: &[VariableNode],
@@ -358,7 +358,7 @@ fn terms_given(
     Ok(Some(given))
 }
 
-// The term of a variable that exactly one hypothesis gives one.
+/// The term of a variable that exactly one hypothesis gives one.
 fn only_given(nodes: &Nodes, hyps: &[TermId], variable: &VariableNode) -> Option<Given>
     requires variable { HasVariable nodes.now variable.now }
     requires hyps { All (IsTypedTerm nodes.now) hyps.now }
@@ -378,7 +378,7 @@ fn only_given(nodes: &Nodes, hyps: &[TermId], variable: &VariableNode) -> Option
     found
 }
 
-// The term that a hypothesis gives the variable.
+/// The term that a hypothesis gives the variable.
 fn given_by(nodes: &Nodes, hyp: TermId, variable: &VariableNode) -> Option<Given>
     requires variable { HasVariable nodes.now variable.now }
     requires hyp { IsTypedTerm nodes.now hyp }
@@ -399,7 +399,7 @@ fn given_by(nodes: &Nodes, hyp: TermId, variable: &VariableNode) -> Option<Given
     }
 }
 
-// Whether the term is the variable.
+/// Whether the term is the variable.
 fn is_variable(nodes: &Nodes, id: TermId, variable: &VariableNode) -> bool
     requires id { HasTerm nodes.now id }
     requires variable { HasVariable nodes.now variable.now }
@@ -411,7 +411,7 @@ fn is_variable(nodes: &Nodes, id: TermId, variable: &VariableNode) -> bool
     }
 }
 
-// Whether the terms that variables are given may define constants, and nothing else is free in the conclusion.
+/// Whether the terms that variables are given may define constants, and nothing else is free in the conclusion.
 fn are_given(
     nodes: &Nodes,
     vars: &[VariableNode],
@@ -435,7 +435,7 @@ fn are_given(
     Ok(is_closed_but(nodes, vars, &parts))
 }
 
-// Whether the term is closed, and has no type variable that its type lacks.
+/// Whether the term is closed, and has no type variable that its type lacks.
 fn may_be_given(nodes: &Nodes, given: Given) -> Result<bool, Memory>
     requires { IsGivenTerm nodes.now given }
     ensures { IfOk result (λ b. b ≡ may_be_given names (given_term nodes.now given)) }

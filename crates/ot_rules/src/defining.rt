@@ -88,7 +88,7 @@ pub fn constants(
     Ok(theorems)
 }
 
-// The constants that take the places of variables.
+/// The constants that take the places of variables.
 fn constants_of(
     nodes: &mut Nodes,
     pairs: &[(NameId, VariableNode)],
@@ -148,7 +148,7 @@ pub fn type_operator(
     Ok(made)
 }
 
-// The theorems of a type operator over these variables, by the type that it is taken from and the predicate.
+/// The theorems of a type operator over these variables, by the type that it is taken from and the predicate.
 fn type_theorems(
     nodes: &mut Nodes,
     name: NameId,
@@ -181,7 +181,7 @@ fn type_theorems(
     Ok(theorems)
 }
 
-// The type of an operator over type variables.
+/// The type of an operator over type variables.
 fn operator_over(nodes: &mut Nodes, name: NameId, vars: &[NameId]) -> Result<TypeId, Memory>
     requires name { HasName nodes.old name }
     requires vars { All (HasName nodes.old) vars.now }
@@ -194,7 +194,7 @@ fn operator_over(nodes: &mut Nodes, name: NameId, vars: &[NameId]) -> Result<Typ
     nodes.type_op(name, &args)
 }
 
-// Type variables.
+/// Type variables.
 fn type_vars(nodes: &mut Nodes, vars: &[NameId]) -> Result<Vec<TypeId>, Memory>
     requires { All (HasName nodes.old) vars.now }
     ensures has { IfOk result (λ v. All (HasType nodes.new) v.items) }
@@ -209,7 +209,7 @@ fn type_vars(nodes: &mut Nodes, vars: &[NameId]) -> Result<Vec<TypeId>, Memory>
     Ok(args)
 }
 
-// The constant of a name that takes the one type to the other.
+/// The constant of a name that takes the one type to the other.
 fn constant_between(
     nodes: &mut Nodes,
     name: NameId,
@@ -228,7 +228,7 @@ fn constant_between(
     nodes.constant(name, ty)
 }
 
-// (\a. abs (rep a)) = (\a. a)
+/// (\a. abs (rep a)) = (\a. a)
 fn there_and_back(
     nodes: &mut Nodes,
     new: TypeId,
@@ -252,7 +252,7 @@ fn there_and_back(
     nodes.equation(ty, left, right)
 }
 
-// (\r. rep (abs r) = r) = (\r. p r)
+/// (\r. rep (abs r) = r) = (\r. p r)
 fn back_and_there(
     nodes: &mut Nodes,
     old: TypeId,
@@ -279,7 +279,7 @@ fn back_and_there(
     nodes.equation(ty, left, right)
 }
 
-// \r. rep (abs r) = r
+/// \r. rep (abs r) = r
 fn taken_back(nodes: &mut Nodes, old: TypeId, abs: TermId, rep: TermId) -> Result<TermId, Memory>
     requires old { HasType nodes.old old }
     requires abs { HasTerm nodes.old abs }

@@ -45,7 +45,7 @@ pub fn assumption(
     Ok(Statement { hyps, concl })
 }
 
-// Whether terms are all propositions.
+/// Whether terms are all propositions.
 fn are_propositions(
     nodes: &mut Nodes,
     typings: &mut Typings,
@@ -73,7 +73,7 @@ pub struct Kept {
     keys: IndexSet<Key>,
 }
 
-// The hypotheses of a sequent in the order of their numbers, each once, and its conclusion.
+/// The hypotheses of a sequent in the order of their numbers, each once, and its conclusion.
 #[derive(PartialEq, Eq, Hash, Drop)]
 pub(crate) struct Key {
     hyps: Vec<TermId>,
@@ -99,7 +99,7 @@ impl Kept {
         &self.statements
     }
 
-    /// Keeps a sequent, where it isn't there yet. After want of memory all is as before.
+    /// Keeps a sequent, where it isn't there yet. After running out of memory all is as before.
     pub fn keep(&mut self, nodes: &Nodes, statement: &Statement) -> Result<(), Memory>
         requires kept { AreKeyed self.old }
         requires all { All (HasStatement nodes.now) self.old.statements.items }
@@ -121,7 +121,7 @@ impl Kept {
         self.add(key, copy)
     }
 
-    // Adds a sequent with its key, which is new.
+    /// Adds a sequent with its key, which is new.
     fn add(&mut self, key: Key, statement: Statement) -> Result<(), Memory>
         requires kept { AreKeyed self.old }
         requires key { parts_of key ≡ parts_at statement }
@@ -139,7 +139,7 @@ impl Kept {
     }
 }
 
-// The key of a sequent.
+/// The key of a sequent.
 fn key_of(alloc: Global, statement: &Statement) -> Result<Key, Memory>
     ensures { IfOk result (λ k. parts_of k ≡ parts_at statement.now) }
 {
@@ -149,7 +149,7 @@ fn key_of(alloc: Global, statement: &Statement) -> Result<Key, Memory>
     })
 }
 
-// The numbers of a list in ascending order, each once.
+/// The numbers of a list in ascending order, each once.
 fn ordered(alloc: Global, ids: &[TermId]) -> Result<Vec<TermId>, Memory>
     ensures { IfOk result (λ v. v.items ≡ ordered ids.now) }
 {

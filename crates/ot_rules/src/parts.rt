@@ -48,7 +48,7 @@ impl Parts {
         }
     }
 
-    // Adds what occurs.
+    /// Adds what occurs.
     fn add_mark(&mut self, nodes: &Nodes, mark: Mark) -> Result<(), Memory>
         requires mark { HasMark nodes.now mark }
         requires gone { IsGoneOver nodes.now self.old }
@@ -74,7 +74,7 @@ impl Parts {
         Ok(())
     }
 
-    // The same, by its node.
+    /// The same, by its node.
     #[cycle(terms)]
     fn add_node(&mut self, nodes: &Nodes, id: TermId) -> Result<(), Memory>
         requires id { HasTerm nodes.now id }
@@ -118,7 +118,7 @@ impl Parts {
         self.add_term(nodes, statement.concl)
     }
 
-    // Goes over terms.
+    /// Goes over terms.
     fn add_terms(&mut self, nodes: &Nodes, ids: &[TermId]) -> Result<(), Memory>
         requires ids { All (HasTerm nodes.now) ids.now }
         requires gone { IsGoneOver nodes.now self.old }
@@ -162,7 +162,7 @@ impl Parts {
         Ok(())
     }
 
-    // The same, by its node.
+    /// The same, by its node.
     #[cycle(types)]
     fn add_type_node(&mut self, nodes: &Nodes, id: TypeId) -> Result<(), Memory>
         requires id { HasType nodes.now id }
@@ -178,7 +178,7 @@ impl Parts {
         }
     }
 
-    // Goes over the arguments of a type, which have lower numbers.
+    /// Goes over the arguments of a type, which have lower numbers.
     #[cycle(types)]
     fn add_types(&mut self, nodes: &Nodes, above: TypeId, ids: &[TypeId]) -> Result<(), Memory>
         requires ids { All (HasType nodes.now) ids.now }

@@ -52,7 +52,7 @@ pub fn subst(
     Ok(made)
 }
 
-// The pairs, of several for one key the first alone.
+/// The pairs, of several for one key the first alone.
 pub(crate) fn first_pairs<K: Copy + Eq + Hash, V: Copy>(
     alloc: Global,
     pairs: &[(K, V)],
@@ -67,7 +67,7 @@ pub(crate) fn first_pairs<K: Copy + Eq + Hash, V: Copy>(
     Ok(first)
 }
 
-// Adds a pair, unless there is one for its key.
+/// Adds a pair, unless there is one for its key.
 fn add_new<K: Copy + Eq + Hash, V: Copy>(
     first: &mut IndexMap<K, V>,
     pair: (K, V),
@@ -82,7 +82,7 @@ fn add_new<K: Copy + Eq + Hash, V: Copy>(
     Ok(())
 }
 
-// Whether each term has its variable's type.
+/// Whether each term has its variable's type.
 fn are_typed(
     nodes: &mut Nodes,
     typings: &mut Typings,
@@ -108,7 +108,7 @@ fn are_typed(
     Ok(true)
 }
 
-// Whether the term has the variable's type.
+/// Whether the term has the variable's type.
 fn is_typed(
     nodes: &mut Nodes,
     typings: &mut Typings,
@@ -130,7 +130,7 @@ fn is_typed(
     }
 }
 
-// The substitution of these pairs, put into each term of a sequent.
+/// The substitution of these pairs, put into each term of a sequent.
 pub(crate) fn put(
     nodes: &mut Nodes,
     types: IndexMap<NameId, TypeId>,
@@ -148,7 +148,7 @@ pub(crate) fn put(
     changed_statement(nodes, &change, &mut done, a)
 }
 
-// A sequent under a change of each of its terms.
+/// A sequent under a change of each of its terms.
 fn changed_statement(
     nodes: &mut Nodes,
     change: &Change,
@@ -168,7 +168,7 @@ fn changed_statement(
     Ok(Statement { hyps, concl })
 }
 
-// Terms under one change.
+/// Terms under one change.
 fn change_each(
     nodes: &mut Nodes,
     change: &Change,

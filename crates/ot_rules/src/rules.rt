@@ -145,7 +145,7 @@ pub fn beta_conv(
     Ok(without_hyps(nodes, concl))
 }
 
-// The type and the body of an abstraction.
+/// The type and the body of an abstraction.
 fn as_abs(nodes: &Nodes, id: TermId) -> Option<(TypeId, TermId)>
     requires { HasTerm nodes.now id }
     ensures { MatchOption result ((a : Ty Name) (b : Tm Name) → term_at nodes.now id ≢ Abs a b)
@@ -157,7 +157,7 @@ fn as_abs(nodes: &Nodes, id: TermId) -> Option<(TypeId, TermId)>
     }
 }
 
-// The body of an abstraction with a term in its place.
+/// The body of an abstraction with a term in its place.
 fn opened(nodes: &mut Nodes, body: TermId, argument: TermId) -> Result<TermId, Memory>
     requires body { HasTerm nodes.old body }
     requires argument { HasTerm nodes.old argument }
@@ -170,7 +170,7 @@ fn opened(nodes: &mut Nodes, body: TermId, argument: TermId) -> Result<TermId, M
     nodes.change(&change, &mut done, body)
 }
 
-// The equation of two functions, each applied to a side of another equation.
+/// The equation of two functions, each applied to a side of another equation.
 fn equation_of_applications(
     nodes: &mut Nodes,
     ty: TypeId,
@@ -190,7 +190,7 @@ fn equation_of_applications(
     nodes.equation(ty, left, right)
 }
 
-// The sequent of a conclusion without hypotheses.
+/// The sequent of a conclusion without hypotheses.
 pub(crate) fn without_hyps(nodes: &Nodes, concl: TermId) -> Statement
     requires { HasTerm nodes.now concl }
     ensures has { HasStatement nodes.now result }

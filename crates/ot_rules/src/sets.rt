@@ -9,7 +9,7 @@ use ot_plain::Memory;
 use std::alloc::Global;
 use std::hash::Hash;
 
-// Adds the items of a list to a set. After want of memory it is as before.
+/// Adds the items of a list to a set. After running out of memory it is as before.
 pub(crate) fn add_all<T: Copy + Eq + Hash>(set: &mut IndexSet<T>, items: &[T]) -> Result<(), Memory>
     ensures ok { OnOk result (set.new.keys ≡ fold (insert_key T.eq) set.old.keys items.now) }
     ensures err { OnErr result (set.new.keys ≡ set.old.keys) }
@@ -24,7 +24,7 @@ pub(crate) fn add_all<T: Copy + Eq + Hash>(set: &mut IndexSet<T>, items: &[T]) -
     Ok(())
 }
 
-// Whether no item stands twice in the list.
+/// Whether no item stands twice in the list.
 pub(crate) fn are_distinct<T: Copy + Eq + Hash>(alloc: Global, items: &[T]) -> Result<bool, Memory>
     requires { (x y : T) → Decides (T.eq x y) (x ≡ y) }
     ensures { IfOk result (λ b. b ≡ are_distinct T.eq items.now) }

@@ -44,8 +44,8 @@ impl Signature {
         }
     }
 
-    // Whether these symbols may be defined from a premise in which this occurs: none has a meaning of its own, is
-    // defined, stands twice, or occurs in the premise or in a definition.
+    /// Whether these symbols may be defined from a premise in which this occurs: none has a meaning of its own, is
+    /// defined, stands twice, or occurs in the premise or in a definition.
     pub(crate) fn may_define(
         &self,
         alloc: Global,
@@ -70,7 +70,7 @@ impl Signature {
         Ok(true)
     }
 
-    // Whether a symbol may be defined after some.
+    /// Whether a symbol may be defined after some.
     fn is_fresh(&self, before: &IndexSet<Mark>, premise: &Parts, symbol: &Mark) -> bool
         ensures { result
             ≡ (not (is_primitive_mark symbol.now)
@@ -82,7 +82,7 @@ impl Signature {
         !is_primitive(*symbol) & (!taken & !used)
     }
 
-    /// Records the symbols of a definition and of its theorems. After want of memory all is as before.
+    /// Records the symbols of a definition and of its theorems. After running out of memory all is as before.
     pub fn accept(
         &mut self,
         nodes: &Nodes,
@@ -102,7 +102,7 @@ impl Signature {
         self.add(&symbols, occurring.marks.as_slice())
     }
 
-    // Records symbols that are defined, and what occurs.
+    /// Records symbols that are defined, and what occurs.
     fn add(&mut self, defined: &[Mark], used: &[Mark]) -> Result<(), Memory>
         ensures defined { OnOk result (self.new.defined.keys ≡ insert_all mark_eq self.old.defined.keys defined.now) }
         ensures used { OnOk result (self.new.used.keys ≡ insert_all mark_eq self.old.used.keys used.now) }
@@ -118,7 +118,7 @@ impl Signature {
     }
 }
 
-// The symbols that a definition defines.
+/// The symbols that a definition defines.
 fn symbols_of(nodes: &Nodes, definition: &Definition) -> Result<Vec<Mark>, Memory>
     requires { HasDefinition nodes.now definition.now }
     ensures are { IfOk result
@@ -146,7 +146,7 @@ fn symbols_of(nodes: &Nodes, definition: &Definition) -> Result<Vec<Mark>, Memor
     }
 }
 
-// The marks of constants.
+/// The marks of constants.
 fn constant_marks(alloc: Global, pairs: &[(NameId, VariableNode)]) -> Result<Vec<Mark>, Memory>
     ensures { IfOk result (λ v. v.items ≡ map (λ p. Constant p.0) pairs.now) }
 {
@@ -158,7 +158,7 @@ fn constant_marks(alloc: Global, pairs: &[(NameId, VariableNode)]) -> Result<Vec
     )
 }
 
-// What occurs in the premise of a definition and in its theorems.
+/// What occurs in the premise of a definition and in its theorems.
 fn occurring_in(nodes: &Nodes, definition: &Definition, made: &[Statement]) -> Result<Parts, Memory>
     requires definition { HasDefinition nodes.now definition.now }
     requires made { All (HasStatement nodes.now) made.now }
@@ -172,7 +172,7 @@ fn occurring_in(nodes: &Nodes, definition: &Definition, made: &[Statement]) -> R
     Ok(occurring)
 }
 
-// Goes over the premise of a definition.
+/// Goes over the premise of a definition.
 fn add_premise(parts: &mut Parts, nodes: &Nodes, definition: &Definition) -> Result<(), Memory>
     requires definition { HasDefinition nodes.now definition.now }
     requires gone { IsGoneOver nodes.now parts.old }
@@ -195,7 +195,7 @@ fn add_premise(parts: &mut Parts, nodes: &Nodes, definition: &Definition) -> Res
     }
 }
 
-// Whether the symbol has a meaning of its own.
+/// Whether the symbol has a meaning of its own.
 fn is_primitive(symbol: Mark) -> bool
     ensures { result ≡ is_primitive_mark symbol }
 {

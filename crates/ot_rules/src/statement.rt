@@ -48,7 +48,7 @@ impl<T: Drop> From<AllocFailed<T>> for StepFault {
     }
 }
 
-// Those of the first list, and then those of the second that the first lacks.
+/// Those of the first list, and then those of the second that the first lacks.
 pub(crate) fn union(alloc: Global, g: &[TermId], h: &[TermId]) -> Result<Vec<TermId>, Memory>
     ensures { IfOk result (λ v. v.items ≡ g.now ++ filter (λ t. not (list_any (λ u. nat_eq u t) g.now)) h.now) }
 {
@@ -58,21 +58,21 @@ pub(crate) fn union(alloc: Global, g: &[TermId], h: &[TermId]) -> Result<Vec<Ter
     Ok(all)
 }
 
-// Those of the second list that the first lacks.
+/// Those of the second list that the first lacks.
 fn lacking(alloc: Global, g: &[TermId], h: &[TermId]) -> Result<Vec<TermId>, Memory>
     ensures { IfOk result (λ v. v.items ≡ filter (λ t. not (list_any (λ u. nat_eq u t) g.now)) h.now) }
 {
     Ok(h.iter().copied().filter(|t| !g.contains(t)).collect(alloc)?)
 }
 
-// The list without a term.
+/// The list without a term.
 pub(crate) fn minus(alloc: Global, t: TermId, g: &[TermId]) -> Result<Vec<TermId>, Memory>
     ensures { IfOk result (λ v. v.items ≡ filter (λ u. not (nat_eq u t)) g.now) }
 {
     Ok(g.iter().copied().filter(|u| *u != t).collect(alloc)?)
 }
 
-// The members of a list, each once, at its last place.
+/// The members of a list, each once, at its last place.
 pub(crate) fn once_each(alloc: Global, g: &[TermId]) -> Result<Vec<TermId>, Memory>
     ensures { IfOk result (λ v. v.items ≡ once_of g.now) }
 {
@@ -85,7 +85,7 @@ pub(crate) fn once_each(alloc: Global, g: &[TermId]) -> Result<Vec<TermId>, Memo
     Ok(once)
 }
 
-// A list of one sequent.
+/// A list of one sequent.
 pub(crate) fn alone(alloc: Global, statement: Statement) -> Result<Vec<Statement>, Memory>
     ensures { IfOk result (λ v. v.items ≡ statement ∷ []) }
 {
@@ -94,7 +94,7 @@ pub(crate) fn alone(alloc: Global, statement: Statement) -> Result<Vec<Statement
     Ok(all)
 }
 
-// A list of two sequents.
+/// A list of two sequents.
 pub(crate) fn both(
     alloc: Global,
     first: Statement,

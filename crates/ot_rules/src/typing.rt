@@ -16,7 +16,7 @@ use ot_nodes::{DEPTH_LIMIT, Nodes, TermId, Typed, Typings};
 use ot_plain::Memory;
 use std::mem;
 
-/// The type of a term, or `None` where it isn't well typed. After want of memory nothing is known of types.
+/// The type of a term, or `None` where it isn't well typed. After running out of memory nothing is known of types.
 pub(crate) fn typing_of(
     nodes: &mut Nodes,
     typings: &mut Typings,
@@ -120,7 +120,7 @@ pub fn are_statements_within(
     Ok(true)
 }
 
-// Whether terms that are well typed are within the nesting limit.
+/// Whether terms that are well typed are within the nesting limit.
 fn are_within(nodes: &mut Nodes, typings: &mut Typings, ids: &[TermId]) -> Result<bool, Memory>
     requires ids { All (HasTerm nodes.old) ids.now }
     requires typed { All (λ i. IsWellTyped names (term_at nodes.old i)) ids.now }

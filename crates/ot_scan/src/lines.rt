@@ -81,7 +81,7 @@ impl Lines {
     /// counts, and at one place it is `ArticleTooLong`; a later call answers the same. `ReadFault`
     /// comes only where the source failed in this call. Then no byte is lost, and a later call goes
     /// on. No memory is taken.
-    // Once a line: each reader of lines is to have it inline, and what it calls.
+    /// Once a line: each reader of lines is to have it inline, and what it calls.
     #[inline(always)]
     pub fn next<S: Source>(&mut self, source: &mut S) -> Result<Option<Line<'_>>, ScanFault>
         ensures* line { sem 𝓛 (Rests the_row self.entry (λ new.

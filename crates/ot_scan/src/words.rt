@@ -28,7 +28,7 @@ pub enum WordFault {
 
 /// The word of a line's text, by the article format: a number, a name or a command. No memory is
 /// taken.
-// Once a line: each reader of an article is to have it inline.
+/// Once a line: each reader of an article is to have it inline.
 #[inline(always)]
 pub fn command(text: &[u8]) -> Result<Word<'_>, WordFault>
     requires { 0 < length text.now }

@@ -15,7 +15,7 @@ use Rattle.ot_rules.specs.declared.statement.StepFault.TheVariants as fault
 abbrev pub IsStatementOf : List Item → Sequent Name → Statement → Type 0
 IsStatementOf ts r q = HasStatement ts q × (sequent_at ts q ≡ r)
 
--- the answer is the statement of this sequent, and no refusal; want of memory is free
+-- the answer is the statement of this sequent, and no refusal; running out of memory may be answered at any point
 abbrev pub Derives : Result Statement StepFault → List Item → Sequent Name → Type 0
 Derives (Ok q) ts r = IsStatementOf ts r q
 Derives (Err fault.BadStep) ts r = ⊥

@@ -54,7 +54,7 @@ pub fn trans(nodes: &mut Nodes, lower: &Statement, top: &Statement) -> Result<St
     Ok(Statement { hyps, concl })
 }
 
-// The equation of the sides that two equations don't share.
+/// The equation of the sides that two equations don't share.
 fn outer_sides(nodes: &mut Nodes, lower: Sides, top: Sides) -> Result<TermId, Memory>
     requires lower { HasSides nodes.old lower }
     requires top { HasSides nodes.old top }
@@ -97,7 +97,7 @@ pub fn prove_hyp(nodes: &Nodes, lemma: &Statement, other: &Statement) -> Result<
     })
 }
 
-// Those of the first list, and then those of the second that the first lacks.
+/// Those of the first list, and then those of the second that the first lacks.
 fn union(alloc: Global, g: &[TermId], h: &[TermId]) -> Result<Vec<TermId>, Memory>
     ensures { IfOk result (λ v. v.items ≡ g.now ++ filter (λ t. not (list_any (λ u. nat_eq u t) g.now)) h.now) }
 {
@@ -107,14 +107,14 @@ fn union(alloc: Global, g: &[TermId], h: &[TermId]) -> Result<Vec<TermId>, Memor
     Ok(all)
 }
 
-// Those of the second list that the first lacks.
+/// Those of the second list that the first lacks.
 fn lacking(alloc: Global, g: &[TermId], h: &[TermId]) -> Result<Vec<TermId>, Memory>
     ensures { IfOk result (λ v. v.items ≡ filter (λ t. not (list_any (λ u. nat_eq u t) g.now)) h.now) }
 {
     Ok(h.iter().copied().filter(|t| !g.contains(t)).collect(alloc)?)
 }
 
-// The list without a term.
+/// The list without a term.
 fn minus(alloc: Global, t: TermId, g: &[TermId]) -> Result<Vec<TermId>, Memory>
     ensures { IfOk result (λ v. v.items ≡ filter (λ u. not (nat_eq u t)) g.now) }
 {

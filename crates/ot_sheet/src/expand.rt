@@ -45,7 +45,7 @@ pub fn write_of_two(
     )
 }
 
-// The constant `=` at a type.
+/// The constant `=` at a type.
 fn equals_at(nodes: &mut Nodes, ty: TypeId) -> Result<TermId, Memory>
     requires { HasType nodes.old ty }
     ensures ok { IfOk result (λ id. IsTerm nodes.new id (equals_at (type_at nodes.old ty))) }

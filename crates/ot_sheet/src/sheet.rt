@@ -98,7 +98,7 @@ impl Sheet {
         Ok(())
     }
 
-    // The types and terms of operands.
+    /// The types and terms of operands.
     fn write_operands(&mut self, nodes: &Nodes, operands: &[Operand]) -> Result<(), Memory>
         requires operands { All (HasOperand nodes.now) operands.now }
         ensures moves { OnOk result (Moves nodes.now self.old self.new
@@ -110,7 +110,7 @@ impl Sheet {
         Ok(())
     }
 
-    // The types and terms of an operand.
+    /// The types and terms of an operand.
     fn write_operand(&mut self, nodes: &Nodes, operand: Operand) -> Result<(), Memory>
         requires operand { HasOperand nodes.now operand }
         ensures moves { OnOk result (Moves nodes.now self.old self.new
@@ -125,7 +125,7 @@ impl Sheet {
         }
     }
 
-    // A type behind its parts, where it isn't there.
+    /// A type behind its parts, where it isn't there.
     #[cycle(write_type)]
     fn write_type(&mut self, nodes: &Nodes, id: TypeId) -> Result<(), Memory>
         requires id { HasType nodes.now id }
@@ -140,7 +140,7 @@ impl Sheet {
         Ok(())
     }
 
-    // The record of a type behind its parts.
+    /// The record of a type behind its parts.
     #[cycle(write_type)]
     fn write_new_type(&mut self, nodes: &Nodes, id: TypeId) -> Result<(), Memory>
         requires id { HasType nodes.now id }
@@ -160,7 +160,7 @@ impl Sheet {
         }
     }
 
-    // Types below a bound, from left to right.
+    /// Types below a bound, from left to right.
     #[cycle(write_type)]
     fn write_types(&mut self, nodes: &Nodes, bound: TypeId, ids: &[TypeId]) -> Result<(), Memory>
         requires ids { All (HasType nodes.now) ids.now }
@@ -174,7 +174,7 @@ impl Sheet {
         Ok(())
     }
 
-    // A term behind its parts, where it isn't there.
+    /// A term behind its parts, where it isn't there.
     #[cycle(write_term)]
     fn write_term(&mut self, nodes: &Nodes, id: TermId) -> Result<(), Memory>
         requires id { HasTerm nodes.now id }
@@ -189,7 +189,7 @@ impl Sheet {
         Ok(())
     }
 
-    // The record of a term behind its parts.
+    /// The record of a term behind its parts.
     #[cycle(write_term)]
     fn write_new_term(&mut self, nodes: &Nodes, id: TermId) -> Result<(), Memory>
         requires id { HasTerm nodes.now id }
@@ -238,7 +238,7 @@ impl Sheet {
         Ok(())
     }
 
-    // A type operator, whose arguments are there.
+    /// A type operator, whose arguments are there.
     fn put_type_op(&mut self, nodes: &Nodes, name: NameId, args: &[TypeId])
         requires name { HasName nodes.now name }
         requires args { All (HasType nodes.now) args.now }
@@ -251,7 +251,7 @@ impl Sheet {
         self.put_types(nodes, args);
     }
 
-    // Lines with the numbers of types.
+    /// Lines with the numbers of types.
     fn put_types(&mut self, nodes: &Nodes, ids: &[TypeId])
         requires ids { All (HasType nodes.now) ids.now }
         ensures moves { Moves nodes.now self.old self.new
@@ -262,7 +262,7 @@ impl Sheet {
         }
     }
 
-    // A record, where the types and terms that it names are there.
+    /// A record, where the types and terms that it names are there.
     fn put(&mut self, nodes: &Nodes, word: RecordWord, operands: &[Operand])
         requires operands { All (HasOperand nodes.now) operands.now }
         ensures moves { Moves nodes.now self.old self.new (put (entry_at nodes.now word operands.now)) }
@@ -271,7 +271,7 @@ impl Sheet {
         self.put_operands(nodes, operands);
     }
 
-    // Lines with what a record names.
+    /// Lines with what a record names.
     fn put_operands(&mut self, nodes: &Nodes, operands: &[Operand])
         requires operands { All (HasOperand nodes.now) operands.now }
         ensures moves { Moves nodes.now self.old self.new
@@ -282,7 +282,7 @@ impl Sheet {
         }
     }
 
-    // A line with the word of a record.
+    /// A line with the word of a record.
     fn put_word(&mut self, word: RecordWord)
         ensures moves { (ts : List Item) → Moves ts self.old self.new (add_tokens (Word (spelling word) ∷ [])) }
     {
@@ -290,7 +290,7 @@ impl Sheet {
         self.page.put(b"\n");
     }
 
-    // A line with what a record names: types and terms by number.
+    /// A line with what a record names: types and terms by number.
     fn put_operand(&mut self, nodes: &Nodes, operand: Operand)
         requires operand { HasOperand nodes.now operand }
         ensures moves { Moves nodes.now self.old self.new (λ x. add_tokens (token_of x (operand_at nodes.now operand) ∷ []) x) }
@@ -304,7 +304,7 @@ impl Sheet {
         }
     }
 
-    // A line with the number of a type.
+    /// A line with the number of a type.
     fn put_type(&mut self, nodes: &Nodes, id: TypeId)
         requires ty { HasType nodes.now id }
         ensures moves { Moves nodes.now self.old self.new (λ x. add_tokens (token_of x (AType (type_at nodes.now id)) ∷ []) x) }
@@ -314,7 +314,7 @@ impl Sheet {
         self.put_number(number);
     }
 
-    // A line with the number of a term.
+    /// A line with the number of a term.
     fn put_term(&mut self, nodes: &Nodes, id: TermId)
         requires term { HasTerm nodes.now id }
         ensures moves { Moves nodes.now self.old self.new (λ x. add_tokens (token_of x (ATerm (term_at nodes.now id)) ∷ []) x) }
@@ -324,7 +324,7 @@ impl Sheet {
         self.put_number(number);
     }
 
-    // The place of a type.
+    /// The place of a type.
     fn type_number(&self, id: TypeId) -> usize
         ensures { result ≡ position_or_len (nat_eq id) self.now.types.keys }
     {
@@ -334,7 +334,7 @@ impl Sheet {
         }
     }
 
-    // The place of a term.
+    /// The place of a term.
     fn term_number(&self, id: TermId) -> usize
         ensures { result ≡ position_or_len (nat_eq id) self.now.terms.keys }
     {
@@ -344,7 +344,7 @@ impl Sheet {
         }
     }
 
-    // A line with a name.
+    /// A line with a name.
     fn put_name(&mut self, name: &Name)
         ensures moves { (ts : List Item) → Moves ts self.old self.new (add_tokens (Named name.now ∷ [])) }
     {
@@ -352,7 +352,7 @@ impl Sheet {
         self.page.put(b"\n");
     }
 
-    // A line with a number.
+    /// A line with a number.
     fn put_number(&mut self, number: usize)
         ensures moves { (ts : List Item) → Moves ts self.old self.new (add_tokens (Number number ∷ [])) }
     {

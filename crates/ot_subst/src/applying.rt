@@ -20,7 +20,7 @@ use ot_term::{Nodes, Steps, TermId, TermNode};
 use ot_type::{TableFault, TypeSubst};
 use std::alloc::Global;
 
-// The term with the substitution put in.
+/// The term with the substitution put in.
 fn put_in<N: Nodes<L>, L>(
     alloc: Global,
     terms: &mut N,
@@ -53,7 +53,7 @@ fn put_in<N: Nodes<L>, L>(
     put_in_open(alloc, terms, names, results, s, t, steps)
 }
 
-// The same, node by node.
+/// The same, node by node.
 fn put_in_open<N: Nodes<L>, L>(
     alloc: Global,
     terms: &mut N,

@@ -26,7 +26,7 @@ pub(crate) struct Work<'a> {
     pub(crate) renamed: &'a Renamed<'a>,
 }
 
-// Whether `x`, where it is not the binder `v`, becomes `w` by the type part.
+/// Whether `x`, where it is not the binder `v`, becomes `w` by the type part.
 fn coincides<N: Nodes<L>, L>(
     terms: &mut N,
     subst: &Subst,
@@ -51,7 +51,7 @@ fn coincides<N: Nodes<L>, L>(
     }
 }
 
-// Whether one of the variables, other than the binder `v`, becomes `w` by the type part.
+/// Whether one of the variables, other than the binder `v`, becomes `w` by the type part.
 fn any_coincides<N: Nodes<L>, L>(
     terms: &mut N,
     subst: &Subst,
@@ -76,8 +76,8 @@ fn any_coincides<N: Nodes<L>, L>(
     Ok(false)
 }
 
-// Whether the binder `v` of a body, which is `w` after the type part, has to be renamed. Without renamed binders
-// around, it has to be only where it clashes.
+/// Whether the binder `v` of a body, which is `w` after the type part, has to be renamed. Without renamed binders
+/// around, it has to be only where it clashes.
 pub(crate) fn clashes<N: Nodes<L>, L>(
     terms: &mut N,
     work: &Work<'_>,
@@ -114,8 +114,8 @@ pub(crate) fn clashes<N: Nodes<L>, L>(
     any_coincides(terms, work.subst, v, w, &xs)
 }
 
-// Whether a variable is free in a term of the substitution. The first question gathers the variables that are, since
-// most walks meet no binder and ask none.
+/// Whether a variable is free in a term of the substitution. The first question gathers the variables that are, since
+/// most walks meet no binder and ask none.
 fn is_put_in<N: Nodes<L>, L>(
     alloc: Global,
     terms: &N,
@@ -136,7 +136,7 @@ fn is_put_in<N: Nodes<L>, L>(
     Ok(is_free)
 }
 
-// What was gathered, taken out, or else is gathered now.
+/// What was gathered, taken out, or else is gathered now.
 fn known_frees<N: Nodes<L>, L>(
     alloc: Global,
     terms: &N,
@@ -153,7 +153,7 @@ fn known_frees<N: Nodes<L>, L>(
     }
 }
 
-// The variables that are free in the terms of a substitution.
+/// The variables that are free in the terms of a substitution.
 fn frees_of<N: Nodes<L>, L>(alloc: Global, terms: &N, subst: &Subst) -> Result<Vec<VarKey>, Memory>
     requires { IsSubstOf (N.table terms.now) subst.now }
     ensures { IfOk result (λ frees. AreFrees (N.table terms.now) subst.now frees.items) }
@@ -165,7 +165,7 @@ fn frees_of<N: Nodes<L>, L>(alloc: Global, terms: &N, subst: &Subst) -> Result<V
     Ok(frees)
 }
 
-// The variables that are free in the terms of pairs.
+/// The variables that are free in the terms of pairs.
 fn frees_of_pairs<N: Nodes<L>, L>(
     alloc: Global,
     terms: &N,
@@ -182,7 +182,7 @@ fn frees_of_pairs<N: Nodes<L>, L>(
     Ok(frees)
 }
 
-// The same of pairs that are hashed.
+/// The same of pairs that are hashed.
 fn frees_of_map<N: Nodes<L>, L>(
     alloc: Global,
     terms: &N,

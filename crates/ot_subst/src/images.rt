@@ -14,7 +14,7 @@ use ot_plain::NameId;
 use ot_term::{Nodes, TermId, VarKey};
 use ot_type::{TableFault, TypeId};
 
-// What a variable becomes.
+/// What a variable becomes.
 pub(crate) fn image_of<N: Nodes<L>, L>(
     terms: &mut N,
     subst: &Subst,
@@ -43,7 +43,7 @@ pub(crate) fn image_of<N: Nodes<L>, L>(
     }
 }
 
-// What a constant becomes.
+/// What a constant becomes.
 pub(crate) fn constant_of<N: Nodes<L>, L>(
     terms: &mut N,
     subst: &Subst,

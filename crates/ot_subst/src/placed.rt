@@ -78,7 +78,7 @@ impl Placed {
     }
 }
 
-// Makes the table longer where the index is past its end. The places in it stay.
+/// Makes the table longer where the index is past its end. The places in it stay.
 fn reach(places: &mut Vec<u32>, index: usize) -> Result<(), Memory>
     ensures within { OnOk result (index < length places.new.items) }
     ensures extends { Extends places.old.items places.new.items }

@@ -13,7 +13,7 @@ pub(crate) enum Renamed<'a> {
     Binder(&'a VarKey, &'a VarKey, &'a Renamed<'a>),
 }
 
-// What a variable has become that a renamed binder binds.
+/// What a variable has become that a renamed binder binds.
 pub(crate) fn new_binder(renamed: &Renamed<'_>, v: &VarKey) -> Option<VarKey>
     ensures { result ≡ lookup (same_key v.now) (pairs_of renamed.now) }
 {
@@ -29,7 +29,7 @@ pub(crate) fn new_binder(renamed: &Renamed<'_>, v: &VarKey) -> Option<VarKey>
     }
 }
 
-// Whether a binder `v` was renamed, or one has become `w`.
+/// Whether a binder `v` was renamed, or one has become `w`.
 pub(crate) fn meets(renamed: &Renamed<'_>, v: &VarKey, w: &VarKey) -> bool
     ensures { IsTrue result ↔ Meets (pairs_of renamed.now) v.now w.now }
 {

@@ -16,8 +16,8 @@ pub struct Results {
     found: Found,
 }
 
-// A walk looks terms up by place. The body of a renamed binder has results of its own, which are hashed: they take no
-// more room than there are of them, however many binders are renamed inside each other.
+/// A walk looks terms up by place. The body of a renamed binder has results of its own, which are hashed: they take no
+/// more room than there are of them, however many binders are renamed inside each other.
 #[derive(Drop)]
 enum Found {
     Placed(Placed),
@@ -85,7 +85,7 @@ impl Results {
     }
 }
 
-// Adds the pair of a term that has none.
+/// Adds the pair of a term that has none.
 fn insert(pairs: &mut IndexMap<TermId, TermId>, id: TermId, image: TermId) -> Result<(), Memory>
     requires { lookup (nat_eq id) pairs.old.entries ≡ None }
     ensures { OnOk result (pairs.new.entries ≡ pairs.old.entries ++ (id, image) ∷ []) }

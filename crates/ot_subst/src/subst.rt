@@ -17,7 +17,7 @@ use smallvec::SmallVec;
 use std::alloc::Global;
 use std::marker::Model;
 
-// How many pairs are looked through one by one.
+/// How many pairs are looked through one by one.
 const FEW: usize = 8;
 
 /// A substitution: types for names, and terms for variables. The type part is put in first, then the variable part at
@@ -58,7 +58,7 @@ impl Subst {
     }
 
     /// Adds a variable and its term, a term of this table that has the variable's type. A variable that is there
-    /// keeps its term. After want of memory the substitution is as it was.
+    /// keeps its term. After running out of memory the substitution is as it was.
     pub fn add(&mut self, terms: &Terms, v: VarKey, t: TermId) -> Result<(), Memory>
         requires term { t < length terms.now.terms }
         requires variable { v.ty < length terms.now.types }
@@ -72,7 +72,7 @@ impl Subst {
         self.insert(v, t)
     }
 
-    // Adds a pair.
+    /// Adds a pair.
     pub(crate) fn insert(&mut self, v: VarKey, t: TermId) -> Result<(), Memory>
         ensures ok { OnOk result (self.new ≡ with_pair self.old v t) }
         ensures err { OnErr result (self.new ≡ self.old) }
@@ -88,7 +88,7 @@ impl Subst {
         Ok(())
     }
 
-    // The term of a variable.
+    /// The term of a variable.
     pub(crate) fn get(&self, v: &VarKey) -> Option<TermId>
         ensures { result ≡ term_for self.now v.now }
     {
@@ -98,14 +98,14 @@ impl Subst {
         }
     }
 
-    // The type part.
+    /// The type part.
     pub(crate) fn types(&self) -> &TypeSubst
         ensures { result.now ≡ self.now.types }
     {
         &self.types
     }
 
-    // The variable part: the first pairs, and those that come after.
+    /// The variable part: the first pairs, and those that come after.
     pub(crate) fn terms(&self) -> (&[(VarKey, TermId)], &IndexMap<VarKey, TermId>)
         ensures { self.now.terms ≡ result.0.now ++ result.1.now.entries }
     {
@@ -113,7 +113,7 @@ impl Subst {
     }
 }
 
-// The term of a variable among pairs that are looked through.
+/// The term of a variable among pairs that are looked through.
 fn term_among(pairs: &[(VarKey, TermId)], v: &VarKey) -> Option<TermId>
     ensures { result ≡ lookup (same_key v.now) pairs.now }
 {

@@ -20,7 +20,7 @@ use ot_plain::Names;
 use ot_term::{Nodes, Steps, TermFault, TermId, TermNode, VarKey};
 use ot_type::TableFault;
 
-// The application of a function to an argument that it takes.
+/// The application of a function to an argument that it takes.
 fn join<N: Nodes<L>, L>(terms: &mut N, f: TermId, x: TermId) -> Result<TermId, TableFault>
     requires f { f < length (N.table terms.old).terms }
     requires x { x < length (N.table terms.old).terms }
@@ -40,7 +40,7 @@ fn join<N: Nodes<L>, L>(terms: &mut N, f: TermId, x: TermId) -> Result<TermId, T
     }
 }
 
-// What an application becomes.
+/// What an application becomes.
 #[cycle(walk)]
 fn application<N: Nodes<L>, L>(
     work: &Work<'_>,
@@ -79,7 +79,7 @@ fn application<N: Nodes<L>, L>(
     join(terms, f, x)
 }
 
-// What an abstraction becomes.
+/// What an abstraction becomes.
 #[cycle(walk)]
 fn abstraction<N: Nodes<L>, L>(
     work: &Work<'_>,
@@ -135,7 +135,7 @@ fn abstraction<N: Nodes<L>, L>(
     terms.abs(new, body)
 }
 
-// What the term of a node becomes.
+/// What the term of a node becomes.
 #[cycle(walk)]
 fn image_of_node<N: Nodes<L>, L>(
     work: &Work<'_>,
@@ -174,7 +174,7 @@ fn image_of_node<N: Nodes<L>, L>(
     }
 }
 
-// What a term becomes. Results are remembered for as long as the binders that were renamed are the same.
+/// What a term becomes. Results are remembered for as long as the binders that were renamed are the same.
 #[cycle(walk)]
 pub(crate) fn walk<N: Nodes<L>, L>(
     work: &Work<'_>,

@@ -9,7 +9,7 @@ use std::alloc::Global;
 use std::collections::BTreeSet;
 use std::hash::Hash;
 
-// Adds the items of a list to a set.
+/// Adds the items of a list to a set.
 pub(crate) fn add_all<T: Ord + Copy>(set: &mut BTreeSet<T>, items: &[T]) -> Result<(), Memory>
     ensures { OnOk result (set.new.keys ≡ fold (insert_ordered T.cmp) set.old.keys items.now) }
 {
@@ -19,7 +19,7 @@ pub(crate) fn add_all<T: Ord + Copy>(set: &mut BTreeSet<T>, items: &[T]) -> Resu
     Ok(())
 }
 
-// The items of a list, each once, in the order of their first places.
+/// The items of a list, each once, in the order of their first places.
 pub(crate) fn distinct<T: Copy + Eq + Hash>(alloc: Global, items: &[T]) -> Result<Vec<T>, Memory>
     ensures { IfOk result (λ once. once.items ≡ fold (insert_key T.eq) [] items.now) }
 {

@@ -70,7 +70,7 @@ pub trait Nodes<L> {
         requires { id < length (table self.now).terms }
         ensures { Decides result (IsClosed numbers (nameless numbers (term_at (table self.now).terms id))) };
 
-    /// The instance of a type: each variable that the substitution holds gives way to its type, all at once.
+    /// The instance of a type: each variable that the substitution holds is replaced by its type, all at once.
     fn type_inst(&mut self, s: &TypeSubst, id: TypeId) -> Result<TypeId, TableFault>
         requires id { id < length (table self.old).types }
         requires pairs { All (λ p. p.1 < length (table self.old).types) s.now }

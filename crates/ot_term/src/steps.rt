@@ -37,7 +37,7 @@ impl<L> Steps<L> {
         self.count
     }
 
-    // One step more. At the end of its type the count stands still.
+    /// One step more. At the end of its type the count saturates.
     pub(crate) fn add_one(&mut self)
         ensures { self.new ≡ min (self.old + 1) (2 ^ 64 - 1) }
     {

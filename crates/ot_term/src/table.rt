@@ -34,7 +34,7 @@ struct Beside {
     class: ClassId,
 }
 
-// A node, with the classes of its parts in their place.
+/// A node, with the classes of its parts in their place.
 #[derive(Clone, Copy)]
 enum Form {
     Var(VarKey),
@@ -139,7 +139,7 @@ impl Terms {
         }
     }
 
-    // How deep the term is.
+    /// How deep the term is.
     fn depth(&self, id: TermId) -> u32
         requires { id < length self.now.terms }
         ensures depth { result ≡ named_depth numbers (term_at self.now.terms id) }
@@ -152,7 +152,7 @@ impl Terms {
         }
     }
 
-    // The number of a node that the table has.
+    /// The number of a node that the table has.
     fn find(&self, node: &TermNode) -> Option<TermId>
         ensures found { IfSome result (λ id. slice_get self.now.terms id
             ≡ Some (term_of self.now.types self.now.terms node.now)) }
@@ -165,7 +165,7 @@ impl Terms {
         }
     }
 
-    // The number of a node, which is added where it is new. Its type and its depth are given.
+    /// The number of a node, which is added where it is new. Its type and its depth are given.
     fn intern(&mut self, node: TermNode, ty: TypeId, depth: u32) -> Result<TermId, Memory>
         requires below { AreBelow (length self.old.types) (length self.old.terms) node }
         requires suits { Suits self.old.types (term_of self.old.types self.old.terms node) ty depth }
@@ -194,7 +194,7 @@ impl Terms {
     }
 }
 
-// A node with the classes that stand beside its parts.
+/// A node with the classes that stand beside its parts.
 fn with_classes(nodes: &IndexMap<TermNode, Beside>, node: &TermNode) -> Form
     requires parts { PartsBelow (length nodes.now.entries) node.now }
     ensures { result ≡ form_with (classes_of nodes.now.entries) node.now }
@@ -207,7 +207,7 @@ fn with_classes(nodes: &IndexMap<TermNode, Beside>, node: &TermNode) -> Form
     }
 }
 
-// The class of a form.
+/// The class of a form.
 fn class_of(classes: &mut Classes, form: Form) -> Result<ClassId, Memory>
     requires { IsFormBelow (length classes.old) form }
     ensures ok { IfOk result (λ c. slice_get classes.new c ≡ Some (nameless_form classes.old form)) }
@@ -222,7 +222,7 @@ fn class_of(classes: &mut Classes, form: Form) -> Result<ClassId, Memory>
     }
 }
 
-// The class beside a node.
+/// The class beside a node.
 fn class_beside(nodes: &IndexMap<TermNode, Beside>, id: TermId) -> ClassId
     requires { id < length nodes.now.entries }
     ensures { result ≡ slice_index_or (classes_of nodes.now.entries) id 0 }

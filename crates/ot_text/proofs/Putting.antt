@@ -38,7 +38,7 @@ stays (Bytes bs room) h = cc
 stays Full h = record { state = inr refl }
 stays NoMemory h = record { state = inl refl }
 
--- a page that isn't stopped gives up where the text doesn't fit, or for want of memory
+-- a page that isn't stopped gives up where the text doesn't fit, or where memory runs out
 pub gives-up : (x : List ℕ) (s t : Printed) (room : ℕ) (fault : PrintFault) → t ≡ stopped (Some fault) s
     → is_stopped s ≡ false → HasRoom s room → (fault ≡ TooLarge → room < length x) → IsPut x s t
 gives-up x (Bytes bs r) t room TooLarge p e h g =

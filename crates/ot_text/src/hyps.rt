@@ -45,7 +45,7 @@ pub fn put_hyps(page: &mut Page, texts: &BTreeSet<Vec<u8>>)
     put_turnstile(page, is_first);
 }
 
-// The turnstile, behind a space where hypotheses stand before it.
+/// The turnstile, behind a space where hypotheses stand before it.
 fn put_turnstile(page: &mut Page, is_first: bool)
     ensures { IsPut (hyps_from is_first []) (printed page.old) (printed page.new) }
 {

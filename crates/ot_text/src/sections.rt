@@ -62,7 +62,7 @@ pub fn put_sorted_section<Table, T: Printable<Table>>(
     }
 }
 
-// A section of texts.
+/// A section of texts.
 fn put_texts(page: &mut Page, title: &[u8], texts: &BTreeSet<Vec<u8>>)
     ensures { IsPut (section_text true title.now (texts_of texts.now)) (printed page.old) (printed page.new) }
 {
@@ -85,7 +85,7 @@ pub fn put_indented(page: &mut Page, texts: &BTreeSet<Vec<u8>>)
     }
 }
 
-// The first line of a section: its title, and how many items it has.
+/// The first line of a section: its title, and how many items it has.
 fn put_title(page: &mut Page, title: &[u8], count: usize)
     ensures { IsPut (title.now ++ codes ": " ++ number_text count ++ 10 ∷ []) (printed page.old) (printed page.new) }
 {

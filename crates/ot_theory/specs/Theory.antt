@@ -150,6 +150,6 @@ finish last s = finish_at last s s.open_block
 abbrev pub no_lines : State
 no_lines = record { tags = []; blocks = []; open_block = None }
 
--- the theory that a text writes, or its first fault with its line; where `main` is lacking, that of the last line
+-- the theory that a text writes, or its first fault with its line; where `main` is missing, that of the last line
 abbrev pub theory : List ℕ → Result TheoryText (ℕ × TheoryFault)
 theory text = read_lines (lines_of text) no_lines >>= finish (length (pieces text))

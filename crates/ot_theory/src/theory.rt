@@ -39,7 +39,7 @@ pub struct Theory<'a> {
 
 /// The theory file that a text is, by the theory file format. `At` comes exactly with the first fault
 /// in the order of lines and its line; where the last block isn't closed, with the line that opens it,
-/// and where `main` is lacking, with that of the last line. Of each theory there is a block `main`, no
+/// and where `main` is missing, with that of the last line. Of each theory there is a block `main`, no
 /// two blocks have one name, a block has one `article:` or `package:` at most and no two `interpret:`
 /// for one symbol, and in the blocks the value of each `import:` is an identifier, that of each
 /// `article:` a quoted path, and that of each `interpret:` can be split, and no value has a newline.

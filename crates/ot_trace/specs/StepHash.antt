@@ -14,7 +14,7 @@ use Rattle.ot_trace.specs.declared.step.Step.{Step}
 use Rattle.ot_trace.specs.declared.step.Step.TheVariants.{Number, Name, Make, Define, Outcome}
 use Rattle.ot_trace.specs.contracts.step.StepPartialEq.TheImpl as derived
 
--- what a word makes is told by its operands, since few words take the same ones; another step by its kind too
+-- what a word makes is told apart by its operands, since few words take the same ones; another step by its kind too
 abbrev pub step_writes : Step → HashWrites
 step_writes (Number k) = fed.u8 0 ++ fed.i64 k
 step_writes (Name n) = fed.u8 1 ++ fed.u32 n

@@ -31,7 +31,7 @@ pub fn uses(
     Ok(counts)
 }
 
-// Counts the operands of a step, where it is marked.
+/// Counts the operands of a step, where it is marked.
 fn tally_where(counts: &mut Vec<u8>, is_marked: bool, step: &Step)
     requires { All (λ i. i < length counts.old.items) (operand_numbers step.now) }
     ensures length { length counts.new.items ≡ length counts.old.items }
@@ -43,7 +43,7 @@ fn tally_where(counts: &mut Vec<u8>, is_marked: bool, step: &Step)
     }
 }
 
-// Counts each of the steps.
+/// Counts each of the steps.
 fn tally_all(counts: &mut Vec<u8>, ids: &[StepId])
     requires { All (λ i. i < length counts.old.items) ids.now }
     ensures length { length counts.new.items ≡ length counts.old.items }
@@ -54,7 +54,7 @@ fn tally_all(counts: &mut Vec<u8>, ids: &[StepId])
     }
 }
 
-// Counts one use.
+/// Counts one use.
 fn tally(counts: &mut Vec<u8>, id: StepId)
     requires { id < length counts.old.items }
     ensures length { length counts.new.items ≡ length counts.old.items }

@@ -10,7 +10,7 @@ use std::hash::{Hash, Hasher};
 use std::marker::Model;
 use std::slice::from_ref;
 
-// How operands are kept: nearly all words have two at most, for which nothing is allocated.
+/// How operands are kept: nearly all words have two at most, for which nothing is allocated.
 #[derive(Drop)]
 enum Kept {
     None,
@@ -35,7 +35,7 @@ impl Model for Operands {
 }
 
 impl Operands {
-    // Those of a list, in its order.
+    /// Those of a list, in its order.
     #[inline(always)]
     pub(crate) fn of(alloc: Global, operands: &[StepId]) -> Result<Operands, Memory>
         ensures items { IfOk result (λ o. o ≡ operands.now) }
@@ -95,7 +95,7 @@ impl Hash for Operands {
     }
 }
 
-// The operands of a word or of a definition.
+/// The operands of a word or of a definition.
 pub(crate) fn hash_operands<H: Hasher>(operands: &[StepId], state: &mut H)
     ensures { state.new ≡ fold H.write state.old (operand_writes operands.now) }
 {
@@ -106,7 +106,7 @@ pub(crate) fn hash_operands<H: Hasher>(operands: &[StepId], state: &mut H)
     }
 }
 
-// Two operands as one number.
+/// Two operands as one number.
 #[inline(always)]
 fn both(lower: StepId, upper: StepId) -> u64
     ensures { result ≡ lower + upper * 4294967296 }

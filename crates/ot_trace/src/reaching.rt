@@ -37,7 +37,7 @@ pub fn reach(
     Ok(walk.marks)
 }
 
-// The steps that were met, and those of them that were not followed yet.
+/// The steps that were met, and those of them that were not followed yet.
 #[derive(Drop)]
 struct Walk {
     marks: Vec<bool>,
@@ -45,7 +45,7 @@ struct Walk {
 }
 
 impl Walk {
-    // Meets all that the step leads to, by the definitions of symbols.
+    /// Meets all that the step leads to, by the definitions of symbols.
     fn follow(&mut self, trace: &Trace, definers: &Definers, id: StepId) -> Result<(), Memory>
         requires id { id < length trace.now }
         requires marks { length self.old.marks.items ≡ length trace.now }
@@ -60,7 +60,7 @@ impl Walk {
         self.visit_definers(definers, id)
     }
 
-    // Meets the operands of a step, or the definition of a theorem.
+    /// Meets the operands of a step, or the definition of a theorem.
     fn visit_parts(&mut self, step: &Step) -> Result<(), Memory>
         requires { IsBelow (length self.old.marks.items) step.now }
         ensures { OnOk result (Visits (IsPartNumber step.now) self.old.marks.items self.old.pending.items
@@ -74,7 +74,7 @@ impl Walk {
         }
     }
 
-    // Meets the definitions of a symbol.
+    /// Meets the definitions of a symbol.
     fn visit_definers(&mut self, definers: &Definers, symbol: StepId) -> Result<(), Memory>
         requires { (s d : ℕ) → IsNoted definers.now.first.entries definers.now.further.items s d → d
             < length self.old.marks.items }
@@ -85,7 +85,7 @@ impl Walk {
         self.visit_further(definers.further.as_slice(), symbol)
     }
 
-    // Meets a step, if there is one.
+    /// Meets a step, if there is one.
     fn visit_first(&mut self, id: Option<StepId>) -> Result<(), Memory>
         requires { (i : ℕ) → id ≡ Some i → i < length self.old.marks.items }
         ensures { OnOk result (Visits (λ i. id ≡ Some i) self.old.marks.items self.old.pending.items
@@ -97,7 +97,7 @@ impl Walk {
         }
     }
 
-    // Meets the definitions that these pairs have for a symbol.
+    /// Meets the definitions that these pairs have for a symbol.
     fn visit_further(&mut self, pairs: &[(StepId, StepId)], symbol: StepId) -> Result<(), Memory>
         requires { (s d : ℕ) → IsMember (s, d) pairs.now → d < length self.old.marks.items }
         ensures { OnOk result
@@ -110,7 +110,7 @@ impl Walk {
         Ok(())
     }
 
-    // Meets a step, where it is asked for.
+    /// Meets a step, where it is asked for.
     fn visit_where(&mut self, is_asked: bool, id: StepId) -> Result<(), Memory>
         requires { id < length self.old.marks.items }
         ensures { OnOk result (Visits (λ i. (is_asked ≡ true) × (i ≡ id)) self.old.marks.items self.old.pending.items
@@ -119,7 +119,7 @@ impl Walk {
         if is_asked { self.visit(id) } else { Ok(()) }
     }
 
-    // Meets each of the steps.
+    /// Meets each of the steps.
     fn visit_all(&mut self, ids: &[StepId]) -> Result<(), Memory>
         requires { All (λ i. i < length self.old.marks.items) ids.now }
         ensures { OnOk result (Visits (λ i. IsMember i ids.now) self.old.marks.items self.old.pending.items
@@ -131,7 +131,7 @@ impl Walk {
         Ok(())
     }
 
-    // Meets a step: it is marked, and waits where it was not.
+    /// Meets a step: it is marked, and waits where it was not.
     fn visit(&mut self, id: StepId) -> Result<(), Memory>
         requires { id < length self.old.marks.items }
         ensures { OnOk result (Visits (λ i. i ≡ id) self.old.marks.items self.old.pending.items self.new.marks.items
@@ -145,15 +145,15 @@ impl Walk {
     }
 }
 
-// The definitions of symbols: the first one of each, and further ones, of which the definitions of
-// a run have none.
+/// The definitions of symbols: the first one of each, and further ones, of which the definitions of
+/// a run have none.
 #[derive(Drop)]
 struct Definers {
     first: IndexMap<StepId, StepId>,
     further: Vec<(StepId, StepId)>,
 }
 
-// The definitions of each symbol, among these.
+/// The definitions of each symbol, among these.
 fn find_definers(alloc: Global, trace: &Trace, definitions: &[StepId]) -> Result<Definers, Memory>
     requires { All (λ i. i < length trace.now) definitions.now }
     ensures { IfOk result (λ found. AreDefiners trace.now definitions.now found.first.entries found.further.items) }
@@ -169,7 +169,7 @@ fn find_definers(alloc: Global, trace: &Trace, definitions: &[StepId]) -> Result
 }
 
 impl Definers {
-    // Notes the symbols of a step that is a definition.
+    /// Notes the symbols of a step that is a definition.
     fn note_step(&mut self, step: &Step, id: StepId) -> Result<(), Memory>
         ensures { OnOk result (Notes (symbol_numbers step.now) id self.old.first.entries self.old.further.items
             self.new.first.entries self.new.further.items) }
@@ -180,7 +180,7 @@ impl Definers {
         }
     }
 
-    // Notes the symbols of a definition.
+    /// Notes the symbols of a definition.
     fn note_all(&mut self, symbols: &[StepId], definition: StepId) -> Result<(), Memory>
         ensures { OnOk result (Notes symbols.now definition self.old.first.entries self.old.further.items
             self.new.first.entries self.new.further.items) }
@@ -191,7 +191,7 @@ impl Definers {
         Ok(())
     }
 
-    // Notes a symbol of a definition.
+    /// Notes a symbol of a definition.
     fn note(&mut self, symbol: StepId, definition: StepId) -> Result<(), Memory>
         ensures { OnOk result (Notes (symbol ∷ []) definition self.old.first.entries self.old.further.items
             self.new.first.entries self.new.further.items) }

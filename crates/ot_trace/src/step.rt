@@ -7,8 +7,8 @@ use ot_plain::{Cmd, NameId};
 use std::hash::{Hash, Hasher};
 
 /// How an object was made, with the parts by number.
-// A trace has many steps: one holds inside what most of them need, and the lists of a definition, of which an article
-// has few, stand apart.
+/// A trace has many steps: one holds inside what most of them need, and the lists of a definition, of which an article
+/// has few, stand apart.
 #[derive(PartialEq, Eq, Drop)]
 pub enum Step {
     /// A number.

@@ -78,7 +78,7 @@ impl Trace {
     /// The number of a step, which is added where it is new.
     ///
     /// The numbers in the step are of this trace, and the symbols of a definition are those that its
-    /// operands name. After want of memory the trace is as before.
+    /// operands name. After running out of memory the trace is as before.
     pub fn add(&mut self, step: Step) -> Result<StepId, Memory>
         requires inside { IsBelow (length self.old) step }
         requires symbols { HasSymbols self.old step }
@@ -105,7 +105,7 @@ impl Trace {
         self.step_at(id.index())
     }
 
-    // The step at a place.
+    /// The step at a place.
     pub(crate) fn step_at(&self, place: usize) -> &Step
         requires { place < length self.now }
         ensures origin { slice_get self.now place ≡ Some (origin_of self.now result.now) }

@@ -35,7 +35,7 @@ impl Hash for TypeNode {
     }
 }
 
-// The arguments of an operator.
+/// The arguments of an operator.
 fn hash_args<H: Hasher>(args: &[TypeId], state: &mut H)
     ensures { state.new ≡ fold H.write state.old (args_writes args.now) }
 {

@@ -33,7 +33,7 @@ impl TypeSubst {
         }
     }
 
-    /// Adds a name and its type at the end. A name that is there keeps its type; after want of memory all is as before.
+    /// Adds a name and its type at the end. A name that is there keeps its type; after running out of memory all is as before.
     pub fn add(&mut self, name: NameId, ty: TypeId) -> Result<(), Memory>
         ensures ok { OnOk result
             (self.new ≡ (if is_some (lookup (nat_eq name) self.old) then self.old else self.old ++ (name, ty) ∷ [])) }
@@ -54,7 +54,7 @@ impl TypeSubst {
         self.pairs.is_empty()
     }
 
-    // The type of a name.
+    /// The type of a name.
     pub(crate) fn get(&self, name: NameId) -> Option<TypeId>
         ensures { result ≡ lookup (nat_eq name) self.now }
     {

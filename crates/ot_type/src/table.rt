@@ -33,7 +33,7 @@ impl Model for TypeId {
 }
 
 impl TypeId {
-    // This number and another one in one number of 64 bits.
+    /// This number and another one in one number of 64 bits.
     pub(crate) fn pair_with(self, other: TypeId) -> u64
         ensures { result ≡ self + other * 4294967296 }
     {
@@ -89,7 +89,7 @@ impl Types {
         }
     }
 
-    /// The type variable of a name. After want of memory the table is as before.
+    /// The type variable of a name. After running out of memory the table is as before.
     pub fn var(&mut self, name: NameId) -> Result<TypeId, Memory>
         ensures ok { IfOk result (λ id. slice_get self.new id ≡ Some (TyVar name)) }
         ensures names { names_in self.new ≤ max (names_in self.old) (name + 1) }
@@ -150,7 +150,7 @@ impl Types {
         self.op(NameId::ARROW, &[a, b])
     }
 
-    /// The type of propositions, which is the operator `bool` without arguments. After want of memory the table is as
+    /// The type of propositions, which is the operator `bool` without arguments. After running out of memory the table is as
     /// before.
     pub fn boolean(&mut self) -> Result<TypeId, Memory>
         ensures ok { IfOk result (λ id. slice_get self.new id ≡ Some (bool_ty numbers)) }
@@ -197,7 +197,7 @@ impl Types {
         }
     }
 
-    // The number of a node that the table has. Nearly all calls ask for one that is there.
+    /// The number of a node that the table has. Nearly all calls ask for one that is there.
     fn find(&self, node: &TypeNode) -> Option<TypeId>
         ensures found { IfSome result (λ id. slice_get self.now id ≡ Some (tree_of self.now node.now)) }
         ensures table { IsTypeTable self.now }
@@ -208,7 +208,7 @@ impl Types {
         }
     }
 
-    // The number of a node, which is added where it is new.
+    /// The number of a node, which is added where it is new.
     fn intern(&mut self, node: TypeNode, beside: Beside) -> Result<TypeId, Memory>
         requires args { ArgsBelow (length self.old) node }
         requires beside { Describes (tree_of self.old node) beside }
@@ -225,7 +225,7 @@ impl Types {
         Ok(TypeId(index as u32))
     }
 
-    // The greatest depth of the types, or 0.
+    /// The greatest depth of the types, or 0.
     fn deepest(&self, ids: &[TypeId]) -> u32
         requires { All (λ i. i < length self.now) ids.now }
         ensures max { result ≡ depth_all numbers (types_at self.now ids.now) }
@@ -238,7 +238,7 @@ impl Types {
         most
     }
 
-    // How deep the type is.
+    /// How deep the type is.
     fn height(&self, id: TypeId) -> u32
         requires { id < length self.now }
         ensures depth { result ≡ depth_ty numbers (type_at self.now id) }
@@ -247,7 +247,7 @@ impl Types {
         self.beside(id).depth
     }
 
-    // Whether no type variable stands in the type.
+    /// Whether no type variable stands in the type.
     fn is_ground(&self, id: TypeId) -> bool
         requires { id < length self.now }
         ensures { result ≡ is_ground (type_at self.now id) }
@@ -255,7 +255,7 @@ impl Types {
         self.beside(id).ground
     }
 
-    // Whether none stands in any of the types.
+    /// Whether none stands in any of the types.
     fn are_ground(&self, ids: &[TypeId]) -> bool
         requires { All (λ i. i < length self.now) ids.now }
         ensures { result ≡ are_ground (types_at self.now ids.now) }
@@ -267,7 +267,7 @@ impl Types {
         all
     }
 
-    // What stands beside the node of a type.
+    /// What stands beside the node of a type.
     fn beside(&self, id: TypeId) -> &Beside
         requires { id < length self.now }
         ensures { Describes (type_at self.now id) result.now }
@@ -279,7 +279,7 @@ impl Types {
     }
 }
 
-// The arguments of `->`, where these are its name and two arguments.
+/// The arguments of `->`, where these are its name and two arguments.
 fn two_of_arrow(name: NameId, args: &[TypeId]) -> Option<(TypeId, TypeId)>
     ensures { MatchOption result ((a b : ℕ) → name ≡ 0 → args.now ≢ a ∷ b ∷ [])
         (λ p. (name ≡ 0) × (args.now ≡ p.0 ∷ p.1 ∷ [])) }

@@ -24,6 +24,7 @@ pub fn uses(alloc: Global, session: &Session, root: StepId) -> Result<Uses, Memo
     // Each name has one number, and each origin one step.
     session.kernel().sound();
     let trace = session.trace();
+    // What holds of each trace.
     let _count = trace.count();
     let definitions = session.definition_steps();
     let marks = reach(alloc, trace, &[root], definitions)?;

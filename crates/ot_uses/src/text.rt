@@ -47,7 +47,7 @@ pub fn uses_text(
     page.finish(out)
 }
 
-// The exports in order, with their numbers.
+/// The exports in order, with their numbers.
 fn put_exports(page: &mut Page, alloc: Global, session: &Session, exports: &[Export])
     requires run { IsRun session.now }
     requires exports { All (IsExportIn session.now) exports.now }
@@ -59,7 +59,7 @@ fn put_exports(page: &mut Page, alloc: Global, session: &Session, exports: &[Exp
     }
 }
 
-// An export with what it rests on, behind its number.
+/// An export with what it rests on, behind its number.
 fn put_export(page: &mut Page, alloc: Global, session: &Session, number: usize, export: &Export)
     requires run { IsRun session.now }
     requires export { IsExportIn session.now export.now }
@@ -75,7 +75,7 @@ fn put_export(page: &mut Page, alloc: Global, session: &Session, number: usize, 
     }
 }
 
-// A theorem with the assumptions and the definitions at these places.
+/// A theorem with the assumptions and the definitions at these places.
 fn put_support(
     page: &mut Page,
     alloc: Global,
@@ -106,7 +106,7 @@ fn put_support(
     );
 }
 
-// The assumptions at these places. Their texts together cost no more than the limit.
+/// The assumptions at these places. Their texts together cost no more than the limit.
 fn put_assumptions(page: &mut Page, alloc: Global, kernel: &Kernel, places: &[usize])
     requires { All (λ i. i < length kernel.now.assumptions) places.now }
     ensures { IsPut
@@ -122,7 +122,7 @@ fn put_assumptions(page: &mut Page, alloc: Global, kernel: &Kernel, places: &[us
     }
 }
 
-// The texts of the assumptions at these places. `TooLarge` only where they have more than `max` bytes together.
+/// The texts of the assumptions at these places. `TooLarge` only where they have more than `max` bytes together.
 fn assumption_texts(
     alloc: Global,
     kernel: &Kernel,
@@ -143,7 +143,7 @@ fn assumption_texts(
     gathered(alloc, &InKernel { kernel }, &used, max)
 }
 
-// How many texts there are, and each.
+/// How many texts there are, and each.
 fn put_texts(page: &mut Page, title: &[u8], texts: &BTreeSet<Vec<u8>>)
     ensures { IsPut (counted_text title.now (texts_of texts.now)) (printed page.old) (printed page.new) }
 {
@@ -151,7 +151,7 @@ fn put_texts(page: &mut Page, title: &[u8], texts: &BTreeSet<Vec<u8>>)
     put_indented(page, texts);
 }
 
-// How many items there are at these places, and each.
+/// How many items there are at these places, and each.
 fn put_items<Table, T: Printable<Table>>(
     page: &mut Page,
     alloc: Global,
@@ -173,7 +173,7 @@ fn put_items<Table, T: Printable<Table>>(
     }
 }
 
-// The line that says how many there are.
+/// The line that says how many there are.
 fn put_count(page: &mut Page, title: &[u8], count: usize)
     ensures { IsPut (codes "  " ++ title.now ++ codes ": " ++ number_text count ++ 10 ∷ [])
         (printed page.old) (printed page.new) }

@@ -1,4 +1,4 @@
-// The elements of lists of names, of terms, and of pairs.
+//! The elements of lists of names, of terms, and of pairs.
 ghost use Rattle.std.specs.Prelude.{◌≡◌, ◌<◌, List, Result, length, IfOk};
 ghost use Rattle.ot_plain.specs.Faults.{Fault};
 ghost use Rattle.ot_plain.specs.Names.{Name};
@@ -22,7 +22,7 @@ use ot_nodes::{NameId, Nodes, TermId, TypeId, VariableNode};
 use ot_plain::Memory;
 use ot_trace::StepId;
 
-/// The names of the list of a step. It fails only for want of memory, or where the step made no list of names.
+/// The names of the list of a step. It fails only where memory runs out, or where the step made no list of names.
 pub fn names(nodes: &mut Nodes, session: &Session, list: StepId) -> Result<Vec<NameId>, Memory>
     requires run { IsRun session.now }
     requires list { list < length session.now.trace }
@@ -202,7 +202,7 @@ impl Values {
         self.each_of(nodes, session, list)
     }
 
-    // The elements of the list of a step.
+    /// The elements of the list of a step.
     pub(crate) fn each_of<E: Element>(
         &mut self,
         nodes: &mut Nodes,

@@ -1,4 +1,4 @@
-// The maps of a substitution.
+//! The maps of a substitution.
 ghost use Rattle.std.specs.Prelude.{◌≡◌, ◌<◌, length, IfOk, OnOk};
 ghost use Rattle.ot_plain.specs.Table.{Extends};
 ghost use Rattle.ot_machine.specs.Meaning.{IsRun};
@@ -43,7 +43,7 @@ impl Values {
     }
 }
 
-// The pairs, of several for one key the first alone.
+/// The pairs, of several for one key the first alone.
 fn firsts<K: Copy + Eq + Hash, V: Copy>(
     alloc: Global,
     pairs: &[(K, V)],
@@ -58,7 +58,7 @@ fn firsts<K: Copy + Eq + Hash, V: Copy>(
     Ok(found)
 }
 
-// Adds a pair, unless there is one for its key.
+/// Adds a pair, unless there is one for its key.
 fn add_first<K: Copy + Eq + Hash, V: Copy>(
     seen: &mut IndexMap<K, V>,
     found: &mut Vec<(K, V)>,

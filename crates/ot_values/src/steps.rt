@@ -1,4 +1,4 @@
-// How a step was made; its name; and the steps of a list's elements.
+//! How a step was made; its name; and the steps of a list's elements.
 ghost use Rattle.std.specs.Prelude.{◌≡◌, ◌<◌, [], ◌∷◌, length, map, IfOk};
 ghost use Rattle.std.specs.List.{All};
 ghost use Rattle.ot_plain.specs.Table.{Extends};
@@ -47,7 +47,7 @@ pub(crate) fn two(operands: &[StepId]) -> Result<(StepId, StepId), Memory>
     }
 }
 
-/// The number of the name of a step. It fails only for want of memory, or where the step is no name.
+/// The number of the name of a step. It fails only where memory runs out, or where the step is no name.
 pub fn name(nodes: &mut Nodes, session: &Session, id: StepId) -> Result<NameId, Memory>
     requires run { IsRun session.now }
     requires id { id < length session.now.trace }
@@ -101,7 +101,7 @@ pub(crate) fn constant(nodes: &mut Nodes, session: &Session, id: StepId) -> Resu
     }
 }
 
-/// The steps of the elements of the list of a step, along its cons tree. It fails only for want of memory, or where the
+/// The steps of the elements of the list of a step, along its cons tree. It fails only where memory runs out, or where the
 /// step made no list.
 pub fn elements(alloc: Global, session: &Session, list: StepId) -> Result<Vec<StepId>, Memory>
     requires { list < length session.now.trace }

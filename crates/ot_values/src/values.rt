@@ -1,4 +1,4 @@
-// Variables, types and terms.
+//! Variables, types and terms.
 ghost use Rattle.std.specs.Prelude.{◌≡◌, ◌<◌, ℕ, List, length, IfOk};
 ghost use Rattle.ot_plain.specs.Naming.{names};
 ghost use Rattle.ot_plain.specs.Table.{Extends};
@@ -23,7 +23,7 @@ use std::alloc::Global;
 /// The types and terms that were found of steps: what is shared is worked on once. What is known of a node table
 /// stays known while that grows.
 ///
-/// Each call takes a step of the session's trace. It fails only for want of memory, or where the step made no such
+/// Each call takes a step of the session's trace. It fails only where memory runs out, or where the step made no such
 /// object.
 #[derive(Drop)]
 pub struct Values {
@@ -86,7 +86,7 @@ impl Values {
         Ok(ty)
     }
 
-    // The same, by the word that made it.
+    /// The same, by the word that made it.
     #[cycle(ty)]
     fn new_type(
         &mut self,
@@ -118,7 +118,7 @@ impl Values {
         }
     }
 
-    // The types of a list.
+    /// The types of a list.
     #[cycle(ty)]
     fn types(
         &mut self,
@@ -166,7 +166,7 @@ impl Values {
         Ok(term)
     }
 
-    // The same, by the word that made it.
+    /// The same, by the word that made it.
     #[cycle(term)]
     fn new_term(
         &mut self,
@@ -211,7 +211,7 @@ impl Values {
     }
 }
 
-// The abstraction of a term over a variable.
+/// The abstraction of a term over a variable.
 fn abstraction(nodes: &mut Nodes, v: VariableNode, body: TermId) -> Result<TermId, Memory>
     requires v { HasVariable nodes.old v }
     requires body { HasTerm nodes.old body }

@@ -424,4 +424,4 @@ module _ (l : Inside) (k : IsKept l.nodes l) (now : LogView) (is : view_of l.nod
             a accepted-there qs same' (accepted-within true t)
             ∙ (λ i. Ok (state_of us (record (held_of l) { sequents = sym x i; definitions = sym y i }))))
 
--- ---- want of memory
+-- ---- running out of memory

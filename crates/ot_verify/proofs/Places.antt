@@ -43,7 +43,7 @@ module _ {X Y : Type 0} (is : X → Y → Type 0) where
   each-none (z ∷ xs) zero x h p fails (y ∷ ys) a = fails y (subst (λ w. is w y) (sym p) a.0)
   each-none (z ∷ xs) (suc i) x h p fails (y ∷ ys) a = each-none xs i x (omega arith) p fails ys a.1
 
--- a refusal of what stands for something, handed on, can only be want of memory
+-- a refusal of what stands for something, handed on, can only be running out of memory
 pub missed : {X Y : Type 0} (is : X → Y → Type 0) (e : Refusal) (xs : List X) (c : Change names)
     (old new : LogState Name) (r : Result (Unit {0}) Refusal)
     → IsErrAnd r (λ x. x ≡ e) → FindsEach is (Err e) xs → (ys : List Y) × AreEach is xs ys → MadeBy r c old new

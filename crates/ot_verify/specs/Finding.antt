@@ -15,7 +15,7 @@ abbrev pub Finds : {X Y : Type 0} → (X → Y → Type 0) → Option Y → X �
 Finds is (Some y) x = is x y
 Finds {X} {Y} is None x = (y : Y) → ¬ is x y
 
--- what each operand stands for, or that one stands for nothing; want of memory is free
+-- what each operand stands for, or that one stands for nothing; running out of memory may be answered at any point
 abbrev pub FindsEach : {X Y : Type 0} → (X → Y → Type 0) → Result (Vec Y) Refusal → List X → Type 0
 FindsEach is (Ok v) xs = AreEach is xs v.items
 FindsEach {X} {Y} is (Err refusals.NoSuch) xs = (ys : List Y) → ¬ AreEach is xs ys

@@ -89,7 +89,7 @@ pub(crate) fn term_pairs_at(
     Ok(found)
 }
 
-// A variable and a term.
+/// A variable and a term.
 fn term_pair_at(
     nodes: &Nodes,
     types: &[TypeId],
@@ -122,7 +122,7 @@ pub(crate) fn constant_pairs_at(
     Ok(found)
 }
 
-// The name of a constant and a variable.
+/// The name of a constant and a variable.
 fn constant_pair_at(
     nodes: &Nodes,
     types: &[TypeId],

@@ -498,7 +498,7 @@ impl Log {
         Ok(())
     }
 
-    // Adds a type, within the limit.
+    /// Adds a type, within the limit.
     fn add_type(&mut self, id: TypeId) -> Result<(), Refusal>
         requires { HasType self.old.items id }
         ensures { MadeBy result (makes_type names (type_at self.old.items id)) self.old.state self.new.state }
@@ -510,7 +510,7 @@ impl Log {
         Ok(())
     }
 
-    // Adds a term, within the limit.
+    /// Adds a term, within the limit.
     fn add_term(&mut self, id: TermId) -> Result<(), Refusal>
         requires { HasTerm self.old.items id }
         ensures { MadeBy result (makes_term names (term_at self.old.items id)) self.old.state self.new.state }
@@ -522,7 +522,7 @@ impl Log {
         Ok(())
     }
 
-    // Adds a sequent that follows, within the limit.
+    /// Adds a sequent that follows, within the limit.
     fn add_sequent(&mut self, made: Result<Statement, StepFault>) -> Result<(), Refusal>
         requires { Supports self.old made }
         ensures { AddsSequent result made self.old self.new }
@@ -533,7 +533,7 @@ impl Log {
         }
     }
 
-    // Adds an assumption that its step gives, within the limit.
+    /// Adds an assumption that its step gives, within the limit.
     fn add_assumed(
         &mut self,
         hyps: &[TermId],
@@ -555,7 +555,7 @@ impl Log {
         }
     }
 
-    // Adds an assumption, within the limit, to the assumptions where it is new.
+    /// Adds an assumption, within the limit, to the assumptions where it is new.
     fn add_assumption(
         &mut self,
         hyps: &[TermId],
@@ -579,7 +579,7 @@ impl Log {
         Ok(())
     }
 
-    // Adds a definition that its step gives with its theorems, within the limit.
+    /// Adds a definition that its step gives with its theorems, within the limit.
     fn add_definition(
         &mut self,
         definition: Definition,
@@ -595,7 +595,7 @@ impl Log {
         }
     }
 
-    // The same, of theorems that there are.
+    /// The same, of theorems that there are.
     fn accept(&mut self, definition: Definition, theorems: Vec<Statement>) -> Result<(), Refusal>
         requires definition { HasDefinition self.old.items definition }
         requires theorems { Establishes self.old (definition_at self.old.items definition) (Ok theorems) }
@@ -620,7 +620,7 @@ impl Log {
         Ok(())
     }
 
-    // The same, of a sequent that there is.
+    /// The same, of a sequent that there is.
     fn add_statement(&mut self, statement: Statement) -> Result<(), Refusal>
         requires { Supports self.old (Ok statement) }
         ensures { AddsSequent result (Ok statement) self.old self.new }
@@ -645,7 +645,7 @@ pub(crate) fn at<T>(items: &[T], place: usize) -> Result<&T, Refusal>
     }
 }
 
-// Copies of statements.
+/// Copies of statements.
 fn copies(nodes: &Nodes, statements: &[Statement]) -> Result<Vec<Statement>, Memory>
     requires { All (HasStatement nodes.now) statements.now }
     ensures has { IfOk result (λ v. All (HasStatement nodes.now) v.items) }
@@ -660,7 +660,7 @@ fn copies(nodes: &Nodes, statements: &[Statement]) -> Result<Vec<Statement>, Mem
     Ok(made)
 }
 
-// Puts an item at the end of a list that has room.
+/// Puts an item at the end of a list that has room.
 fn put_last<T: Drop>(items: &mut Vec<T>, item: T)
     requires { vec_len items.old < vec_capacity items.old }
     ensures { items.new.items ≡ items.old.items ++ item ∷ [] }
@@ -671,7 +671,7 @@ fn put_last<T: Drop>(items: &mut Vec<T>, item: T)
     }
 }
 
-// Moves items to the end of a list that has room.
+/// Moves items to the end of a list that has room.
 fn put_all<T: Drop>(items: &mut Vec<T>, more: &mut Vec<T>)
     requires { vec_len items.old + vec_len more.old ≤ vec_capacity items.old }
     ensures { items.new.items ≡ items.old.items ++ more.old.items }
@@ -682,7 +682,7 @@ fn put_all<T: Drop>(items: &mut Vec<T>, more: &mut Vec<T>)
     }
 }
 
-// The refusal of a step.
+/// The refusal of a step.
 fn refused_step(fault: StepFault) -> Refusal
     ensures { result ≡ of_step fault }
 {

@@ -77,6 +77,7 @@ pub fn same_type(kernel: &Kernel, a: TypeId, b: TypeId) -> bool
     requires right { b < length kernel.now.types }
     ensures { result ≡ same_ty names (type_at kernel.now a) (type_at kernel.now b) }
 {
+    // What holds of each kernel, and of its table of terms.
     kernel.sound();
     let _terms = kernel.terms();
     a == b
@@ -98,6 +99,7 @@ pub fn same_variable(kernel: &Kernel, v: &VarKey, w: &VarKey) -> bool
     requires right { IsKey kernel.now w.now }
     ensures { result ≡ same_var names (variable_at kernel.now v.now) (variable_at kernel.now w.now) }
 {
+    // What holds of each kernel, and of its table of terms.
     kernel.sound();
     let _terms = kernel.terms();
     v.name == w.name && v.ty == w.ty
@@ -113,7 +115,7 @@ pub fn type_of(kernel: &Kernel, id: TermId) -> TypeId
     kernel.terms().type_of(id)
 }
 
-/// The free variables of a term of the kernel, in no order that is told. Their names and types are of the kernel.
+/// The free variables of a term of the kernel, in no stated order. Their names and types are of the kernel.
 pub fn free_vars(alloc: Global, kernel: &Kernel, id: TermId) -> Result<Vec<VarKey>, Memory>
     requires { id < length kernel.now.terms }
     ensures inside { IfOk result (λ vars. AreKeysIn kernel.now vars.items) }

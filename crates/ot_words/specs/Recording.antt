@@ -30,7 +30,7 @@ sides_at ts s = (type_at ts s.ty, term_at ts s.left, term_at ts s.right)
 abbrev pub HasResult : {A E : Type 0} → Result A E → Type 0
 HasResult {A} r = (x : A) × (r ≡ Ok x)
 
--- the answer is not that a step does not follow; want of memory is free
+-- the answer is not that a step does not follow; running out of memory may be answered at any point
 abbrev pub IsNotRefused : {A : Type 0} → Result A StepFault → Type 0
 IsNotRefused (Ok x) = Unit {0}
 IsNotRefused (Err fault.BadStep) = ⊥

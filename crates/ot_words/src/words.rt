@@ -204,7 +204,7 @@ fn write_transitive(
     Ok(Made { statement, number })
 }
 
-// Of two equations, with these numbers.
+/// Of two equations, with these numbers.
 fn write_chain(
     sheet: &mut Sheet,
     nodes: &mut Nodes,

@@ -6,7 +6,7 @@ ghost use Rattle.ot_written.specs.Written.{Numeral, Spelled, Order};
 use itoa::Buffer;
 use ot_plain::{Cmd, Memory, Name};
 
-/// Appends a line that holds a word. After want of memory some front of it may be added.
+/// Appends a line that holds a word. After running out of memory some front of it may be added.
 pub(crate) fn push_word(word: Cmd, out: &mut Vec<u8>) -> Result<(), Memory>
     ensures { OnOk result (out.new.items ≡ out.old.items ++ line_bytes (Order word)) }
 {
@@ -15,7 +15,7 @@ pub(crate) fn push_word(word: Cmd, out: &mut Vec<u8>) -> Result<(), Memory>
     Ok(())
 }
 
-/// Appends a line that holds a number. After want of memory some front of it may be added.
+/// Appends a line that holds a number. After running out of memory some front of it may be added.
 pub(crate) fn push_number(number: i64, out: &mut Vec<u8>) -> Result<(), Memory>
     ensures { OnOk result (out.new.items ≡ out.old.items ++ line_bytes (Numeral number)) }
 {
@@ -25,7 +25,7 @@ pub(crate) fn push_number(number: i64, out: &mut Vec<u8>) -> Result<(), Memory>
     Ok(())
 }
 
-/// Appends a line that holds a key. After want of memory some front of it may be added.
+/// Appends a line that holds a key. After running out of memory some front of it may be added.
 pub(crate) fn push_key(key: u64, out: &mut Vec<u8>) -> Result<(), Memory>
     ensures { OnOk result (out.new.items ≡ out.old.items ++ line_bytes (Numeral (pos key))) }
 {
@@ -35,7 +35,7 @@ pub(crate) fn push_key(key: u64, out: &mut Vec<u8>) -> Result<(), Memory>
     Ok(())
 }
 
-/// Appends a line that holds a name. After want of memory some front of it may be added.
+/// Appends a line that holds a name. After running out of memory some front of it may be added.
 pub(crate) fn push_name(name: &Name, out: &mut Vec<u8>) -> Result<(), Memory>
     ensures { OnOk result (out.new.items ≡ out.old.items ++ line_bytes (Spelled name.now)) }
 {

@@ -1,4 +1,4 @@
-//! Laws of what is needed for exports and of their written article: each call states one and does nothing.
+//! Laws of what is needed for exports and of their written article: each call has an empty body, and its postcondition is a theorem.
 ghost use Rattle.std.specs.Prelude.{ℕ};
 ghost use Rattle.ot_plain.specs.Names.{Name};
 ghost use Rattle.ot_written.specs.Laws.{NeededSetLaw, RenamedArticleLaw, SameOriginLaw, StoredEnoughLaw};

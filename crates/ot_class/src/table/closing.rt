@@ -9,10 +9,10 @@ use crate::table::Classes;
 use indexmap::IndexMap;
 use ot_plain::Memory;
 
-// A tree with more nodes than this is worked on once in a call, at each depth.
+/// A tree with more nodes than this is worked on once in a call, at each depth.
 pub(super) const SMALL: u16 = 32;
 
-// A number under some abstractions.
+/// A number under some abstractions.
 #[derive(Clone, Copy, PartialEq, Eq, Hash)]
 pub(super) struct Place {
     depth: u32,
@@ -23,7 +23,7 @@ impl Classes {
     ghost use Rattle.ot_class.specs.Class.{variable_of, class_at};
     ghost use Rattle.ot_class.specs.Closing.{IsClosing};
 
-    // The number of a nameless term under some abstractions, with a variable closed. Results for great trees are kept.
+    /// The number of a nameless term under some abstractions, with a variable closed. Results for great trees are kept.
     #[cycle(close_at)]
     pub(super) fn close_at(
         &mut self,
@@ -57,7 +57,7 @@ impl Classes {
         Ok(closed)
     }
 
-    // The same, node by node.
+    /// The same, node by node.
     #[cycle(close_at)]
     fn close_node(
         &mut self,

@@ -31,7 +31,7 @@ impl Classes {
         Ok(vars)
     }
 
-    // Adds the free variables of a nameless term. Great trees are kept that were looked at.
+    /// Adds the free variables of a nameless term. Great trees are kept that were looked at.
     #[cycle(add_vars)]
     fn add_vars(
         &self,
@@ -59,7 +59,7 @@ impl Classes {
         Ok(())
     }
 
-    // The same, node by node.
+    /// The same, node by node.
     #[cycle(add_vars)]
     fn add_node_vars(
         &self,
@@ -101,8 +101,8 @@ impl Classes {
         Ok(types)
     }
 
-    // Adds the types at which variables of a name are free in a nameless term. Great trees are kept that were looked
-    // at.
+    /// Adds the types at which variables of a name are free in a nameless term. Great trees are kept that were looked
+    /// at.
     #[cycle(add_types)]
     fn add_types(
         &self,
@@ -131,7 +131,7 @@ impl Classes {
         Ok(())
     }
 
-    // The same, node by node.
+    /// The same, node by node.
     #[cycle(add_types)]
     fn add_node_types(
         &self,
@@ -163,7 +163,7 @@ impl Classes {
     }
 }
 
-// Adds a type that is not there yet.
+/// Adds a type that is not there yet.
 fn add_once(types: &mut Vec<TypeId>, ty: TypeId) -> Result<(), Memory>
     ensures { OnOk result (types.new.items ≡ insert_key nat_eq types.old.items ty) }
 {

@@ -1,5 +1,5 @@
-// Definitions that the kernel accepts for a machine of this session. Each has its step from then on; after a refusal
-// the run is as before.
+//! Definitions that the kernel accepts for a machine of this session. Each has its step from then on; after a refusal
+//! the run is as before.
 ghost use Rattle.std.specs.Prelude.{◌≡◌, ◌<◌, ◌∷◌, [], length, map, IfOk};
 ghost use Rattle.std.specs.List.{All};
 ghost use Rattle.ot_plain.specs.Naming.{names};

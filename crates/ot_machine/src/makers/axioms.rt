@@ -1,4 +1,4 @@
-// What the run takes for a sequent that an article states as an axiom.
+//! What the run takes for a sequent that an article states as an axiom.
 ghost use Rattle.std.specs.Prelude.{◌≡◌, ◌<◌, ◌≤◌, length, map, None, Ok, Err};
 ghost use Rattle.std.specs.Prelude.{IfOk, IfSome, MatchBool, vec_len};
 ghost use Rattle.std.specs.List.{All};

@@ -1,4 +1,4 @@
-// The canonical origins of types and of terms: those that an article of version 5 derives its theorems with.
+//! The canonical origins of types and of terms: those that an article of version 5 derives its theorems with.
 ghost use Rattle.std.specs.Prelude.{◌≡◌, ◌<◌, ◌+◌, ◌^◌, ◌∷◌, [], length, IfOk, IfSome, IfNone, OnOk};
 ghost use Rattle.std.specs.Fmt.{decimal};
 ghost use Rattle.std.specs.List.{All};
@@ -91,7 +91,7 @@ impl Session {
         Ok(step)
     }
 
-    // The same, node by node.
+    /// The same, node by node.
     #[cycle(type_origin)]
     fn type_node_origin(
         &mut self,
@@ -123,7 +123,7 @@ impl Session {
         }
     }
 
-    // The step of the list of types that are below a bound.
+    /// The step of the list of types that are below a bound.
     #[cycle(type_origin)]
     fn types_origin(
         &mut self,
@@ -187,7 +187,7 @@ impl Session {
         Ok(self.made_of(machine, Cmd::ConstTerm, &[constant, ty])?)
     }
 
-    // The number of the name that a number spells.
+    /// The number of the name that a number spells.
     fn numeral(&mut self, machine: &Machine, number: usize) -> Result<NameId, Memory>
         requires { IsOf self.old machine.now }
         ensures made { IfOk result (λ n. name_at self.new.kernel n ≡ decimal number ∷ []) }
@@ -199,7 +199,7 @@ impl Session {
         Ok(self.kernel.intern(name)?)
     }
 
-    // The step of the variable that stands for a binder under so many abstractions, at the type of a step.
+    /// The step of the variable that stands for a binder under so many abstractions, at the type of a step.
     fn binder_step(&mut self, machine: &Machine, depth: usize, ty: StepId) -> Result<StepId, Memory>
         requires of { IsOf self.old machine.now }
         requires ty { ty < length self.old.trace }
@@ -212,7 +212,7 @@ impl Session {
         Ok(self.variable_step(machine, name, ty)?)
     }
 
-    // The step of the variable that stands for the innermost binder of a variable.
+    /// The step of the variable that stands for the innermost binder of a variable.
     fn binder_of(&self, binders: &[Binder], v: &VarKey) -> Option<StepId>
         requires key { IsKey self.now.kernel v.now }
         requires binders { All (IsBinderIn self.now) binders.now }
@@ -233,7 +233,7 @@ impl Session {
         None
     }
 
-    // The step of a variable under binders.
+    /// The step of a variable under binders.
     fn variable_origin(
         &mut self,
         machine: &Machine,
@@ -260,7 +260,7 @@ impl Session {
         }
     }
 
-    // The binders whose variables are free in a term.
+    /// The binders whose variables are free in a term.
     fn binders_within(
         &self,
         alloc: Global,
@@ -320,7 +320,7 @@ impl Session {
         Ok(step)
     }
 
-    // The same, node by node.
+    /// The same, node by node.
     #[cycle(term_origin)]
     fn node_origin(
         &mut self,
@@ -366,7 +366,7 @@ impl Session {
     }
 }
 
-// Binders with one more inside them.
+/// Binders with one more inside them.
 fn inside(alloc: Global, binder: Binder, around: &[Binder]) -> Result<Vec<Binder>, Memory>
     ensures { IfOk result (λ bs. bs.items ≡ binder ∷ around.now) }
 {

@@ -1,5 +1,5 @@
-// Definitions that the kernel accepts for a machine of this session, with their steps. Each names its symbols, so
-// numbers keep their names.
+//! Definitions that the kernel accepts for a machine of this session, with their steps. Each names its symbols, so
+//! numbers keep their names.
 ghost use Rattle.std.specs.Prelude.{◌≡◌, ◌<◌, ◌∷◌, [], length, map, IfOk};
 ghost use Rattle.std.specs.List.{All};
 ghost use Rattle.ot_plain.specs.Naming.{names};
@@ -251,7 +251,7 @@ impl Session {
         }
     }
 
-    // In an article of version 6: equations of abstractions.
+    /// In an article of version 6: equations of abstractions.
     fn closed_type_definition(
         &mut self,
         machine: &Machine,

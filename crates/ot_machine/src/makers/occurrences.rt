@@ -1,4 +1,4 @@
-// Whether variables are free in terms. What is shared is asked once for each variable.
+//! Whether variables are free in terms. What is shared is asked once for each variable.
 ghost use Rattle.std.specs.Prelude.{◌<◌, ◌+◌, ◌*◌, length, IfOk, OnOk};
 ghost use Rattle.std.specs.Bool.{Decides};
 ghost use Rattle.ot_plain.specs.Naming.{names};
@@ -47,7 +47,7 @@ pub(crate) fn is_free(
     Ok(free)
 }
 
-// The same, by the term's node.
+/// The same, by the term's node.
 #[cycle(is_free)]
 fn is_free_below(
     kernel: &Kernel,

@@ -1,4 +1,4 @@
-// The two theorems of a type operator in an article of version 5, with the steps that derive them from its definition.
+//! The two theorems of a type operator in an article of version 5, with the steps that derive them from its definition.
 ghost use Rattle.std.specs.Prelude.{◌≡◌, ◌<◌, [], length, IfOk};
 ghost use Rattle.ot_plain.specs.Naming.{names};
 ghost use Rattle.ot_plain.specs.declared.command.Cmd.TheVariants as words;
@@ -35,7 +35,7 @@ pub(crate) struct OpenConstants {
 }
 
 impl Session {
-    // The step of the type that an operator makes of the types in the list of a step.
+    /// The step of the type that an operator makes of the types in the list of a step.
     fn operated_step(
         &mut self,
         machine: &Machine,
@@ -53,7 +53,7 @@ impl Session {
         Ok(self.made_of(machine, Cmd::OpType, &[symbol, list])?)
     }
 
-    // The step of a function type.
+    /// The step of a function type.
     fn function_step(
         &mut self,
         machine: &Machine,
@@ -74,7 +74,7 @@ impl Session {
         Ok(self.operated_step(machine, NameId::ARROW, both)?)
     }
 
-    // The step of the type of propositions.
+    /// The step of the type of propositions.
     fn boolean_step(&mut self, machine: &Machine) -> Result<StepId, Memory>
         requires of { IsOf self.old machine.now }
         ensures { MakesStep result bool_origin self.old self.new machine.now }
@@ -84,7 +84,7 @@ impl Session {
         Ok(self.operated_step(machine, NameId::BOOL, nil)?)
     }
 
-    // The step of the equality of a type, as a term.
+    /// The step of the equality of a type, as a term.
     fn equality_step(&mut self, machine: &Machine, ty: StepId) -> Result<StepId, Memory>
         requires of { IsOf self.old machine.now }
         requires ty { ty < length self.old.trace }
@@ -100,7 +100,7 @@ impl Session {
         Ok(self.constant_step(machine, NameId::EQUALS, whole)?)
     }
 
-    // The steps of the constants between an old and a new type, and of the equality of the old one.
+    /// The steps of the constants between an old and a new type, and of the equality of the old one.
     fn constants_between(
         &mut self,
         machine: &Machine,
@@ -130,7 +130,7 @@ impl Session {
         })
     }
 
-    // The steps of the variable of a name at the type of a step, and of it as a term.
+    /// The steps of the variable of a name at the type of a step, and of it as a term.
     fn variable_steps(
         &mut self,
         machine: &Machine,
@@ -153,7 +153,7 @@ impl Session {
         Ok((variable, term))
     }
 
-    // The step of the application of an abstraction.
+    /// The step of the application of an abstraction.
     fn redex_step(
         &mut self,
         machine: &Machine,
@@ -173,7 +173,7 @@ impl Session {
         Ok(self.made_of(machine, Cmd::AppTerm, &[function, argument])?)
     }
 
-    // The step of one function after another, at an argument.
+    /// The step of one function after another, at an argument.
     fn composed_step(
         &mut self,
         machine: &Machine,
@@ -193,7 +193,7 @@ impl Session {
         Ok(self.made_of(machine, Cmd::AppTerm, &[outer, value])?)
     }
 
-    // The step of the theorem at a place of a definition, applied to a term.
+    /// The step of the theorem at a place of a definition, applied to a term.
     fn outcome_at_step(
         &mut self,
         machine: &Machine,
@@ -213,7 +213,7 @@ impl Session {
         Ok(self.made_of(machine, Cmd::AppThm, &[theorem, same])?)
     }
 
-    // The step of the theorem that two redexes come to the same, from that of their equation.
+    /// The step of the theorem that two redexes come to the same, from that of their equation.
     fn reduced_step(
         &mut self,
         machine: &Machine,
@@ -236,7 +236,7 @@ impl Session {
         Ok(self.made_of(machine, Cmd::Trans, &[start, end])?)
     }
 
-    // The step of the theorem that a value of the new type comes back.
+    /// The step of the theorem that a value of the new type comes back.
     fn returned_step(
         &mut self,
         machine: &Machine,
@@ -264,7 +264,7 @@ impl Session {
         Ok(self.reduced_step(machine, left, theorem, right)?)
     }
 
-    // The step of rep (abs r) = r.
+    /// The step of rep (abs r) = r.
     fn equation_step(
         &mut self,
         machine: &Machine,
@@ -286,7 +286,7 @@ impl Session {
         Ok(self.made_of(machine, Cmd::AppTerm, &[left, r])?)
     }
 
-    // The step of the theorem that the predicate holds just where a value of the old type comes back.
+    /// The step of the theorem that the predicate holds just where a value of the old type comes back.
     fn opened_step(
         &mut self,
         machine: &Machine,
@@ -319,8 +319,8 @@ impl Session {
         Ok(self.reduced_step(machine, left, turned, right)?)
     }
 
-    // The steps of the two theorems that follow from a definition of a type operator, before it is accepted. A
-    // definition by what is no application has none, and isn't accepted.
+    /// The steps of the two theorems that follow from a definition of a type operator, before it is accepted. A
+    /// definition by what is no application has none, and isn't accepted.
     fn open_steps(
         &mut self,
         machine: &Machine,
@@ -365,7 +365,7 @@ impl Session {
         }
     }
 
-    // The two theorems that follow from a definition of a type operator, which is accepted with its step.
+    /// The two theorems that follow from a definition of a type operator, which is accepted with its step.
     fn accept_open_type(
         &mut self,
         machine: &Machine,

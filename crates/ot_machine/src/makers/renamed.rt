@@ -1,5 +1,5 @@
-// The list of names and variables of a definition, with the names as the context reads them: its steps in the trace
-// of this session, along its cons tree.
+//! The list of names and variables of a definition, with the names as the context reads them: its steps in the trace
+//! of this session, along its cons tree.
 ghost use Rattle.std.specs.Prelude.{◌≡◌, ◌<◌, ℕ, [], length, map, IfOk, IfSome, IfNone};
 ghost use Rattle.std.specs.List.{All};
 ghost use Rattle.ot_plain.specs.Names.{Name};

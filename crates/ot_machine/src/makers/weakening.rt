@@ -1,5 +1,5 @@
-// A theorem of the context in the place of an axiom: the first with its conclusion and with hypotheses among its own,
-// derived with the others. Kernel and trace grow; the machine and the run stand for what they stood for.
+//! A theorem of the context in the place of an axiom: the first with its conclusion and with hypotheses among its own,
+//! derived with the others. Kernel and trace grow; the machine and the run stand for what they stood for.
 ghost use Rattle.std.specs.Prelude.{◌≡◌, ◌<◌, Result, length, map, IfOk, IfSome};
 ghost use Rattle.std.specs.List.{All};
 ghost use Rattle.std.specs.Option.{option_map};
@@ -53,7 +53,7 @@ impl Session {
         }
     }
 
-    // The first of these theorems with this conclusion and with hypotheses among these.
+    /// The first of these theorems with this conclusion and with hypotheses among these.
     fn first_given(&self, theorems: &[Given], hyps: &[TermId], concl: TermId) -> Option<Given>
         requires theorems { All (λ g. g.th < length self.now.kernel.theorems) theorems.now }
         requires steps { All (λ g. g.step < length self.now.trace) theorems.now }

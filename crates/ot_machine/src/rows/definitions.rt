@@ -1,4 +1,4 @@
-// The rows of the commands that add a definition, of symbols as the context reads their names.
+//! The rows of the commands that add a definition, of symbols as the context reads their names.
 ghost use Rattle.ot_machine.specs.Meaning.{version_of, IsOf};
 ghost use Rattle.ot_machine.specs.Answers.{Turns};
 ghost use Rattle.ot_machine.specs.Contexts.{context_of, IsContextOf};

@@ -1,4 +1,4 @@
-// The rows of the commands for numbers, lists and the dictionary.
+//! The rows of the commands for numbers, lists and the dictionary.
 ghost use Rattle.std.specs.Prelude.{◌<◌, length, Ok};
 ghost use Rattle.ot_plain.specs.declared.command.Cmd.TheVariants as words;
 ghost use Rattle.ot_kernel.specs.State.{name_at};

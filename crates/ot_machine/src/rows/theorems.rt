@@ -1,4 +1,4 @@
-// The rows of the commands for theorems.
+//! The rows of the commands for theorems.
 ghost use Rattle.ot_plain.specs.declared.command.Cmd.TheVariants as words;
 ghost use Rattle.ot_machine.specs.Meaning.{IsOf};
 ghost use Rattle.ot_machine.specs.Answers.{Turns};

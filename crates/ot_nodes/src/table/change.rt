@@ -27,7 +27,7 @@ pub enum Change {
     },
 }
 
-// A term under some abstractions.
+/// A term under some abstractions.
 #[derive(Clone, Copy, PartialEq, Eq, Hash)]
 pub(crate) struct Place {
     depth: u64,
@@ -75,7 +75,7 @@ impl Nodes {
         self.change_at(change, done, 0, id)
     }
 
-    // A term under so many abstractions of the whole, changed.
+    /// A term under so many abstractions of the whole, changed.
     #[cycle(change)]
     fn change_at(
         &mut self,
@@ -106,7 +106,7 @@ impl Nodes {
         Ok(changed)
     }
 
-    // The same, by its node.
+    /// The same, by its node.
     #[cycle(change)]
     fn change_node(
         &mut self,
@@ -145,7 +145,7 @@ impl Nodes {
         }
     }
 
-    // A free variable, changed.
+    /// A free variable, changed.
     fn change_free(
         &mut self,
         change: &Change,
@@ -184,7 +184,7 @@ impl Nodes {
         }
     }
 
-    // A type in a changed term.
+    /// A type in a changed term.
     fn retype(&mut self, change: &Change, done: &mut Done, ty: TypeId) -> Result<TypeId, Memory>
         requires ty { HasType self.old ty }
         requires change { HasChange self.old change.now }
@@ -205,8 +205,8 @@ impl Nodes {
         }
     }
 
-    // Whether the change leaves the term as it is: it has no free variable, or no place that leads
-    // so far out.
+    /// Whether the change leaves the term as it is: it has no free variable, or no place that leads
+    /// so far out.
     fn is_kept(&self, change: &Change, depth: u64, id: TermId) -> bool
         requires { HasTerm self.now id }
         ensures { OnTrue result (changed (changing self.now change.now) depth (term_at self.now id)
@@ -220,7 +220,7 @@ impl Nodes {
     }
 }
 
-// The place of an abstraction, changed under so many of them.
+/// The place of an abstraction, changed under so many of them.
 fn opened(change: &Change, depth: u64, place: u64, id: TermId) -> TermId
     ensures { result ≡ opened_at change.now depth place id }
 {
@@ -231,7 +231,7 @@ fn opened(change: &Change, depth: u64, place: u64, id: TermId) -> TermId
     }
 }
 
-// How many abstractions stand around the body of one.
+/// How many abstractions stand around the body of one.
 fn inner(change: &Change, depth: u64) -> u64
     requires { depth + 1 < 2 ^ 64 }
     ensures { result ≡ inner_of change.now depth }

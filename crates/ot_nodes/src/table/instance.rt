@@ -15,7 +15,7 @@ impl Nodes {
     ghost use Rattle.ot_nodes.specs.Items.{IsType, HasType, type_at};
     ghost use Rattle.ot_nodes.specs.Changing.{type_map, HasTypes, AreInstances, HasInstances};
 
-    /// The instance of a type: each variable that the pairs hold gives way to its type, all at
+    /// The instance of a type: each variable that the pairs hold is replaced by its type, all at
     /// once.
     #[cycle(inst)]
     pub(crate) fn inst(
@@ -42,7 +42,7 @@ impl Nodes {
         Ok(instance)
     }
 
-    // The same, by its node.
+    /// The same, by its node.
     #[cycle(inst)]
     fn inst_node(
         &mut self,
@@ -75,7 +75,7 @@ impl Nodes {
         }
     }
 
-    // The instances of the arguments of a type, which have lower numbers.
+    /// The instances of the arguments of a type, which have lower numbers.
     #[cycle(inst)]
     fn inst_each(
         &mut self,

@@ -75,7 +75,7 @@ impl Nodes {
     }
 }
 
-// The arguments of `->`, where these are its name and two arguments.
+/// The arguments of `->`, where these are its name and two arguments.
 fn two_of_arrow(name: NameId, args: &[TypeId]) -> Option<(TypeId, TypeId)>
     ensures { MatchOption result ((a b : ℕ) → name ≡ 0 → args.now ≢ a ∷ b ∷ [])
         (λ p. (name ≡ 0) × (args.now ≡ p.0 ∷ p.1 ∷ [])) }

@@ -24,7 +24,7 @@ pub struct Typed {
     pub within: bool,
 }
 
-// A term under binders of these types, the innermost first.
+/// A term under binders of these types, the innermost first.
 #[derive(PartialEq, Eq, Hash, Drop)]
 pub(crate) struct Scope {
     id: TermId,
@@ -66,7 +66,7 @@ impl Nodes {
         self.typing_under(typings, &[], id)
     }
 
-    // The type of a term under binders of these types, the innermost first.
+    /// The type of a term under binders of these types, the innermost first.
     #[cycle(typing)]
     fn typing_under(
         &mut self,
@@ -95,7 +95,7 @@ impl Nodes {
         Ok(typing)
     }
 
-    // The same, by its node.
+    /// The same, by its node.
     #[cycle(typing)]
     fn typing_node(
         &mut self,
@@ -128,7 +128,7 @@ impl Nodes {
         }
     }
 
-    // The types to which the places of a term lead.
+    /// The types to which the places of a term lead.
     fn cut<'a>(&self, binders: &'a [TypeId], id: TermId) -> &'a [TypeId]
         requires { HasTerm self.now id }
         ensures cut { (l : List (Ty Name)) → l ≡ binders_at self.now binders.entry.now → IsCut
@@ -143,7 +143,7 @@ impl Nodes {
         }
     }
 
-    // The typing of a term of this type, where its parts are so.
+    /// The typing of a term of this type, where its parts are so.
     fn typed(&self, ty: TypeId, parts_within: bool) -> Typed
         requires { HasType self.now ty }
         ensures { IsTyped self.now ty parts_within result }
@@ -154,7 +154,7 @@ impl Nodes {
         }
     }
 
-    // The typing of a place.
+    /// The typing of a place.
     fn typing_bound(&self, binders: &[TypeId], place: u64) -> Option<Typed>
         requires { All (HasType self.now) binders.now }
         ensures { IsTyping self.now (binders_at self.now binders.now) (Bound place) result }
@@ -166,7 +166,7 @@ impl Nodes {
         }
     }
 
-    // The typing of an application.
+    /// The typing of an application.
     fn applied(&self, f: Option<Typed>, x: Option<Typed>) -> Option<Typed>
         requires { ForSome f (λ f. HasType self.now f.ty) }
         ensures { (l : List (Ty Name)) (t u : Tm Name) → IsTyping self.now l t f → IsTyping self.now
@@ -178,7 +178,7 @@ impl Nodes {
         }
     }
 
-    // The typing of an application of a term that has a type.
+    /// The typing of an application of a term that has a type.
     fn applied_to(&self, f: Typed, x: Option<Typed>) -> Option<Typed>
         requires { HasType self.now f.ty }
         ensures { (l : List (Ty Name)) (t u : Tm Name) → IsTyping self.now l t (Some f) → IsTyping
@@ -190,7 +190,7 @@ impl Nodes {
         }
     }
 
-    // The typing of an application to a term that has a type, too.
+    /// The typing of an application to a term that has a type, too.
     fn applied_at(&self, f: Typed, x: Typed) -> Option<Typed>
         requires { HasType self.now f.ty }
         ensures { (l : List (Ty Name)) (t u : Tm Name) → IsTyping self.now l t (Some f) → IsTyping
@@ -209,7 +209,7 @@ impl Nodes {
         }
     }
 
-    // The typing of an abstraction.
+    /// The typing of an abstraction.
     fn abstracted(&mut self, ty: TypeId, body: Option<Typed>) -> Result<Option<Typed>, Memory>
         requires ty { HasType self.old ty }
         requires body { ForSome body (λ b. HasType self.old b.ty) }
@@ -227,7 +227,7 @@ impl Nodes {
     }
 }
 
-// The binders with one more inside.
+/// The binders with one more inside.
 fn under(alloc: Global, ty: TypeId, binders: &[TypeId]) -> Result<SmallVec<TypeId, 4>, Memory>
     ensures { IfOk result (λ inner. inner.items ≡ ty ∷ binders.now) }
 {
@@ -236,7 +236,7 @@ fn under(alloc: Global, ty: TypeId, binders: &[TypeId]) -> Result<SmallVec<TypeI
     Ok(inner)
 }
 
-// Whether both hold.
+/// Whether both hold.
 fn both(a: bool, b: bool) -> bool
     ensures { result ≡ (a && b) }
 {

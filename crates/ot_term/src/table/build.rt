@@ -41,7 +41,7 @@ impl Terms {
         self.intern(TermNode::Const(name, ty), ty, 1)
     }
 
-    // The application of a function to an argument that it takes, whose type is this one.
+    /// The application of a function to an argument that it takes, whose type is this one.
     pub(super) fn apply(&mut self, f: TermId, x: TermId, ty: TypeId) -> Result<TermId, TableFault>
         requires f { f < length self.old.terms }
         requires x { x < length self.old.terms }
@@ -90,7 +90,7 @@ impl Terms {
         Ok(self.apply(f, x, ty)?)
     }
 
-    // The type of the application of a function to an argument.
+    /// The type of the application of a function to an argument.
     fn app_type(&self, f: TermId, x: TermId) -> Result<TypeId, TermFault>
         requires f { f < length self.now.terms }
         requires x { x < length self.now.terms }
@@ -142,7 +142,7 @@ impl Terms {
         Ok(self.intern(TermNode::Abs(v, body), ty, depth)?)
     }
 
-    // The type of the abstraction of a variable from a body.
+    /// The type of the abstraction of a variable from a body.
     fn abs_type(&mut self, v: VarKey, body: TermId) -> Result<TypeId, TableFault>
         requires ty { v.ty < length self.old.types }
         requires body { body < length self.old.terms }

@@ -11,7 +11,7 @@ use crate::term::{TermFault, TermId, TermNode};
 use ot_plain::NameId;
 use ot_type::{TableFault, TypeId, TypeNode};
 
-// The constant `=` at a type, and the types of its application to one term and to two.
+/// The constant `=` at a type, and the types of its application to one term and to two.
 #[derive(Clone, Copy)]
 struct Equality {
     constant: TermId,
@@ -75,7 +75,7 @@ impl Terms {
         }
     }
 
-    // Whether the term is the constant `=` at a type at which it is equality.
+    /// Whether the term is the constant `=` at a type at which it is equality.
     fn is_equality(&self, id: TermId) -> bool
         requires { id < length self.now.terms }
         ensures { IsTrue result ↔ (ty : Ty ℕ) × (term_at self.now.terms id ≡ NConst numbers.equals (equality_ty ty)) }
@@ -86,7 +86,7 @@ impl Terms {
         }
     }
 
-    // Whether the type is `a -> (a -> bool)` for some a.
+    /// Whether the type is `a -> (a -> bool)` for some a.
     fn is_equality_type(&self, ty: TypeId) -> bool
         requires { ty < length self.now.types }
         ensures { IsTrue result ↔ (a : Ty ℕ) × (type_at self.now.types ty ≡ equality_ty a) }
@@ -100,7 +100,7 @@ impl Terms {
         outer.0 == inner.0 && self.is_bool(inner.1)
     }
 
-    // Whether the type is that of propositions.
+    /// Whether the type is that of propositions.
     fn is_bool(&self, ty: TypeId) -> bool
         requires { ty < length self.now.types }
         ensures { IsTrue result ↔ (type_at self.now.types ty ≡ bool_ty numbers) }
@@ -111,7 +111,7 @@ impl Terms {
         }
     }
 
-    // The equation of two terms of this type.
+    /// The equation of two terms of this type.
     fn equation(&mut self, ty: TypeId, a: TermId, b: TermId) -> Result<TermId, TableFault>
         requires ty { ty < length self.old.types }
         requires a { a < length self.old.terms }
@@ -131,7 +131,7 @@ impl Terms {
         self.apply(left, b, equality.truth)
     }
 
-    // The constant `=` between terms of this type, with the types of its application to one term and to two.
+    /// The constant `=` between terms of this type, with the types of its application to one term and to two.
     fn equality(&mut self, ty: TypeId) -> Result<Equality, TableFault>
         requires { ty < length self.old.types }
         ensures ok { IfOk result (IsEquality self.new (type_at self.old.types ty)) }
@@ -149,8 +149,8 @@ impl Terms {
         Ok(made)
     }
 
-    // The same, where an earlier call has noted the constant. What was noted is looked at, so that no more than its
-    // number has to be kept.
+    /// The same, where an earlier call has noted the constant. What was noted is looked at, so that no more than its
+    /// number has to be kept.
     fn known_equality(&self, ty: TypeId) -> Option<Equality>
         requires { ty < length self.now.types }
         ensures { IfSome result (IsEquality self.now (type_at self.now.types ty)) }
@@ -170,7 +170,7 @@ impl Terms {
         }
     }
 
-    // The type of a constant `=`; None where the number is that of no such constant.
+    /// The type of a constant `=`; None where the number is that of no such constant.
     fn type_of_equals(&self, id: TermId) -> Option<TypeId>
         ensures { IfSome result (λ ty. (ty < length self.now.types)
             × (slice_get self.now.terms id ≡ Some (NConst numbers.equals (type_at self.now.types ty)))) }
@@ -181,7 +181,7 @@ impl Terms {
         }
     }
 
-    // The node of a number, where the table has one.
+    /// The node of a number, where the table has one.
     fn node_of(&self, id: TermId) -> Option<&TermNode>
         ensures tree { IfSome result
             (λ node. slice_get self.now.terms id ≡ Some (term_of self.now.types self.now.terms node.now)) }
@@ -193,7 +193,7 @@ impl Terms {
         }
     }
 
-    // The constant `=` at a type, made or found among the terms.
+    /// The constant `=` at a type, made or found among the terms.
     fn made_equality(&mut self, ty: TypeId) -> Result<Equality, TableFault>
         requires { ty < length self.old.types }
         ensures ok { IfOk result (IsEquality self.new (type_at self.old.types ty)) }
@@ -213,7 +213,7 @@ impl Terms {
     }
 }
 
-// Whether the name and arguments are those of the type of propositions.
+/// Whether the name and arguments are those of the type of propositions.
 fn names_bool(name: NameId, args: &[TypeId]) -> bool
     ensures { IsTrue result ↔ (name ≡ 1) × (args.now ≡ []) }
 {

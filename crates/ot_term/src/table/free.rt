@@ -65,7 +65,7 @@ impl Terms {
         self.classes.is_closed(class_beside(&self.nodes, id))
     }
 
-    // The types at which variables of a name are free in a term, each once.
+    /// The types at which variables of a name are free in a term, each once.
     fn types_of_name(&self, alloc: Global, name: NameId, id: TermId) -> Result<Vec<TypeId>, Memory>
         requires { id < length self.now.terms }
         ensures types { IfOk result (λ types. AreTypesOf self.now.types name (term_at self.now.terms id) types.items) }
@@ -75,7 +75,7 @@ impl Terms {
         self.classes.types_of(alloc, name, class)
     }
 
-    // The free variables of a term's nameless form, each once.
+    /// The free variables of a term's nameless form, each once.
     fn free_keys(&self, alloc: Global, id: TermId) -> Result<IndexSet<Key>, Memory>
         requires { id < length self.now.terms }
         ensures { IfOk result (λ keys. AreFree self.now.types (term_at self.now.terms id) (map var_key keys.keys)) }
@@ -85,7 +85,7 @@ impl Terms {
     }
 }
 
-// The variables of a nameless form, as those of a term.
+/// The variables of a nameless form, as those of a term.
 fn var_keys(alloc: Global, keys: &IndexSet<Key>) -> Result<Vec<VarKey>, Memory>
     ensures { IfOk result (λ vars. vars.items ≡ map var_key keys.now.keys) }
 {
@@ -99,7 +99,7 @@ fn var_keys(alloc: Global, keys: &IndexSet<Key>) -> Result<Vec<VarKey>, Memory>
     )
 }
 
-// The variables of a name at some types.
+/// The variables of a name at some types.
 fn keys_of(alloc: Global, name: NameId, types: &[TypeId]) -> Result<Vec<VarKey>, Memory>
     ensures { IfOk result (λ vars. vars.items ≡ map (key_at name) types.now) }
 {

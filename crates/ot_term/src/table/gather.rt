@@ -45,7 +45,7 @@ impl Terms {
         distinct(alloc, symbols.as_slice())
     }
 
-    // Adds the symbol of each constant among the terms.
+    /// Adds the symbol of each constant among the terms.
     fn add_constants(&self, ids: &[TermId], symbols: &mut Vec<Symbol>) -> Result<(), Memory>
         requires { All (λ i. i < length self.now.terms) ids.now }
         ensures { OnOk result (symbols.new.items ≡ symbols.old.items
@@ -63,7 +63,7 @@ impl Terms {
     }
 }
 
-// The names of those types that are variables.
+/// The names of those types that are variables.
 fn variable_names(alloc: Global, types: &Types, ids: &[TypeId]) -> Result<Vec<NameId>, Memory>
     requires { All (λ i. i < length types.now) ids.now }
     ensures { IfOk result (λ names. names.items ≡ flat_map (λ i. variable_name (type_at types.now i)) ids.now) }
@@ -77,7 +77,7 @@ fn variable_names(alloc: Global, types: &Types, ids: &[TypeId]) -> Result<Vec<Na
     Ok(names)
 }
 
-// Adds the symbol of the operator of each type that has one.
+/// Adds the symbol of the operator of each type that has one.
 fn add_operators(types: &Types, ids: &[TypeId], symbols: &mut Vec<Symbol>) -> Result<(), Memory>
     requires { All (λ i. i < length types.now) ids.now }
     ensures { OnOk result

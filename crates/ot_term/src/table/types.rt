@@ -63,7 +63,7 @@ impl Terms {
         self.types.boolean()
     }
 
-    /// The instance of a type: each variable that the substitution holds gives way to its type. The substitution's
+    /// The instance of a type: each variable that the substitution holds is replaced by its type. The substitution's
     /// types are of this table. `Nesting` where the instance would be deeper than 4,096; a refusal may leave more
     /// types.
     pub fn type_inst(&mut self, s: &TypeSubst, id: TypeId) -> Result<TypeId, TableFault>

@@ -18,7 +18,7 @@ impl Terms {
     ghost use Rattle.ot_term.specs.Walk.{AddsParts, AreFound, IsInsideSome};
     ghost use Rattle.ot_term.specs.Gather.{IsSubterm, own_type, AreOwnTypes, IsMentioned};
 
-    // The numbers of a term and of all its subterms, each once, the greatest first.
+    /// The numbers of a term and of all its subterms, each once, the greatest first.
     pub(super) fn subterms(&self, alloc: Global, id: TermId) -> Result<Vec<TermId>, Memory>
         requires { id < length self.now.terms }
         ensures { IfOk result (λ ids. AreFound (term_at self.now.terms) (length self.now.terms)
@@ -34,7 +34,7 @@ impl Terms {
         Ok(found)
     }
 
-    // Adds the parts of a term.
+    /// Adds the parts of a term.
     fn add_parts(&self, id: TermId, pending: &mut BTreeSet<TermId>) -> Result<(), Memory>
         requires { id < length self.now.terms }
         ensures { OnOk result (AddsParts (term_at self.now.terms) IsSubterm id pending.old.keys pending.new.keys) }
@@ -46,7 +46,7 @@ impl Terms {
         }
     }
 
-    // The numbers of the types that stand in the terms, and of all types inside these, each once, the greatest first.
+    /// The numbers of the types that stand in the terms, and of all types inside these, each once, the greatest first.
     pub(super) fn types_in(&self, alloc: Global, ids: &[TermId]) -> Result<Vec<TypeId>, Memory>
         requires { All (λ i. i < length self.now.terms) ids.now }
         ensures { IfOk result (λ types. AreFound (type_at self.now.types) (length self.now.types)
@@ -56,7 +56,7 @@ impl Terms {
         self.subtypes(alloc, pending)
     }
 
-    // The numbers of the types of variables, constants and binders among the terms.
+    /// The numbers of the types of variables, constants and binders among the terms.
     fn own_types(&self, alloc: Global, ids: &[TermId]) -> Result<BTreeSet<TypeId>, Memory>
         requires { All (λ i. i < length self.now.terms) ids.now }
         ensures { IfOk result (λ types. AreOwnTypes self.now ids.now types.keys) }
@@ -70,7 +70,7 @@ impl Terms {
         Ok(types)
     }
 
-    // The type of a variable, a constant or a binder.
+    /// The type of a variable, a constant or a binder.
     fn own_type(&self, id: TermId) -> Option<TypeId>
         requires { id < length self.now.terms }
         ensures { MatchOption result (own_type (term_at self.now.terms id) ≡ None)
@@ -85,7 +85,7 @@ impl Terms {
         }
     }
 
-    // The numbers of types and of all types inside them, each once, the greatest first.
+    /// The numbers of types and of all types inside them, each once, the greatest first.
     fn subtypes(&self, alloc: Global, mut pending: BTreeSet<TypeId>) -> Result<Vec<TypeId>, Memory>
         requires { All (λ k. k < length self.now.types) pending.keys }
         ensures { IfOk result (λ types. AreFound (type_at self.now.types) (length self.now.types)
@@ -99,7 +99,7 @@ impl Terms {
         Ok(found)
     }
 
-    // Adds the arguments of a type.
+    /// Adds the arguments of a type.
     fn add_arguments(&self, id: TypeId, pending: &mut BTreeSet<TypeId>) -> Result<(), Memory>
         requires { id < length self.now.types }
         ensures { OnOk result (AddsParts (type_at self.now.types) IsSubtype id pending.old.keys pending.new.keys) }

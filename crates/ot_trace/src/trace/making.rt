@@ -14,7 +14,7 @@ impl Trace {
 
     /// The number of what a word makes of these operands, from the bottom of the stack up.
     ///
-    /// The operands are of this trace. After want of memory the trace is as before.
+    /// The operands are of this trace. After running out of memory the trace is as before.
     #[inline(always)]
     pub fn make(&mut self, word: Cmd, operands: &[StepId]) -> Result<StepId, Memory>
         requires { All (λ i. i < length self.old) operands.now }
@@ -31,7 +31,7 @@ impl Trace {
     /// The number of a definition by a word and these operands, from the bottom of the stack up.
     ///
     /// The operands are of this trace, and `defined` are the steps of the symbols that they name, in
-    /// order: of `const` for each constant, of `typeOp` for a type operator. After want of memory the
+    /// order: of `const` for each constant, of `typeOp` for a type operator. After running out of memory the
     /// trace is as before.
     pub fn define(
         &mut self,
@@ -65,7 +65,7 @@ impl Trace {
     }
 }
 
-// The number at a place, or another one where there is none.
+/// The number at a place, or another one where there is none.
 fn operand_or(operands: &[StepId], place: usize, id: StepId) -> StepId
     ensures { result ≡ slice_index_or operands.now place id }
 {

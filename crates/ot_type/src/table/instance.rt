@@ -16,7 +16,7 @@ use indexmap::IndexMap;
 use ot_plain::Memory;
 use smallvec::SmallVec;
 
-// A type that is nested deeper than this, or has an operator with more arguments than this, is worked on once in a call.
+/// A type that is nested deeper than this, or has an operator with more arguments than this, is worked on once in a call.
 const SMALL_DEPTH: u32 = 4;
 
 const FEW: usize = 2;
@@ -25,7 +25,7 @@ impl Types {
     ghost use Rattle.ot_type.specs.TypeTable.{IsTypeTable, types_at, images};
     ghost use Rattle.ot_type.specs.Instance.{IsInstance};
 
-    /// The instance of a type: each variable that the substitution holds gives way to its type, all at once.
+    /// The instance of a type: each variable that the substitution holds is replaced by its type, all at once.
     ///
     /// The substitution's types are of this table. `Nesting` comes exactly where the instance is nested deeper than
     /// 4,096. After a refusal the table may hold more types. A type variable, and a type in which none stands, is
@@ -49,7 +49,7 @@ impl Types {
         self.inst_part(s, id, &mut done)
     }
 
-    // The same, with the instances of types that were worked on.
+    /// The same, with the instances of types that were worked on.
     #[cycle(inst_part)]
     fn inst_part(
         &mut self,
@@ -90,7 +90,7 @@ impl Types {
         Ok(instance)
     }
 
-    // The instances of types, one by one.
+    /// The instances of types, one by one.
     #[cycle(inst_part)]
     fn inst_parts(
         &mut self,
@@ -120,7 +120,7 @@ impl Types {
     }
 }
 
-// Keeps the instance of a type, where that is asked for.
+/// Keeps the instance of a type, where that is asked for.
 fn keep(
     is_asked: bool,
     id: TypeId,

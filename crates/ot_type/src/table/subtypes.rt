@@ -31,7 +31,7 @@ impl Types {
         Ok(names)
     }
 
-    // The numbers of a type and of all types inside it, each once, the greatest first.
+    /// The numbers of a type and of all types inside it, each once, the greatest first.
     pub(super) fn subtypes(&self, alloc: Global, id: TypeId) -> Result<Vec<TypeId>, Memory>
         requires { id < length self.now }
         ensures { IfOk result (λ ids. AreSubtypes self.now (type_at self.now id) ids.items) }
@@ -46,7 +46,7 @@ impl Types {
         Ok(found)
     }
 
-    // Adds the arguments of a type.
+    /// Adds the arguments of a type.
     fn add_parts(&self, id: TypeId, pending: &mut BTreeSet<TypeId>) -> Result<(), Memory>
         requires { id < length self.now }
         ensures { OnOk result (AddsParts self.now id pending.old.keys pending.new.keys) }
@@ -58,7 +58,7 @@ impl Types {
     }
 }
 
-// Adds numbers to a set.
+/// Adds numbers to a set.
 fn add_all(set: &mut BTreeSet<TypeId>, ids: &[TypeId]) -> Result<(), Memory>
     ensures { OnOk result (IsSameSet set.new.keys (set.old.keys ++ ids.now)) }
 {

@@ -181,7 +181,7 @@ open_package-returns-clause-comes g t c =
     full context (run_of old) left (left - 1) more absent))
     (c.link_file.ensures.comes folder e)
 
--- ---- want of memory
+-- ---- running out of memory
 
 pub run_block-returns-in_err-theorems-clause-comes : goal.run_block-returns-in_err-theorems-clause-comes
 run_block-returns-in_err-theorems-clause-comes g t c =
